@@ -1,22 +1,22 @@
 -- Acts one after the other, and what each call of a port comes to.
-use Rattle.std.proofs.Common.{◌≡◌, ℕ, ◌+◌, ◌<◌, ◌≤◌, List, [], ◌∷◌, ◌++◌, length, filter, arith, flat_map, Option, Some, None, refl, sym, ap, subst, ◌∙◌}
+use Rattle.std.proofs.Common.{◌≡◌, ℕ, ◌+◌, ◌<◌, ◌≤◌, Bool, List, [], ◌∷◌, ◌++◌, length, filter, arith, flat_map, Option, Some, None, refl, sym, ap, subst, ◌∙◌}
 use Rattle.std.proofs.Common.{append_assoc, append-nil, inl, inr, true, false}
 use Rattle.std.proofs.lemmas.List.Concat.{flat_map-append}
 use Rattle.std.proofs.lemmas.List.Elements.{filter-append}
-use Rattle.std.specs.Io.KnownBytes.{Appends}
-use Rattle.std.proofs.KnownBytes.{Appends-nil, Appends-trans}
 use Rattle.nfs_serve.specs.Talk.{max_reads}
 use Rattle.nfs_serve.specs.Step.{State}
-use Rattle.nfs_serve.specs.Desk.{Desk, most_read, closed, leaving, Act, WriteBlocked, Closed, Failed, Stepped, StepsPart, Came, ReadBlocked, Ended, IsHungry, Does, Goes, IsStuck, Reads, ReadsOnce, is_of_read}
-use Rattle.nfs_serve.specs.Deeds.{Deed, Logs, shown, asked}
+use Rattle.nfs_serve.specs.Desk.{Desk, most_read, closed, leaving, Act, WriteBlocked, Closed, Failed, Stepped, Came, ReadBlocked, Ended, IsHungry, Does, Goes, IsStuck, Reads, ReadsOnce, is_of_read}
+use Rattle.nfs_serve.specs.Told.{Told, Logs}
+use Rattle.nfs_serve.specs.Deeds.{Deed, counted, shown, asked}
 use Rattle.nfs_serve.specs.declared.lane.Lane.{Lane}
-use Rattle.nfs_serve.specs.Lane.{desk_of, Advances, Quiet, Working}
+use Rattle.nfs_serve.specs.declared.lane.Budget.{Budget}
+use Rattle.nfs_serve.specs.Lane.{desk_of, is_first, Advances, Quiet, StepsOne}
 
-pub Logs-nil : (a : Option (List Deed)) → Logs a a []
+pub Logs-nil : {A : Type 0} (a : Option (List A)) → Logs a a []
 Logs-nil None = tt
 Logs-nil (Some x) = sym (append-nil x)
 
-pub Logs-trans : (a b c : Option (List Deed)) (bs cs : List Deed) → Logs a b bs → Logs b c cs → Logs a c (bs ++ cs)
+pub Logs-trans : {A : Type 0} (a b c : Option (List A)) (bs cs : List A) → Logs a b bs → Logs b c cs → Logs a c (bs ++ cs)
 Logs-trans None b c bs cs p q = tt
 Logs-trans (Some x) None c bs cs p q = absurd p
 Logs-trans (Some x) (Some y) None bs cs p q = absurd q
@@ -45,28 +45,28 @@ reads_between xs mid ys none later few =
     (sym (filter-append is_of_read (xs ++ mid) ys ∙ ap (λ l. filter is_of_read (xs ++ mid) ++ l) later ∙ append-nil (filter is_of_read (xs ++ mid))))
     (reads_last xs mid none few)
 
-pub stays : (port : ℕ) (s : State) (d : Desk) (l : Option (List Deed)) (c : Option (List ℕ)) → Advances port [] s d s d l l c c
-stays port s d l c = record { goes = (refl, refl); logs = Logs-nil l; clock = Appends-nil c }
+pub stays : (port : ℕ) (s : State) (d : Desk) (l : Option (List Deed)) (c : Option (List Told)) → Advances port [] s d s d l l c c
+stays port s d l c = record { goes = (refl, refl); logs = Logs-nil l; clock = Logs-nil c }
 
-module _ {port : ℕ} {xs : List Act} {s u : State} {d c : Desk} {l0 l1 : Option (List Deed)} {c0 c1 : Option (List ℕ)}
+module _ {port : ℕ} {xs : List Act} {s u : State} {d c : Desk} {l0 l1 : Option (List Deed)} {c0 c1 : Option (List Told)}
     (first : Advances port xs s d u c l0 l1 c0 c1) where
   -- further acts
-  pub goes_on : (ys : List Act) (t : State) (e : Desk) (l2 : Option (List Deed)) (c2 : Option (List ℕ))
+  pub goes_on : (ys : List Act) (t : State) (e : Desk) (l2 : Option (List Deed)) (c2 : Option (List Told))
       → Advances port ys u c t e l1 l2 c1 c2 → Advances port (xs ++ ys) s d t e l0 l2 c0 c2
   goes_on ys t e l2 c2 then_ = record {
     goes = Goes-append port s u t d c e xs ys first.goes then_.goes;
     logs = subst (Logs l0 l2) (sym (flat_map-append (shown port) xs ys)) (Logs-trans l0 l1 l2 _ _ first.logs then_.logs);
-    clock = subst (Appends c0 c2) (sym (flat_map-append asked xs ys)) (Appends-trans c0 c1 c2 _ _ first.clock then_.clock);
+    clock = subst (Logs c0 c2) (sym (flat_map-append asked xs ys)) (Logs-trans c0 c1 c2 _ _ first.clock then_.clock);
   }
 
 -- one act that a port shows
-pub one_shown : (port : ℕ) (a : Act) (s : State) (d e : Desk) (l0 l1 : Option (List Deed)) (c : Option (List ℕ))
+pub one_shown : (port : ℕ) (a : Act) (s : State) (d e : Desk) (l0 l1 : Option (List Deed)) (c : Option (List Told))
     → shown port a ≡ record { port = port; act = a } ∷ [] → asked a ≡ [] → Does port s d a s e
     → Logs l0 l1 (record { port = port; act = a } ∷ []) → Advances port (a ∷ []) s d s e l0 l1 c c
 one_shown port a s d e l0 l1 c is none does logs = record {
   goes = (s, e, does, (refl, refl));
   logs = subst (Logs l0 l1) (sym (ap (λ l. l ++ []) is)) logs;
-  clock = subst (Appends c c) (sym (ap (λ l. l ++ []) none)) (Appends-nil c);
+  clock = subst (Logs c c) (sym (ap (λ l. l ++ []) none)) (Logs-nil c);
 }
 
 pub quiet_start : (port : ℕ) (d : Desk) (l : Option (List Deed)) → Quiet port [] d d l l
@@ -92,12 +92,12 @@ quiet_on port xs ys d c e l0 l1 l2 p q = record {
 }
 
 -- quiet acts as acts
-pub quiet_advances : (port : ℕ) (acts : List Act) (s : State) (d e : Desk) (l0 l1 : Option (List Deed)) (c : Option (List ℕ))
+pub quiet_advances : (port : ℕ) (acts : List Act) (s : State) (d e : Desk) (l0 l1 : Option (List Deed)) (c : Option (List Told))
     → Quiet port acts d e l0 l1 → Advances port acts s d s e l0 l1 c c
 quiet_advances port acts s d e l0 l1 c q = record {
   goes = q.goes s;
   logs = q.logs;
-  clock = subst (Appends c c) (sym q.unasked) (Appends-nil c);
+  clock = subst (Logs c c) (sym q.unasked) (Logs-nil c);
 }
 
 -- a connection that has failed or ended, and is closed
@@ -105,47 +105,30 @@ pub quiet_closes : (port : ℕ) (l0 l1 : Option (List Deed)) → Logs l0 l1 (rec
 quiet_closes port l0 l1 logs = quiet_act port Closed leaving closed l0 l1 refl refl refl (λ s. (refl, inl refl, refl)) logs
 
 -- a part that was stepped
-pub stepped : (port moment : ℕ) (part out : List ℕ) (s t : State) (a b : Lane) (c0 c1 : Option (List ℕ))
-    → StepsPart port s (desk_of a) moment part t b.connection b.unread out → b.owed.bytes ≡ a.owed.bytes ++ out
-    → b.live ≡ a.live → b.reads ≡ a.reads → Appends c0 c1 (moment ∷ [])
-    → Working port (Stepped moment part ∷ []) s (desk_of a) t (desk_of b) c0 c1
-stepped port moment part out s t a b c0 c1 steps owed live reads told = record {
+pub stepped : (port : ℕ) (s t : State) (a b : Lane) (l0 l1 : Option (List Deed)) (c0 c1 : Option (List Told)) (before left : Budget)
+    → (one : StepsOne port s t a b l0 l1 c0 c1 before left)
+    → Advances port (Stepped one.moment one.part left.late (is_first a.heard one.out) ∷ []) s (desk_of a) t (desk_of b) l0 l1 c0 c1
+stepped port s t a b l0 l1 c0 c1 before left one = record {
   goes = (
     t,
     desk_of b,
     (
       b.connection,
       b.unread,
-      out,
-      steps,
-      ap (λ o. record { live = o; gone = false; stream = b.connection; reads = b.reads; unread = b.unread; owed = b.owed.bytes }) live
-          ∙ ap (λ r. record { live = a.live; gone = false; stream = b.connection; reads = r; unread = b.unread; owed = b.owed.bytes }) reads
-          ∙ ap (λ o. record { live = a.live; gone = false; stream = b.connection; reads = a.reads; unread = b.unread; owed = o }) owed,
+      one.out,
+      one.steps,
+      refl,
+      alike one.live one.heard one.reads one.owed,
     ),
     (refl, refl),
   );
-  unshown = refl;
-  no_reads = refl;
-  clock = told;
+  logs = subst (Logs l0 l1) (sym (append-nil (counted port (is_first a.heard one.out)))) one.logs;
+  clock = one.clock;
 }
-
-pub working_on : (port : ℕ) (xs ys : List Act) (s u t : State) (d c e : Desk) (c0 c1 c2 : Option (List ℕ))
-    → Working port xs s d u c c0 c1 → Working port ys u c t e c1 c2 → Working port (xs ++ ys) s d t e c0 c2
-working_on port xs ys s u t d c e c0 c1 c2 p q = record {
-  goes = Goes-append port s u t d c e xs ys p.goes q.goes;
-  unshown = flat_map-append (shown port) xs ys ∙ ap (λ l. l ++ flat_map (shown port) ys) p.unshown ∙ q.unshown;
-  no_reads = none_read xs ys p.no_reads q.no_reads;
-  clock = subst (Appends c0 c2) (sym (flat_map-append asked xs ys)) (Appends-trans c0 c1 c2 _ _ p.clock q.clock);
-}
-
--- parts that were stepped, as acts
-pub working_advances : (port : ℕ) (acts : List Act) (s t : State) (d e : Desk) (l : Option (List Deed)) (c0 c1 : Option (List ℕ))
-    → Working port acts s d t e c0 c1 → Advances port acts s d t e l l c0 c1
-working_advances port acts s t d e l c0 c1 w = record {
-  goes = w.goes;
-  logs = subst (Logs l l) (sym w.unshown) (Logs-nil l);
-  clock = w.clock;
-}
+  where
+    alike : {live heard : Bool} {reads : ℕ} {owed : List ℕ} → b.live ≡ live → b.heard ≡ heard → b.reads ≡ reads → b.owed.bytes ≡ owed
+        → desk_of b ≡ record { live = live; gone = false; heard = heard; stream = b.connection; reads = reads; unread = b.unread; owed = owed }
+    alike p q r o = rw (← p, ← q, ← r, ← o) refl
 
 pub stuck_behind : (xs ys : List Act) (d : Desk) → IsStuck ys d → IsStuck (xs ++ ys) d
 stuck_behind xs ys d h =
@@ -153,25 +136,25 @@ stuck_behind xs ys d h =
     (xs ++ front, ap (λ l. xs ++ l) is ∙ sym (append_assoc xs front (WriteBlocked ∷ [])), owed)
 
 -- what a read comes to
-pub read_blocked : (port : ℕ) (s : State) (d : Desk) (u : List ℕ) (l0 l1 : Option (List Deed)) (c : Option (List ℕ)) → IsHungry d → u ≡ []
+pub read_blocked : (port : ℕ) (s : State) (d : Desk) (u : List ℕ) (l0 l1 : Option (List Deed)) (c : Option (List Told)) → IsHungry d → u ≡ []
     → Logs l0 l1 (record { port = port; act = ReadBlocked } ∷ [])
-    → Advances port (ReadBlocked ∷ []) s d s (record { live = d.live; gone = d.gone; stream = d.stream; reads = d.reads; unread = u; owed = d.owed }) l0 l1 c c
+    → Advances port (ReadBlocked ∷ []) s d s (record { live = d.live; gone = d.gone; heard = d.heard; stream = d.stream; reads = d.reads; unread = u; owed = d.owed }) l0 l1 c c
 read_blocked port s d u l0 l1 c hungry none logs = one_shown port ReadBlocked s d _ l0 l1 c refl refl
-    (refl, hungry, ap (λ v. record { live = d.live; gone = d.gone; stream = d.stream; reads = d.reads; unread = v; owed = d.owed }) (none ∙ sym hungry.unread)) logs
+    (refl, hungry, ap (λ v. record { live = d.live; gone = d.gone; heard = d.heard; stream = d.stream; reads = d.reads; unread = v; owed = d.owed }) (none ∙ sym hungry.unread)) logs
 
-pub read_came : (port : ℕ) (s : State) (d : Desk) (u : List ℕ) (l0 l1 : Option (List Deed)) (c : Option (List ℕ)) → IsHungry d
+pub read_came : (port : ℕ) (s : State) (d : Desk) (u : List ℕ) (l0 l1 : Option (List Deed)) (c : Option (List Told)) → IsHungry d
     → 0 < length u → length u ≤ most_read → Logs l0 l1 (record { port = port; act = Came u } ∷ [])
-    → Advances port (Came u ∷ []) s d s (record { live = d.live; gone = d.gone; stream = d.stream; reads = d.reads + 1; unread = u; owed = d.owed }) l0 l1 c c
+    → Advances port (Came u ∷ []) s d s (record { live = d.live; gone = d.gone; heard = d.heard; stream = d.stream; reads = d.reads + 1; unread = u; owed = d.owed }) l0 l1 c c
 read_came port s d u l0 l1 c hungry some few logs = one_shown port (Came u) s d _ l0 l1 c refl refl (refl, hungry, some, few, refl) logs
 
-pub read_ended : (port : ℕ) (s : State) (d : Desk) (l0 l1 l2 : Option (List Deed)) (c : Option (List ℕ)) → IsHungry d
+pub read_ended : (port : ℕ) (s : State) (d : Desk) (l0 l1 l2 : Option (List Deed)) (c : Option (List Told)) → IsHungry d
     → Logs l0 l1 (record { port = port; act = Ended } ∷ []) → Logs l1 l2 (record { port = port; act = Closed } ∷ [])
     → Advances port (Ended ∷ Closed ∷ []) s d s closed l0 l2 c c
 read_ended port s d l0 l1 l2 c hungry first later =
     goes_on (one_shown port Ended s d leaving l0 l1 c refl refl (refl, hungry, refl) first) (Closed ∷ []) s closed l2 c
     (quiet_advances port (Closed ∷ []) s leaving closed l1 l2 c (quiet_closes port l1 l2 later))
 
-pub read_failed : (port : ℕ) (s : State) (d : Desk) (l0 l1 l2 : Option (List Deed)) (c : Option (List ℕ)) → IsHungry d
+pub read_failed : (port : ℕ) (s : State) (d : Desk) (l0 l1 l2 : Option (List Deed)) (c : Option (List Told)) → IsHungry d
     → Logs l0 l1 (record { port = port; act = Failed } ∷ []) → Logs l1 l2 (record { port = port; act = Closed } ∷ [])
     → Advances port (Failed ∷ Closed ∷ []) s d s closed l0 l2 c c
 read_failed port s d l0 l1 l2 c hungry first later = quiet_advances port (Failed ∷ Closed ∷ []) s d closed l0 l2 c
@@ -185,6 +168,6 @@ pub reads_blocked : (xs : List Act) → Reads (xs ++ ReadBlocked ∷ [])
 reads_blocked xs = (xs, ReadBlocked, [], refl, tt)
 
 -- a connection that was read often enough
-pub closes_long : (port : ℕ) (s : State) (d : Desk) (l0 l1 : Option (List Deed)) (c : Option (List ℕ)) → d.live ≡ true → d.owed ≡ [] → d.unread ≡ [] → max_reads ≤ d.reads
+pub closes_long : (port : ℕ) (s : State) (d : Desk) (l0 l1 : Option (List Deed)) (c : Option (List Told)) → d.live ≡ true → d.owed ≡ [] → d.unread ≡ [] → max_reads ≤ d.reads
     → Logs l0 l1 (record { port = port; act = Closed } ∷ []) → Advances port (Closed ∷ []) s d s closed l0 l1 c c
 closes_long port s d l0 l1 c live owed unread many logs = one_shown port Closed s d closed l0 l1 c refl refl (refl, inr (live, owed, inr (unread, many)), refl) logs

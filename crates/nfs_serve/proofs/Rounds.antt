@@ -3,14 +3,13 @@ use Rattle.std.proofs.Common.{◌≡◌, ◌≢◌, ℕ, ◌<◌, List, [], ◌�
 use Rattle.std.proofs.lemmas.Bool.Decides.{eqb_tells}
 use Rattle.std.proofs.lemmas.List.{map-set, get_or-set_same, get_or-set_other, get_or-map, length-map}
 use Rattle.std.proofs.lemmas.List.Concat.{flat_map-append}
-use Rattle.std.specs.Io.KnownBytes.{Appends}
-use Rattle.std.proofs.KnownBytes.{Appends-nil, Appends-trans}
 use Rattle.nfs_serve.specs.Step.{State}
 use Rattle.nfs_serve.specs.Desk.{Desk, closed, HasMore}
-use Rattle.nfs_serve.specs.Deeds.{Deed, Logs}
+use Rattle.nfs_serve.specs.Told.{Told, Sweep, Logs}
+use Rattle.nfs_serve.specs.Deeds.{Deed}
 use Rattle.nfs_serve.specs.Lane.{desk_of, desks_of}
 use Rattle.nfs_serve.specs.declared.lane.Lane.{Lane}
-use Rattle.nfs_serve.specs.Hub.{Desks, at, none_live, Round, Opens, Turns, OthersStay, Turning, shown_in, asked_in, Sweeps, Sweeping, ServesRounds}
+use Rattle.nfs_serve.specs.Hub.{Desks, at, none_live, Round, Opens, Turns, OthersStay, Turning, shown_in, asked_in, asked_of, Sweeps, Sweeping, ServesRounds}
 use Rattle.nfs_serve.proofs.Advancing.{Logs-nil, Logs-trans}
 
 pub at_same : (lanes : List Lane) (port : ℕ) (lane : Lane) → port < length lanes → at (desks_of (set lanes port lane)) port ≡ desk_of lane
@@ -54,6 +53,7 @@ sweeping_on s u t old mid new [] sweep p q = (
   record {
     turning = turning_from s t old mid new sweep p.1 (subst (λ x. Turning x mid sweep t new) p.0 q.turning);
     in_order = q.in_order;
+    each = q.each;
     none_passed = λ port le more. q.none_passed port le (subst HasMore (sym (p.1 port)) more);
   },
   (refl, λ c. refl),
@@ -62,7 +62,7 @@ sweeping_on s u t old mid new (first ∷ sweeps) sweep p q =
     let (v, between, one, more) = p in
     (v, between, one, sweeping_on v u t between mid new sweeps sweep more q)
 
-pub start : (s : State) (lanes : List Lane) (l : Option (List Deed)) (c : Option (List ℕ)) → ((port : ℕ) → at (desks_of lanes) port ≡ closed)
+pub start : (s : State) (lanes : List Lane) (l : Option (List Deed)) (c : Option (List Told)) → ((port : ℕ) → at (desks_of lanes) port ≡ closed)
     → ServesRounds s s (desks_of lanes) 0 l l c c
 start s lanes l c all = record {
   sweeps = [];
@@ -72,27 +72,12 @@ start s lanes l c all = record {
   turning = (refl, all);
   sweeping = (refl, all);
   logs = Logs-nil l;
-  clock = Appends-nil c;
-}
-
--- a clock that gave no answer
-pub retold : (s t : State) (desks : List Desk) (n : ℕ) (l0 l1 : Option (List Deed)) (c0 c1 c2 : Option (List ℕ))
-    → ServesRounds s t desks n l0 l1 c0 c1 → Appends c1 c2 [] → ServesRounds s t desks n l0 l1 c0 c2
-retold s t desks n l0 l1 c0 c1 c2 before none = record {
-  sweeps = before.sweeps;
-  rounds = before.rounds;
-  are = before.are;
-  counted = before.counted;
-  turning = before.turning;
-  sweeping = before.sweeping;
-  logs = before.logs;
-  clock = subst (Appends c0 c2) (append-nil (flat_map asked_in before.rounds))
-      (Appends-trans c0 c1 c2 (flat_map asked_in before.rounds) [] before.clock none);
+  clock = Logs-nil c;
 }
 
 -- one sweep more
-pub more : (s t u : State) (old new : List Desk) (n : ℕ) (l0 l1 l2 : Option (List Deed)) (c0 c1 c2 : Option (List ℕ)) (sweep : List Round)
-    → ServesRounds s t old n l0 l1 c0 c1 → Sweeps t (at old) sweep u (at new) → Logs l1 l2 (flat_map shown_in sweep) → Appends c1 c2 (flat_map asked_in sweep)
+pub more : (s t u : State) (old new : List Desk) (n : ℕ) (l0 l1 l2 : Option (List Deed)) (c0 c1 c2 : Option (List Told)) (sweep : List Round)
+    → ServesRounds s t old n l0 l1 c0 c1 → Sweeps t (at old) sweep u (at new) → Logs l1 l2 (flat_map shown_in sweep) → Logs c1 c2 (asked_of sweep)
     → ServesRounds s u new (n + 1) l0 l2 c0 c2
 more s t u old new n l0 l1 l2 c0 c1 c2 sweep before round logs clock = record {
   sweeps = before.sweeps ++ sweep ∷ [];
@@ -103,7 +88,8 @@ more s t u old new n l0 l1 l2 c0 c1 c2 sweep before round logs clock = record {
   turning = turning_on s t u none_live (at old) (at new) before.rounds sweep before.turning round.turning;
   sweeping = sweeping_on s t u none_live (at old) (at new) before.sweeps sweep before.sweeping round;
   logs = subst (Logs l0 l2) (sym (flat_map-append shown_in before.rounds sweep)) (Logs-trans l0 l1 l2 _ _ before.logs logs);
-  clock = subst (Appends c0 c2) (sym (flat_map-append asked_in before.rounds sweep)) (Appends-trans c0 c1 c2 _ _ before.clock clock);
+  clock = subst (Logs c0 c2) (sym (flat_map-append asked_of before.sweeps (sweep ∷ []) ∙ ap (λ l. flat_map asked_of before.sweeps ++ l) (append-nil (asked_of sweep))))
+      (Logs-trans c0 c1 c2 _ _ before.clock clock);
 }
 
 -- one more port is closed

@@ -10,7 +10,7 @@ use Rattle.nfs_serve.specs.Promises.Whole.{close, entries_of, script, acts_on}
 
 -- the entries of one port's acts are of that port
 of_port : (port : ℕ) (a : Act) → All (λ e. e.conn ≡ port) (entries_of port a)
-of_port port (Stepped moment part) = All-cons (λ e. e.conn ≡ port) (record { moment = moment; conn = port; piece = part }) [] refl (All-nil (λ e. e.conn ≡ port))
+of_port port (Stepped moment part late first) = All-cons (λ e. e.conn ≡ port) (record { moment = moment; conn = port; piece = part }) [] refl (All-nil (λ e. e.conn ≡ port))
 of_port port Closed = All-cons (λ e. e.conn ≡ port) (close port) [] refl (All-nil (λ e. e.conn ≡ port))
 of_port port a = All-nil (λ e. e.conn ≡ port)
 
@@ -25,13 +25,13 @@ others_open port c acts other = λ k d lt is. absurd (other (sym is ∙ all_of_p
 -- the stream of the entries on a port is that of the parts that were stepped there
 stream_own : (port other : ℕ) (acts : List Act) → nat_eq other port ≡ true → stream_on port (flat_map (entries_of other) acts) ≡ flat_map part_of acts
 stream_own port other [] same = refl
-stream_own port other (Stepped moment part ∷ acts) same = rw same (ap (λ l. part ++ l) (stream_own port other acts same))
+stream_own port other (Stepped moment part late first ∷ acts) same = rw same (ap (λ l. part ++ l) (stream_own port other acts same))
 stream_own port other (Closed ∷ acts) same = rw same (stream_own port other acts same)
 stream_own port other (a ∷ acts) same = stream_own port other acts same
 
 stream_none : (port other : ℕ) (acts : List Act) → nat_eq other port ≡ false → stream_on port (flat_map (entries_of other) acts) ≡ []
 stream_none port other [] same = refl
-stream_none port other (Stepped moment part ∷ acts) same = rw same (stream_none port other acts same)
+stream_none port other (Stepped moment part late first ∷ acts) same = rw same (stream_none port other acts same)
 stream_none port other (Closed ∷ acts) same = rw same (stream_none port other acts same)
 stream_none port other (a ∷ acts) same = stream_none port other acts same
 

@@ -15,31 +15,33 @@ use Rattle.nfs_serve.specs.Script.{Entry}
 use Rattle.nfs_serve.specs.Step.{State}
 use Rattle.nfs_serve.specs.Run.{Streams, with_stream, all_closed, events, output, Runs}
 use Rattle.nfs_serve.specs.Server.{fresh, Stands, Feeds, FeedsInto, flow_of}
+use Rattle.nfs_serve.specs.Told.{Told, Moment, Logs}
 use Rattle.nfs_serve.specs.Talk.{max_reads, IsPiece, Speaks, Talks}
 use Rattle.nfs_serve.proofs.Moves.{runs_more, runs_into}
 use Rattle.nfs_serve.proofs.Pieces.{start_holds, no_bytes, stands_open}
 use Rattle.nfs_serve.proofs.Runs.{takes_piece}
+use Rattle.nfs_serve.proofs.Advancing.{Logs-nil, Logs-trans}
 
 -- A talk that has gone on for n pieces.
-pub record Speaking (old now : State) (is : Gathered) (n : ℕ) (l0 l1 h0 h1 c0 c1 : Option (List ℕ)) : Type 0 where
+pub record Speaking (old now : State) (is : Gathered) (n : ℕ) (l0 l1 h0 h1 : Option (List ℕ)) (c0 c1 : Option (List Told)) : Type 0 where
   pub pieces : List Entry
   pub count : length pieces ≡ n
   pub each : All IsPiece pieces
   pub read : Consumes l0 l1 (flat_map (λ e. e.piece) pieces)
-  pub moments : Appends c0 c1 (map (λ e. e.moment) pieces)
+  pub moments : Logs c0 c1 (map (λ e. Moment e.moment) pieces)
   pub written : List ℕ
   pub appended : Appends h0 h1 written
   pub streams : Streams
   pub runs : Runs Plain old now pieces streams written
   pub stands : Stands (streams 0) is
 
-pub speaking_start : (s : State) (l h c : Option (List ℕ)) → Speaking s s fresh 0 l l h h c c
+pub speaking_start : (s : State) (l h : Option (List ℕ)) (c : Option (List Told)) → Speaking s s fresh 0 l l h h c c
 speaking_start s l h c = record {
   pieces = [];
   count = refl;
   each = All-nil IsPiece;
   read = Consumes-nil l;
-  moments = Appends-nil c;
+  moments = Logs-nil c;
   written = [];
   appended = Appends-nil h;
   streams = all_closed;
@@ -62,14 +64,14 @@ stands_long : (s : End) → Stands s Failed → s ≡ TooLong
 stands_long (Open rest) h = absurd h
 stands_long TooLong h = refl
 
-module _ {old now : State} {is : Gathered} {n : ℕ} {l0 l1 h0 h1 c0 c1 : Option (List ℕ)} (g : Speaking old now is n l0 l1 h0 h1 c0 c1) where
+module _ {old now : State} {is : Gathered} {n : ℕ} {l0 l1 h0 h1 : Option (List ℕ)} {c0 c1 : Option (List Told)} (g : Speaking old now is n l0 l1 h0 h1 c0 c1) where
   pieces_read : (l2 : Option (List ℕ)) (e : Entry) → Consumes l1 l2 e.piece → Consumes l0 l2 (flat_map (λ d. d.piece) (g.pieces ++ e ∷ []))
   pieces_read l2 e read = subst (Consumes l0 l2)
       (sym (flat_map-append (λ d. d.piece) g.pieces (e ∷ []) ∙ ap (λ l. flat_map (λ d. d.piece) g.pieces ++ l) (append-nil e.piece)))
       (Consumes-trans _ _ _ _ _ g.read read)
 
-  moments_told : (c2 : Option (List ℕ)) (e : Entry) → Appends c1 c2 (e.moment ∷ []) → Appends c0 c2 (map (λ d. d.moment) (g.pieces ++ e ∷ []))
-  moments_told c2 e told = subst (Appends c0 c2) (sym (map-append (λ d. d.moment) g.pieces (e ∷ []))) (Appends-trans _ _ _ _ _ g.moments told)
+  moments_told : (c2 : Option (List Told)) (e : Entry) → Logs c1 c2 (Moment e.moment ∷ []) → Logs c0 c2 (map (λ d. Moment d.moment) (g.pieces ++ e ∷ []))
+  moments_told c2 e told = subst (Logs c0 c2) (sym (map-append (λ (d : Entry). Moment d.moment) g.pieces (e ∷ []))) (Logs-trans _ _ _ _ _ g.moments told)
 
   count_more : (e : Entry) → length (g.pieces ++ e ∷ []) ≡ n + 1
   count_more e = length-append g.pieces (e ∷ []) ∙ ap (λ k. k + 1) g.count
@@ -77,8 +79,8 @@ module _ {old now : State} {is : Gathered} {n : ℕ} {l0 l1 h0 h1 c0 c1 : Option
   nonempty : (e : Entry) → IsPiece e → e.piece ≢ []
   nonempty e each none = omega (arith, ap length none, each.2)
 
-  pub speaking_more : (l2 h2 c2 : Option (List ℕ)) (new : State) (held : Gathered) (e : Entry) → Consumes l1 l2 e.piece
-      → Appends c1 c2 (e.moment ∷ []) → IsPiece e → Feeds now new is held e.conn e.moment e.piece Plain h1 h2
+  pub speaking_more : (l2 h2 : Option (List ℕ)) (c2 : Option (List Told)) (new : State) (held : Gathered) (e : Entry) → Consumes l1 l2 e.piece
+      → Logs c1 c2 (Moment e.moment ∷ []) → IsPiece e → Feeds now new is held e.conn e.moment e.piece Plain h1 h2
       → Speaking old new held (n + 1) l0 l2 h0 h2 c0 c2
   speaking_more l2 h2 c2 new held e read told each fed =
       let conn = each.1 in
@@ -108,8 +110,8 @@ module _ {old now : State} {is : Gathered} {n : ℕ} {l0 l1 h0 h1 c0 c1 : Option
   is_shut flow = speaks TooLong (stands_long (g.streams 0) (subst (Stands (g.streams 0)) (shut_is is flow) g.stands))
 
   -- the writer failed in a reply of a piece
-  pub speaking_breaks : (l2 h2 c2 : Option (List ℕ)) (new : State) (e : Entry) → Consumes l1 l2 e.piece
-      → Appends c1 c2 (e.moment ∷ []) → IsPiece e → n < max_reads → FeedsInto now new is e.conn e.moment e.piece Plain h1 h2
+  pub speaking_breaks : (l2 h2 : Option (List ℕ)) (c2 : Option (List Told)) (new : State) (e : Entry) → Consumes l1 l2 e.piece
+      → Logs c1 c2 (Moment e.moment ∷ []) → IsPiece e → n < max_reads → FeedsInto now new is e.conn e.moment e.piece Plain h1 h2
       → Talks WriteFailed old new l0 l2 h0 h2 c0 c2
   speaking_breaks l2 h2 c2 new e read told each few b =
       let conn = each.1 in

@@ -9,7 +9,7 @@ use Rattle.nfs_serve.specs.Script.{Entry, Fits, last_connection}
 use Rattle.nfs_serve.specs.Step.{State}
 use Rattle.nfs_serve.specs.Run.{Streams, with_stream, TakesAll, StreamEvent, Arrives, overflow, Brings, Move, events, after, after_event, output, output_of}
 use Rattle.nfs_serve.specs.Server.{Stands}
-use Rattle.nfs_serve.specs.Desk.{Desk, closed, leaving, Act, Opened, Over, Came, ReadBlocked, Ended, Took, WriteBlocked, Failed, Closed, Stepped, Goes}
+use Rattle.nfs_serve.specs.Desk.{Desk, closed, leaving, Act, Opened, Over, Unready, Counted, Came, ReadBlocked, Ended, Took, WriteBlocked, Failed, Closed, Stepped, Goes}
 use Rattle.nfs_serve.specs.Promises.Laws.{NoneCloses}
 use Rattle.nfs_serve.specs.Promises.Account.{came, taken, part_of}
 use Rattle.nfs_serve.specs.Promises.Whole.{close, entries_of, port_of, output_on}
@@ -129,6 +129,12 @@ ran port s t d e [] from le holds h = record {
 }
 ran port s t d e (Opened ∷ acts) from le holds h = absurd h.2
 ran port s t d e (Over ∷ acts) from le holds h = absurd h.2
+ran port s t d e (Counted ∷ acts) from le holds h = absurd h.2
+ran port s t d e (Unready ∷ acts) from le holds h =
+    let (u, c, does, rest) = h in
+    let (same, none, is) = does in
+    passes (ran port s t d e acts from le holds (goes_from port s u t d c e acts same is rest))
+    Unready d refl (λ outs f. record { was = f.was; in_order = f.in_order; out_order = f.out_order })
 ran port s t d e (Came bytes ∷ acts) from le holds h =
     let (u, c, does, rest) = h in
     let (same, hungry, some, few, is) = does in
@@ -179,9 +185,9 @@ ran port s t d e (Closed ∷ acts) from le holds h =
       flow = λ on. not_served (r.flow on).was;
       open_on = λ on. not_served (r.flow on).was;
     }
-ran port s t d e (Stepped moment part ∷ acts) from le holds h =
+ran port s t d e (Stepped moment part late first ∷ acts) from le holds h =
     let (u, c, does, rest) = h in
-    let (is, left, out, steps, same) = does in
+    let (is, left, out, steps, once, same) = does in
     let takes = steps.takes in
     let (end, brings, stands) = takes.stream (from port) (holds.stands steps.live) in
     let to = with_stream from port end in

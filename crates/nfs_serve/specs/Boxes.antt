@@ -2,7 +2,8 @@
 use Rattle.std.specs.Prelude.{◌≡◌, ℕ, ◌<◌, ◌≤◌, List, [], ◌∷◌, length, Option}
 use Rattle.nfs_serve.specs.Desk.{most_read, ReadBlocked, Failed}
 use Rattle.nfs_serve.specs.Desk as act
-use Rattle.nfs_serve.specs.Deeds.{Deed, Logs}
+use Rattle.nfs_serve.specs.Told.{Logs}
+use Rattle.nfs_serve.specs.Deeds.{Deed}
 use Rattle.nfs_serve.specs.declared.ports.Came.{Came}
 use Rattle.nfs_serve.specs.declared.ports.Came.TheVariants as read
 

@@ -1,6 +1,6 @@
 -- One of many connections over one server: what came on it and was not stepped, what is owed to its peer, and what may be done with
 -- it (RFC 5531 section 11). This server's profile.
-use Rattle.std.specs.Prelude.{◌≡◌, ◌⊎◌, ℕ, ◌+◌, ◌*◌, ◌<◌, ◌≤◌, List, [], ◌∷◌, ◌++◌, length, filter, Bool, true, false}
+use Rattle.std.specs.Prelude.{◌≡◌, ◌⊎◌, ℕ, ◌+◌, ◌*◌, ◌<◌, ◌≤◌, List, [], ◌∷◌, ◌++◌, length, filter, Bool, true, false, not, ◌&&◌, ◌||◌}
 use Rattle.nfs_xdr.specs.Limits.{most_record}
 use Rattle.nfs_rpc.specs.RecordMarking.{Gathered, is_too_long}
 use Rattle.nfs_rpc.specs.Stream.{End}
@@ -10,6 +10,7 @@ use Rattle.nfs_serve.specs.Step.{State}
 use Rattle.nfs_serve.specs.Run.{Brings, Move, events, after, output}
 use Rattle.nfs_serve.specs.Server.{fresh, Stands}
 use Rattle.nfs_serve.specs.Talk.{max_reads}
+use Rattle.nfs_serve.specs.Sequenced.{answers_sequence}
 
 -- the most bytes that one read brings: two records of the greatest length, each with one mark
 abbrev pub most_read : ℕ
@@ -27,18 +28,19 @@ most_steps = 16
 abbrev pub most_taken : ℕ
 most_taken = 65536
 
--- A port: whether a connection is served there, whether it has ended or failed and is to be closed, what is held of its stream, how
--- many pieces were read, what came and was not stepped, and what is owed.
+-- A port: whether a connection is served there, whether it has ended or failed and is to be closed, whether a session's SEQUENCE was
+-- answered on it, what is held of its stream, how many pieces were read, what came and was not stepped, and what is owed.
 pub record Desk : Type 0 where
   pub live : Bool
   pub gone : Bool
+  pub heard : Bool
   pub stream : Gathered
   pub reads : ℕ
   pub unread : List ℕ
   pub owed : List ℕ
 
 abbrev pub idle : Bool → Bool → Desk
-idle live gone = record { live = live; gone = gone; stream = fresh; reads = 0; unread = []; owed = [] }
+idle live gone = record { live = live; gone = gone; heard = false; stream = fresh; reads = 0; unread = []; owed = [] }
 
 abbrev pub closed : Desk
 closed = idle false false
@@ -49,10 +51,14 @@ opened = idle true false
 abbrev pub leaving : Desk
 leaving = idle false true
 
--- What is done with a connection. `Stepped` alone is not shown to its peer.
+-- What is done with a connection. Of `Stepped` alone its peer is shown nothing. `Unready` is a port's own answer, and `Counted` says to the port
+-- that a session's SEQUENCE was answered on its connection for the first time. A part is stepped at a moment; behind it the clock said whether
+-- the turn is late, which is that it has lasted long enough; and it may be the first that answered a session's SEQUENCE.
 pub data Act : Type 0 where
   Opened : Act
   Over : Act
+  Unready : Act
+  Counted : Act
   Came : (bytes : List ℕ) → Act
   ReadBlocked : Act
   Ended : Act
@@ -60,7 +66,7 @@ pub data Act : Type 0 where
   WriteBlocked : Act
   Failed : Act
   Closed : Act
-  Stepped : (moment : ℕ) → (part : List ℕ) → Act
+  Stepped : (moment : ℕ) → (part : List ℕ) → (late first : Bool) → Act
 
 -- A part of a stream that ends no more than one record, which was stepped: the state and the output are those of its moves, of which
 -- there is one at most. `was` and `is` are held of the stream.
@@ -96,10 +102,17 @@ pub record StepsPart (port : ℕ) (s : State) (d : Desk) (moment : ℕ) (part : 
   pub split : d.unread ≡ part ++ rest
   pub takes : TakesPart port s d.stream moment part t is out
 
+-- what came waits to be stepped, and nothing hinders it: no reply is owed
+pub record HasMore (d : Desk) : Type 0 where
+  pub live : d.live ≡ true
+  pub owed : d.owed ≡ []
+  pub unread : 0 < length d.unread
+
 -- what an act does to the state of the server and to its connection
 abbrev pub Does : ℕ → State → Desk → Act → State → Desk → Type 0
 Does port s d (Came bytes) t e = (t ≡ s) × IsHungry d × (0 < length bytes) × (length bytes ≤ most_read)
     × (e ≡ record d { reads = d.reads + 1; unread = bytes })
+Does port s d Unready t e = (t ≡ s) × (HasMore d → ⊥) × (e ≡ d)
 Does port s d ReadBlocked t e = (t ≡ s) × IsHungry d × (e ≡ d)
 Does port s d Ended t e = (t ≡ s) × IsHungry d × (e ≡ leaving)
 Does port s d (Took bytes) t e = (t ≡ s) × (d.live ≡ true) × (0 < length bytes) × (rest : List ℕ) × (d.owed ≡ bytes ++ rest)
@@ -107,8 +120,9 @@ Does port s d (Took bytes) t e = (t ≡ s) × (d.live ≡ true) × (0 < length b
 Does port s d WriteBlocked t e = (t ≡ s) × (d.live ≡ true) × (0 < length d.owed) × (e ≡ d)
 Does port s d Failed t e = (t ≡ s) × (d.live ≡ true) × (e ≡ leaving)
 Does port s d Closed t e = (t ≡ s) × MayClose d × (e ≡ closed)
-Does port s d (Stepped moment part) t e = (is : Gathered) × (rest : List ℕ) × (out : List ℕ) × StepsPart port s d moment part t is rest out
-    × (e ≡ record d { stream = is; unread = rest; owed = d.owed ++ out })
+Does port s d (Stepped moment part late first) t e = (is : Gathered) × (rest : List ℕ) × (out : List ℕ) × StepsPart port s d moment part t is rest out
+    × (first ≡ (not d.heard && answers_sequence out))
+    × (e ≡ record d { heard = d.heard || answers_sequence out; stream = is; unread = rest; owed = d.owed ++ out })
 Does port s d act t e = ⊥
 
 -- the acts, one after the other
@@ -140,7 +154,7 @@ abbrev pub ReadsOnce : List Act → Type 0
 ReadsOnce acts = length (filter is_of_read acts) ≤ 1
 
 abbrev pub is_step : Act → Bool
-is_step (Stepped moment part) = true
+is_step (Stepped moment part late first) = true
 is_step act = false
 
 -- how many parts are stepped, each of which ends no more than one record
@@ -156,21 +170,28 @@ abbrev pub taken_count : List Act → ℕ
 taken_count [] = 0
 taken_count (a ∷ acts) = taken_by a + taken_count acts
 
--- each part is stepped before the peer took so many bytes
+-- behind which part the clock said that the turn is late
+abbrev pub late_by : Act → Bool
+late_by (Stepped moment part late first) = late
+late_by act = false
+
+abbrev pub is_late : List Act → Bool
+is_late [] = false
+is_late (a ∷ acts) = late_by a || is_late acts
+
+-- each part is stepped before the peer took so many bytes, and before the turn was late
 abbrev pub StepsBefore : ℕ → List Act → Type 0
-StepsBefore most acts = (front : List Act) (moment : ℕ) (part : List ℕ) (back : List Act)
-    → acts ≡ front ++ Stepped moment part ∷ back → taken_count front < most
+StepsBefore most acts = (front : List Act) (moment : ℕ) (part : List ℕ) (late first : Bool) (back : List Act)
+    → acts ≡ front ++ Stepped moment part late first ∷ back → (taken_count front < most) × (is_late front ≡ false)
 
--- what came waits to be stepped, and nothing hinders it: no reply is owed
-pub record HasMore (d : Desk) : Type 0 where
-  pub live : d.live ≡ true
-  pub owed : d.owed ≡ []
-  pub unread : 0 < length d.unread
+-- the port is passed over: it said that it is not ready
+abbrev pub IsPassed : List Act → Type 0
+IsPassed acts = acts ≡ Unready ∷ []
 
--- A turn steps 16 parts at most, and each before its peer took 64 KiB in it. It ends only where there is no connection, where the peer takes no
--- more of what is owed, where a read was asked for and all that came is answered, or where 16 were stepped or 64 KiB taken, nothing is owed, and
--- more waits.
+-- A turn steps 16 parts at most, and each before its peer took 64 KiB in it and before the clock said that the turn is late. It ends only where the
+-- port is passed over, where there is no connection, where the peer takes no more of what is owed, where a read was asked for and all that came is
+-- answered, or where 16 were stepped, 64 KiB taken or the turn is late, nothing is owed, and more waits.
 abbrev pub EndsTurn : List Act → Desk → Type 0
 EndsTurn acts d = ReadsOnce acts × (step_count acts ≤ most_steps) × StepsBefore most_taken acts
     × ((d.live ≡ false) ⊎ IsStuck acts d ⊎ ((d.unread ≡ []) × (d.owed ≡ []) × Reads acts)
-    ⊎ (HasMore d × ((step_count acts ≡ most_steps) ⊎ (most_taken ≤ taken_count acts))))
+    ⊎ (HasMore d × ((step_count acts ≡ most_steps) ⊎ (most_taken ≤ taken_count acts) ⊎ (is_late acts ≡ true))) ⊎ IsPassed acts)

@@ -1,11 +1,11 @@
 -- Many connections over one server: the ports have their turns in the order of their numbers, sweep after sweep. Who is ready, and who
 -- begins, comes from outside.
 use Rattle.std.specs.Prelude.{length, ◌≡◌, ◌≢◌, ◌≤◌, ◌⊎◌, ◌^◌, ◌-◌, ℕ, suc, ◌+◌, List, [], ◌∷◌, flat_map, get_or, Option}
-use Rattle.std.specs.Io.KnownBytes.{Appends}
 use Rattle.nfs_serve.specs.Step.{State}
 use Rattle.nfs_serve.specs.Script.{last_connection, connection_count}
-use Rattle.nfs_serve.specs.Desk.{Desk, closed, opened, Act, Opened, Goes, EndsTurn, HasMore, step_count}
-use Rattle.nfs_serve.specs.Deeds.{Deed, Logs, over, shown, asked}
+use Rattle.nfs_serve.specs.Told.{Told, Sweep, Turn, Logs}
+use Rattle.nfs_serve.specs.Desk.{Desk, closed, opened, Act, Opened, Goes, EndsTurn, IsPassed, HasMore, step_count}
+use Rattle.nfs_serve.specs.Deeds.{Deed, over, shown, asked}
 
 abbrev pub Desks : Type 0
 Desks = ℕ → Desk
@@ -38,9 +38,13 @@ abbrev pub shown_in : Round → List Deed
 shown_in (Opens port) = record { port = port; act = Opened } ∷ []
 shown_in (Turns port acts) = flat_map (shown port) acts
 
-abbrev pub asked_in : Round → List ℕ
+-- what the clock tells of a round, and of a sweep
+abbrev pub asked_in : Round → List Told
 asked_in (Opens port) = []
-asked_in (Turns port acts) = flat_map asked acts
+asked_in (Turns port acts) = Turn ∷ flat_map asked acts
+
+abbrev pub asked_of : List Round → List Told
+asked_of sweep = Sweep ∷ flat_map asked_in sweep
 
 -- how many parts are stepped
 abbrev pub steps_in : List Round → ℕ
@@ -55,28 +59,35 @@ InOrder from to [] = from ≤ to
 InOrder from to (Opens port ∷ rounds) = (from ≡ 0) × InOrder from to rounds
 InOrder from to (Turns port acts ∷ rounds) = (from ≤ port) × InOrder (suc port) to rounds
 
--- a round is of a port: its turn, or a connection that begins there
+-- a round is of a port: its turn in which it is not passed over, or a connection that begins there
 abbrev pub IsOf : ℕ → Round → Type 0
 IsOf port (Opens p) = p ≡ port
-IsOf port (Turns p acts) = p ≡ port
+IsOf port (Turns p acts) = (p ≡ port) × (IsPassed acts → ⊥)
 
 abbrev pub IsServed : ℕ → List Round → Type 0
 IsServed port [] = ⊥
 IsServed port (r ∷ rounds) = IsOf port r ⊎ IsServed port rounds
 
--- One sweep over the ports: no port on which something waits to be stepped is passed over, and none has two turns.
+abbrev pub HasTurn : ℕ → List Round → Type 0
+HasTurn port [] = ⊥
+HasTurn port (Opens p ∷ rounds) = HasTurn port rounds
+HasTurn port (Turns p acts ∷ rounds) = (p ≡ port) ⊎ HasTurn port rounds
+
+-- One sweep over the ports: each has one turn, and a port on which something waits to be stepped is not passed over in it. One that is passed over
+-- said that it is not ready.
 pub record Sweeps (s : State) (old : Desks) (sweep : List Round) (t : State) (new : Desks) : Type 0 where
   pub turning : Turning s old sweep t new
   pub in_order : InOrder 0 connection_count sweep
+  pub each : (port : ℕ) → port ≤ last_connection → HasTurn port sweep
   pub none_passed : (port : ℕ) → port ≤ last_connection → HasMore (old port) → IsServed port sweep
 
 abbrev pub Sweeping : State → Desks → List (List Round) → State → Desks → Type 0
 Sweeping s old [] t new = (t ≡ s) × ((c : ℕ) → new c ≡ old c)
 Sweeping s old (sweep ∷ sweeps) t new = (u : State) × (between : Desks) × Sweeps s old sweep u between × Sweeping u between sweeps t new
 
--- From ports without a connection on: for some sweeps, what the connections show, the clock's answers and the state left are those of their
--- rounds.
-pub record ServesRounds (old new : State) (desks : List Desk) (count : ℕ) (l0 l1 : Option (List Deed)) (c0 c1 : Option (List ℕ)) : Type 0 where
+-- From ports without a connection on: for some sweeps, what the connections show and the state left are those of their rounds, and the clock told
+-- of each sweep its begin and what it told of its rounds, and nothing else.
+pub record ServesRounds (old new : State) (desks : List Desk) (count : ℕ) (l0 l1 : Option (List Deed)) (c0 c1 : Option (List Told)) : Type 0 where
   pub sweeps : List (List Round)
   pub rounds : List Round
   pub are : rounds ≡ flat_map (λ sweep. sweep) sweeps
@@ -84,9 +95,9 @@ pub record ServesRounds (old new : State) (desks : List Desk) (count : ℕ) (l0 
   pub turning : Turning old none_live rounds new (at desks)
   pub sweeping : Sweeping old none_live sweeps new (at desks)
   pub logs : Logs l0 l1 (flat_map shown_in rounds)
-  pub clock : Appends c0 c1 (flat_map asked_in rounds)
+  pub clock : Logs c0 c1 (flat_map asked_of sweeps)
 
 -- The same to the end: until no connection is left and none will come, or for 2^64 - 1 sweeps.
-abbrev pub Serves : State → State → List Desk → Option (List Deed) → Option (List Deed) → Option (List ℕ) → Option (List ℕ) → Type 0
+abbrev pub Serves : State → State → List Desk → Option (List Deed) → Option (List Deed) → Option (List Told) → Option (List Told) → Type 0
 Serves old new desks l0 l1 c0 c1 = (count : ℕ) × (before : Option (List Deed)) × ServesRounds old new desks count l0 before c0 c1
     × (Logs before l1 over ⊎ ((count ≡ 2 ^ 64 - 1) × (before ≡ l1)))

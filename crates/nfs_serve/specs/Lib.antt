@@ -10,6 +10,8 @@ pub mod Engine
 pub mod Reading
 pub mod Running
 pub mod First
+pub mod Told
+pub mod Sequenced
 pub mod Desk
 pub mod Deeds
 pub mod Boxes

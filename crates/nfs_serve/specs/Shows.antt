@@ -1,8 +1,8 @@
 -- What each answer of a connection shows of what was done.
-use Rattle.std.specs.Prelude.{ℕ, ◌<◌, ◌≤◌, List, [], ◌∷◌, length, take}
+use Rattle.std.specs.Prelude.{ℕ, ◌<◌, ◌≤◌, List, [], ◌∷◌, length, take, Bool, true, false}
 use Rattle.nfs_serve.specs.Deeds.{Deed, over}
 use Rattle.nfs_serve.specs.Script.{last_connection}
-use Rattle.nfs_serve.specs.Desk.{Opened, ReadBlocked, WriteBlocked, Failed}
+use Rattle.nfs_serve.specs.Desk.{Opened, Unready, ReadBlocked, WriteBlocked, Failed}
 use Rattle.nfs_serve.specs.Desk as act
 use Rattle.nfs_serve.specs.declared.ports.Next.{Next}
 use Rattle.nfs_serve.specs.declared.ports.Next.TheVariants as next
@@ -19,6 +19,11 @@ abbrev pub named : Next → List Deed
 named (next.Opened port) = record { port = port; act = Opened } ∷ []
 named next.Nobody = []
 named next.Over = over
+
+-- a port that is not ready shows that
+abbrev pub readied : ℕ → Bool → List Deed
+readied port true = []
+readied port false = record { port = port; act = Unready } ∷ []
 
 abbrev pub ComesWithin : Came → List ℕ → Type 0
 ComesWithin (read.Bytes n) buf = (0 < n) × (n ≤ length buf)

@@ -1,21 +1,22 @@
 -- What comes of a sweep in the midst, and of who begins before it; private contracts alone speak of it.
 use Rattle.std.specs.Prelude.{◌≡◌, ◌⊎◌, ℕ, ◌<◌, ◌≤◌, List, [], ◌∷◌, flat_map, Bool, true, false, Option}
-use Rattle.std.specs.Io.KnownBytes.{Appends}
 use Rattle.nfs_serve.specs.Step.{State}
 use Rattle.nfs_serve.specs.Script.{last_connection}
+use Rattle.nfs_serve.specs.Told.{Told, Logs}
 use Rattle.nfs_serve.specs.Desk.{opened, HasMore, Opened}
-use Rattle.nfs_serve.specs.Deeds.{Deed, Logs, over}
-use Rattle.nfs_serve.specs.Hub.{Desks, Round, OthersStay, Turning, InOrder, IsServed, shown_in, asked_in}
+use Rattle.nfs_serve.specs.Deeds.{Deed, over}
+use Rattle.nfs_serve.specs.Hub.{Desks, Round, OthersStay, Turning, InOrder, HasTurn, IsServed, shown_in, asked_in}
 
--- the ports below one had their turns, as far as they were to have one
-pub record SweepsBelow (to : ℕ) (s : State) (old : Desks) (t : State) (new : Desks) (l0 l1 : Option (List Deed)) (c0 c1 : Option (List ℕ)) : Type 0 where
+-- the ports below one had their turns
+pub record SweepsBelow (to : ℕ) (s : State) (old : Desks) (t : State) (new : Desks) (l0 l1 : Option (List Deed)) (c0 c1 : Option (List Told)) : Type 0 where
   pub sweep : List Round
   pub turning : Turning s old sweep t new
   pub in_order : InOrder 0 to sweep
+  pub each : (port : ℕ) → port < to → HasTurn port sweep
   pub none_passed : (port : ℕ) → port < to → HasMore (old port) → IsServed port sweep
   pub others : (port : ℕ) → to ≤ port → new port ≡ old port
   pub logs : Logs l0 l1 (flat_map shown_in sweep)
-  pub clock : Appends c0 c1 (flat_map asked_in sweep)
+  pub clock : Logs c0 c1 (flat_map asked_in sweep)
 
 -- nobody begins, or a connection on one port; or no connection is left
 abbrev pub Begins : Bool → Desks → Desks → Option (List Deed) → Option (List Deed) → Type 0

@@ -3,6 +3,7 @@
 use Rattle.std.specs.Prelude.{◌≡◌, ℕ, ◌<◌, ◌≤◌, List, [], ◌∷◌, ◌++◌, length, flat_map, map, All, Bool, true, false, Option}
 use Rattle.std.specs.Io.KnownBytes.{Consumes, Appends, IsAtEnd}
 use Rattle.nfs_rpc.specs.Stream.{End, Open, TooLong}
+use Rattle.nfs_serve.specs.Told.{Told, Moment, Logs}
 use Rattle.nfs_serve.specs.declared.talking.Talk.{Talk}
 use Rattle.nfs_serve.specs.declared.talking.Talk.TheVariants.{Ended, Shut, ReadFailed, WriteFailed, TooMany}
 use Rattle.nfs_serve.specs.declared.form.Form.TheVariants.{Plain}
@@ -32,9 +33,9 @@ SpeaksUntil WriteFailed old new pieces written =
     × (streams : Streams) × RunsInto Plain old new before last streams written
 
 -- the same of what the ends and the clock show: one answer of the clock a piece, and no other
-abbrev pub Talks : Talk → State → State → Option (List ℕ) → Option (List ℕ) → Option (List ℕ) → Option (List ℕ) → Option (List ℕ) → Option (List ℕ) → Type 0
+abbrev pub Talks : Talk → State → State → Option (List ℕ) → Option (List ℕ) → Option (List ℕ) → Option (List ℕ) → Option (List Told) → Option (List Told) → Type 0
 Talks talk old new l0 l1 h0 h1 c0 c1 = (pieces : List Entry) × (written : List ℕ)
-    × Consumes l0 l1 (flat_map (λ e. e.piece) pieces) × Appends h0 h1 written × Appends c0 c1 (map (λ e. e.moment) pieces)
+    × Consumes l0 l1 (flat_map (λ e. e.piece) pieces) × Appends h0 h1 written × Logs c0 c1 (map (λ e. Moment e.moment) pieces)
     × All IsPiece pieces × SpeaksUntil talk old new pieces written
 
 -- which end ended the talk

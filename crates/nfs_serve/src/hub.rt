@@ -3,7 +3,7 @@
 ghost use Rattle.std.specs.Prelude.{◌≡◌, ◌<◌, ℕ, length, replicate, true, false, IfOk};
 ghost use Rattle.nfs_serve.specs.Server.{state_of};
 ghost use Rattle.nfs_serve.specs.Script.{connection_count};
-ghost use Rattle.nfs_serve.specs.Deeds.{Logs};
+ghost use Rattle.nfs_serve.specs.Told.{Logs};
 ghost use Rattle.nfs_serve.specs.Desk.{closed, HasMore};
 ghost use Rattle.nfs_serve.specs.Hub.{Serves, at};
 ghost use Rattle.nfs_serve.specs.Lane.{desks_of};
@@ -92,11 +92,11 @@ fn serve_lanes<P: Ports, C: Clock>(
     ensures serves { Serves (state_of engine.old.kept) (state_of engine.new.kept) (desks_of lanes.new) (P.log ports.old) (P.log ports.new) (C.told clock.old) (C.told clock.new) }
 {
     for _ in 0..u64::MAX {
-        clock.begin_sweep();
         let may_wait = !have_more(lanes);
         if !begin(lanes, ports, may_wait) {
             return;
         }
+        clock.begin_sweep();
         sweep(alloc, engine, lanes, ports, clock);
     }
 }

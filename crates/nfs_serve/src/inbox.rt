@@ -1,7 +1,7 @@
 //! What has come on a connection and was not stepped.
 
 ghost use Rattle.std.specs.Prelude.{◌≡◌, ◌≤◌, ◌<◌, [], length, drop, take, IfOk};
-ghost use Rattle.nfs_serve.specs.Deeds.{Logs};
+ghost use Rattle.nfs_serve.specs.Told.{Logs};
 ghost use Rattle.nfs_serve.specs.Shows.{came};
 ghost use Rattle.nfs_serve.specs.Script.{last_connection, most_piece};
 ghost use Rattle.nfs_serve.specs.Boxes.{Receives};

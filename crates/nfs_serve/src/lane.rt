@@ -1,11 +1,14 @@
 //! One connection of many: what came, what is owed, and its turn.
 
-ghost use Rattle.std.specs.Prelude.{◌≡◌, ◌⊎◌, ◌≤◌, ◌<◌, ℕ, List, [], length, filter, true, false, IfOk};
+ghost use Rattle.std.specs.Prelude.{◌≡◌, ◌≤◌, ◌<◌, ◌||◌, ℕ, List, [], length, drop, filter, true, false, IfOk};
+ghost use Rattle.nfs_serve.specs.Told.{Logs};
+ghost use Rattle.nfs_serve.specs.Deeds.{counted};
+ghost use Rattle.nfs_serve.specs.Sequenced.{answers_sequence};
 ghost use Rattle.nfs_rpc.specs.RecordMarking.{is_too_long};
 ghost use Rattle.nfs_serve.specs.Server.{state_of};
 ghost use Rattle.nfs_serve.specs.Script.{last_connection};
 ghost use Rattle.nfs_serve.specs.Desk.{Act, closed, opened, most_owed, EndsTurn, is_of_read, HasMore};
-ghost use Rattle.nfs_serve.specs.Lane.{desk_of, Advances, Flushes, Settles, Spends, StepsOne, StepsSome, Visits};
+ghost use Rattle.nfs_serve.specs.Lane.{desk_of, is_first, Advances, Flushes, IsLeft, IsSpent, Settles, Spends, StepsOne, StepsSome, Visits};
 ghost use Rattle.nfs_serve.specs.Boxes as boxes;
 
 use crate::Clock;
@@ -14,6 +17,7 @@ use crate::engine::Engine;
 use crate::inbox::Inbox;
 use crate::outbox::Outbox;
 use crate::ports::{Came, Ports, Took};
+use crate::sequenced::answers_sequence;
 use crate::talking::MAX_READS;
 use std::alloc::{AllocError, Global};
 
@@ -27,6 +31,8 @@ const MOST_TAKEN: usize = 65_536;
 #[derive(Drop)]
 pub(crate) struct Lane {
     live: bool,
+    /// Whether a session's SEQUENCE was answered on it.
+    heard: bool,
     reads: u32,
     connection: Connection,
     unread: Inbox,
@@ -40,15 +46,17 @@ pub(crate) struct Budget {
     steps: u32,
     /// How many bytes the peer may take, before no further record is stepped.
     bytes: usize,
+    /// Whether the turn has lasted long enough, so that no further record is stepped.
+    late: bool,
 }
 
 impl Budget {
     /// Whether no further record may be stepped.
     fn is_spent(&self) -> bool
-        ensures spent { result ≡ true → (self.now.steps ≡ 0) ⊎ (self.now.bytes ≡ 0) }
-        ensures left { result ≡ false → (0 < self.now.steps) × (0 < self.now.bytes) }
+        ensures spent { result ≡ true → IsSpent self.now }
+        ensures left { result ≡ false → IsLeft self.now }
     {
-        self.steps == 0 || self.bytes == 0
+        self.steps == 0 || self.bytes == 0 || self.late
     }
 }
 
@@ -70,6 +78,7 @@ impl Lane {
     {
         Ok(Lane {
             live: false,
+            heard: false,
             reads: 0,
             connection: Connection::new(alloc)?,
             unread: Inbox::new(alloc)?,
@@ -90,6 +99,7 @@ impl Lane {
         ensures { desk_of self.new ≡ closed }
     {
         self.live = false;
+        self.heard = false;
         self.reads = 0;
         self.connection.close();
         self.unread.clear();
@@ -126,15 +136,26 @@ impl Lane {
         !self.connection.is_too_long() && !self.unread.rest().is_empty() && self.owed.has_room()
     }
 
-    /// Steps the first record of what came, at the clock's moment.
-    fn step_one<C: Clock>(&mut self, alloc: Global, engine: &mut Engine, port: u32, clock: &mut C)
+    /// Steps the first record of what came, at the clock's moment, and asks the clock behind it whether the turn is late.
+    fn step_one<P: Ports, C: Clock>(
+        &mut self,
+        alloc: Global,
+        engine: &mut Engine,
+        port: u32,
+        ports: &mut P,
+        clock: &mut C,
+        left: &mut Budget,
+    )
+        requires port { port ≤ last_connection }
         requires live { self.old.live ≡ true }
         requires short { is_too_long self.old.connection ≡ false }
         requires some { 0 < length self.old.unread }
         requires laid { self.old.owed.laid ≤ most_owed }
         requires room { length self.old.owed.bytes ≤ most_owed }
-        ensures { StepsOne port (state_of engine.old.kept) (state_of engine.new.kept) self.old self.new (C.told clock.old) (C.told clock.new) }
+        requires left { 0 < left.old.steps }
+        ensures { StepsOne port (state_of engine.old.kept) (state_of engine.new.kept) self.old self.new (P.log ports.old) (P.log ports.new) (C.told clock.old) (C.told clock.new) left.old left.new }
     {
+        let before = self.owed.rest().len();
         let now = clock.now();
         let used = self.connection.take_one(
             alloc,
@@ -145,31 +166,46 @@ impl Lane {
             &mut self.owed,
         );
         self.unread.consume(used);
+        left.steps -= 1;
+        left.late = clock.is_late();
+        self.count(port, ports, before);
+    }
+
+    /// Says to the port that its connection counts, where what is owed behind so many bytes is the first answer to a session's SEQUENCE.
+    fn count<P: Ports>(&mut self, port: u32, ports: &mut P, before: usize)
+        requires port { port ≤ last_connection }
+        requires within { before ≤ length self.old.owed.bytes }
+        ensures heard { self.new ≡ record self.old { heard = self.old.heard || answers_sequence (drop before self.old.owed.bytes) } }
+        ensures logs { Logs (P.log ports.old) (P.log ports.new) (counted port (is_first self.old.heard (drop before self.old.owed.bytes))) }
+    {
+        if !self.heard && answers_sequence(&self.owed.rest()[before..]) {
+            self.heard = true;
+            ports.count(port);
+        }
     }
 
     /// Steps the records of what came, while the outbox has room: one at least, and as many as may be at most.
-    fn step_some<C: Clock>(
+    fn step_some<P: Ports, C: Clock>(
         &mut self,
         alloc: Global,
         engine: &mut Engine,
         port: u32,
+        ports: &mut P,
         clock: &mut C,
         left: &mut Budget,
     )
+        requires port { port ≤ last_connection }
         requires live { self.old.live ≡ true }
         requires short { is_too_long self.old.connection ≡ false }
         requires some { 0 < length self.old.unread }
         requires empty { length self.old.owed.bytes ≡ 0 }
-        requires steps { 0 < left.old.steps }
-        requires bytes { 0 < left.old.bytes }
-        ensures { StepsSome port (state_of engine.old.kept) (state_of engine.new.kept) self.old self.new (C.told clock.old) (C.told clock.new) left.old left.new }
+        requires left { IsLeft left.old }
+        ensures { StepsSome port (state_of engine.old.kept) (state_of engine.new.kept) self.old self.new (P.log ports.old) (P.log ports.new) (C.told clock.old) (C.told clock.new) left.old left.new }
     {
         self.owed.clear();
-        self.step_one(alloc, engine, port, clock);
-        left.steps -= 1;
-        while left.steps > 0 && self.may_step() {
-            self.step_one(alloc, engine, port, clock);
-            left.steps -= 1;
+        self.step_one(alloc, engine, port, ports, clock, left);
+        while !left.is_spent() && self.may_step() {
+            self.step_one(alloc, engine, port, ports, clock, left);
         }
     }
 
@@ -204,7 +240,7 @@ impl Lane {
             if left.is_spent() {
                 return Rest::Clear;
             }
-            self.step_some(alloc, engine, port, clock, left);
+            self.step_some(alloc, engine, port, ports, clock, left);
         }
     }
 
@@ -228,6 +264,7 @@ impl Lane {
         requires port { port ≤ last_connection }
         ensures { Visits port (state_of engine.old.kept) (desk_of self.old) (state_of engine.new.kept) (desk_of self.new) (P.log ports.old) (P.log ports.new) (C.told clock.old) (C.told clock.new) }
     {
+        clock.begin_turn();
         if !self.has_more() && !ports.is_ready(port) {
             return;
         }
@@ -235,7 +272,7 @@ impl Lane {
     }
 
     /// One turn: what waits is answered, then one read, then what came is answered. It ends where the peer takes no more, where 16 records
-    /// were stepped, or where the peer took 64 KiB.
+    /// were stepped, where the peer took 64 KiB, or where the clock says that it has lasted long enough.
     fn turn<P: Ports, C: Clock>(
         &mut self,
         alloc: Global,
@@ -253,6 +290,7 @@ impl Lane {
         let mut left = Budget {
             steps: MOST_STEPS,
             bytes: MOST_TAKEN,
+            late: false,
         };
         match self.settle(alloc, engine, port, ports, clock, &mut left) {
             Rest::Clear => {}

@@ -33,6 +33,7 @@ mod outbox;
 mod ports;
 mod running;
 mod script;
+mod sequenced;
 mod server;
 mod sink;
 mod source;

@@ -1,9 +1,10 @@
 //! What is asked of the connections.
 
 ghost use Rattle.std.specs.Prelude.{◌<◌, ◌≤◌, ℕ, [], ◌∷◌, List, Option, length};
-ghost use Rattle.nfs_serve.specs.Desk.{Act, Closed};
-ghost use Rattle.nfs_serve.specs.Deeds.{Deed, Logs};
-ghost use Rattle.nfs_serve.specs.Shows.{NamesPort, named, ComesWithin, came, TakesWithin, took};
+ghost use Rattle.nfs_serve.specs.Desk.{Act, Closed, Counted};
+ghost use Rattle.nfs_serve.specs.Told.{Logs};
+ghost use Rattle.nfs_serve.specs.Deeds.{Deed};
+ghost use Rattle.nfs_serve.specs.Shows.{NamesPort, named, readied, ComesWithin, came, TakesWithin, took};
 ghost use Rattle.nfs_serve.specs.Script.{last_connection};
 
 /// Who begins.
@@ -52,8 +53,9 @@ pub trait Ports {
         ensures logs { Logs (log self.old) (log self.new) (named result) };
 
     /// Whether a read or a write may do something on a port.
-    fn is_ready(&self, port: u32) -> bool
-        requires port { port ≤ last_connection };
+    fn is_ready(&mut self, port: u32) -> bool
+        requires port { port ≤ last_connection }
+        ensures logs { Logs (log self.old) (log self.new) (readied port result) };
 
     /// Reads what is there into the front of `buf`.
     fn read(&mut self, port: u32, buf: &mut [u8]) -> Came
@@ -68,6 +70,11 @@ pub trait Ports {
         requires some { 0 < length bytes.now }
         ensures bound { TakesWithin result bytes.now }
         ensures logs { Logs (log self.old) (log self.new) (took port result bytes.now) };
+
+    /// A session's SEQUENCE was answered on the connection, for the first time.
+    fn count(&mut self, port: u32)
+        requires port { port ≤ last_connection }
+        ensures logs { Logs (log self.old) (log self.new) (record { port = port; act = Counted } ∷ []) };
 
     /// Ends the connection.
     fn close(&mut self, port: u32)

@@ -1,7 +1,7 @@
 -- The account of a connection that is served all along.
 use Rattle.std.proofs.Common.{◌≡◌, ℕ, List, [], ◌∷◌, ◌++◌, Bool, true, false, refl, sym, ap, subst, ◌∙◌, append_assoc, append-nil}
 use Rattle.nfs_serve.specs.Step.{State}
-use Rattle.nfs_serve.specs.Desk.{Desk, Act, Opened, Over, Came, ReadBlocked, Ended, Took, WriteBlocked, Failed, Closed, Stepped, Goes}
+use Rattle.nfs_serve.specs.Desk.{Desk, Act, Opened, Over, Unready, Counted, Came, ReadBlocked, Ended, Took, WriteBlocked, Failed, Closed, Stepped, Goes}
 use Rattle.nfs_serve.specs.Promises.Account.{Account}
 
 both : {A : Type 0} (b : Bool) → b ≡ true → b ≡ false → A
@@ -15,6 +15,8 @@ dead : (port : ℕ) (s t : State) (d e : Desk) (acts : List Act) → Goes port s
 dead port s t d e [] h off = ap (λ x. x.live) h.1 ∙ off
 dead port s t d e (Opened ∷ acts) h off = absurd h.2
 dead port s t d e (Over ∷ acts) h off = absurd h.2
+dead port s t d e (Counted ∷ acts) h off = absurd h.2
+dead port s t d e (Unready ∷ acts) h off = let (u, c, does, rest) = h in dead port u t c e acts rest (ap (λ x. x.live) does.1.1 ∙ off)
 dead port s t d e (Came bytes ∷ acts) h off = let (u, c, does, rest) = h in both d.live does.1.live off
 dead port s t d e (ReadBlocked ∷ acts) h off = let (u, c, does, rest) = h in both d.live does.1.live off
 dead port s t d e (Ended ∷ acts) h off = let (u, c, does, rest) = h in both d.live does.1.live off
@@ -22,7 +24,7 @@ dead port s t d e (Took bytes ∷ acts) h off = let (u, c, does, rest) = h in bo
 dead port s t d e (WriteBlocked ∷ acts) h off = let (u, c, does, rest) = h in both d.live does.1 off
 dead port s t d e (Failed ∷ acts) h off = let (u, c, does, rest) = h in both d.live does.1 off
 dead port s t d e (Closed ∷ acts) h off = let (u, c, does, rest) = h in dead port u t c e acts rest (ap (λ x. x.live) does.2)
-dead port s t d e (Stepped moment part ∷ acts) h off = let (u, c, does, rest) = h in let (is, left, out, steps, same) = does in both d.live steps.live off
+dead port s t d e (Stepped moment part late first ∷ acts) h off = let (u, c, does, rest) = h in let (is, left, out, steps, once, same) = does in both d.live steps.live off
 
 pub account : (port : ℕ) (s t : State) (d e : Desk) (acts : List Act) → Goes port s d acts t e → e.live ≡ true → Account port s d acts t e
 account port s t d e [] h on = record {
@@ -33,6 +35,13 @@ account port s t d e [] h on = record {
 }
 account port s t d e (Opened ∷ acts) h on = absurd h.2
 account port s t d e (Over ∷ acts) h on = absurd h.2
+account port s t d e (Counted ∷ acts) h on = absurd h.2
+account port s t d e (Unready ∷ acts) h on =
+    let (u, c, does, rest) = h in
+    let (same, none, is) = does in
+    let k = subst (λ x. Account port x c acts t e) same (account port u t c e acts rest on) in
+    let a = subst (λ x. Account port s x acts t e) is k in
+    record { outs = a.outs; answers = a.answers; in_order = a.in_order; out_order = a.out_order }
 account port s t d e (Came bytes ∷ acts) h on =
     let (u, c, does, rest) = h in
     let (same, hungry, some, few, is) = does in
@@ -74,9 +83,9 @@ account port s t d e (Failed ∷ acts) h on =
 account port s t d e (Closed ∷ acts) h on =
     let (u, c, does, rest) = h in
     both e.live on (dead port u t c e acts rest (ap (λ x. x.live) does.2))
-account port s t d e (Stepped moment part ∷ acts) h on =
+account port s t d e (Stepped moment part late first ∷ acts) h on =
     let (u, c, does, rest) = h in
-    let (mid, left, out, steps, is) = does in
+    let (mid, left, out, steps, once, is) = does in
     let a = subst (λ x. Account port u x acts t e) is (account port u t c e acts rest on) in record {
       outs = out ++ a.outs;
       answers = (u, mid, out, a.outs, steps.takes, refl, a.answers);

@@ -13,13 +13,13 @@ taken (Took bytes) = bytes
 taken act = []
 
 abbrev pub part_of : Act → List ℕ
-part_of (Stepped moment part) = part
+part_of (Stepped moment part late first) = part
 part_of act = []
 
 -- the parts that were stepped, in order, and what they put out
 abbrev pub Answers : ℕ → State → Gathered → List Act → State → Gathered → List ℕ → Type 0
 Answers port s was [] t is outs = (t ≡ s) × (is ≡ was) × (outs ≡ [])
-Answers port s was (Stepped moment part ∷ acts) t is outs = (u : State) × (mid : Gathered) × (out : List ℕ) × (more : List ℕ)
+Answers port s was (Stepped moment part late first ∷ acts) t is outs = (u : State) × (mid : Gathered) × (out : List ℕ) × (more : List ℕ)
     × TakesPart port s was moment part u mid out × (outs ≡ out ++ more) × Answers port u mid acts t is more
 Answers port s was (act ∷ acts) t is outs = Answers port s was acts t is outs
 

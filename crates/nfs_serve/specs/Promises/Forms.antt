@@ -18,6 +18,7 @@ use Rattle.nfs_serve.specs.Run.{Streams, all_closed, Brings, TakesAll, StreamEve
 use Rattle.nfs_serve.specs.Server.{ServerModel, state_of, Stands, Steps, FeedsOr}
 use Rattle.nfs_serve.specs.Replay.{Replays}
 use Rattle.nfs_serve.specs.Talk.{Talks}
+use Rattle.nfs_serve.specs.Told.{Told, Moment, Logs}
 use Rattle.nfs_serve.specs.Desk.{Desk}
 use Rattle.nfs_serve.specs.Hub.{ServesRounds}
 use Rattle.nfs_serve.specs.Deeds.{Deed}
@@ -81,12 +82,12 @@ pub record EachFormRunsRecords : Type 0 where
       → (entries : List Entry) × (rest : List ℕ) × (written : List ℕ)
       × Consumes l0 l1 (flat_map spell_entry entries ++ rest) × Appends h0 h1 written × RunUpTo Tagged old new entries written
   -- `talk`: the pieces that were read, each at its moment
-  pub talk : (ending : Talk) (old new : State) (l0 l1 h0 h1 c0 c1 : Option (List ℕ)) → Talks ending old new l0 l1 h0 h1 c0 c1
+  pub talk : (ending : Talk) (old new : State) (l0 l1 h0 h1 : Option (List ℕ)) (c0 c1 : Option (List Told)) → Talks ending old new l0 l1 h0 h1 c0 c1
       → (pieces : List Entry) × (written : List ℕ) × Consumes l0 l1 (flat_map (λ e. e.piece) pieces) × Appends h0 h1 written
-      × Appends c0 c1 (map (λ e. e.moment) pieces) × RunUpTo Plain old new pieces written
+      × Logs c0 c1 (map (λ e. Moment e.moment) pieces) × RunUpTo Plain old new pieces written
   -- `serve_ports`: of the rounds that the connections and the clock showed, the parts that were stepped, on whatever ports, and the closes. What
   -- each port's peer is written `NothingIsLostInARun` says.
-  pub serve : (old new : State) (desks : List Desk) (count : ℕ) (l0 l1 : Option (List Deed)) (c0 c1 : Option (List ℕ))
+  pub serve : (old new : State) (desks : List Desk) (count : ℕ) (l0 l1 : Option (List Deed)) (c0 c1 : Option (List Told))
       → (served : ServesRounds old new desks count l0 l1 c0 c1) → (moves : List Move) × RunsRecords old new (script served.rounds) moves
   -- A run behind a run is one: so what any of these leaves, one after the other, is what a list of records leaves of a new server.
   pub goes_on : (find : List ℕ → Option Answer) (mode instance lease : ℕ) (before records : List Arrival) → (let s = server find mode instance lease in

@@ -18,7 +18,7 @@ close port = record { moment = 0; conn = port; piece = [] }
 
 -- each part that is stepped on a port is an entry at its moment, and each close is one
 abbrev pub entries_of : ℕ → Act → List Entry
-entries_of port (Stepped moment part) = record { moment = moment; conn = port; piece = part } ∷ []
+entries_of port (Stepped moment part late first) = record { moment = moment; conn = port; piece = part } ∷ []
 entries_of port Closed = close port ∷ []
 entries_of port act = []
 

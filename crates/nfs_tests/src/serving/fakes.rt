@@ -44,6 +44,12 @@ impl Clock for Counting {
     }
 
     fn begin_sweep(&mut self) {}
+
+    fn begin_turn(&mut self) {}
+
+    fn is_late(&mut self) -> bool {
+        false
+    }
 }
 
 /// Takes at most `most` bytes in a call, and fails at call `fails`, counted from 1.

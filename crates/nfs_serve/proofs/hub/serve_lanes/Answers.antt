@@ -3,7 +3,7 @@ use Rattle.nfs_serve.specs.Server.{state_of}
 use Rattle.nfs_serve.specs.Hub.{at}
 use Rattle.nfs_serve.specs.Lane.{desks_of}
 use Rattle.nfs_serve.specs.Sweep.{Begins}
-use Rattle.nfs_serve.proofs.Rounds.{start, retold, more}
+use Rattle.nfs_serve.proofs.Rounds.{start, more}
 use Rattle.nfs_serve.proofs.Sweeps.{swept}
 use Rattle.nfs_serve.proofs.hub.serve_lanes.Goals as goal
 
@@ -12,18 +12,16 @@ loop-init g c = (start (state_of c.args.engine.now.kept) c.args.lanes.now _ _ c.
 
 pub loop-preserved : goal.loop-preserved
 loop-preserved g c =
-    let (earlier, len) = c.loop.invariant in
-    let before = retold _ _ _ _ _ _ _ _ _ earlier c.begin_sweep.ensures in
+    let (before, len) = c.loop.invariant in
     let begun : c.begin.result ≡ true = search rules in
-    let w = swept _ _ (at (desks_of c.loop.lanes)) (at (desks_of c.begin.new.lanes)) _ _ _ _ _ _
+    let w = swept _ _ (at (desks_of c.loop.lanes)) (at (desks_of c.begin.new.lanes)) _ _ _ _ _ _ _
     (subst (λ b. Begins b (at (desks_of c.loop.lanes)) (at (desks_of c.begin.new.lanes)) (g.P.Ports.log c.loop.ports) (g.P.Ports.log c.begin.new.ports)) begun c.begin.ensures.begins)
-    c.sweep.ensures.sweeps in
+    c.begin_sweep.ensures c.sweep.ensures.sweeps in
     (more _ _ _ (desks_of c.loop.lanes) (desks_of c.sweep.new.lanes) _ _ _ _ _ _ _ w.sweep before w.sweeps w.logs w.clock, c.sweep.ensures.length)
 
 pub returns-then-not-begin-clause-serves : goal.returns-then-not-begin-clause-serves
 returns-then-not-begin-clause-serves g c =
-    let (earlier, len) = c.loop.invariant in
-    let before = retold _ _ _ _ _ _ _ _ _ earlier c.begin_sweep.ensures in
+    let (before, len) = c.loop.invariant in
     let none : c.begin.result ≡ false = search rules in (
       c.loop.counter,
       _,

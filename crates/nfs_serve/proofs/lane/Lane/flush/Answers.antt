@@ -19,7 +19,7 @@ loop-ports-preserved g c =
         quiet_on _ acts (Took (take n c.rest-in-loop-ports.result.now) ∷ []) _ _ _ _ _ _ so_far
             (quiet_act _ (Took (take n c.rest-in-loop-ports.result.now)) _ _ _ _ refl refl refl
             (λ s. (refl, live, some, c.consume.new.self.bytes, split, refl)) c.in-Bytes.ensures.logs),
-        spends_on acts (Took (take n c.rest-in-loop-ports.result.now) ∷ []) _ _ _ spent (spends_took (take n c.rest-in-loop-ports.result.now) _ _ refl fewer),
+        spends_on acts (Took (take n c.rest-in-loop-ports.result.now) ∷ []) _ _ _ spent (spends_took (take n c.rest-in-loop-ports.result.now) _ _ refl fewer refl),
       ),
       live,
       long,

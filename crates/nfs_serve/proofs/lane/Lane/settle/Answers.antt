@@ -2,7 +2,7 @@ use Rattle.std.proofs.Common.{◌≡◌, ◌⊎◌, ◌<◌, rules, refl, ap, �
 use Rattle.std.proofs.lemmas.List.{nil_from_length}
 use Rattle.nfs_serve.specs.Desk.{Closed}
 use Rattle.nfs_serve.specs.Lane.{desk_of}
-use Rattle.nfs_serve.proofs.Advancing.{goes_on, quiet_advances, quiet_on, quiet_act, working_advances, stuck_behind, none_read}
+use Rattle.nfs_serve.proofs.Advancing.{goes_on, quiet_advances, quiet_on, quiet_act, stuck_behind, none_read}
 use Rattle.nfs_serve.proofs.Spending.{spends_on, spends_closed}
 use Rattle.nfs_serve.proofs.lane.Lane.settle.Goals as goal
 
@@ -64,7 +64,7 @@ returns-then-is_spent g c =
     let (ys, quiet, clear, flushed) = c.in-Clear.ensures in
     let still : c.flush.new.self.live ≡ true = ap (λ d. d.live) clear ∙ live in
     let some : 0 < length c.flush.new.self.unread = search rules in
-    let done : (c.flush.new.left.steps ≡ 0) ⊎ (c.flush.new.left.bytes ≡ 0) = c.is_spent.ensures.spent c.if-is_spent.true in
+    let done = c.is_spent.ensures.spent c.if-is_spent.true in
     let short = sym c.is_too_long.ensures ∙ c.if-is_too_long.false in (
       acts ++ ys,
       goes_on so_far ys _ _ _ _ (quiet_advances _ ys _ _ _ _ _ _ quiet),
@@ -78,13 +78,14 @@ loop-self-preserved g c =
     let ((acts, so_far, none_yet, spent), live) = c.loop-self.invariant in
     let (ys, quiet, clear, flushed) = c.in-Clear.ensures in
     let still : c.flush.new.self.live ≡ true = ap (λ d. d.live) clear ∙ live in
-    let (zs, working, same, shorter, kept, stepped) = c.step_some.ensures in
+    let some = c.step_some.ensures in
+    let zs = some.acts in
     let written = goes_on so_far ys _ _ _ _ (quiet_advances _ ys _ _ _ _ _ _ quiet) in (
       (
         (acts ++ ys) ++ zs,
-        goes_on written zs _ _ _ _ (working_advances _ zs _ _ _ _ _ _ _ working),
-        none_read (acts ++ ys) zs (none_read acts ys none_yet quiet.no_reads) working.no_reads,
-        spends_on (acts ++ ys) zs _ _ _ (spends_on acts ys _ _ _ spent flushed) stepped,
+        goes_on written zs _ _ _ _ some.advances,
+        none_read (acts ++ ys) zs (none_read acts ys none_yet quiet.no_reads) some.no_reads,
+        spends_on (acts ++ ys) zs _ _ _ (spends_on acts ys _ _ _ spent flushed) some.spends,
       ),
-      same ∙ still,
+      some.live ∙ still,
     )

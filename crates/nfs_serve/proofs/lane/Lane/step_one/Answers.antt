@@ -1,4 +1,6 @@
-use Rattle.std.proofs.Common.{◌≡◌, ◌<◌, ◌≤◌, refl, sym, ◌∙◌, ◌++◌, ap, take, length, take-append-drop, take-take, arith, length-drop, length-take, length-take-le, min}
+use Rattle.std.proofs.Common.{◌≡◌, ◌<◌, ◌≤◌, refl, sym, ◌∙◌, ◌++◌, ap, [], ◌∷◌, rules, take, length, take-append-drop, take-take, arith, length-drop, length-take, length-take-le, min}
+use Rattle.nfs_serve.specs.Told.{Moment, Late}
+use Rattle.nfs_serve.proofs.Advancing.{Logs-trans}
 use Rattle.nfs_serve.proofs.lane.Lane.step_one.Goals as goal
 
 pub consume-requires : goal.consume-requires
@@ -22,12 +24,13 @@ returns g c =
     rw front (rw c.consume.ensures (sym (take-append-drop used unread))) in
     let some : 0 < length part = omega (arith, positive, size) in
     let shorter : length c.consume.new.self < length unread =
-    omega (arith, positive, within, most, ap length c.consume.ensures, length-drop used unread) in (
-      c.now-now.result,
-      part,
-      out,
-      c.now-now.ensures.tells,
-      record {
+    omega (arith, positive, within, most, ap length c.consume.ensures, length-drop used unread) in record {
+      moment = c.now-now.result;
+      part = part;
+      out = out;
+      clock = Logs-trans _ _ _ (Moment c.now-now.result ∷ []) (Late c.is_late.result ∷ []) c.now-now.ensures.tells c.is_late.ensures;
+      logs = search rules;
+      steps = record {
         live = c.requires.live;
         short = c.requires.short;
         room = c.requires.room;
@@ -36,9 +39,12 @@ returns g c =
         few = omega (arith, few, size);
         split = split;
         takes = takes;
-      },
-      owed,
-      refl,
-      refl,
-      shorter,
-    )
+      };
+      owed = owed;
+      heard = search rules;
+      live = refl;
+      reads = refl;
+      shorter = shorter;
+      one = search rules;
+      bytes = refl;
+    }

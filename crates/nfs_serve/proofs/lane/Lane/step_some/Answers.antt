@@ -2,39 +2,43 @@ use Rattle.std.proofs.Common.{◌≡◌, ◌<◌, ◌++◌, [], ◌∷◌, refl,
 use Rattle.std.proofs.lemmas.List.{nil_from_length}
 use Rattle.nfs_serve.specs.Server.{state_of}
 use Rattle.nfs_serve.specs.Desk.{Stepped}
-use Rattle.nfs_serve.specs.Lane.{desk_of, Working}
-use Rattle.nfs_serve.proofs.Advancing.{stepped, working_on}
+use Rattle.nfs_serve.specs.Lane.{desk_of, is_first, Advances}
+use Rattle.nfs_serve.proofs.Advancing.{stepped, goes_on, none_read}
 use Rattle.nfs_serve.proofs.Spending.{spends_on, spends_step}
 use Rattle.nfs_serve.proofs.lane.Lane.step_some.Goals as goal
 
 pub loop-left-init : goal.loop-left-init
 loop-left-init g c =
-    let (moment, part, out, told, steps, owed, live, reads, shorter) = c.step_one.ensures in
+    let one = c.step_one.ensures in
     let none : c.args.self.now.owed.bytes ≡ [] = nil_from_length _ c.requires.empty in
     let empty = ap (λ b. b.bytes) c.clear.ensures ∙ sym none in
-    let lane = c.args.self.now in (
-      Stepped moment part ∷ [],
-      subst (λ o. Working c.args.port (Stepped moment part ∷ []) (state_of c.args.engine.now.kept)
-          (record { live = lane.live; gone = false; stream = lane.connection; reads = lane.reads; unread = lane.unread; owed = o })
-          (state_of c.step_one.new.engine.kept) (desk_of c.step_one.new.self) (g.C.Clock.told c.args.clock.now) (g.C.Clock.told c.step_one.new.clock))
-          empty (stepped _ moment part out _ _ (record lane { owed = c.clear.new.self }) c.step_one.new.self _ _ steps owed live reads told),
-      live,
-      shorter,
-      refl,
-      spends_step moment part _ _ (omega (arith, c.requires.steps)) refl c.requires.bytes,
-    )
+    let lane = c.args.self.now in
+    let acts = Stepped one.moment one.part c.step_one.new.left.late (is_first lane.heard one.out) ∷ [] in record {
+      acts = acts;
+      advances = subst (λ o. Advances c.args.port acts (state_of c.args.engine.now.kept)
+          (record { live = lane.live; gone = false; heard = lane.heard; stream = lane.connection; reads = lane.reads; unread = lane.unread; owed = o })
+          (state_of c.step_one.new.engine.kept) (desk_of c.step_one.new.self) (g.P.Ports.log c.args.ports.now) (g.P.Ports.log c.step_one.new.ports)
+          (g.C.Clock.told c.args.clock.now) (g.C.Clock.told c.step_one.new.clock))
+          empty (stepped _ _ _ (record lane { owed = c.clear.new.self }) c.step_one.new.self _ _ _ _ _ _ one);
+      no_reads = refl;
+      spends = spends_step one.moment one.part (is_first lane.heard one.out) c.args.left.now c.step_one.new.left one.one one.bytes c.requires.left;
+      live = one.live;
+      shorter = one.shorter;
+      bytes = one.bytes;
+    }
 
 pub loop-left-preserved : goal.loop-left-preserved
 loop-left-preserved g c =
-    let (acts, so_far, alive, less, same, spent) = c.loop-left.invariant in
-    let some : 0 < c.loop-left.left.steps = search rules in
-    let bytes : 0 < c.loop-left.left.bytes = omega (arith, same, c.requires.bytes) in
-    let (moment, part, out, told, steps, owed, live, reads, shorter) = c.step_one-in-loop-left.ensures in (
-      acts ++ Stepped moment part ∷ [],
-      working_on _ acts (Stepped moment part ∷ []) _ _ _ _ _ _ _ _ _ so_far
-          (stepped _ moment part out _ _ c.loop-left.self c.step_one-in-loop-left.new.self _ _ steps owed live reads told),
-      live ∙ alive,
-      omega (arith, shorter, less),
-      same,
-      spends_on acts (Stepped moment part ∷ []) _ _ _ spent (spends_step moment part _ _ (omega (arith, some)) refl bytes),
-    )
+    let before = c.loop-left.invariant in
+    let one = c.step_one-in-loop-left.ensures in
+    let left = c.is_spent.ensures.left (search rules) in
+    let acts = Stepped one.moment one.part c.step_one-in-loop-left.new.left.late (is_first c.loop-left.self.heard one.out) ∷ [] in record {
+      acts = before.acts ++ acts;
+      advances = goes_on before.advances acts _ _ _ _ (stepped _ _ _ c.loop-left.self c.step_one-in-loop-left.new.self _ _ _ _ _ _ one);
+      no_reads = none_read before.acts acts before.no_reads refl;
+      spends = spends_on before.acts acts _ _ _ before.spends
+          (spends_step one.moment one.part (is_first c.loop-left.self.heard one.out) c.loop-left.left c.step_one-in-loop-left.new.left one.one one.bytes left);
+      live = one.live ∙ before.live;
+      shorter = omega (arith, one.shorter, before.shorter);
+      bytes = one.bytes ∙ before.bytes;
+    }

@@ -18,7 +18,7 @@ hungry g c =
 pub returns-then-not-self : goal.returns-then-not-self
 returns-then-not-self g c =
     let off : c.args.self.now.live ≡ false = search rules in
-    ([], stays _ _ _ _ _, ends_gone (record { steps = 16; bytes = 65536 }) (reads_none [] refl) (spends_nothing _) off)
+    ([], stays _ _ _ _ _, ends_gone (record { steps = 16; bytes = 65536; late = false }) (reads_none [] refl) (spends_nothing _) off)
 
 pub returns-in-Stuck : goal.returns-in-Stuck
 returns-in-Stuck g c = let (xs, first, stuck, none, spent) = c.in-Stuck.ensures in (xs, first, ends_stuck _ (reads_none xs none) spent stuck)
