@@ -1,4 +1,4 @@
 pub mod CommandLine
 pub mod ExitStatus
 pub mod SettingsFile
-pub mod Seconds
+pub mod Readings

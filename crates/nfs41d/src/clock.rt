@@ -1,217 +1,114 @@
-//! The system's clock, as the server reads it: for connections one after the other, and for many at once.
+//! The system's clock, as the server reads it for many connections.
 
-ghost use Rattle.std.specs.Prelude.{◌≡◌, ◌≤◌, ◌<◌, ◌+◌, ◌%◌, ◌^◌, ℕ, max, List, Option, [], ◌∷◌, None, IfSome};
-ghost use Rattle.std.specs.Io.KnownBytes.{Appends};
+ghost use Rattle.std.specs.Prelude.{◌≡◌, ◌≤◌, ◌<◌, ◌+◌, ◌/◌, ◌%◌, ◌^◌, ℕ, List, Option, [], ◌∷◌, None, min};
 ghost use Rattle.nfs_serve.specs.Script.{last_moment};
-ghost use Rattle.nfs41d.specs.Seconds.{Reads, Answers, Paces, Rises, pace, risen, is_idle, begins, starts, fourths, shown};
+ghost use Rattle.nfs_serve.specs.Told.{Told, Sweep, Turn, Moment, Late, Logs};
+ghost use Rattle.nfs_pace.specs.Paced.{second, risen, begins, begins_turn, is_late, starts, takes, tells};
+ghost use Rattle.nfs41d.specs.Readings.{Reads, Takes};
 
+use nfs_pace::{MICROS, Paced};
 use nfs_serve::{Clock, LAST_MOMENT};
 use std::rt;
 use std::time::{SystemTime, UNIX_EPOCH};
 
-/// Where the seconds of a clock come from.
-pub trait Seconds {
+/// Where the readings of a clock come from.
+pub trait Readings {
     // What was read so far, where that is known.
     ghost reads: { Self → Option (List (Option ℕ)) };
 
-    /// The second since 1970 that is shown now, or `None` where it cannot be read.
-    fn second(&mut self) -> Option<u64>
+    /// How many microseconds since 1970 are shown now, or `None` where it cannot be read.
+    fn micros(&mut self) -> Option<u64>
         ensures { Reads (reads self.old) (reads self.new) result };
 }
 
-/// The seconds of the system's clock.
+/// The readings of the system's clock.
 #[derive(Drop)]
-pub struct SystemSeconds<'a, R: rt::Clock> {
+pub struct SystemReadings<'a, R: rt::Clock> {
     rt: &'a R,
 }
 
-impl<R: rt::Clock> Seconds for SystemSeconds<'_, R> {
+impl<'a, R: rt::Clock> SystemReadings<'a, R> {
+    /// Those that are taken from now on.
+    pub fn new(rt: &'a R) -> SystemReadings<'a, R> {
+        SystemReadings { rt }
+    }
+}
+
+impl<R: rt::Clock> Readings for SystemReadings<'_, R> {
     ghost reads = { λ _. None };
 
-    fn second(&mut self) -> Option<u64> {
+    fn micros(&mut self) -> Option<u64> {
         let now = SystemTime::now(self.rt).ok()?;
         let since = now.duration_since(UNIX_EPOCH).ok()?;
-        Some(since.as_secs())
+        let seconds = since.as_secs().saturating_mul(MICROS);
+        Some(seconds.saturating_add(u64::from(since.subsec_micros())))
     }
 }
 
-/// The system's clock in seconds since 1970. Where it cannot be read it repeats its last moment, at first 0.
+/// The system's clock for many connections, slowed where sweeps over them are long. It is read where a sweep begins and behind each record; where it
+/// cannot be read, what was read before is taken again.
 #[derive(Drop)]
-pub struct SystemClock<S: Seconds> {
-    seconds: S,
-    last: u64,
-}
-
-impl<'a, R: rt::Clock> SystemClock<SystemSeconds<'a, R>> {
-    /// A clock that has not been read.
-    pub fn new(rt: &'a R) -> SystemClock<SystemSeconds<'a, R>>
-        ensures { result.last ≡ 0 }
-    {
-        SystemClock {
-            seconds: SystemSeconds { rt },
-            last: 0,
-        }
-    }
-}
-
-impl<S: Seconds> Clock for SystemClock<S> {
-    ghost told = { λ _. None };
-
-    /// What its seconds show at each call anew.
-    fn now(&mut self) -> u64
-        ensures bound { result ≤ last_moment }
-        ensures tells { Appends None None (result ∷ []) }
-        ensures answers { Answers (S.reads self.old.seconds) (S.reads self.new.seconds) self.old.last self.new.last result }
-    {
-        self.last = self.seconds.second().unwrap_or(self.last);
-        self.last.min(LAST_MOMENT)
-    }
-
-    /// It shows the system's second, and lags never.
-    fn begin_sweep(&mut self)
-        ensures same { Appends None None [] × (self.new ≡ self.old) }
-    {}
-}
-
-/// How far a clock of many connections has come, in seconds.
-#[derive(Drop)]
-struct Paced {
-    /// By how much it rises in a sweep at most.
-    step: u64,
-    /// How long a lease lasts.
-    lease: u64,
-    /// How far it lags behind.
-    lag: u64,
-    /// The moment that it shows.
-    last: u64,
-    /// The moment at which this sweep began.
-    begun: u64,
-    /// The moment that was told last.
-    told: u64,
-}
-
-impl Paced {
-    /// What this second shows, less the lag; the last moment where none is read.
-    fn shown(&self, read: Option<u64>) -> u64
-        ensures { result ≡ shown self.now read }
-    {
-        match read {
-            Some(second) => second.saturating_sub(self.lag),
-            None => self.last,
-        }
-    }
-
-    /// The moment, where this second is read: it never falls, never leads what is read, and rises in a sweep by `step` at most.
-    fn risen(&self, read: Option<u64>) -> u64
-        ensures risen { result ≡ risen self.now read }
-        ensures stands { self.now.last ≤ result }
-        ensures follows { IfSome read (λ second. result ≤ max self.now.last second) }
-        ensures paced { result ≤ max self.now.last (self.now.begun + self.now.step) }
-    {
-        let shown = self.shown(read);
-        let top = self.begun.saturating_add(self.step);
-        self.last.max(shown.min(top))
-    }
-
-    /// Whether no lease can last to this moment: for longer than one nobody asked.
-    fn is_idle(&self, moment: u64) -> bool
-        ensures { result ≡ is_idle self.now moment }
-    {
-        self.told.saturating_add(self.lease) < moment
-    }
-
-    /// A sweep begins when this second is read. Where no lease can last, all of the lag is made up.
-    fn begin_sweep(&mut self, read: Option<u64>)
-        ensures { self.new ≡ begins self.old read }
-    {
-        let moment = self.risen(read);
-        if let Some(second) = read {
-            if self.is_idle(moment) {
-                self.lag = 0;
-                self.last = moment.max(second);
-            } else {
-                let made_up = fourths(self.begun, moment);
-                self.lag = second.saturating_sub(moment).saturating_sub(made_up);
-                self.last = moment;
-            }
-        }
-        self.begun = self.last;
-    }
-}
-
-/// The system's clock for many connections. In a sweep over them it rises by a quarter of a lease at most, so that what waits in their sockets is
-/// heard before leases end for want of it. What it lags behind then it makes up slowly, a second in four, so that whoever was heard can renew in
-/// time; and all at once where nobody asked for longer than a lease, as then none lasts. It never leads the system's clock, and never falls.
-#[derive(Drop)]
-pub struct PacedClock<S: Seconds> {
-    seconds: S,
+pub struct PacedClock<S: Readings> {
+    readings: S,
     at: Paced,
 }
 
-impl<'a, R: rt::Clock> PacedClock<SystemSeconds<'a, R>> {
-    /// A clock that stands at this second until a sweep begins, for a lease of so many seconds.
-    pub fn new(rt: &'a R, lease: u32) -> PacedClock<SystemSeconds<'a, R>>
-        ensures { (second : ℕ) × (result.at ≡ starts second lease) }
+impl<'a, R: rt::Clock> PacedClock<SystemReadings<'a, R>> {
+    /// A clock that shows the system's second, for a lease of so many.
+    pub fn new(rt: &'a R, lease: u32) -> PacedClock<SystemReadings<'a, R>>
+        ensures { (read : ℕ) × (result.at ≡ starts lease read) }
     {
-        let mut seconds = SystemSeconds { rt };
-        let second = seconds.second().unwrap_or(0);
+        let mut readings = SystemReadings::new(rt);
+        let read = readings.micros().unwrap_or(0);
         PacedClock {
-            seconds,
-            at: Paced {
-                step: u64::from(pace(lease)),
-                lease: u64::from(lease),
-                lag: 0,
-                last: second,
-                begun: second,
-                told: second,
-            },
+            readings,
+            at: Paced::new(lease, read),
         }
     }
 }
 
-impl<S: Seconds> Clock for PacedClock<S> {
+impl<S: Readings> Clock for PacedClock<S> {
     ghost told = { λ _. None };
 
-    /// What its seconds show without the lag, and no more than this sweep may.
+    /// What it shows at its last reading, in seconds.
     fn now(&mut self) -> u64
         ensures bound { result ≤ last_moment }
-        ensures tells { Appends None None (result ∷ []) }
-        ensures paces { Paces (S.reads self.old.seconds) (S.reads self.new.seconds) self.old.at self.new.at result }
+        ensures tells { Logs None None (Moment result ∷ []) }
+        ensures moment { result ≡ min (risen self.old.at / second) last_moment }
+        ensures told { self.new ≡ record self.old { at = tells risen self.old.at } }
     {
-        let read = self.seconds.second();
-        let moment = self.at.risen(read);
-        self.at.last = moment;
-        self.at.told = moment;
-        moment.min(LAST_MOMENT)
+        self.at.now().min(LAST_MOMENT)
     }
 
-    /// What this sweep may show at most is told by what its seconds show at its begin. What is above that is lag.
+    /// What this sweep may show is told by what is read at its begin.
     fn begin_sweep(&mut self)
-        ensures { Appends None None [] × Rises (S.reads self.old.seconds) (S.reads self.new.seconds) self.old.at self.new.at }
+        ensures { Logs None None (Sweep ∷ []) × (read : ℕ) × Takes (S.reads self.old.readings) (S.reads self.new.readings) self.old.at read × (self.new.at ≡ begins risen self.old.at read) }
     {
-        let read = self.seconds.second();
+        let read = self.readings.micros().unwrap_or(self.at.read());
         self.at.begin_sweep(read);
     }
-}
 
-/// How many moments that 4 divides lie behind a moment, up to another.
-fn fourths(from: u64, to: u64) -> u64
-    ensures { result ≡ fourths from to }
-{
-    (to / 4).saturating_sub(from / 4)
-}
+    /// What was read last is when the turn began.
+    fn begin_turn(&mut self)
+        ensures { Logs None None (Turn ∷ []) × (self.new ≡ record self.old { at = begins_turn self.old.at }) }
+    {
+        self.at.begin_turn();
+    }
 
-/// By how many seconds a sweep rises at most: a quarter of a lease, and one at least.
-pub fn pace(lease: u32) -> u32
-    ensures { result ≡ pace lease }
-{
-    (lease / 4).max(1)
+    /// Whether the turn has lasted for 2 ms at what is read now.
+    fn is_late(&mut self) -> bool
+        ensures { Logs None None (Late result ∷ []) × (read : ℕ) × Takes (S.reads self.old.readings) (S.reads self.new.readings) self.old.at read
+            × (self.new.at ≡ takes self.old.at read) × (result ≡ is_late self.old.at read) }
+    {
+        let read = self.readings.micros().unwrap_or(self.at.read());
+        self.at.is_late(read)
+    }
 }
 
 /// The instance of a server that starts at this second: the second modulo 2^32, and 1 in place of 0 and of 2^32 - 1.
 pub fn instance_at(second: u64) -> u32
     ensures range { (1 ≤ result) × (result ≤ 4294967294) }
-    ensures second { 0 < second % 2 ^ 32 → second % 2 ^ 32 < 4294967295 → result ≡ second % 2 ^ 32 }
+    ensures own { 0 < second % 2 ^ 32 → second % 2 ^ 32 < 4294967295 → result ≡ second % 2 ^ 32 }
     ensures first { second % 2 ^ 32 ≡ 0 → result ≡ 1 }
     ensures last { second % 2 ^ 32 ≡ 4294967295 → result ≡ 1 }
 {

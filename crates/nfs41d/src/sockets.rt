@@ -1,12 +1,12 @@
 //! TCP connections as the ports of a hub, by readiness.
 
-ghost use Rattle.std.specs.Prelude.{◌≡◌, ◌≤◌, ◌&&◌, not, true, false, None, IfSome, IfOk, if◌then◌else◌};
+ghost use Rattle.std.specs.Prelude.{◌≡◌, ◌≤◌, false, None, IfSome, IfOk, if◌then◌else◌};
 ghost use Rattle.nfs_serve.specs.Script.{last_connection};
 ghost use Rattle.nfs_serve.specs.Shows.{ComesWithin, TakesWithin};
 
-use crate::clock::pace;
 use mio::net::{TcpListener, TcpStream};
 use mio::{Events, Interest, Poll, Token};
+use nfs_pace::patience;
 use nfs_serve::{Came, Next, Ports, Took};
 use std::io::{ErrorKind, Read, Write};
 use std::net::{IpAddr, Net, SocketAddr};
@@ -53,25 +53,20 @@ struct Slot {
     used: Option<Instant>,
     /// Whether something came behind the last answer.
     asked: bool,
-    /// Whether a request was answered.
+    /// Whether a session's SEQUENCE was answered.
     heard: bool,
 }
 
 impl Slot {
-    /// Notes that its peer took some bytes now, and answers whether they are the first of all. A read is asked for only where no reply is owed, so
-    /// what is written first behind one answers a whole record: that is a sign of life, and bytes that come are none.
-    fn note_taken(&mut self, now: Option<Instant>) -> bool
-        ensures first { result ≡ (self.old.asked && not self.old.heard) }
-        ensures noted { self.new ≡ (if self.old.asked then record self.old { used = now; asked = false; heard = true } else self.old) }
+    /// Notes that its peer took some bytes now. A read is asked for only where no reply is owed, so what is written first behind one answers a whole
+    /// record: that is a sign of life, and bytes that come are none.
+    fn note_taken(&mut self, now: Option<Instant>)
+        ensures noted { self.new ≡ (if self.old.asked then record self.old { used = now; asked = false } else self.old) }
     {
-        if !self.asked {
-            return false;
+        if self.asked {
+            self.asked = false;
+            self.used = now;
         }
-        self.asked = false;
-        self.used = now;
-        let is_first = !self.heard;
-        self.heard = true;
-        is_first
     }
 
     /// Reads what is there into the front of `buf`.
@@ -177,7 +172,7 @@ impl<'a, R: Net + AllocGlobal + rt::Clock> Sockets<'a, R> {
             at_once: PORTS.min(at_once as usize),
             idle: Duration::from_secs(u64::from(lease)),
             stranger: Duration::from_secs(u64::from(lease).min(STRANGER)),
-            patience: Duration::from_millis(u64::from(pace(lease)) * 500),
+            patience: Duration::from_micros(patience(lease)),
             left: connections,
             now: Instant::now(rt).ok(),
             failed: false,
@@ -414,7 +409,7 @@ impl<R: rt::Clock> Ports for Sockets<'_, R> {
         }
     }
 
-    fn is_ready(&self, port: u32) -> bool {
+    fn is_ready(&mut self, port: u32) -> bool {
         match self.slots.get(port as usize) {
             Some(Some(slot)) => slot.ready,
             _ => false,
@@ -434,10 +429,17 @@ impl<R: rt::Clock> Ports for Sockets<'_, R> {
             return Took::Failed;
         };
         let took = slot.write(bytes);
-        if matches!(took, Took::Bytes(_)) && slot.note_taken(now) {
-            self.left = self.left.saturating_sub(1);
+        if matches!(took, Took::Bytes(_)) {
+            slot.note_taken(now);
         }
         took
+    }
+
+    fn count(&mut self, port: u32) {
+        self.left = self.left.saturating_sub(1);
+        if let Some(slot) = self.slot(port) {
+            slot.heard = true;
+        }
     }
 
     fn close(&mut self, port: u32) {

@@ -37,11 +37,12 @@ module _ (show : Paced → ℕ) where
   after p [] = p
   after p (c ∷ calls) = after (does p c) calls
 
-  -- From one sweep to a later one it rises by what passed between their begins and a sixteenth of it at most, and by a step a sweep at most, while what
-  -- was told last may still be renewed.
+  -- From one sweep to a later one it rises by what passed between their begins and a sixteenth of it at most, and by a step a sweep at most: so long as
+  -- what was told last is no more than a lease ago by then, since a clock that nobody asks for longer makes up all that it lags at once.
   pub record AddsUp (p : Paced) (calls : List Call) : Type 0 where
-    pub passed : (after p calls).begun ≤ p.begun + made_more ((after p calls).since - p.since)
-    pub steps : (after p calls).begun ≤ p.begun + sweeps calls * step p
+    pub passed : p.begun + made_more ((after p calls).since - p.since) ≤ p.told + p.lease
+        → (after p calls).begun ≤ p.begun + made_more ((after p calls).since - p.since)
+    pub steps : p.begun + sweeps calls * step p ≤ p.told + p.lease → (after p calls).begun ≤ p.begun + sweeps calls * step p
 
   -- what a clock keeps, from its start on
   pub record IsPaced (p : Paced) : Type 0 where
@@ -52,15 +53,14 @@ module _ (show : Paced → ℕ) where
     pub passed : p.last ≤ p.begun + made_more (p.read - p.since)
 
   abbrev pub AlwaysAddsUp : Type 0
-  AlwaysAddsUp = (p : Paced) (calls : List Call) → IsPaced p → Ascends p.read calls
-      → p.begun + made_more ((after p calls).since - p.since) + step p ≤ p.told + p.lease → AddsUp p calls
+  AlwaysAddsUp = (p : Paced) (calls : List Call) → IsPaced p → Ascends p.read calls → AddsUp p calls × IsPaced (after p calls)
 
-  -- A renewal was told a moment in a sweep, and its reply left in it (`rest` ends with the begin of the next sweep). The next renewal came in a sweep that
-  -- began no later than three quarters of a lease behind that one's begin, and was told its moment in the sweep behind it.
+  -- A renewal was told its moment in a sweep, and its reply left in it: `rest` is the rest of that sweep and the begin of the next. The next renewal came
+  -- in a sweep that began no later than three quarters of a lease behind that begin, and was told its moment in the sweep behind it or sooner.
   pub record RenewsInTime (lease : ℕ) (p : Paced) (rest between until : List Call) : Type 0 where
-    pub lease : p.lease ≡ lease * second
+    pub lasts : p.lease ≡ lease * second
     pub told : p.told ≡ p.last
-    pub answered : sweeps rest ≡ 1
+    pub answered : sweeps rest ≤ 1
     pub soon : (after (after p rest) between).since - (after p rest).since ≤ 3 * p.lease / 4
     pub heard : sweeps until ≤ 1
 

@@ -99,6 +99,13 @@ impl Paced {
         self.last / MICROS
     }
 
+    /// What was read last.
+    pub fn read(&self) -> u64
+        ensures { result ≡ self.now.read }
+    {
+        self.read
+    }
+
     /// Whether the turn has lasted for 2 ms when this is read.
     pub fn is_late(&mut self, read: u64) -> bool
         ensures took { self.new ≡ takes self.old read }

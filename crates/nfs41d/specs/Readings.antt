@@ -1,0 +1,13 @@
+-- What is read of the system's clock.
+use Rattle.std.specs.Prelude.{◌≡◌, ℕ, List, [], ◌∷◌, ◌++◌, Option, Some, None, unwrap_or}
+use Rattle.nfs_pace.specs.declared.paced.Paced.{Paced}
+
+-- known readings grow by this one
+abbrev pub Reads : Option (List (Option ℕ)) → Option (List (Option ℕ)) → Option ℕ → Type 0
+Reads None new read = Unit {0}
+Reads (Some xs) None read = ⊥
+Reads (Some xs) (Some ys) read = ys ≡ xs ++ read ∷ []
+
+-- one reading is taken; where none can be, the one before is taken again
+abbrev pub Takes : Option (List (Option ℕ)) → Option (List (Option ℕ)) → Paced → ℕ → Type 0
+Takes before after p taken = (read : Option ℕ) × Reads before after read × (taken ≡ unwrap_or read p.read)
