@@ -1,4 +1,5 @@
 """Who is at the server in tests/hostile: clients that ask for whatever an attack wants, and the good client that stands beside each attack."""
+import random
 import struct
 import tempfile
 import threading
@@ -191,9 +192,9 @@ class Good:
 
     TEXT = b"good bytes"
 
-    def __init__(self, server, pause=0.1):
-        self.peer, self.pause = Peer(server, b"good"), pause
-        self.opened, self.file = self.peer.opens(b"good file", b"good owner")
+    def __init__(self, server, pause=0.1, name=b"good", delay=0):
+        self.peer, self.pause, self.delay = Peer(server, name), pause, delay
+        self.opened, self.file = self.peer.opens(name + b" file", b"good owner")
         told = nfs4.Reply(self.peer.asks(at(self.file), u32(WRITE) + self.opened + u64(0) + u32(0) + opaque(self.TEXT),
                                          lock_first(0, self.opened, b"good locker", size=10)))
         self.locked = field(told, "LOCK", "StateID")
@@ -221,6 +222,7 @@ class Good:
 
     def rounds(self):
         try:
+            self.ending.wait(self.delay)
             while not self.ending.is_set():
                 self.round()
                 self.ending.wait(self.pause)
@@ -286,3 +288,21 @@ def fifty(peer, owners, verifier):
     asked([[sequence(session, 1), ROOT, open_file(b"owner", 3, owner, True)] for session, owner in zip(sessions, owners)])
     asked([[nfs4.op("DESTROY_SESSION", sessionid=session)] for session in sessions])
     return ids
+
+
+def handle(number):
+    return u32(7, 0) + u64(number)
+
+
+def chain(peer, name, depth):
+    """A chain of so many directories, whose numbers have nothing to do with their order in it: the filehandles of the last two."""
+    made = nfs4.Reply(peer.asks(ROOT, create(name + b" 0"), GETFH))
+    first = int.from_bytes(field(made, "GETFH", "FileHandle")[8:], "big")
+    peer.does([], [step for n in range(1, depth) for step in (ROOT, create(name + b" %d" % n))])
+    order = list(range(depth))
+    random.shuffle(order)
+    peer.does([], [step for above, below in zip(order, order[1:]) for step in (
+        ROOT, u32(SAVEFH), at(handle(first + above)), u32(RENAME) + opaque(name + b" %d" % below) + opaque(b"next"))], 60)
+    last, before = handle(first + order[-1]), handle(first + order[-2])
+    peer.asks(at(last), create(b"moved"), create(b"entry"))
+    return last, before

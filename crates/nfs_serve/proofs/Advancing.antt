@@ -1,5 +1,5 @@
 -- Acts one after the other, and what each call of a port comes to.
-use Rattle.std.proofs.Common.{◌≡◌, ℕ, ◌+◌, ◌<◌, ◌≤◌, Bool, List, [], ◌∷◌, ◌++◌, length, filter, arith, flat_map, Option, Some, None, refl, sym, ap, subst, ◌∙◌}
+use Rattle.std.proofs.Common.{◌≡◌, ℕ, not, ◌&&◌, ◌||◌, ◌+◌, ◌<◌, ◌≤◌, Bool, List, [], ◌∷◌, ◌++◌, length, filter, arith, flat_map, Option, Some, None, refl, sym, ap, subst, ◌∙◌}
 use Rattle.std.proofs.Common.{append_assoc, append-nil, inl, inr, true, false}
 use Rattle.std.proofs.lemmas.List.Concat.{flat_map-append}
 use Rattle.std.proofs.lemmas.List.Elements.{filter-append}
@@ -21,6 +21,11 @@ Logs-trans None b c bs cs p q = tt
 Logs-trans (Some x) None c bs cs p q = absurd p
 Logs-trans (Some x) (Some y) None bs cs p q = absurd q
 Logs-trans (Some x) (Some y) (Some z) bs cs p q = q ∙ ap (λ l. l ++ cs) p ∙ append_assoc x bs cs
+
+-- whether it was heard, once it was asked whether it is heard for the first time
+pub heard_or : (h x : Bool) → (h || (not h && x)) ≡ (h || x)
+heard_or true x = refl
+heard_or false x = refl
 
 pub Goes-append : (port : ℕ) (s u t : State) (d c e : Desk) (xs ys : List Act) → Goes port s d xs u c → Goes port u c ys t e → Goes port s d (xs ++ ys) t e
 Goes-append port s u t d c e [] ys p q = rw (sym p.0) (rw (sym p.1) q)

@@ -1,9 +1,8 @@
 //! One connection of many: what came, what is owed, and its turn.
 
-ghost use Rattle.std.specs.Prelude.{◌≡◌, ◌≤◌, ◌<◌, ◌||◌, ℕ, List, [], length, drop, filter, true, false, IfOk};
+ghost use Rattle.std.specs.Prelude.{◌≡◌, ◌≤◌, ◌<◌, ℕ, List, [], length, drop, filter, true, false, IfOk};
 ghost use Rattle.nfs_serve.specs.Told.{Logs};
 ghost use Rattle.nfs_serve.specs.Deeds.{counted};
-ghost use Rattle.nfs_serve.specs.Sequenced.{answers_sequence};
 ghost use Rattle.nfs_rpc.specs.RecordMarking.{is_too_long};
 ghost use Rattle.nfs_serve.specs.Server.{state_of};
 ghost use Rattle.nfs_serve.specs.Script.{last_connection};
@@ -168,20 +167,17 @@ impl Lane {
         self.unread.consume(used);
         left.steps -= 1;
         left.late = clock.is_late();
-        self.count(port, ports, before);
+        let first = self.is_first(before);
+        self.heard = self.heard || first;
+        count(port, ports, first);
     }
 
-    /// Says to the port that its connection counts, where what is owed behind so many bytes is the first answer to a session's SEQUENCE.
-    fn count<P: Ports>(&mut self, port: u32, ports: &mut P, before: usize)
-        requires port { port ≤ last_connection }
-        requires within { before ≤ length self.old.owed.bytes }
-        ensures heard { self.new ≡ record self.old { heard = self.old.heard || answers_sequence (drop before self.old.owed.bytes) } }
-        ensures logs { Logs (P.log ports.old) (P.log ports.new) (counted port (is_first self.old.heard (drop before self.old.owed.bytes))) }
+    /// Whether what is owed behind so many bytes is the first answer to a session's SEQUENCE.
+    fn is_first(&self, before: usize) -> bool
+        requires { before ≤ length self.now.owed.bytes }
+        ensures { result ≡ is_first self.now.heard (drop before self.now.owed.bytes) }
     {
-        if !self.heard && answers_sequence(&self.owed.rest()[before..]) {
-            self.heard = true;
-            ports.count(port);
-        }
+        !self.heard && answers_sequence(&self.owed.rest()[before..])
     }
 
     /// Steps the records of what came, while the outbox has room: one at least, and as many as may be at most.
@@ -326,5 +322,15 @@ impl Lane {
                 return;
             }
         }
+    }
+}
+
+/// Says to a port that its connection counts, if this is the first answer to a session's SEQUENCE.
+fn count<P: Ports>(port: u32, ports: &mut P, first: bool)
+    requires port { port ≤ last_connection }
+    ensures logs { Logs (P.log ports.old) (P.log ports.new) (counted port first) }
+{
+    if first {
+        ports.count(port);
     }
 }

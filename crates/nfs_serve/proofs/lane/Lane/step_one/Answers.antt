@@ -1,6 +1,11 @@
 use Rattle.std.proofs.Common.{◌≡◌, ◌<◌, ◌≤◌, refl, sym, ◌∙◌, ◌++◌, ap, [], ◌∷◌, rules, take, length, take-append-drop, take-take, arith, length-drop, length-take, length-take-le, min}
-use Rattle.nfs_serve.specs.Told.{Moment, Late}
-use Rattle.nfs_serve.proofs.Advancing.{Logs-trans}
+use Rattle.std.specs.Prelude.{◌||◌, drop}
+use Rattle.std.proofs.lemmas.List.{drop_at}
+use Rattle.nfs_serve.specs.Told.{Moment, Late, Logs}
+use Rattle.nfs_serve.specs.Sequenced.{answers_sequence}
+use Rattle.nfs_serve.specs.Deeds.{counted}
+use Rattle.nfs_serve.specs.Lane.{is_first}
+use Rattle.nfs_serve.proofs.Advancing.{Logs-trans, heard_or}
 use Rattle.nfs_serve.proofs.lane.Lane.step_one.Goals as goal
 
 pub consume-requires : goal.consume-requires
@@ -11,7 +16,11 @@ consume-requires g c =
 pub returns : goal.returns
 returns g c =
     let (out, takes, owed) = c.take_one-used.ensures.taken in
-    let unread = c.args.self.now.unread in
+    let lane = c.args.self.now in
+    let unread = lane.unread in
+    let size_before : length lane.owed.bytes ≡ c.len.result = search rules in
+    let behind = drop_at lane.owed.bytes out c.len.result size_before in
+    let told : c.is_first-first.result ≡ is_first lane.heard out = c.is_first-first.ensures ∙ ap (λ l. is_first lane.heard (drop c.len.result l)) owed ∙ ap (is_first lane.heard) behind in
     let used = c.take_one-used.result in
     let piece = c.piece.result.now in
     let part = take used piece in
@@ -29,7 +38,7 @@ returns g c =
       part = part;
       out = out;
       clock = Logs-trans _ _ _ (Moment c.now-now.result ∷ []) (Late c.is_late.result ∷ []) c.now-now.ensures.tells c.is_late.ensures;
-      logs = search rules;
+      logs = subst (λ b. Logs (g.P.Ports.log c.args.ports.now) (g.P.Ports.log c.count.new.ports) (counted c.args.port b)) told c.count.ensures.logs;
       steps = record {
         live = c.requires.live;
         short = c.requires.short;
@@ -41,7 +50,7 @@ returns g c =
         takes = takes;
       };
       owed = owed;
-      heard = search rules;
+      heard = ap (λ b. lane.heard || b) told ∙ heard_or lane.heard (answers_sequence out);
       live = refl;
       reads = refl;
       shorter = shorter;
