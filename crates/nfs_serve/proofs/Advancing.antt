@@ -5,7 +5,7 @@ use Rattle.std.proofs.lemmas.List.Concat.{flat_map-append}
 use Rattle.std.proofs.lemmas.List.Elements.{filter-append}
 use Rattle.nfs_serve.specs.Talk.{max_reads}
 use Rattle.nfs_serve.specs.Step.{State}
-use Rattle.nfs_serve.specs.Desk.{Desk, most_read, closed, leaving, Act, WriteBlocked, Closed, Failed, Stepped, Came, ReadBlocked, Ended, IsHungry, Does, Goes, IsStuck, Reads, ReadsOnce, is_of_read}
+use Rattle.nfs_serve.specs.Desk.{Desk, HasMore, Unready, most_read, closed, leaving, Act, WriteBlocked, Closed, Failed, Stepped, Came, ReadBlocked, Ended, IsHungry, Does, Goes, IsStuck, Reads, ReadsOnce, is_of_read}
 use Rattle.nfs_serve.specs.Told.{Told, Logs}
 use Rattle.nfs_serve.specs.Deeds.{Deed, counted, shown, asked}
 use Rattle.nfs_serve.specs.declared.lane.Lane.{Lane}
@@ -165,6 +165,11 @@ pub read_failed : (port : ℕ) (s : State) (d : Desk) (l0 l1 l2 : Option (List D
 read_failed port s d l0 l1 l2 c hungry first later = quiet_advances port (Failed ∷ Closed ∷ []) s d closed l0 l2 c
     (quiet_on port (Failed ∷ []) (Closed ∷ []) d leaving closed l0 l1 l2
     (quiet_act port Failed d leaving l0 l1 refl refl refl (λ s. (refl, hungry.live, refl)) first) (quiet_closes port l1 l2 later))
+
+-- a port that is passed over
+pub passed_over : (port : ℕ) (s : State) (d : Desk) (l0 l1 : Option (List Deed)) (c : Option (List Told)) → (HasMore d → ⊥)
+    → Logs l0 l1 (record { port = port; act = Unready } ∷ []) → Advances port (Unready ∷ []) s d s d l0 l1 c c
+passed_over port s d l0 l1 c none logs = one_shown port Unready s d d l0 l1 c refl refl (refl, none, refl) logs
 
 pub reads_came : (xs ys : List Act) (u : List ℕ) → Reads ((xs ++ Came u ∷ []) ++ ys)
 reads_came xs ys u = (xs, Came u, ys, append_assoc xs (Came u ∷ []) ys, tt)

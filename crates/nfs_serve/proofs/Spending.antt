@@ -1,7 +1,7 @@
 -- What acts use up of what may be done in a turn.
 use Rattle.std.proofs.Common.{◌≡◌, ℕ, ◌+◌, ◌-◌, ◌<◌, List, [], ◌∷◌, ◌++◌, length, filter, arith, Bool, true, false, ◌||◌, ap, refl, sym, subst, ◌∙◌, length-append}
 use Rattle.std.proofs.lemmas.List.Elements.{filter-append}
-use Rattle.nfs_serve.specs.Desk.{Act, Unready, Came, ReadBlocked, Ended, Took, WriteBlocked, Failed, Closed, Stepped, is_step, step_count, taken_by, taken_count, late_by, is_late}
+use Rattle.nfs_serve.specs.Desk.{Act, Came, ReadBlocked, Ended, Took, WriteBlocked, Failed, Closed, Stepped, is_step, step_count, taken_by, taken_count, late_by, is_late}
 use Rattle.nfs_serve.specs.declared.lane.Budget.{Budget}
 use Rattle.nfs_serve.specs.Lane.{StepsWithin, IsLeft, Spends}
 
@@ -55,9 +55,6 @@ spends_on xs ys a b c p q = record {
 -- no act, and acts that neither step nor write
 pub spends_nothing : (a : Budget) → Spends [] a a
 spends_nothing a = record { steps = omega arith; bytes = omega arith; late = sym (or_false a.late); within = tt }
-
-pub spends_passed : (a : Budget) → Spends (Unready ∷ []) a a
-spends_passed a = record { steps = omega arith; bytes = omega arith; late = sym (or_false a.late); within = (λ e. no e, tt) }
 
 pub spends_came : (bytes : List ℕ) (a : Budget) → Spends (Came bytes ∷ []) a a
 spends_came bytes a = record { steps = omega arith; bytes = omega arith; late = sym (or_false a.late); within = (λ e. no e, tt) }

@@ -45,7 +45,7 @@ turn_last port acts (Turns p done ∷ rounds) = inr (turn_last port acts rounds)
 not_passed : (port : ℕ) (acts : List Act) (s t : State) (d e : Desk) → Goes port s d acts t e → HasMore d → IsPassed acts → ⊥
 not_passed port acts s t d e goes more passed =
     let (u, c, does, rest) = subst (λ l. Goes port s d l t e) passed goes in
-    does.1.0 more
+    does.1 more
 
 pub sweep_start : (s : State) (old : Desks) (l : Option (List Deed)) (c : Option (List Told)) → SweepsBelow 0 s old s old l l c c
 sweep_start s old l c = record {

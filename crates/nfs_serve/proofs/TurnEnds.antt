@@ -1,7 +1,8 @@
 -- How a turn ends, by what it stepped and left.
-use Rattle.std.proofs.Common.{◌≡◌, ℕ, ◌-◌, ◌<◌, ◌≤◌, List, [], ◌∷◌, ◌++◌, length, Bool, true, false, ◌||◌, ◌⊎◌, inl, inr, refl, sym, ap, subst, ◌∙◌, arith}
+use Rattle.std.proofs.Common.{◌≡◌, ℕ, suc, ◌-◌, ◌<◌, ◌≤◌, List, [], ◌∷◌, ◌++◌, length, Bool, true, false, ◌||◌, ◌⊎◌, inl, inr, refl, sym, ap, subst, ◌∙◌, arith}
 use Rattle.nfs_serve.specs.Desk.{Desk, Act, Stepped, most_steps, most_taken, step_count, taken_by, taken_count, is_late, late_by, StepsBefore, IsStuck, IsPassed, Unready, Reads, ReadsOnce, EndsTurn}
 use Rattle.nfs_serve.specs.declared.lane.Budget.{Budget}
+use Rattle.nfs_serve.proofs.Spending.{steps_append}
 use Rattle.nfs_serve.specs.Lane.{StepsWithin, Spends, IsSpent, HasHadEnough}
 
 or_parts : (a b : Bool) → (a || b) ≡ false → (a ≡ false) × (b ≡ false)
@@ -11,14 +12,26 @@ or_parts true b h = absurd (no h)
     no e = cc
 or_parts false b h = (refl, h)
 
+-- a port is passed over in a turn of its own
+pub passes_over : {d : Desk} → EndsTurn (Unready ∷ []) d
+passes_over {d} = (omega arith, omega arith, (λ front moment part late first back is. absurd (none front moment part late first back is)), inr (inr (inr (inr refl))))
+  where
+    none : (front : List Act) (moment : ℕ) (part : List ℕ) (late first : Bool) (back : List Act) → Unready ∷ [] ≡ front ++ Stepped moment part late first ∷ back → ⊥
+    none front moment part late first back e =
+        let h : 0 ≡ step_count (front ++ Stepped moment part late first ∷ back) = ap step_count e in
+        let k : step_count (Stepped moment part late first ∷ back) ≡ suc (step_count back) = refl in
+        omega (arith, h, k, steps_append front (Stepped moment part late first ∷ back))
+
 steps_before : (n : ℕ) (b : Bool) (front : List Act) (moment : ℕ) (part : List ℕ) (late first : Bool) (back : List Act)
     → StepsWithin n b (front ++ Stepped moment part late first ∷ back) → (taken_count front < n) × (b ≡ false) × (is_late front ≡ false)
-steps_before n b [] moment part late first back h = (h.0 refl .0, h.0 refl .1, refl)
+steps_before n b [] moment part late first back h =
+    let own = h.0 refl in
+    (own.0, own.1, refl)
 steps_before n b (a ∷ front) moment part late first back h =
     let rest = steps_before (n - taken_by a) (b || late_by a) front moment part late first back h.1 in
     let less : taken_count front < n - taken_by a = rest.0 in
-    let (early, own) = or_parts b (late_by a) rest.1.0 in
-    (omega (arith, less), early, ap (λ l. l || is_late front) own ∙ rest.1.1)
+    let (early, own) = or_parts b (late_by a) rest.1 in
+    (omega (arith, less), early, ap (λ l. l || is_late front) own ∙ rest.2)
 
 -- of a turn that does so much, and may do so much more
 module _ {acts : List Act} (left : Budget) (once : ReadsOnce acts) (spent : Spends acts (record { steps = 16; bytes = 65536; late = false }) left) where
@@ -28,13 +41,10 @@ module _ {acts : List Act} (left : Budget) (once : ReadsOnce acts) (spent : Spen
   before : StepsBefore most_taken acts
   before front moment part late first back is =
       let h = steps_before most_taken false front moment part late first back (subst (λ l. StepsWithin most_taken false l) is spent.within) in
-      (h.0, h.1.1)
+      (h.0, h.2)
 
   pub ends_gone : {d : Desk} → d.live ≡ false → EndsTurn acts d
   ends_gone off = (once, few, before, inl off)
-
-  pub ends_passed : {d : Desk} → IsPassed acts → EndsTurn acts d
-  ends_passed passed = (once, few, before, inr (inr (inr (inr passed))))
 
   pub ends_stuck : {d : Desk} → IsStuck acts d → EndsTurn acts d
   ends_stuck stuck = (once, few, before, inr (inl stuck))

@@ -1,6 +1,6 @@
 //! One connection of many: what came, what is owed, and its turn.
 
-ghost use Rattle.std.specs.Prelude.{◌≡◌, ◌≤◌, ◌<◌, ℕ, List, [], length, drop, filter, true, false, IfOk};
+ghost use Rattle.std.specs.Prelude.{◌≡◌, ◌≤◌, ◌<◌, ◌||◌, ℕ, List, [], length, drop, filter, true, false, IfOk};
 ghost use Rattle.nfs_serve.specs.Told.{Logs};
 ghost use Rattle.nfs_serve.specs.Deeds.{counted};
 ghost use Rattle.nfs_rpc.specs.RecordMarking.{is_too_long};
@@ -168,7 +168,7 @@ impl Lane {
         left.steps -= 1;
         left.late = clock.is_late();
         let first = self.is_first(before);
-        self.heard = self.heard || first;
+        self.heard = either(self.heard, first);
         count(port, ports, first);
     }
 
@@ -323,6 +323,13 @@ impl Lane {
             }
         }
     }
+}
+
+/// One or the other.
+fn either(one: bool, other: bool) -> bool
+    ensures { result ≡ (one || other) }
+{
+    one || other
 }
 
 /// Says to a port that its connection counts, if this is the first answer to a session's SEQUENCE.

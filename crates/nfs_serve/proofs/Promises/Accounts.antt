@@ -16,7 +16,7 @@ dead port s t d e [] h off = ap (λ x. x.live) h.1 ∙ off
 dead port s t d e (Opened ∷ acts) h off = absurd h.2
 dead port s t d e (Over ∷ acts) h off = absurd h.2
 dead port s t d e (Counted ∷ acts) h off = absurd h.2
-dead port s t d e (Unready ∷ acts) h off = let (u, c, does, rest) = h in dead port u t c e acts rest (ap (λ x. x.live) does.1.1 ∙ off)
+dead port s t d e (Unready ∷ acts) h off = let (u, c, does, rest) = h in dead port u t c e acts rest (ap (λ x. x.live) does.2 ∙ off)
 dead port s t d e (Came bytes ∷ acts) h off = let (u, c, does, rest) = h in both d.live does.1.live off
 dead port s t d e (ReadBlocked ∷ acts) h off = let (u, c, does, rest) = h in both d.live does.1.live off
 dead port s t d e (Ended ∷ acts) h off = let (u, c, does, rest) = h in both d.live does.1.live off

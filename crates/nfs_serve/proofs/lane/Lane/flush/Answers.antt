@@ -6,7 +6,7 @@ use Rattle.nfs_serve.proofs.lane.Lane.flush.Goals as goal
 
 pub loop-ports-preserved : goal.loop-ports-preserved
 loop-ports-preserved g c =
-    let ((acts, so_far, spent), live, long, reads, unread) = c.loop-ports.invariant in
+    let ((acts, so_far, spent), live, heard, long, reads, unread) = c.loop-ports.invariant in
     let n = c.in-Bytes.n in
     let owed = c.loop-ports.self.owed.bytes in
     let some : 0 < length (take n c.rest-in-loop-ports.result.now) = search rules in
@@ -22,6 +22,7 @@ loop-ports-preserved g c =
         spends_on acts (Took (take n c.rest-in-loop-ports.result.now) ∷ []) _ _ _ spent (spends_took (take n c.rest-in-loop-ports.result.now) _ _ refl fewer refl),
       ),
       live,
+      heard,
       long,
       reads,
       unread,
@@ -29,7 +30,7 @@ loop-ports-preserved g c =
 
 pub returns-in-Blocked : goal.returns-in-Blocked
 returns-in-Blocked g c =
-    let ((acts, so_far, spent), live, long, reads, unread) = c.loop-ports.invariant in
+    let ((acts, so_far, spent), live, heard, long, reads, unread) = c.loop-ports.invariant in
     let owed : 0 < length c.loop-ports.self.owed.bytes = search rules in (
       acts ++ WriteBlocked ∷ [],
       quiet_on _ acts (WriteBlocked ∷ []) _ _ _ _ _ _ so_far
@@ -40,7 +41,7 @@ returns-in-Blocked g c =
 
 pub returns-in-Failed : goal.returns-in-Failed
 returns-in-Failed g c =
-    let ((acts, so_far, spent), live, long, reads, unread) = c.loop-ports.invariant in (
+    let ((acts, so_far, spent), live, heard, long, reads, unread) = c.loop-ports.invariant in (
       acts ++ (Failed ∷ [] ++ Closed ∷ []),
       quiet_on _ acts (Failed ∷ [] ++ Closed ∷ []) _ _ _ _ _ _ so_far
           (quiet_on _ (Failed ∷ []) (Closed ∷ []) _ leaving _ _ _ _

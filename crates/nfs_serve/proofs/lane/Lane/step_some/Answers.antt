@@ -7,8 +7,8 @@ use Rattle.nfs_serve.proofs.Advancing.{stepped, goes_on, none_read}
 use Rattle.nfs_serve.proofs.Spending.{spends_on, spends_step}
 use Rattle.nfs_serve.proofs.lane.Lane.step_some.Goals as goal
 
-pub loop-left-init : goal.loop-left-init
-loop-left-init g c =
+pub loop-self-init : goal.loop-self-init
+loop-self-init g c =
     let one = c.step_one.ensures in
     let none : c.args.self.now.owed.bytes ≡ [] = nil_from_length _ c.requires.empty in
     let empty = ap (λ b. b.bytes) c.clear.ensures ∙ sym none in
@@ -27,17 +27,17 @@ loop-left-init g c =
       bytes = one.bytes;
     }
 
-pub loop-left-preserved : goal.loop-left-preserved
-loop-left-preserved g c =
-    let before = c.loop-left.invariant in
-    let one = c.step_one-in-loop-left.ensures in
+pub loop-self-preserved : goal.loop-self-preserved
+loop-self-preserved g c =
+    let before = c.loop-self.invariant in
+    let one = c.step_one-in-loop-self.ensures in
     let left = c.is_spent.ensures.left (search rules) in
-    let acts = Stepped one.moment one.part c.step_one-in-loop-left.new.left.late (is_first c.loop-left.self.heard one.out) ∷ [] in record {
+    let acts = Stepped one.moment one.part c.step_one-in-loop-self.new.left.late (is_first c.loop-self.self.heard one.out) ∷ [] in record {
       acts = before.acts ++ acts;
-      advances = goes_on before.advances acts _ _ _ _ (stepped _ _ _ c.loop-left.self c.step_one-in-loop-left.new.self _ _ _ _ _ _ one);
+      advances = goes_on before.advances acts _ _ _ _ (stepped _ _ _ c.loop-self.self c.step_one-in-loop-self.new.self _ _ _ _ _ _ one);
       no_reads = none_read before.acts acts before.no_reads refl;
       spends = spends_on before.acts acts _ _ _ before.spends
-          (spends_step one.moment one.part (is_first c.loop-left.self.heard one.out) c.loop-left.left c.step_one-in-loop-left.new.left one.one one.bytes left);
+          (spends_step one.moment one.part (is_first c.loop-self.self.heard one.out) c.loop-self.left c.step_one-in-loop-self.new.left one.one one.bytes left);
       live = one.live ∙ before.live;
       shorter = omega (arith, one.shorter, before.shorter);
       bytes = one.bytes ∙ before.bytes;
