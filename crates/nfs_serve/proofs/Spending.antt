@@ -89,6 +89,6 @@ pub spends_step : (moment : ℕ) (part : List ℕ) (first : Bool) (a b : Budget)
 spends_step moment part first a b steps same left = record {
   steps = omega (arith, steps);
   bytes = omega (arith, same);
-  late = sym (or_false b.late) ∙ ap (λ l. l || (b.late || false)) (sym left.in_time);
-  within = (λ e. (left.bytes, left.in_time), tt);
+  late = sym (or_false b.late) ∙ ap (λ l. l || (b.late || false)) (sym left.2);
+  within = (λ e. (left.1, left.2), tt);
 }

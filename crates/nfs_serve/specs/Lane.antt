@@ -64,10 +64,8 @@ abbrev pub IsSpent : Budget → Type 0
 IsSpent left = (left.steps ≡ 0) ⊎ (left.bytes ≡ 0) ⊎ (left.late ≡ true)
 
 -- something may
-pub record IsLeft (left : Budget) : Type 0 where
-  pub steps : 0 < left.steps
-  pub bytes : 0 < left.bytes
-  pub in_time : left.late ≡ false
+abbrev pub IsLeft : Budget → Type 0
+IsLeft left = (0 < left.steps) × (0 < left.bytes) × (left.late ≡ false)
 
 -- all that came was stepped; or as much as may be, and more waits
 abbrev pub HasHadEnough : Budget → List ℕ → Type 0
