@@ -5,11 +5,11 @@ use Rattle.nfs_serve.specs.declared.lane.Budget.{Budget}
 use Rattle.nfs_serve.proofs.Spending.{steps_append}
 use Rattle.nfs_serve.specs.Lane.{StepsWithin, Spends, IsSpent, HasHadEnough}
 
+no : true ≡ false → ⊥
+no e = cc
+
 or_parts : (a b : Bool) → (a || b) ≡ false → (a ≡ false) × (b ≡ false)
 or_parts true b h = absurd (no h)
-  where
-    no : true ≡ false → ⊥
-    no e = cc
 or_parts false b h = (refl, h)
 
 -- a port is passed over in a turn of its own
