@@ -1,6 +1,7 @@
 """What tests/hostile does to the leases of good clients: others send records that take long, and a client that renews in time is to lose nothing."""
 import contextlib
 import statistics
+import struct
 import threading
 import time
 
@@ -124,13 +125,15 @@ def one_attacker(judge):
 def idle_for_long(judge):
     """Nobody asks for five leases; the lock of a client that is gone goes with its lease all the same."""
     name, lease = "an idle server", 2
-    with Served(lease) as server, Peer(server, b"gone") as gone, Peer(server, b"later") as later:
+    with Served(lease) as server, Peer(server, b"gone") as gone:
         opened, file = gone.opens(b"file")
         gone.asks(at(file), lock_first(0, opened, b"locker"))
         time.sleep(5 * lease)
-        own, _ = later.opens(b"file")
-        answer = later.asks(at(file), lock_first(0, own, b"another"))
-        judge(f"{name}: the lock of a client that is gone is free", bool(answer))
+        with Peer(server, b"later") as later:
+            own, _ = later.opens(b"file")
+            later.stream.sendall(later.next_on(0, at(file), lock_first(0, own, b"another")))
+            status, = struct.unpack_from(">24xI", later.reply())
+        judge(f"{name}: the lock of a client that is gone is free", status == 0, status)
 
 
 def calls_without_a_session(judge):
