@@ -45,7 +45,7 @@ use Rattle.nfs_exec.specs.AttributesTold.{TellsValue}
 use Rattle.nfs_exec.specs.Ops.{RanOp, ops, ops_in, ops_of, ops_by}
 use Rattle.nfs_exec.proofs.Behind.{by_step, follow_kept}
 use Rattle.nfs_exec.proofs.WholeRun.{Is, marked_store, otherwise_store, in_more}
-use Rattle.nfs_exec.proofs.AnsweredRun.{event_run}
+use Rattle.nfs_exec.proofs.AnsweredRun.{in_room_is, event_run}
 use Rattle.nfs_exec.proofs.AttributesTold.{lease_in}
 
 abbrev pub Lasts : ℕ → Machine → Type 0

@@ -1,5 +1,5 @@
 -- The run of a change that tells, and the wrong steps, computed.
-use Rattle.std.proofs.Common.{◌≡◌, inl, inr, ℕ, ◌<◌, true, List, [], ◌∷◌, ◌++◌, length, get_or, take, Option, Some, refl, ◌∙◌, ap, arith}
+use Rattle.std.proofs.Common.{◌≡◌, inl, ℕ, ◌<◌, true, List, [], ◌∷◌, ◌++◌, length, get_or, take, Option, Some, refl, sym, ◌∙◌, ap, subst, arith}
 use Rattle.std.specs.Option.{option_map_or}
 use Rattle.nfs_compound.specs.declared.file_args.Read.{Read}
 use Rattle.nfs_compound.specs.declared.op.Item.TheVariants.{Operation}
@@ -11,6 +11,7 @@ use Rattle.nfs_tree.specs.declared.row.Row.{Row}
 use Rattle.nfs_tree.specs.declared.stored.Stored.{Stored}
 use Rattle.nfs_tree.specs.Files.{is_there, change_of}
 use Rattle.nfs_xdr.specs.Tables.{In}
+use Rattle.nfs_xdr.proofs.Lists.{last_in}
 use Rattle.nfs_exec.specs.Ops.{RanOp}
 use Rattle.nfs_serve.specs.Promises.Points.{ops_of}
 use Rattle.nfs_serve.specs.Promises.Exchanges.{words}
@@ -30,7 +31,7 @@ read = last_of nothing (ops_of closed reads)
 abbrev again : RanOp
 again = last_of nothing (ops_of read_once reads_again)
 
-asked : Read
+abbrev asked : Read
 asked = record { stateid = anonymous; offset = 0; count = 8 }
 
 write_ops : ops_of made writes ≡ take 2 (ops_of made writes) ++ write ∷ []
@@ -41,9 +42,12 @@ read_ops : ops_of closed reads ≡ take 2 (ops_of closed reads) ++ read ∷ []
 unfolding computing
 read_ops = three nothing (ops_of closed reads) refl
 
-again_in : In again (ops_of read_once reads_again)
+again_ops : ops_of read_once reads_again ≡ take 2 (ops_of read_once reads_again) ++ again ∷ []
 unfolding computing
-again_in = inr (inr (inl refl))
+again_ops = three nothing (ops_of read_once reads_again) refl
+
+again_in : In again (ops_of read_once reads_again)
+again_in = subst (In again) (sym again_ops) (last_in (take 2 (ops_of read_once reads_again)) again)
 
 there : (is_there write.before.store.tree 2 ≡ true) × (is_there read.before.store.tree 2 ≡ true) × (is_there again.before.store.tree 2 ≡ true)
 unfolding computing
@@ -61,26 +65,26 @@ answers : (read.result ≡ done_head Num.Read ++ (words (1 ∷ []) ++ words (8 �
 unfolding computing
 answers = (refl, refl)
 
-abbrev reads_it : (d : RanOp) → d.item ≡ Operation (Op.Read asked) → d.context.current ≡ Some 2 → d.result ≡ read.result → ReadsOf 2 0 8 d
-reads_it d is at told = record {
+abbrev reads_it : (d : RanOp) → d.item ≡ Operation (Op.Read asked) → d.context.current ≡ Some 2 → d.result ≡ read.result → length (words (1 ∷ [])) ≡ 4 → ReadsOf 2 0 8 d
+reads_it d is at told long = record {
   asked = asked;
   is = is;
   at = at;
   from = refl;
   many = refl;
   eof = words (1 ∷ []);
-  long = refl;
+  long = long;
   text = _;
   answers = told ∙ answers.0;
 }
 
 first : ReadsOf 2 0 8 read
-unfolding computing asked
-first = reads_it read refl refl refl
+unfolding computing
+first = reads_it read refl refl refl refl
 
 second : ReadsOf 2 0 8 again
-unfolding computing asked
-second = reads_it again refl refl answers.1
+unfolding computing
+second = reads_it again refl refl answers.1 refl
 
 pub told_by_change : ToldByChange
 told_by_change = record {

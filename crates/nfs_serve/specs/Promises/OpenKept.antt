@@ -1,6 +1,6 @@
 -- An open told is an open kept: what becomes, over any list of records, of an open that an OPEN told, and of its share reservation (RFC 8881 sections 8.3,
 -- 9.7, 18.2, 18.16 and 18.18).
-use Rattle.std.specs.Prelude.{◌≡◌, ℕ, ◌+◌, ◌≤◌, true, List, [], ◌∷◌, ◌++◌, if◌then◌else◌}
+use Rattle.std.specs.Prelude.{◌≡◌, ℕ, ◌+◌, ◌≤◌, true, false, List, [], ◌∷◌, ◌++◌, if◌then◌else◌}
 use Rattle.nfs_xdr.specs.Tables.{In}
 use Rattle.nfs_compound.specs.declared.open_args.Open.{Open}
 use Rattle.nfs_compound.specs.declared.op_num.OpNum.TheVariants as Num
