@@ -8,7 +8,7 @@ use Rattle.nfs_slots.specs.declared.slot.Verdict.TheVariants.{Fresh, Again, Fals
 use Rattle.nfs_serve.specs.Promises.Endpoint.{Place, Heading, Compound, Answer, SlotNumber, Stepped, Arrival}
 use Rattle.nfs_serve.specs.Promises.Network.{Callers, Packet, Next, NetworkEvent, Sends, Arrives, Accepts, begins, same_place}
 use Rattle.nfs_serve.specs.Promises.Numbered.{Happens}
-use Rattle.nfs_serve.specs.Promises.WrongServers.{Small, place, heading, spell, arguments, judged, is_fresh, by_verdict, taken, executes, runs_repeats, says_one, compares_all, LawsRefuse}
+use Rattle.nfs_serve.specs.Promises.WrongServers.{Small, place, heading, spell, arguments, judged, is_fresh, by_verdict, taken, executes, runs_repeats, says_one, LawsRefuse}
 use Rattle.nfs_serve.proofs.Promises.ServerLaws.{KeepsSlots, Runs, Repeats}
 use Rattle.nfs_serve.proofs.Promises.NetworkLines.{same_place_is, same_place_self}
 use Rattle.nfs_serve.proofs.Promises.NetworkEvents.{exactly_once_by_number}
