@@ -166,6 +166,15 @@ read_failed port s d l0 l1 l2 c hungry first later = quiet_advances port (Failed
     (quiet_on port (Failed ∷ []) (Closed ∷ []) d leaving closed l0 l1 l2
     (quiet_act port Failed d leaving l0 l1 refl refl refl (λ s. (refl, hungry.live, refl)) first) (quiet_closes port l1 l2 later))
 
+-- acts behind a port that said that it is ready
+pub behind_nothing : (port : ℕ) (acts : List Act) (s t : State) (d e : Desk) (l0 l1 l2 : Option (List Deed)) (c0 c1 : Option (List Told)) → Logs l0 l1 []
+    → Advances port acts s d t e l1 l2 c0 c1 → Advances port acts s d t e l0 l2 c0 c1
+behind_nothing port acts s t d e l0 l1 l2 c0 c1 none later = record {
+  goes = later.goes;
+  logs = Logs-trans l0 l1 l2 [] (flat_map (shown port) acts) none later.logs;
+  clock = later.clock;
+}
+
 -- a port that is passed over
 pub passed_over : (port : ℕ) (s : State) (d : Desk) (l0 l1 : Option (List Deed)) (c : Option (List Told)) → (HasMore d → ⊥)
     → Logs l0 l1 (record { port = port; act = Unready } ∷ []) → Advances port (Unready ∷ []) s d s d l0 l1 c c

@@ -3,6 +3,7 @@
 ghost use Rattle.std.specs.Prelude.{◌≡◌, ◌≤◌, ◌<◌, ◌||◌, ℕ, List, [], length, drop, filter, true, false, IfOk};
 ghost use Rattle.nfs_serve.specs.Told.{Logs};
 ghost use Rattle.nfs_serve.specs.Deeds.{counted};
+ghost use Rattle.nfs_serve.specs.Shows.{readied};
 ghost use Rattle.nfs_rpc.specs.RecordMarking.{is_too_long};
 ghost use Rattle.nfs_serve.specs.Server.{state_of};
 ghost use Rattle.nfs_serve.specs.Script.{last_connection};
@@ -248,6 +249,18 @@ impl Lane {
         self.live && self.owed.rest().is_empty() && !self.unread.rest().is_empty()
     }
 
+    /// Whether the port has something to step, or else says that it is ready.
+    fn has_turn<P: Ports>(&self, port: u32, ports: &mut P) -> bool
+        requires port { port ≤ last_connection }
+        ensures logs { Logs (P.log ports.old) (P.log ports.new) (readied port result) }
+        ensures none { result ≡ false → HasMore (desk_of self.now) → ⊥ }
+    {
+        if self.has_more() {
+            return true;
+        }
+        ports.is_ready(port)
+    }
+
     /// A turn, where the port is ready or has something to step.
     pub(crate) fn visit<P: Ports, C: Clock>(
         &mut self,
@@ -261,7 +274,7 @@ impl Lane {
         ensures { Visits port (state_of engine.old.kept) (desk_of self.old) (state_of engine.new.kept) (desk_of self.new) (P.log ports.old) (P.log ports.new) (C.told clock.old) (C.told clock.new) }
     {
         clock.begin_turn();
-        if !self.has_more() && !ports.is_ready(port) {
+        if !self.has_turn(port, ports) {
             return;
         }
         self.turn(alloc, engine, port, ports, clock);

@@ -1,28 +1,30 @@
-use Rattle.std.proofs.Common.{◌≡◌, [], ◌∷◌, true, false, sym, subst, ◌∙◌, rules}
+use Rattle.std.proofs.Common.{◌≡◌, [], ◌∷◌, true, false, subst, rules}
 use Rattle.nfs_serve.specs.Told.{Logs}
-use Rattle.nfs_serve.specs.Desk.{HasMore, Unready}
-use Rattle.nfs_serve.specs.Lane.{desk_of}
+use Rattle.nfs_serve.specs.Desk.{Unready}
 use Rattle.nfs_serve.specs.Shows.{readied}
-use Rattle.nfs_serve.proofs.Advancing.{passed_over}
+use Rattle.nfs_serve.proofs.Advancing.{passed_over, behind_nothing}
 use Rattle.nfs_serve.proofs.TurnEnds.{passes_over}
 use Rattle.nfs_serve.proofs.lane.Lane.visit.Goals as goal
 
-no : true ≡ false → ⊥
-no e = cc
-
-pub returns-then-not-has_more-and-not-is_ready : goal.returns-then-not-has_more-and-not-is_ready
-returns-then-not-has_more-and-not-is_ready g c =
-    let off : c.has_more.result ≡ false = search rules in
-    let unready : c.is_ready.result ≡ false = search rules in
-    let none = λ (more : HasMore (desk_of c.args.self.now)). no (sym (c.has_more.ensures.none more) ∙ off) in (
+pub returns-then-not-has_turn : goal.returns-then-not-has_turn
+returns-then-not-has_turn g c =
+    let off : c.has_turn.result ≡ false = search rules in (
       Unready ∷ [],
       _,
       c.begin_turn.ensures,
-      passed_over _ _ _ _ _ _ none (subst (λ b. Logs (g.P.Ports.log c.args.ports.now) (g.P.Ports.log c.is_ready.new.self) (readied c.args.port b)) unready c.is_ready.ensures.logs),
+      passed_over _ _ _ _ _ _ (c.has_turn.ensures.none off)
+          (subst (λ b. Logs (g.P.Ports.log c.args.ports.now) (g.P.Ports.log c.has_turn.new.ports) (readied c.args.port b)) off c.has_turn.ensures.logs),
       passes_over,
     )
 
 pub returns : goal.returns
 returns g c =
-    let (acts, advances, ends) = c.turn.ensures in
-    (acts, _, c.begin_turn.ensures, advances, ends)
+    let on : c.has_turn.result ≡ true = search rules in
+    let (acts, advances, ends) = c.turn.ensures in (
+      acts,
+      _,
+      c.begin_turn.ensures,
+      behind_nothing _ acts _ _ _ _ _ _ _ _ _
+          (subst (λ b. Logs (g.P.Ports.log c.args.ports.now) (g.P.Ports.log c.has_turn.new.ports) (readied c.args.port b)) on c.has_turn.ensures.logs) advances,
+      ends,
+    )
