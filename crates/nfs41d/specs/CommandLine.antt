@@ -1,9 +1,10 @@
 -- What may be asked for on the command line (this server's profile).
-use Rattle.std.specs.Prelude.{◌≤◌}
+use Rattle.std.specs.Prelude.{◌≤◌, IfSome}
+use Rattle.nfs_serve.specs.Script.{connection_count}
 use Rattle.nfs41d.specs.declared.asked.Order.{Order}
 use Rattle.nfs41d.specs.declared.asked.Order.TheVariants.{Replay, Serve}
 
--- 1 to 1,000,000 connections, 1 to 16 at once
+-- 1 to 1,000,000 connections, or no end of them; 1 to 16 at once
 abbrev pub MayBeAsked : Order → Type 0
 MayBeAsked (Replay settings) = Unit {0}
-MayBeAsked (Serve listen connections at_once settings) = (1 ≤ connections) × (connections ≤ 1000000) × (1 ≤ at_once) × (at_once ≤ 16)
+MayBeAsked (Serve listen connections at_once settings) = IfSome connections (λ n. (1 ≤ n) × (n ≤ 1000000)) × (1 ≤ at_once) × (at_once ≤ connection_count)

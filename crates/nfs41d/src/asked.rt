@@ -8,12 +8,12 @@ pub enum Order<'a> {
         /// The path of the settings file, if one is named.
         settings: Option<&'a str>,
     },
-    /// Serve so many TCP connections.
+    /// Serve TCP connections.
     Serve {
         /// The IPv4 address and port to listen on, as it was written.
         listen: &'a str,
-        /// How many connections, from 1 to 1,000,000.
-        connections: u32,
+        /// How many connections are to count before the program ends, from 1 to 1,000,000; `None` where it serves until it is stopped.
+        connections: Option<u32>,
         /// How many at once, from 1 to 16.
         at_once: u32,
         /// The path of the settings file, if one is named.

@@ -12,7 +12,7 @@ use std::io::Write;
 /// Says on `told` which address the ports are of, and serves the connections that come there, until they are over.
 ///
 /// `Start` where the address is not told; `Accept` where no connection can be taken any more.
-pub fn serve_many<P, C, W>(
+pub fn serve<P, C, W>(
     alloc: Global,
     server: &mut Server,
     hub: &mut Hub,

@@ -1,32 +1,29 @@
 //! TCP connections as the ports of a hub, by readiness.
 
-ghost use Rattle.std.specs.Prelude.{◌≡◌, ◌≤◌, false, None, IfSome, IfOk, if◌then◌else◌};
-ghost use Rattle.nfs_serve.specs.Script.{last_connection};
+ghost use Rattle.std.specs.Prelude.{◌≡◌, ◌≤◌, ◌<◌, None, IfSome, IfOk};
+ghost use Rattle.nfs_serve.specs.Script.{last_connection, connection_count};
 ghost use Rattle.nfs_serve.specs.Shows.{ComesWithin, TakesWithin};
+ghost use Rattle.nfs41d.specs.Accepting.{lasts};
 
+use crate::left::Left;
+use crate::places::{MOST_PLACES, Places};
 use mio::net::{TcpListener, TcpStream};
 use mio::{Events, Interest, Poll, Token};
-use nfs_pace::patience;
+use nfs_pace::{MICROS, patience};
 use nfs_serve::{Came, Next, Ports, Took};
 use std::io::{ErrorKind, Read, Write};
-use std::net::{IpAddr, Net, SocketAddr};
+use std::net::{Net, SocketAddr};
 use std::time::{Duration, Instant};
 use std::{io, rt};
 
 /// How many ports there are.
-const PORTS: usize = 16;
+const PORTS: usize = MOST_PLACES as usize;
 
 /// The token of the listener; those of connections are their ports.
 const LISTENER: Token = Token(PORTS);
 
-/// How many milliseconds a wait lasts while somebody may wait for a port.
+/// How many milliseconds a wait lasts while somebody may wait for a port, or is to be closed once it was silent for too long.
 const TICK: u64 = 200;
-
-/// How many seconds a connection is silent at most on which no request was answered, where somebody may wait for its port.
-const STRANGER: u64 = 10;
-
-/// The numbers of Linux for want of memory, of descriptors (the system's and the process's) and of buffers.
-const PASSING: [i32; 4] = [12, 23, 24, 105];
 
 /// Ports whose connections come to one address.
 pub trait Listening: Ports {
@@ -37,42 +34,41 @@ pub trait Listening: Ports {
     fn failed(&self) -> bool;
 }
 
-/// A connection, and what is known of it.
+/// A connection, and what was told of it.
 #[derive(Drop)]
-struct Slot {
+struct Connection {
     stream: TcpStream,
-    /// Where its peer is.
-    ip: IpAddr,
     /// Whether a read or a write may do something.
     ready: bool,
     /// Whether a read may: bytes or an end were told, and no read was short since.
     readable: bool,
     /// Whether the peer has ended its side or the connection has failed, so that a read says so once all bytes were read.
     ending: bool,
-    /// When its peer last took the front of an answer, and at first when it began.
-    used: Option<Instant>,
-    /// Whether something came behind the last answer.
-    asked: bool,
-    /// Whether a session's SEQUENCE was answered.
-    heard: bool,
+    /// Whether it is to be closed, since it was silent for too long and nobody is served after it.
+    over: bool,
 }
 
-impl Slot {
-    /// Notes that its peer took some bytes now. A read is asked for only where no reply is owed, so what is written first behind one answers a whole
-    /// record: that is a sign of life, and bytes that come are none.
-    fn note_taken(&mut self, now: Option<Instant>)
-        ensures noted { self.new ≡ (if self.old.asked then record self.old { used = now; asked = false } else self.old) }
-    {
-        if self.asked {
-            self.asked = false;
-            self.used = now;
-        }
+impl Connection {
+    /// It is to be closed: it is ready, so that this is met.
+    fn end(&mut self) {
+        self.over = true;
+        self.ready = true;
+    }
+
+    /// Notes what was told of it.
+    fn note(&mut self, readable: bool, ending: bool) {
+        self.ready = true;
+        self.ending = self.ending || ending;
+        self.readable = self.readable || self.ending || readable;
     }
 
     /// Reads what is there into the front of `buf`.
     fn read(&mut self, buf: &mut [u8]) -> Came
         ensures { ComesWithin result buf.new }
     {
+        if self.over {
+            return Came::Ended;
+        }
         // Bytes that were read while they were told are told once more, as room to write.
         if !self.readable {
             self.ready = false;
@@ -81,7 +77,6 @@ impl Slot {
         match self.stream.read(buf) {
             Ok(0) => Came::Ended,
             Ok(n) => {
-                self.asked = true;
                 // What comes behind a read that was short is told anew; an end that was told already is not.
                 self.readable = n == buf.len() || self.ending;
                 self.ready = self.readable;
@@ -101,6 +96,9 @@ impl Slot {
     fn write(&mut self, bytes: &[u8]) -> Took
         ensures { TakesWithin result bytes.now }
     {
+        if self.over {
+            return Took::Failed;
+        }
         match self.stream.write(bytes) {
             Ok(0) => Took::Failed,
             Ok(n) => Took::Bytes(n),
@@ -118,7 +116,8 @@ impl Slot {
 #[derive(Drop)]
 struct Newcomer {
     stream: TcpStream,
-    ip: IpAddr,
+    /// Where its peer is.
+    address: u32,
 }
 
 /// A listener and its connections.
@@ -130,33 +129,34 @@ pub struct Sockets<'a, R: rt::Clock> {
     listener: TcpListener,
     /// Whether somebody may be waiting to be accepted.
     calling: bool,
-    slots: [Option<Slot>; PORTS],
+    connections: [Option<Connection>; PORTS],
+    /// Who has a port, and who gives way.
+    places: Places,
     /// Who waits for a port, in the order in which they came.
     newcomers: Vec<Newcomer>,
-    at_once: usize,
-    /// How long a connection is silent at least before a new one is given its port, where a request was answered.
-    idle: Duration,
-    /// The same, where none was.
-    stranger: Duration,
-    /// How long it waits at most: half of what the clock of many connections rises by in a sweep, so that an idle server keeps up.
+    /// How many connections are still to count.
+    left: Left,
+    /// How long it waits at most: half of what the clock rises by in a sweep, so that an idle server keeps up.
     patience: Duration,
-    /// On how many connections more a request is to be answered.
-    left: u32,
-    /// The moment of the last wait.
-    now: Option<Instant>,
+    /// When it began, if the clock could be read.
+    begun: Option<Instant>,
+    /// How many microseconds later the last wait ended.
+    now: u64,
     failed: bool,
 }
 
 impl<'a, R: Net + AllocGlobal + rt::Clock> Sockets<'a, R> {
-    /// Listens on an address for so many connections on which a request is answered, so many of them at once, where a connection that was
-    /// silent for a lease (seconds) gives way to a new one, and one of the IP address that has most to one whose address has none.
+    /// Listens on an address for so many connections that count, or without end, and so many of them at once. Where all places are taken, one that was
+    /// silent for a lease (seconds) gives way to a new one, and one of the address that has most to one whose address has none.
     pub fn new(
         rt: &'a R,
         addr: SocketAddr,
-        connections: u32,
+        connections: Option<u32>,
         at_once: u32,
         lease: u32,
-    ) -> io::Result<Self> {
+    ) -> io::Result<Self>
+        requires { at_once ≤ connection_count }
+    {
         let poll = Poll::new(rt)?;
         let mut listener = TcpListener::bind(rt, addr)?;
         poll.registry()
@@ -167,14 +167,13 @@ impl<'a, R: Net + AllocGlobal + rt::Clock> Sockets<'a, R> {
             events: Events::with_capacity(rt.alloc(), PORTS + 1)?,
             listener,
             calling: true,
-            slots: [const { None }; PORTS],
+            connections: [const { None }; PORTS],
+            places: Places::new(rt.alloc(), at_once, lease)?,
             newcomers: Vec::with_capacity(rt.alloc(), PORTS)?,
-            at_once: PORTS.min(at_once as usize),
-            idle: Duration::from_secs(u64::from(lease)),
-            stranger: Duration::from_secs(u64::from(lease).min(STRANGER)),
+            left: Left::new(connections, at_once),
             patience: Duration::from_micros(patience(lease)),
-            left: connections,
-            now: Instant::now(rt).ok(),
+            begun: Instant::now(rt).ok(),
+            now: 0,
             failed: false,
         })
     }
@@ -182,88 +181,10 @@ impl<'a, R: Net + AllocGlobal + rt::Clock> Sockets<'a, R> {
 
 impl<R: rt::Clock> Sockets<'_, R> {
     /// The connection on a port.
-    fn slot(&mut self, port: u32) -> Option<&mut Slot> {
-        match self.slots.get_mut(port as usize) {
-            Some(Some(slot)) => Some(slot),
+    fn connection(&mut self, port: u32) -> Option<&mut Connection> {
+        match self.connections.get_mut(port as usize) {
+            Some(Some(connection)) => Some(connection),
             _ => None,
-        }
-    }
-
-    /// A port that is free, or else that of the connection that has been silent the longest, and long enough: for a lease, or for ten
-    /// seconds where no request of it was answered.
-    fn place(&self) -> Option<usize>
-        ensures { IfSome result (λ port. port ≤ last_connection) }
-    {
-        let mut longest = None;
-        let mut silent = Duration::ZERO;
-        for port in 0..self.at_once.min(PORTS) {
-            let Some(slot) = &self.slots[port] else {
-                return Some(port);
-            };
-            if let Some(since) = self.overdue(slot) {
-                if since >= silent {
-                    silent = since;
-                    longest = Some(port);
-                }
-            }
-        }
-        longest
-    }
-
-    /// How long a connection has been silent, where that is long enough to give way.
-    fn overdue(&self, slot: &Slot) -> Option<Duration> {
-        let enough = if slot.heard { self.idle } else { self.stranger };
-        let since = self.silence(slot);
-        if since >= enough { Some(since) } else { None }
-    }
-
-    /// How long a connection has been silent.
-    fn silence(&self, slot: &Slot) -> Duration {
-        match (self.now, slot.used) {
-            (Some(now), Some(used)) => now.saturating_duration_since(used),
-            _ => Duration::ZERO,
-        }
-    }
-
-    /// How many ports an address has.
-    fn ports_of(&self, ip: IpAddr) -> usize {
-        let mut count: usize = 0;
-        for slot in self.slots.iter().flatten() {
-            if slot.ip == ip {
-                count = count.saturating_add(1);
-            }
-        }
-        count
-    }
-
-    /// Of the address that has most ports, and more than one, the port of the connection that has been silent the longest.
-    fn crowded(&self) -> Option<usize>
-        ensures { IfSome result (λ port. port ≤ last_connection) }
-    {
-        let mut longest = None;
-        let mut most = 2;
-        let mut silent = Duration::ZERO;
-        for port in 0..PORTS {
-            if let Some(slot) = &self.slots[port] {
-                let (count, since) = (self.ports_of(slot.ip), self.silence(slot));
-                if count > most || count == most && since >= silent {
-                    most = count;
-                    silent = since;
-                    longest = Some(port);
-                }
-            }
-        }
-        longest
-    }
-
-    /// A port for an address: one that may be taken; or, for one that has none, a port of the address that has most.
-    fn port_for(&self, ip: IpAddr) -> Option<usize>
-        ensures { IfSome result (λ port. port ≤ last_connection) }
-    {
-        match self.place() {
-            Some(port) => Some(port),
-            None if self.ports_of(ip) == 0 => self.crowded(),
-            None => None,
         }
     }
 
@@ -271,14 +192,13 @@ impl<R: rt::Clock> Sockets<'_, R> {
     fn accept(&mut self) -> io::Result<Option<u32>>
         ensures { IfOk result (λ taken. IfSome taken (λ port. port ≤ last_connection)) }
     {
-        if self.left == 0 {
+        if self.left.is_over() {
             return Ok(None);
         }
         for at in 0..self.newcomers.len() {
-            if let Some(port) = self.port_for(self.newcomers[at].ip) {
+            if let Some(place) = self.places.place_for(self.newcomers[at].address, self.now) {
                 let newcomer = self.newcomers.remove(at);
-                self.take_on(port, newcomer)?;
-                return Ok(Some(port as u32));
+                return Ok(self.take_on(place, newcomer));
             }
         }
         self.accept_new()
@@ -291,74 +211,68 @@ impl<R: rt::Clock> Sockets<'_, R> {
     {
         for _ in 0..PORTS {
             let is_full = self.newcomers.len() >= PORTS;
-            if !self.calling || is_full && self.crowded().is_none() {
+            if !self.calling || is_full && !self.places.is_crowded() {
                 return Ok(None);
             }
             match self.listener.accept() {
                 Ok((stream, addr)) => {
                     let newcomer = Newcomer {
                         stream,
-                        ip: addr.ip(),
+                        address: bits_of(addr),
                     };
-                    if let Some(port) = self.port_for(newcomer.ip) {
-                        self.take_on(port, newcomer)?;
-                        return Ok(Some(port as u32));
+                    if let Some(place) = self.places.place_for(newcomer.address, self.now) {
+                        return Ok(self.take_on(place, newcomer));
                     }
                     if !is_full {
                         self.newcomers.push(newcomer)?;
                     }
                 }
                 Err(e) if e.kind() == ErrorKind::WouldBlock => self.calling = false,
-                Err(e) if passes(&e) => return Ok(None),
-                Err(e) => return Err(e),
+                Err(e) if ends(&e) => return Err(e),
+                Err(_) => return Ok(None),
             }
         }
         Ok(None)
     }
 
-    /// Serves a connection on a port. One that was there is closed.
-    fn take_on(&mut self, port: usize, newcomer: Newcomer) -> io::Result<()>
-        requires { port ≤ last_connection }
+    /// Serves a connection in a place, and answers its port. One that was there is closed. Where the system has no room to watch it, it is closed itself.
+    fn take_on(&mut self, place: usize, newcomer: Newcomer) -> Option<u32>
+        requires { place < connection_count }
+        ensures { IfSome result (λ port. port ≤ last_connection) }
     {
         let mut stream = newcomer.stream;
         // A reply leaves at once, where the platform lets it.
         let _ = stream.set_nodelay(true);
-        self.poll.registry().register(
-            &mut stream,
-            Token(port),
-            Interest::READABLE | Interest::WRITABLE,
-        )?;
-        self.slots[port] = Some(Slot {
+        let both = Interest::READABLE | Interest::WRITABLE;
+        if self.poll.registry().register(&mut stream, Token(place), both).is_err() {
+            return None;
+        }
+        self.connections[place] = Some(Connection {
             stream,
-            ip: newcomer.ip,
             ready: true,
             readable: true,
             ending: false,
-            used: self.now,
-            asked: false,
-            heard: false,
+            over: false,
         });
-        Ok(())
+        self.places.seat(place, newcomer.address, self.now);
+        self.left.take();
+        Some(place as u32)
     }
 
     /// Looks at which connections are ready, and waits for one or for the listener where none is and it may wait.
     fn wait(&mut self, may_wait: bool) -> io::Result<()> {
-        let ready = self.slots.iter().flatten().any(|slot| slot.ready);
-        let timeout = if ready || !may_wait {
-            Duration::ZERO
-        } else if (self.calling || !self.newcomers.is_empty()) && self.left > 0 {
-            Duration::from_millis(TICK)
-        } else {
-            self.patience
-        };
-        self.poll.poll(&mut self.events, Some(timeout))?;
-        self.now = Instant::now(self.rt).ok();
+        let timeout = self.timeout(may_wait);
+        match self.poll.poll(&mut self.events, Some(timeout)) {
+            Ok(()) => {}
+            Err(e) if e.kind() == ErrorKind::Interrupted => {}
+            Err(e) => return Err(e),
+        }
+        self.read_clock();
         for event in &self.events {
-            match self.slots.get_mut(event.token().0) {
-                Some(Some(slot)) => {
-                    slot.ready = true;
-                    slot.ending = slot.ending || event.is_read_closed() || event.is_error();
-                    slot.readable = slot.readable || slot.ending || event.is_readable();
+            match self.connections.get_mut(event.token().0) {
+                Some(Some(connection)) => {
+                    let ending = event.is_read_closed() || event.is_error();
+                    connection.note(event.is_readable(), ending);
                 }
                 Some(None) => {}
                 None => self.calling = true,
@@ -366,16 +280,66 @@ impl<R: rt::Clock> Sockets<'_, R> {
         }
         Ok(())
     }
+
+    /// How long a wait lasts at most.
+    fn timeout(&self, may_wait: bool) -> Duration {
+        let ready = self.connections.iter().flatten().any(|connection| connection.ready);
+        if ready || !may_wait {
+            Duration::ZERO
+        } else if self.calling || !self.newcomers.is_empty() || self.left.is_over() {
+            Duration::from_millis(TICK)
+        } else {
+            self.patience
+        }
+    }
+
+    /// Notes the moment; where the clock cannot be read, the last one stays.
+    fn read_clock(&mut self) {
+        if let (Some(begun), Ok(now)) = (self.begun, Instant::now(self.rt)) {
+            let since = now.saturating_duration_since(begun);
+            let seconds = since.as_secs().saturating_mul(MICROS);
+            self.now = seconds.saturating_add(u64::from(since.subsec_micros()));
+        }
+    }
+
+    /// Connections that were silent for too long are to be closed.
+    fn end_silent(&mut self) {
+        for port in 0..PORTS {
+            if self.places.is_overdue(port, self.now) {
+                if let Some(connection) = &mut self.connections[port] {
+                    connection.end();
+                }
+            }
+        }
+    }
 }
 
-/// Whether a failure to take a connection passes by itself.
-fn passes(e: &io::Error) -> bool {
-    e.kind() == ErrorKind::ConnectionAborted
-        || e.kind() == ErrorKind::Interrupted
-        || match e.raw_os_error() {
-            Some(number) => PASSING.contains(&number),
-            None => false,
-        }
+/// The 32 bits of the address; 0 for one that is not of IPv4, of which none comes.
+fn bits_of(addr: SocketAddr) -> u32 {
+    match addr {
+        SocketAddr::V4(addr) => addr.ip().to_bits(),
+        SocketAddr::V6(_) => 0,
+    }
+}
+
+/// Whether no connection can be taken any more behind this failure to take one. Others pass: a connection that its peer gave up, a network that is
+/// down, want of memory or of descriptors.
+fn ends(e: &io::Error) -> bool {
+    match e.raw_os_error() {
+        Some(number) => match u32::try_from(number) {
+            Ok(number) => lasts(number),
+            Err(_) => false,
+        },
+        None => false,
+    }
+}
+
+/// Whether a failure of Linux to take a connection (its number) lasts, as the listener is none, or none any more: EBADF, EFAULT, EINVAL, ENOTSOCK,
+/// EOPNOTSUPP.
+fn lasts(number: u32) -> bool
+    ensures { result ≡ lasts number }
+{
+    matches!(number, 9 | 14 | 22 | 88 | 95)
 }
 
 impl<R: rt::Clock> Listening for Sockets<'_, R> {
@@ -396,12 +360,15 @@ impl<R: rt::Clock> Ports for Sockets<'_, R> {
             self.failed = true;
             return Next::Over;
         };
-        if self.left == 0 && self.slots.iter().all(|slot| slot.is_none()) {
+        if self.left.is_over() && self.places.is_empty() {
             return Next::Over;
         }
         if self.wait(may_wait).is_err() {
             self.failed = true;
             return Next::Over;
+        }
+        if self.left.is_over() {
+            self.end_silent();
         }
         match opened {
             Some(port) => Next::Opened(port),
@@ -410,41 +377,43 @@ impl<R: rt::Clock> Ports for Sockets<'_, R> {
     }
 
     fn is_ready(&mut self, port: u32) -> bool {
-        match self.slots.get(port as usize) {
-            Some(Some(slot)) => slot.ready,
+        match self.connections.get(port as usize) {
+            Some(Some(connection)) => connection.ready,
             _ => false,
         }
     }
 
     fn read(&mut self, port: u32, buf: &mut [u8]) -> Came {
-        match self.slot(port) {
-            Some(slot) => slot.read(buf),
-            None => Came::Failed,
+        let Some(connection) = self.connection(port) else {
+            return Came::Failed;
+        };
+        let came = connection.read(buf);
+        if matches!(came, Came::Bytes(_)) {
+            self.places.came(port as usize);
         }
+        came
     }
 
     fn write(&mut self, port: u32, bytes: &[u8]) -> Took {
-        let now = self.now;
-        let Some(slot) = self.slot(port) else {
+        let Some(connection) = self.connection(port) else {
             return Took::Failed;
         };
-        let took = slot.write(bytes);
+        let took = connection.write(bytes);
         if matches!(took, Took::Bytes(_)) {
-            slot.note_taken(now);
+            self.places.took(port as usize, self.now);
         }
         took
     }
 
     fn count(&mut self, port: u32) {
-        self.left = self.left.saturating_sub(1);
-        if let Some(slot) = self.slot(port) {
-            slot.heard = true;
-        }
+        let _ = port;
+        self.left.hear();
     }
 
     fn close(&mut self, port: u32) {
-        if let Some(slot) = self.slots.get_mut(port as usize) {
-            *slot = None;
+        if let Some(connection) = self.connections.get_mut(port as usize) {
+            *connection = None;
         }
+        self.places.leave(port as usize);
     }
 }

@@ -8,7 +8,7 @@ use nfs_serve::{ReplayFault, Stop};
 use std::test::Fail;
 
 /// An order to serve in the words given, as the numbers that it has.
-fn numbers(rt: &HostRuntime, words: &[&str]) -> Option<(u32, u32)> {
+fn numbers(rt: &HostRuntime, words: &[&str]) -> Option<(Option<u32>, u32)> {
     match order(rt.alloc(), words) {
         Ok(
             Order::Serve {
@@ -41,7 +41,7 @@ fn an_order_to_serve_has_its_address_its_numbers_and_its_settings(
         order(rt.alloc(), words.as_slice()),
         Ok(Order::Serve {
             listen: "127.0.0.1:2049",
-            connections: 1_000_000,
+            connections: Some(1_000_000),
             at_once: 16,
             settings: Some("there.toml")
         })
@@ -51,9 +51,7 @@ fn an_order_to_serve_has_its_address_its_numbers_and_its_settings(
 }
 
 #[test]
-fn connections_are_served_one_after_the_other_unless_more_are_asked_for(
-    rt: HostRuntime,
-) -> Result<(), Fail> {
+fn sixteen_are_served_at_once_without_end_unless_it_is_said_how_many(rt: HostRuntime) -> Result<(), Fail> {
     let words = [
         "nfs41d",
         "serve",
@@ -62,7 +60,10 @@ fn connections_are_served_one_after_the_other_unless_more_are_asked_for(
         "--connections",
         "3",
     ];
-    assert!(rt; numbers(&rt, words.as_slice()) == Some((3, 1)));
+    assert!(rt; numbers(&rt, words.as_slice()) == Some((Some(3), 1)));
+    assert!(rt; numbers(&rt, &words[..4]) == Some((None, 16)));
+    let few = ["nfs41d", "serve", "--listen", "127.0.0.1:0", "--at-once", "2"];
+    assert!(rt; numbers(&rt, few.as_slice()) == Some((None, 2)));
     Ok(())
 }
 

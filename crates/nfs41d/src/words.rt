@@ -1,20 +1,19 @@
 //! What the command line asks for.
 
-ghost use Rattle.std.specs.Prelude.{◌≤◌, IfSome, MatchResult};
+ghost use Rattle.std.specs.Prelude.{◌≡◌, ◌≤◌, IfSome, MatchResult};
 ghost use Rattle.nfs41d.specs.CommandLine.{MayBeAsked};
 ghost use Rattle.nfs41d.specs.ExitStatus.{IsOfCommandLine};
+ghost use Rattle.nfs41d.specs.Left.{at_once};
 
 use crate::asked::Order;
 use crate::fault::Fault;
+use crate::places::MOST_PLACES;
 use clap::error::ErrorKind;
 use clap::{Arg, ArgAction, ArgMatches, Command};
 use std::alloc::{AllocError, Global};
 
 /// The most connections of one run.
 const MAX_CONNECTIONS: u32 = 1_000_000;
-
-/// The most connections at once.
-const MAX_AT_ONCE: u32 = 16;
 
 /// Reads the words of a command line, the program's name first.
 ///
@@ -53,7 +52,7 @@ fn replay_command<'a>(alloc: Global) -> Result<Command<'a>, AllocError> {
 fn serve_command<'a>(alloc: Global) -> Result<Command<'a>, AllocError> {
     Command::new(alloc, "serve")
         .arg(option(alloc, "listen").required(true))?
-        .arg(option(alloc, "connections").required(true))?
+        .arg(option(alloc, "connections"))?
         .arg(option(alloc, "at-once"))?
         .arg(option(alloc, "settings"))
 }
@@ -71,16 +70,45 @@ fn order_of<'a>(matches: &ArgMatches<'a>) -> Option<Order<'a>>
         "replay" => Some(Order::Replay {
             settings: found.get_str("settings"),
         }),
-        "serve" => Some(Order::Serve {
-            listen: found.get_str("listen")?,
-            connections: count_of(found.get_str("connections")?, MAX_CONNECTIONS)?,
-            at_once: match found.get_str("at-once") {
-                Some(text) => count_of(text, MAX_AT_ONCE)?,
-                None => 1,
-            },
-            settings: found.get_str("settings"),
-        }),
+        "serve" => {
+            let listen = found.get_str("listen")?;
+            let connections = given(found.get_str("connections"), MAX_CONNECTIONS)?;
+            let asked = given(found.get_str("at-once"), MOST_PLACES)?;
+            Some(Order::Serve {
+                listen,
+                connections,
+                at_once: at_once(connections, asked),
+                settings: found.get_str("settings"),
+            })
+        }
         _ => None,
+    }
+}
+
+/// How many connections are served at once: as many as are asked for; else one, where it is said how many there are in all, and as many as there may
+/// be where it is not.
+fn at_once(connections: Option<u32>, asked: Option<u32>) -> u32
+    ensures { result ≡ at_once connections asked }
+{
+    match asked {
+        Some(asked) => asked,
+        None => match connections {
+            Some(_) => 1,
+            None => MOST_PLACES,
+        },
+    }
+}
+
+/// The count that an option is given, if it is there: `None` where its text is none from 1 on.
+fn given(text: Option<&str>, most: u32) -> Option<Option<u32>>
+    ensures { IfSome result (λ given. IfSome given (λ count. (1 ≤ count) × (count ≤ most))) }
+{
+    match text {
+        Some(text) => match count_of(text, most) {
+            Some(count) => Some(Some(count)),
+            None => None,
+        },
+        None => Some(None),
     }
 }
 

@@ -48,7 +48,7 @@ pub use hub::Hub;
 pub use memory::replay_bytes;
 pub use moving::{WriteFailed, fill, put};
 pub use ports::{Came, Next, Ports, Took};
-pub use script::LAST_MOMENT;
+pub use script::{LAST_CONNECTION, LAST_MOMENT};
 pub use server::{Server, Settings};
 pub use sink::Sink;
 pub use source::Source;

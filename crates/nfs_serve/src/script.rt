@@ -10,8 +10,8 @@ use crate::Source;
 use crate::fault::Stop;
 use crate::moving::fill;
 
-/// The last connection.
-pub(crate) const LAST_CONNECTION: u32 = 15;
+/// The last connection, and the last port of a hub; the first is 0.
+pub const LAST_CONNECTION: u32 = 15;
 
 /// The most bytes of a piece.
 pub(crate) const MAX_PIECE: u32 = 65_536;
