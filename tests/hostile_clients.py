@@ -18,13 +18,16 @@ SMALL = (4_096, 4_096, 4_096, 64, 1)
 
 
 class Served(wire.Served):
-    """The program, serving connections, 16 at once, as instance 7."""
+    """The program, serving connections until it is stopped, or so many, and so many at once, as instance 7."""
 
-    def __init__(self, lease=30, connections=100_000, at_once=16):
+    def __init__(self, lease=30, connections=None, at_once=None):
         self.settings = tempfile.NamedTemporaryFile("w", suffix=".toml")
         self.settings.write(f"instance = 7\nlease = {lease}\n")
         self.settings.flush()
-        super().__init__(connections, "--at-once", str(at_once), "--settings", self.settings.name)
+        # (a number of connections alone would be served one after the other)
+        at_once = at_once or (16 if connections else None)
+        places = ["--at-once", str(at_once)] if at_once else []
+        super().__init__(connections, *places, "--settings", self.settings.name)
 
     def used(self):
         """The seconds of a processor that the program has used, by the clock that the kernel has of each process."""

@@ -33,7 +33,7 @@ class Option(NamedTuple):
 COMMANDS = {
     "serve": {
         "--listen": Option("ADDR:PORT", is_needed=True),
-        "--connections": Option("N", is_needed=True, most=1_000_000),
+        "--connections": Option("N", most=1_000_000),
         "--at-once": Option("K", most=16),
         "--settings": Option("FILE"),
     },

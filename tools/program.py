@@ -1,6 +1,7 @@
 """The built program: where it is, how a script begins that needs it, a run of it over a script, and a server of it on the loopback."""
 import os
 import re
+import signal
 import socket
 import subprocess
 import sys
@@ -36,14 +37,15 @@ def replayed(script, environment=None, words=()):
 
 
 class Served:
-    """The program, serving so many connections on a port of the loopback that it took itself, with the options given; `files` limits how many
-    files it may have open, and `under` is the words of a tool that runs it."""
+    """The program, serving so many connections, or until it is stopped if no number is given, on a port of the loopback that it took itself, with the
+    options given; `files` limits how many files it may have open, and `under` is the words of a tool that runs it."""
 
-    def __init__(self, connections, *options, files=None, program=PROGRAM, under=()):
+    def __init__(self, connections=None, *options, files=None, program=PROGRAM, under=()):
         self.told = tempfile.TemporaryFile()
         limited = ["sh", "-c", f'ulimit -n {files} && exec "$@"', "sh"] if files else []
+        counted = ["--connections", str(connections)] if connections else []
         self.program = subprocess.Popen(
-            [*limited, *under, program, "serve", "--listen", f"{HERE}:0", "--connections", str(connections), *options],
+            [*limited, *under, program, "serve", "--listen", f"{HERE}:0", *counted, *options],
             stdin=subprocess.DEVNULL, stdout=subprocess.PIPE, stderr=self.told)
         try:
             self.port = self.listening()
@@ -75,6 +77,14 @@ class Served:
             return None, b"", []
         self.told.seek(0)
         return self.program.returncode, written, self.told.read().splitlines()
+
+    def runs_until_stopped(self):
+        """Whether it runs still, ends by SIGTERM, and has said nothing but where it listens."""
+        if self.program.poll() is not None:
+            return False
+        self.program.terminate()
+        status, written, lines = self.ended()
+        return status == -signal.SIGTERM and written == b"" and len(lines) == 1
 
     def seconds(self):
         """The processor time that the program has used."""
