@@ -117,6 +117,9 @@ is_atomic : IsAtomic (here found) (start found).machine callers (first ++ second
 is_atomic = atomic (here found) (keeps_slots finding 511 7 90) (keeps_time found 511 7 90) before callers (first ++ second)
     (happens (here found) (keeps_slots finding 511 7 90) before callers (first ++ second) unused computed_accepted.schedule)
 
+one_is_two : 1 ≡ 2 → ⊥
+one_is_two e = cc
+
 computed_wire : IsOverAWire found
 computed_wire = record {
   brings = computed.0;
@@ -130,7 +133,7 @@ computed_wire = record {
     back = Arrives (packet 4 2) 103 None ∷ Resends (packet 5 2) ∷ Arrives (packet 5 2) 104 None ∷ Accepts place (compound 2) (answer 5 2) ∷ []
 
     not_before : WasNotSent (packet 4 2) (take 2 first)
-    not_before q (inl e) at same = (let number : 1 ≡ 2 = ap (λ (c : Compound). c.number) (sym (ap (λ (p : Packet). p.heading.compound) e) ∙ same) in omega arith)
+    not_before q (inl e) at same = one_is_two (ap (λ (c : Compound). c.number) (sym (ap (λ (p : Packet). p.heading.compound) e) ∙ same))
     not_before q (inr none) at same = none
 
 pub is_over_a_wire : (reader : ReplyReader) → IsOverAWire reader.find
