@@ -1,4 +1,4 @@
-use Rattle.std.proofs.Common.{◌≡◌, ◌<◌, ◌≤◌, refl, sym, ◌∙◌, ◌++◌, ap, [], ◌∷◌, rules, take, length, take-append-drop, take-take, arith, length-drop, length-take, length-take-le, min}
+use Rattle.std.proofs.Common.{◌≡◌, ◌<◌, ◌≤◌, refl, sym, subst, ◌∙◌, ◌++◌, ap, [], ◌∷◌, rules, take, length, take-append-drop, take-take, arith, length-drop, length-take, length-take-le, min}
 use Rattle.std.specs.Prelude.{◌||◌, drop}
 use Rattle.std.proofs.lemmas.List.{drop_at}
 use Rattle.nfs_serve.specs.Told.{Moment, Late, Logs}
