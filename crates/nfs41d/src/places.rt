@@ -112,15 +112,16 @@ impl Places {
 
     /// A newcomer of this address has the place from now on.
     pub fn seat(&mut self, place: usize, address: u32, now: u64)
-        requires { place < length self.old.guests }
         ensures { self.new ≡ record self.old { guests = set self.old.guests place (Some (newcomer address now)) } }
     {
-        self.guests[place] = Some(Guest {
-            address,
-            used: now,
-            asked: false,
-            heard: false,
-        });
+        if place < self.guests.len() {
+            self.guests[place] = Some(Guest {
+                address,
+                used: now,
+                asked: false,
+                heard: false,
+            });
+        }
     }
 
     /// The place is free.
