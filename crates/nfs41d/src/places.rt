@@ -214,7 +214,10 @@ impl Places {
     fn places_of(&self, address: u32) -> usize
         ensures { result ≡ places_of address self.now.guests }
     {
-        self.guests.iter().filter(|guest| is_of(**guest, address)).count()
+        self.guests
+            .iter()
+            .filter(|guest| is_of(**guest, address))
+            .count()
     }
 }
 
@@ -247,7 +250,11 @@ fn is_overdue(guest: Option<Guest>, lease: u64, now: u64) -> bool
 {
     match guest {
         Some(guest) => {
-            let spared = if guest.heard { lease } else { lease.min(STRANGER) };
+            let spared = if guest.heard {
+                lease
+            } else {
+                lease.min(STRANGER)
+            };
             spared <= now.saturating_sub(guest.used)
         }
         None => false,

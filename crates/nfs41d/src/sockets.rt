@@ -244,7 +244,12 @@ impl<R: rt::Clock> Sockets<'_, R> {
         // A reply leaves at once, where the platform lets it.
         let _ = stream.set_nodelay(true);
         let both = Interest::READABLE | Interest::WRITABLE;
-        if self.poll.registry().register(&mut stream, Token(place), both).is_err() {
+        if self
+            .poll
+            .registry()
+            .register(&mut stream, Token(place), both)
+            .is_err()
+        {
             return None;
         }
         self.connections[place] = Some(Connection {
@@ -283,7 +288,11 @@ impl<R: rt::Clock> Sockets<'_, R> {
 
     /// How long a wait lasts at most.
     fn timeout(&self, may_wait: bool) -> Duration {
-        let ready = self.connections.iter().flatten().any(|connection| connection.ready);
+        let ready = self
+            .connections
+            .iter()
+            .flatten()
+            .any(|connection| connection.ready);
         if ready || !may_wait {
             Duration::ZERO
         } else if self.calling || !self.newcomers.is_empty() || self.left.is_over() {

@@ -51,7 +51,9 @@ fn an_order_to_serve_has_its_address_its_numbers_and_its_settings(
 }
 
 #[test]
-fn sixteen_are_served_at_once_without_end_unless_it_is_said_how_many(rt: HostRuntime) -> Result<(), Fail> {
+fn sixteen_are_served_at_once_without_end_unless_it_is_said_how_many(
+    rt: HostRuntime,
+) -> Result<(), Fail> {
     let words = [
         "nfs41d",
         "serve",
@@ -62,7 +64,14 @@ fn sixteen_are_served_at_once_without_end_unless_it_is_said_how_many(rt: HostRun
     ];
     assert!(rt; numbers(&rt, words.as_slice()) == Some((Some(3), 1)));
     assert!(rt; numbers(&rt, &words[..4]) == Some((None, 16)));
-    let few = ["nfs41d", "serve", "--listen", "127.0.0.1:0", "--at-once", "2"];
+    let few = [
+        "nfs41d",
+        "serve",
+        "--listen",
+        "127.0.0.1:0",
+        "--at-once",
+        "2",
+    ];
     assert!(rt; numbers(&rt, few.as_slice()) == Some((None, 2)));
     Ok(())
 }

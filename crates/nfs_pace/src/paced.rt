@@ -57,7 +57,8 @@ impl Paced {
     {
         let passed = self.read.saturating_sub(self.since);
         let rise = (passed.saturating_add(made_up(passed))).min(self.lease / 16);
-        self.last.max(self.read.min(self.begun.saturating_add(rise)))
+        self.last
+            .max(self.read.min(self.begun.saturating_add(rise)))
     }
 
     /// Whether no lease lasts: for longer than one nobody asked.
