@@ -296,7 +296,7 @@ impl<R: rt::Clock> Sockets<'_, R> {
         if ready || !may_wait {
             Duration::ZERO
         } else if self.calling || !self.newcomers.is_empty() || self.left.is_over() {
-            Duration::from_millis(TICK)
+            Duration::from_millis(TICK).min(self.patience)
         } else {
             self.patience
         }
