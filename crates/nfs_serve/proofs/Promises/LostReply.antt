@@ -117,7 +117,7 @@ is_atomic : IsAtomic (here found) (start found).machine callers (first ++ second
 is_atomic = atomic (here found) (keeps_slots finding 511 7 90) (keeps_time found 511 7 90) before callers (first ++ second)
     (happens (here found) (keeps_slots finding 511 7 90) before callers (first ++ second) unused computed_accepted.schedule)
 
-one_is_two : 1 ≡ 2 → ⊥
+one_is_two : (compound 1).number ≡ (compound 2).number → ⊥
 one_is_two e = cc
 
 computed_wire : IsOverAWire found
