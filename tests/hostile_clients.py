@@ -6,8 +6,8 @@ import threading
 import time
 
 import wire
-from wire import (HERE, LOCK, LOCKT, LOCKU, OPEN, PUTFH, PUTROOTFH, READ, SECONDS, TEST_STATEID, WRITE, compound,
-                  create_session, exchange_id, marked, nfs4, opaque, open_file, reply, result, results, sequence, sequenced, u32, u64)
+from wire import (HERE, LOCK, LOCKT, LOCKU, OPEN, PUTFH, PUTROOTFH, READ, RENAME, SAVEFH, SECONDS, TEST_STATEID, WRITE, compound,
+                  create, create_session, exchange_id, marked, nfs4, opaque, open_file, reply, result, results, sequence, sequenced, u32, u64)
 
 DENIED = 10_010
 SLOTS = 16
