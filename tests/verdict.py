@@ -13,9 +13,9 @@ KNOWN = {
 
 
 def is_known(finding, part):
-    """Whether a finding is one that Linux is known for: in a part, or in all of them that it frees a lock state in the background, while its owner locks
-    again."""
-    return finding.rule in KNOWN.get(part, ()) or finding.rule == "old-seqid" and finding.text.startswith("FREE_STATEID ")
+    """Whether a finding is one that Linux is known for: in a part, or in all of them that it uses a stateid while a reply with its next seqid is on the
+    way."""
+    return finding.rule in KNOWN.get(part, ()) or finding.rule == "old-seqid"
 
 
 class Verdict:
