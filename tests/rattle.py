@@ -94,7 +94,7 @@ class Block:
     def holder(self):
         """What the prover calls an impl block: the words of its type, of its trait and of that one's arguments, without its own parameters."""
         own = [re.sub(r"^const ", "", it.strip()).partition(":")[0].strip() for it in self.own.strip("<>").split(",")]
-        words = re.findall(r"[\w:]+", re.sub(r"'\w+", "", f"{self.type} {self.trait or ''}"))
+        words = re.findall(r"[\w:]+", re.sub(r"'\w+", "", re.sub(r"\s*::\s*", "::", f"{self.type} {self.trait or ''}")))
         return "".join(it.rpartition("::")[2] for it in words if it not in own)
 
 
