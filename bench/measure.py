@@ -111,6 +111,18 @@ def counted(program, script):
     return int(found.group(1))
 
 
+def worked(program, script, last):
+    """The seconds of a processor that a run of the program takes for the end of a script, by the clock that the kernel has of each process."""
+    process = subprocess.Popen([program, "replay"], stdin=subprocess.PIPE, stdout=subprocess.DEVNULL)
+    taken = []
+    for piece in (script, last):
+        gives(process, [piece])
+        taken.append(time.clock_gettime(~process.pid << 3 | 2))
+    process.kill()
+    process.wait()
+    return taken[1] - taken[0]
+
+
 def resident(program, pieces, target):
     """The most bytes that are resident in a run of the program over the pieces of a script, up to the last of them (those of the process before it
     became the program do not count), and the run's status and user seconds. What it puts out goes to `target`."""

@@ -1,5 +1,5 @@
-"""What the tests that make their own calls share: calls and replies of this program as bytes, by tools/nfs4.py; how a test counts what it
-judges; and by tools/program.py the built program."""
+"""What the tests that make their own calls share: calls and replies of this program as bytes, by tools/nfs4.py, and by tools/program.py the built
+program."""
 import sys
 from pathlib import Path
 
@@ -9,7 +9,7 @@ sys.path.insert(0, str(Path(__file__).resolve().parent.parent / "tools"))
 import nfs4  # noqa: E402
 from nfs4 import NUMBERS, entry, op, opaque, u32, u64  # noqa: E402, F401 (the tests take them from here)
 from nfs4 import record as marked, reply_head, write_result  # noqa: E402, F401
-from program import HERE, LISTENING, PROGRAM, SECONDS, TOP, Served, begin, replayed  # noqa: E402, F401
+from program import HERE, LISTENING, PROGRAM, SECONDS, TOP, Served, needed, replayed  # noqa: E402, F401
 
 ROWS = TOP / "tests/rows"
 INSTANCE = 7
@@ -23,25 +23,10 @@ CREATE_SESSION, DESTROY_SESSION, FREE_STATEID = map(NUMBERS.get, "CREATE_SESSION
 SEQUENCE, TEST_STATEID, DESTROY_CLIENTID = map(NUMBERS.get, "SEQUENCE TEST_STATEID DESTROY_CLIENTID".split())
 
 ANONYMOUS = bytes(16)
+# the state whose stateid the operation before it gave (RFC 8881 section 16.2.3.1.2)
+CURRENT = u32(1, 0, 0, 0)
 
-
-class Judged:
-    """What a test has judged: how much held, and the names of what did not."""
-
-    def __init__(self):
-        self.passed, self.failed = 0, []
-
-    def __call__(self, name, holds, shown=""):
-        if holds:
-            self.passed += 1
-        else:
-            self.failed.append(name)
-            print(f"{name}: {shown}" if shown else name)
-
-    def last_line(self):
-        """Prints the last line of a test, and returns the exit status."""
-        print(f"{self.passed} passed, {len(self.failed)} failed")
-        return 1 if self.failed else 0
+PUT_ROOT, SAVE, GET_HANDLE = op("PUTROOTFH"), op("SAVEFH"), op("GETFH")
 
 
 def client_id(counter):
@@ -110,9 +95,67 @@ def remove(name):
     return op("REMOVE", name=name)
 
 
+def symlink(name, text):
+    return op("CREATE", type=5, linkdata=text, name=name)
+
+
+def link(name):
+    return op("LINK", name=name)
+
+
+def lookup(name):
+    return op("LOOKUP", name=name)
+
+
+def rename(old, new):
+    return op("RENAME", name=old, newname=new)
+
+
 def open_file(owner, access, name, make=False, deny=0):
     """OPEN by name; a file that is to be made is made UNCHECKED and without attributes."""
     return op("OPEN", share_access=access, share_deny=deny, owner=owner, open_type=int(make), name=name)
+
+
+def close(given):
+    return op("CLOSE", StateID=given)
+
+
+def read(given, offset, count):
+    return op("READ", StateID=given, offset=offset, count=count)
+
+
+def write(given, offset, data):
+    return op("WRITE", StateID=given, offset=offset, data=data)
+
+
+def lock(kind, offset, length, given, owner=None):
+    """LOCK by a lock state, or by an open for a lock owner."""
+    new = {} if owner is None else {"owner": owner}
+    return op("LOCK", locktype=kind, offset=offset, length=length, new_lock_owner=len(new), StateID=given, **new)
+
+
+def unlock(offset, length, given):
+    return op("LOCKU", locktype=2, StateID=given, offset=offset, length=length)
+
+
+def lock_test(kind, offset, length, owner):
+    return op("LOCKT", locktype=kind, offset=offset, length=length, owner=owner)
+
+
+def test_stateids(given):
+    return nfs4.write_operation("TEST_STATEID", [("num_stateids", len(given)), *(("StateID", it) for it in given)])
+
+
+def free_stateid(given):
+    return op("FREE_STATEID", StateID=given)
+
+
+def destroy_session(session):
+    return op("DESTROY_SESSION", sessionid=session)
+
+
+def destroy_client(client):
+    return op("DESTROY_CLIENTID", clientid=number_of(client))
 
 
 def result(operation, status, body=b""):

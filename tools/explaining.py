@@ -1,7 +1,7 @@
 """What is wrong with a command line of `nfs41d`: why the program ends with status 1, in words that name the word, the key or the reason.
 
 The program looks at its words first (`bad arguments`), then at the settings file (`bad settings`), then at the address and at memory
-(`cannot start`), and tells the first fault. So does this module, by rules of its own: tests/launcher compares the two."""
+(`cannot start`), and tells the first fault. So does this module, by rules of its own: tests/tools/launcher compares the two."""
 import errno
 import os
 import re
@@ -36,6 +36,7 @@ COMMANDS = {
         "--connections": Option("N", most=1_000_000),
         "--at-once": Option("K", most=16),
         "--settings": Option("FILE"),
+        "--status": Option("S", most=86_400),
     },
     "replay": {"--settings": Option("FILE")},
 }

@@ -262,12 +262,12 @@ class Writer:
 
     def u32(self, name, default=0, style=None):
         value = number_of(name, self.next(name, default))
-        self.data += u32(value)
+        self.data += value.to_bytes(4, "big")
         return value
 
     def u64(self, name, default=0, style=None):
         value = number_of(name, self.next(name, default), 64)
-        self.data += u64(value)
+        self.data += value.to_bytes(8, "big")
         return value
 
     def fixed(self, name, size):
@@ -455,18 +455,27 @@ def sequence(c):
     c.u32("cache_this")
 
 
+KINDS = {"n": "u32", "N": "u64", "o": "bytes_", "M": "mask", "F": "attributes"}
+
+
+def item_of(item):
+    """The item of a spelling `name:kind`; a function is itself."""
+    if callable(item):
+        return item
+    name, kind = item.split(":")
+    if kind in KINDS:
+        call = KINDS[kind]
+        return lambda c: getattr(c, call)(name)
+    return lambda c: c.fixed(name, int(kind))
+
+
 def in_turn(*items):
-    """The items of these spellings, `name:kind` or a function, one behind the other."""
+    """The items of these spellings, one behind the other."""
+    made = [item_of(item) for item in items]
+
     def all_(c):
-        for item in items:
-            if callable(item):
-                item(c)
-                continue
-            name, kind = item.split(":")
-            if kind in ("16", "8"):
-                c.fixed(name, int(kind))
-            else:
-                {"n": c.u32, "N": c.u64, "o": c.bytes_, "M": c.mask, "F": c.attributes}[kind](name)
+        for item in made:
+            item(c)
     return all_
 
 

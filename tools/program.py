@@ -1,4 +1,5 @@
-"""The built program: where it is, how a script begins that needs it, a run of it over a script, and a server of it on the loopback."""
+"""The built program: where it is, a run of it over a script, and a server of it on the loopback."""
+import contextlib
 import os
 import re
 import signal
@@ -8,8 +9,6 @@ import sys
 import tempfile
 import time
 from pathlib import Path
-
-from words import Words
 
 TOP = Path(__file__).resolve().parent.parent
 PROGRAM = TOP / "crates/nfs41d/out/nfs41d"
@@ -25,27 +24,25 @@ def needed(program=PROGRAM):
         sys.exit(2)
 
 
-def begin(text):
-    """Answers --help with a script's own text, takes no other words, and ends the script unless the program is there."""
-    Words(text).parse_args()
-    needed()
-
-
 def replayed(script, environment=None, words=()):
     """A run of the program over a script."""
     return subprocess.run([PROGRAM, "replay", *words], input=script, capture_output=True, timeout=SECONDS, check=False, env=environment)
 
 
 class Served:
-    """The program, serving so many connections, or until it is stopped if no number is given, on a port of the loopback that it took itself, with the
-    options given; `files` limits how many files it may have open, and `under` is the words of a tool that runs it."""
+    """The program, serving on a port of the loopback that it took itself: so many connections, or until it is stopped if no number is given, so many at
+    once, under these settings. `words` are further ones, `files` limits how many files it may have open, and `under` is the words of a tool that runs
+    it. Where a fault ends its block, what it said is printed."""
 
-    def __init__(self, connections=None, *options, files=None, program=PROGRAM, under=()):
-        self.told = tempfile.TemporaryFile()
+    def __init__(self, connections=None, at_once=None, *, words=(), files=None, program=PROGRAM, under=(), **settings):
+        self.told, self.settings = tempfile.TemporaryFile(), tempfile.NamedTemporaryFile("w", suffix=".toml")
+        self.settings.write("".join(f"{name} = {value}\n" for name, value in settings.items()))
+        self.settings.flush()
         limited = ["sh", "-c", f'ulimit -n {files} && exec "$@"', "sh"] if files else []
         counted = ["--connections", str(connections)] if connections else []
+        places = ["--at-once", str(at_once)] if at_once else []
         self.program = subprocess.Popen(
-            [*limited, *under, program, "serve", "--listen", f"{HERE}:0", *counted, *options],
+            [*limited, *under, program, "serve", "--listen", f"{HERE}:0", *counted, *places, *words, "--settings", self.settings.name],
             stdin=subprocess.DEVNULL, stdout=subprocess.PIPE, stderr=self.told)
         try:
             self.port = self.listening()
@@ -75,8 +72,12 @@ class Served:
             written, _ = self.program.communicate(timeout=SECONDS)
         except subprocess.TimeoutExpired:
             return None, b"", []
+        return self.program.returncode, written, self.lines()
+
+    def lines(self):
+        """The lines that it has said on standard error."""
         self.told.seek(0)
-        return self.program.returncode, written, self.told.read().splitlines()
+        return self.told.read().splitlines()
 
     def runs_until_stopped(self):
         """Whether it runs still, ends by SIGTERM, and has said nothing but where it listens."""
@@ -87,20 +88,29 @@ class Served:
         return status == -signal.SIGTERM and written == b"" and len(lines) == 1
 
     def seconds(self):
-        """The processor time that the program has used."""
-        with open(f"/proc/{self.program.pid}/stat", encoding="ascii") as stat:
-            words = stat.read().rpartition(")")[2].split()
-        return (int(words[11]) + int(words[12])) / 100
+        """The seconds of a processor that the program has used, by the clock that the kernel has of each process."""
+        return time.clock_gettime(~self.program.pid << 3 | 2)
+
+    @contextlib.contextmanager
+    def stopped(self):
+        """The program stands still."""
+        self.program.send_signal(signal.SIGSTOP)
+        try:
+            yield
+        finally:
+            self.program.send_signal(signal.SIGCONT)
 
     def stop(self):
         if self.program.poll() is None:
             self.program.kill()
             self.program.wait()
-        self.program.stdout.close()
-        self.told.close()
+        for file in (self.program.stdout, self.told, self.settings):
+            file.close()
 
     def __enter__(self):
         return self
 
     def __exit__(self, *fault):
+        if fault[0]:
+            print("the server said:", *(line.decode(errors="replace") for line in self.lines()), sep="\n    ")
         self.stop()

@@ -4,7 +4,7 @@ import sys
 import common
 from svg import FAINT, INK, ON_COLOUR, SERIES, Drawing, wide
 
-sys.path.append(str(common.TOP / "tests"))
+sys.path.append(str(common.TOP / "tests/gate"))
 from promises import lines_by_crate  # noqa: E402
 
 ONLY_TEST = {"nfs_testing", "nfs_tests"}

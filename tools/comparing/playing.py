@@ -7,50 +7,22 @@ from dataclasses import dataclass, field
 import nfs4
 
 from . import repairs, rules
+from .circumstances import ALONE, Circumstances
+from .differences import Difference, When
 from .flights import READ_ONLY, Flights
+from .looks import Looks
 from .reference import LEASE, T0
 from .results import CHANNEL, CUT, Cursor, Results
 from .server import Answer, Silence
-from .symbols import BASE, State, Sym, Turn, Values, lowered, written
+from .symbols import BASE, Turn
 from .twin import Twin
+from .wording import Unbound, Wording
 
-ALONE = {"EXCHANGE_ID", "CREATE_SESSION", "DESTROY_SESSION", "DESTROY_CLIENTID"}
 NEEDED = ALONE | {"SEQUENCE"}
 LONGEST = 66_560   # a record that the reference takes, in bytes
 SLACK = 0.06       # seconds by which a server's clock may be coarse
 PIECES = 4         # a wait, so that the tool's own clients can renew their leases
 TIMES_PARTED = 3   # so often the two may part at one operation and status, before that is steered round
-
-
-@dataclass
-class Difference:
-    """Something that the two answer differently: the operation, what of it, and both words."""
-    operation: str
-    what: str
-    reference: str
-    server: str
-    step: int = 0
-    at: int = 0
-    verdict: str = "deviation"
-    section: str = ""
-    why: str = ""
-    looked_up: bool = True
-
-    def __post_init__(self):
-        self.reference, self.server = str(self.reference), str(self.server)
-
-    @property
-    def key(self):
-        """What makes two differences one finding."""
-        operation = "attributes" if self.what.startswith(("attr ", "identity by ")) else self.operation
-        return operation, self.what, self.reference, self.server
-
-    def __str__(self):
-        return f"{self.key[0]}, {self.what}: reference {self.reference}, server {self.server}"
-
-
-class Unbound(Exception):
-    """A symbol whose place gave nothing."""
 
 
 @dataclass
@@ -79,7 +51,7 @@ class Outcome:
     skipped: int = 0
 
 
-class Play(Flights):
+class Play(Flights, Wording):
     """One script on both sides. `source` gives the steps and learns what they had (`making.Maker`, or `Given`)."""
 
     def __init__(self, server, reference, source, want=None, steer=True):
@@ -88,6 +60,8 @@ class Play(Flights):
         self.binds, self.known = source.binds, {}
         self.windows, self.sent, self.edited, self.owners = {}, {}, set(), {}
         self.xid, self.moment, self.skew = 0x100, T0, 0.0
+        self.looks = Looks(self)
+        self.circumstances = Circumstances(self)
         self.forks = []  # the last flights that another order may explain as well
 
     # the run
@@ -267,70 +241,6 @@ class Play(Flights):
             agreed = [mine for mine, theirs in both if mine[1] == theirs[1]]
             self.source.learn(sent.step, sent.operations, agreed, self)
 
-    # words
-
-    def symbol(self, kind, word):
-        """The symbol of a value of the reference, new where it has none."""
-        if kind in ("change", "time", "fileid"):
-            return Sym(kind, len(self.binds) + 1)
-        return self.known.setdefault((kind, word), Sym(kind, len(self.known) + 1))
-
-    def symbol_at(self, op, place, kind, word):
-        """The symbol of a place of a reply, new where the script's source makes new ones."""
-        if (op.id, place) not in self.binds:
-            self.binds[op.id, place] = self.symbol(kind, word)
-        return self.binds[op.id, place]
-
-    def value(self, sym, side):
-        if sym not in self.twin.values:
-            raise Unbound(sym)
-        return self.twin.values[sym][side]
-
-    def lowered(self, op, side):
-        """An operation's fields in the words of one side (0 the reference, 1 the server)."""
-        fields = lowered(op.fields, lambda sym: self.value(sym, side), lambda ahead: self.number(op, ahead, side))
-        if side and op.name == "EXCHANGE_ID":
-            mine = f"{self.server.nonce}.{self.server.serial}."
-            fields = [(key, joined(mine, word) if key == "owner" else word) for key, word in fields]
-        if side and op.name == "READDIR" and isinstance(op.get("cookie"), Sym) and not int(op.get("cookie_verf", "0x0"), 16):
-            fields = [(key, self.twin.verifiers.get(op.get("cookie"), word) if key == "cookie_verf" else word) for key, word in fields]
-        return fields
-
-    def number(self, op, ahead, side):
-        if op.name == "SEQUENCE":
-            return self.twin.slots.get((op.get("sessionid"), op.get("slot_id", "0")), 0) + ahead
-        return self.twin.bases.get(op.get("clientid"), (1, 1))[side] + ahead
-
-    def server_word(self, op, name):
-        return dict(self.lowered(op, 1)).get(name, "0")
-
-    def reference_word(self, op, name):
-        return dict(self.lowered(op, 0)).get(name)
-
-    def owner(self, op):
-        """The owner of the client whose session or id an operation names."""
-        pair = self.twin.values.get(op.get("sessionid") or op.get("clientid"))
-        return self.twin.owners.get(int(pair[0][:18], 0)) if pair else None
-
-    def sequence_id(self, mine):
-        """The number that a SEQUENCE of the server has to answer, where the reference answers this one."""
-        return mine
-
-    def caller(self, step):
-        """Half of the session's id in the reference, which tells clients apart."""
-        session = step.sequence and step.sequence.get("sessionid")
-        return self.twin.values[session][0][:18] if session in self.twin.values else None
-
-    def record(self, sent, side, grant=None, operations=None):
-        made = []
-        for op in sent.operations if operations is None else operations:
-            fields = self.lowered(op, side)
-            if grant and op.name == "CREATE_SESSION":
-                fields = adopted(fields, grant)
-            made.append(written(op.name, fields))
-        step = sent.step
-        return nfs4.compound(sent.xid, made, step.uid, step.gid, step.gids, nfs4.meant(step.tag), step.minor)
-
     # steering
 
     def steered(self, step, operations):
@@ -364,7 +274,7 @@ class Play(Flights):
             return
         kept = step.again or (step.sequence and step.sequence.get("seqid") == Turn(0))
         if theirs.tag != step.tag and (not kept or step.again):
-            self.found(Difference("COMPOUND", "tag (kept)" if kept else "tag", "that of the call", "none" if theirs.tag == "0x" else "another", step.id))
+            self.found(Difference("COMPOUND", "tag", "that of the call", "none" if theirs.tag == "0x" else "another", step.id, when=When.KEPT if kept else None))
         if theirs.results and theirs.status != theirs.results[-1][1]:
             self.found(Difference("COMPOUND", "status", "the last result's", "another", step.id))
         if mine.status != theirs.status and not (mine.results and theirs.results):
@@ -441,8 +351,8 @@ class Play(Flights):
                 self.statuses(sent, op, name, at, a, b, cursor)
                 return
 
-            def differ(what, left, right, name=name, at=at):
-                self.found(Difference(name, what, left, right, step.id, at))
+            def differ(what, left, right, when=None, name=name, at=at):
+                self.found(Difference(name, what, left, right, step.id, at, when=when))
 
             Results(self, step, cursor, differ).compare(op, a, mine[2], theirs[2])
             if a != "OK" or self.outcome.stopped == CUT:
@@ -453,7 +363,7 @@ class Play(Flights):
     def statuses(self, sent, op, name, at, a, b, cursor):
         if a in ("OP_NOT_IN_SESSION", "NOT_ONLY_OP") and b == "none":
             name = "COMPOUND"
-        difference = Difference(name, "status" + self.circumstance(sent, op, a, b, cursor), a, b, sent.step.id, at)
+        difference = Difference(name, "status", a, b, sent.step.id, at, when=self.circumstances.of(sent, op, a, b, cursor))
         rules.verdict(difference)
         if difference.verdict == "deviation" and b not in ("OK", "none") and a != "OK" and at and not sent.step.again and self.also_fails(sent, at, b):
             difference.verdict, difference.section = "allowed", "15.1"
@@ -508,153 +418,6 @@ class Play(Flights):
             self.twin.slots[key] += sent.step.sequence.get("seqid") == Turn(1)
         self.reference.call(record, sent.moment)
 
-    def circumstance(self, sent, op, a, b, cursor):
-        """What else the rules have to know of a difference of statuses."""
-        step = sent.step
-        if b == "RETRY_UNCACHED_REP" and step.again and self.sent[step.again].operations[0].get("cache_this", "0") == "0":
-            return " (not to be kept)"
-        if b == "SEQ_FALSE_RETRY" and a == "OK" and step.again:
-            return " (kept)"
-        if op.name == "SEQUENCE" and op.get("seqid") == Turn(0) and not self.twin.slots.get((op.get("sessionid"), op.get("slot_id", "0"))):
-            return " (0 on a slot that was not used)"
-        if b == "GRACE" and self.caller(step) not in self.twin.ready:
-            return " (before RECLAIM_COMPLETE)"
-        if op.name in ("VERIFY", "NVERIFY") and isinstance(op.get("attrs"), Values) and any(name.startswith("Time_") for name, _ in op.get("attrs")):
-            return " (a time)"
-        if op.name in ALONE and step.sequence:
-            return " (in a session)"
-        if op.name == "CREATE_SESSION" and op.get("clientid") in self.twin.refused:
-            return " (behind a refusal)"
-        if {a, b} & {"BADSESSION", "STALE_CLIENTID"} and len(self.twin.users.get(self.owner(op), ())) > 1:
-            return " (owner in doubt)"
-        if b in ("BAD_RANGE", "INVAL", "FBIG") and op.name in ("READ", "WRITE", "COMMIT", "LOCK", "LOCKT", "LOCKU") and ends_beyond(op):
-            return " (beyond 2^63)"
-        if self.source_waited() and (a in ("BADSESSION", "STALE_CLIENTID", "BAD_STATEID") or b in ("BADSESSION", "STALE_CLIENTID", "EXPIRED")):
-            return " (lease over)"
-        return self.of_objects(sent, op, a, b, cursor) or self.of_rights(sent, op, a, b, cursor) or self.of_opens(step, op, a, b)
-
-    def source_waited(self):
-        return self.moment - T0 > LEASE
-
-    def of_objects(self, sent, op, a, b, cursor):
-        if b == "STALE" or a == "OK" and b == "NOENT" or op.name == "LINK" and a == "NOENT":
-            handle = self.reference_word(op, "FileHandle") if op.name == "PUTFH" else cursor.saved if op.name == "LINK" else cursor.here
-            if handle and "0" in (self.told(sent, handle, "NumLinks"), self.told(sent, handle, "NumLinks", False)):
-                return " (removed, open)"
-        if op.name in ("VERIFY", "NVERIFY") and cursor.here in self.twin.stirred and "Change:" in str(op.get("attrs")):
-            return " (moved)"
-        if op.name in ("VERIFY", "NVERIFY") and "Size:" in str(op.get("attrs")) and self.told(sent, cursor.here, "Type") != "1":
-            return " (size of no file)"
-        if a == "BADCHAR" and b not in ("NOENT", "INVAL", "BADNAME") and any(b"\0" in nfs4.meant(op.get(word, "0x")) for word in ("name", "newname")):
-            return " (a zero byte in a name)"
-        if a == "LOCKED" and b == "OK" and "0" in (op.get("count"), str(len(nfs4.meant(op.get("data", "0x61"))))):
-            return " (no bytes)"
-        return ""
-
-    def of_rights(self, sent, op, a, b, cursor):
-        if a == "OK" and b in ("ACCESS", "PERM", "WRONG_CRED") and isinstance(op.get("StateID"), State):
-            held = self.twin.opens.get(self.twin.values[op.get("StateID").other][0])
-            if held is None or held[4] != sent.step.uid:
-                return " (another user)"
-        if a == "ACCESS" and b == "OK" and self.told(sent, cursor.here, "Owner") == str(sent.step.uid):
-            return " (owner of the file)"
-        if self.made_without_mode(sent, op, a, b, cursor):
-            return " (mode not given)"
-        if a == "ACCESS" and b == "OK" and self.told(sent, cursor.here, "Type") == "5":
-            return " (a link)"
-        if op.name == "SETATTR" and a == "OK" and b in ("PERM", "ACCESS") and self.is_there_already(sent, op, cursor):
-            return " (as it is)"
-        if op.name == "RENAME" and a == "ACCESS" and b == "OK":
-            old, new = self.handle_of(cursor.saved, op.get("name"), sent), self.handle_of(cursor.here, op.get("newname"), sent)
-            return " (nothing to do)" if old and old == new else ""
-        if op.name == "RENAME" and b == "ACCESS" and cursor.saved != cursor.here and self.told_of(sent, cursor.saved, op.get("name"), "Type") == "2":
-            return " (a directory gets another parent)"
-        return ""
-
-    def of_opens(self, step, op, a, b):
-        if op.name == "OPEN" and int(op.get("share_access", "1"), 0) & ~3:
-            return " (bits of no meaning)"
-        if op.name == "OPEN" and b == "SHARE_DENIED" and self.own_deny(step, op):
-            return " (own deny)"
-        if op.name == "OPEN" and op.get("open_type") == "1" and int(op.get("create_mode", "0"), 0) >= 2:
-            if b in ("INVAL", "ATTRNOTSUPP") and op.get("attrs", "{}") not in ("{}", "{Mode:420}"):
-                return " (attributes of an exclusive create)"
-            if "EXIST" in (a, b):
-                return " (exclusive again)"
-        return ""
-
-    def made_without_mode(self, sent, op, a, b, cursor):
-        """Is this a matter of the mode of an object that was made without one? Then servers may give it different ones."""
-        marks = self.twin.marks.get(cursor.here, "")
-        if op.name in ("VERIFY", "NVERIFY"):
-            attrs = str(op.get("attrs"))
-            return "Mode:" in attrs and "default" in marks or "Owner_Group:" in attrs and "group" in marks
-        if "ACCESS" not in (a, b):
-            return False
-        handles = [cursor.here, cursor.saved] + ([self.handle_of(cursor.here, op.get("name"), sent)] if op.name == "OPEN" and op.get("name") else [])
-        return any("default" in self.twin.marks.get(handle, "") for handle in handles)
-
-    def is_there_already(self, sent, op, cursor):
-        """Are the owner and the group that are to be set those that the object has?"""
-        values = dict(nfs4.values_of(str(op.get("attrs"))) or ())
-        asked = {name: word for name, word in values.items() if name in ("Owner", "Owner_Group")}
-        return bool(asked) and all(self.told(sent, cursor.here, name) == word for name, word in asked.items())
-
-    def own_deny(self, step, op):
-        """Does an open of the same owner clash with this one?"""
-        access, deny = int(op.get("share_access", "1"), 0) & 3, int(op.get("share_deny", "0"), 0)
-        mine = self.caller(step), op.get("owner")
-        return any(held[:2] == mine and (access & held[3] or deny & held[2]) for held in self.twin.opens.values())
-
-    # looks into the reference
-
-    def told(self, sent, handle, mask, before=True):
-        """An attribute of an object, before this call or behind it."""
-        return self.attribute_of(handle, mask, sent.moment, before)
-
-    def attribute_of(self, handle, mask, moment=None, before=False):
-        """An attribute of an object, or None."""
-        if not handle:
-            return None
-        told = self.reference.look([("PUTFH", [("FileHandle", handle)]), ("GETATTR", [("attr_mask", mask)])], moment or self.moment, before)
-        return dict(nfs4.values_of(dict(told[-1][2])["attrs"]) or ()).get(mask) if told and told[-1][1] == "OK" else None
-
-    def told_of(self, sent, directory, name, mask):
-        """An attribute of an entry, before this call."""
-        return self.told(sent, self.handle_of(directory, name, sent), mask)
-
-    def handle_of(self, directory, name, before=None):
-        """The handle of an entry, now or before a call."""
-        if not directory or not name:
-            return None
-        moment = before.moment if before else self.moment
-        told = self.reference.look([("PUTFH", [("FileHandle", directory)]), ("LOOKUP", [("name", name)]), ("GETFH", [])], moment, before is not None)
-        return dict(told[-1][2]).get("FileHandle") if told and told[-1][1] == "OK" else None
-
-    @staticmethod
-    def next_name(step, op):
-        """The name of the operation behind one."""
-        at = step.ops.index(op) if op in step.ops else len(step.ops)
-        return step.ops[at + 1].name if at + 1 < len(step.ops) else ""
-
-    def is_held(self, handle, op, told):
-        """Is what a DENIED tells a run of bytes that its owner holds so, and in the way of what was asked?"""
-        first, length = int(told["offset"]), int(told["length"])
-        last = 2**64 - 1 if length == 2**64 - 1 else first + length - 1
-        begin, asked = int(op.get("offset", "0"), 0), int(op.get("length", "0"), 0)
-        end = 2**64 - 1 if asked == 2**64 - 1 else begin + asked - 1
-        if not handle or not length or last > 2**64 - 1 or first > end or last < begin:
-            return False
-        return all(self.held_byte(handle, byte, told) for byte in {first, last})
-
-    def held_byte(self, handle, byte, told):
-        results = self.reference.look([("PUTFH", [("FileHandle", handle)]), ("LOCKT", [("locktype", "2"), ("offset", str(byte)), ("length", "1"),
-                                                                                      ("clientid", "0"), ("owner", "a-stranger")])], self.moment)
-        if not results or results[-1][1] != "DENIED":
-            return False
-        held = dict(results[-1][2])
-        return held["owner"] == told["owner"] and held["locktype"] == told["locktype"] or held["locktype"] == told["locktype"] == "1"
-
 
 class Given:
     """A script as it stands, as a source of steps."""
@@ -682,19 +445,3 @@ def granted(answer):
         if name == "CREATE_SESSION" and status == "OK":
             return {f"fore_{word}": int(dict(fields)[f"fore_{word}"]) for word in CHANNEL}
     return None
-
-
-def adopted(fields, grant):
-    """The fields of CREATE_SESSION that ask for no more than was granted elsewhere."""
-    return [(key, str(min(int(word, 0), grant[key])) if key in grant and key != "fore_hdr_pad_size" else word) for key, word in fields]
-
-
-def joined(prefix, owner):
-    """An owner of this tool's own, which is as long as one can be where the script's is."""
-    data = prefix.encode() + nfs4.meant(owner)
-    return nfs4.shown(data[:1024] if len(nfs4.meant(owner)) <= 1024 else data)
-
-
-def ends_beyond(op):
-    length = op.get("length") or op.get("count") or str(len(nfs4.meant(op.get("data", "0x"))))
-    return int(op.get("offset", "0"), 0) + (0 if length == str(2**64 - 1) else int(length, 0)) > 2**63 - 1

@@ -2,6 +2,7 @@
 cookies) is compared by what it stands for, and all else by its word."""
 import nfs4
 
+from .differences import When
 from .reference import T0
 from .symbols import State, entries_of, given, is_special
 from .twin import moment_of, values_of
@@ -25,7 +26,7 @@ class Cursor:
 
 
 class Results:
-    """Compares the results of one step; each difference is told to `differ(what, reference, server)`."""
+    """Compares the results of one step; each difference is told to `differ(what, reference, server, when)`."""
 
     def __init__(self, play, step, cursor, differ):
         self.play, self.twin, self.step, self.cursor, self.differ = play, play.twin, step, cursor, differ
@@ -85,8 +86,8 @@ class Results:
         mine, theirs = [[int(side[name]) for name in ("supported", "access_rights")] for side in (r, s)]
         for bit, word in ACCESS_BITS.items():
             if (mine[1] ^ theirs[1]) & mine[0] & theirs[0] & bit:
-                mark = " (mode not given)" if "default" in self.twin.marks.get(self.cursor.here, "") else " (a link)" if self.is_link() else ""
-                self.differ(f"bit {word}{mark}", bool(mine[1] & bit), bool(theirs[1] & bit))
+                when = When.MODE_NOT_GIVEN if "default" in self.twin.marks.get(self.cursor.here, "") else When.A_LINK if self.is_link() else None
+                self.differ(f"bit {word}", bool(mine[1] & bit), bool(theirs[1] & bit), when)
         if theirs[0] & ~asked or theirs[1] & ~theirs[0]:
             self.differ("bits not asked for", 0, theirs[0] & ~asked | theirs[1] & ~theirs[0])
         if mine[0] & ~theirs[0] & 0x3f:
@@ -94,7 +95,7 @@ class Results:
 
     def is_link(self):
         """Is the current object a symbolic link?"""
-        return (self.twin.kinds.get(self.cursor.here) or self.play.attribute_of(self.cursor.here, "Type")) == "5"
+        return (self.twin.kinds.get(self.cursor.here) or self.play.looks.attribute_of(self.cursor.here, "Type")) == "5"
 
     def read_(self, op, r, s, *_):
         mine, theirs = nfs4.meant(r["data"]), nfs4.meant(s["data"])
@@ -152,7 +153,7 @@ class Results:
             self.twin.opens.pop(self.twin.values[word.other][0], None)
 
     def rename_(self, op, r, s, *_):
-        if r["source_before"] != r["source_after"] and (moved := self.play.handle_of(self.cursor.here, op.get("newname"))):
+        if r["source_before"] != r["source_after"] and (moved := self.play.looks.handle_of(self.cursor.here, op.get("newname"))):
             self.twin.moved.setdefault(moved, []).append(self.play.moment - 1)
             self.twin.stirred.add(moved)
         self.change_info(self.cursor.saved, r, s, "source_atomic", "source_before", "source_after")
@@ -184,7 +185,8 @@ class Results:
 
     def counted(self, client, mine, theirs):
         if mine != theirs:
-            self.differ("sequence id" + (" (behind a refusal)" if client in self.twin.refused else ""), f"{mine} behind the first", f"{theirs} behind the first")
+            when = When.BEHIND_A_REFUSAL if client in self.twin.refused else None
+            self.differ("sequence id", f"{mine} behind the first", f"{theirs} behind the first", when)
 
     def create_session_(self, op, r, s, *_):
         first = self.twin.bases.get(op.get("clientid"), (1, 1))
@@ -218,10 +220,10 @@ class Results:
     # locks
 
     def denied(self, op, r, s):
-        held = all(r[word] == s[word] for word in ("offset", "length", "locktype", "owner")) or self.play.is_held(self.cursor.here, op, s)
+        held = all(r[word] == s[word] for word in ("offset", "length", "locktype", "owner")) or self.play.looks.is_held(self.cursor.here, op, s)
         for word in ("offset", "length", "locktype", "owner"):
             if r[word] != s[word]:
-                self.differ(f"denied {word}" + (" (held)" if held else ""), r[word], s[word])
+                self.differ(f"denied {word}", r[word], s[word], When.HELD if held else None)
                 return
         if self.twin.meet("client", f"{int(r['clientid'], 0):#x}", f"{int(s['clientid'], 0):#x}"):
             self.differ("denied clientid", "the holder's", "another")
@@ -278,7 +280,7 @@ class Results:
             self.play.outcome.stopped = CUT
         elif op.name == "CREATE" or r.get("changeid_before") != r.get("changeid_after"):
             self.cursor.made = self.how_made(op, mine, theirs), op.get("type", "1"), self.cursor.here
-            if self.play.next_name(self.step, op) != "GETFH" and self.cursor.made[0] and (handle := self.play.handle_of(self.cursor.here, op.get("name"))):
+            if next_name(self.step, op) != "GETFH" and self.cursor.made[0] and (handle := self.play.looks.handle_of(self.cursor.here, op.get("name"))):
                 self.made(handle)
 
     @staticmethod
@@ -313,14 +315,15 @@ class Results:
             if handle:
                 self.changed(handle, mine, theirs, "attr Change")
         elif name in TIMES:
-            mark = " (exclusive)" if "exclusive" in self.twin.marks.get(handle, "") and name != "Time_Metadata" else ""
-            self.time(f"attr {name}{mark}", mine, theirs, handle)
+            is_exclusive = "exclusive" in self.twin.marks.get(handle, "") and name != "Time_Metadata"
+            self.time(f"attr {name}", mine, theirs, handle, When.EXCLUSIVE if is_exclusive else None)
         elif name in IDENTITIES:
             fault = self.twin.meet(IDENTITIES[name], mine, theirs)
             if fault:
                 self.differ(f"identity by {name}", *fault)
         elif mine != theirs and not self.same_owner(name, mine, theirs):
-            self.differ(self.named(name, handle), mine if name in SHOWN else "one value", theirs if name in SHOWN else "another")
+            what, when = self.named(name, handle)
+            self.differ(what, mine if name in SHOWN else "one value", theirs if name in SHOWN else "another", when)
 
     def same_owner(self, name, mine, theirs):
         """A name in the place of a number is the same one where it stands for that number alone."""
@@ -331,37 +334,37 @@ class Results:
         """The attribute's name, and what the rules have to know of its object."""
         made = self.twin.marks.get(handle) or ""
         if name in ("Size", "NumLinks", "Space_Used") and self.twin.is_directory(handle):
-            return f"attr {name} of a directory"
+            return f"attr {name} of a directory", None
         if name in ("Mode", "Size") and self.twin.kinds.get(handle) == "5":
-            return f"attr {name} of a link"
+            return f"attr {name} of a link", None
         if name == "Mode" and "default" in made or name == "Owner_Group" and "group" in made:
-            return f"attr {name} (not given)"
+            return f"attr {name}", When.NOT_GIVEN
         if name == "Mode" and self.is_below_setgid(handle):
-            return "attr Mode (below setgid)"
-        return f"attr {name}"
+            return "attr Mode", When.BELOW_SETGID
+        return f"attr {name}", None
 
     def is_below_setgid(self, handle):
         """Does a directory in which it was made, or that one in turn, have the bit that may be handed down?"""
         while handle := self.twin.homes.get(handle):
-            if int(self.play.attribute_of(handle, "Mode") or "0") & SETGID:
+            if int(self.play.looks.attribute_of(handle, "Mode") or "0") & SETGID:
                 return True
         return False
 
-    def time(self, what, mine, theirs, handle):
+    def time(self, what, mine, theirs, handle, when):
         """The server's time has to lie in the interval of the call that set it, where the reference's names one."""
         at, seconds = moment_of(theirs), int(moment_of(mine))
         window = self.play.windows.get(seconds) if mine.endswith(".000000000") else None
         if window:
             if at > window[1]:
                 moved = any(low <= at <= high for low, high in map(self.play.windows.get, self.twin.moved.get(handle, ())))
-                self.differ(what + (" (moved)" if moved else ""), "set by an earlier call", "later")
+                self.differ(what, "set by an earlier call", "later", When.MOVED if moved else when)
             elif at < window[0]:
-                self.differ(what + (" (a link's mode)" if handle in self.twin.modes else ""), "set by a later call", "earlier")
+                self.differ(what, "set by a later call", "earlier", When.A_LINKS_MODE if handle in self.twin.modes else when)
         elif seconds == T0 - 1 or T0 <= seconds < T0 + 10**8:
             return
         elif mine != theirs:
             first = min((low for low, _ in self.play.windows.values()), default=0)
-            self.differ(what, "a time given", "later" if at >= first - 1 else "another")
+            self.differ(what, "a time given", "later" if at >= first - 1 else "another", when)
 
     # changes
 
@@ -380,9 +383,9 @@ class Results:
         known = self.twin.changes.setdefault(handle, {})
         if mine in known:
             if known[mine] != theirs:
-                self.differ(what + (" (moved)" if handle in self.twin.stirred else ""), "as before", "another")
+                self.differ(what, "as before", "another", When.MOVED if handle in self.twin.stirred else None)
         elif theirs in known.values():
-            self.differ(what + (" (a link's mode)" if handle in self.twin.modes else ""), "another", "as before")
+            self.differ(what, "another", "as before", When.A_LINKS_MODE if handle in self.twin.modes else None)
         known[mine] = theirs
         self.twin.stirred.discard(handle)
 
@@ -410,3 +413,9 @@ class Results:
 def shown(word):
     """Bytes as a finding names them: it is the same for the same bytes, and short."""
     return word if len(word) <= 40 else f"{len(nfs4.meant(word))} bytes from {word[:18]}"
+
+
+def next_name(step, op):
+    """The name of the operation behind one."""
+    at = step.ops.index(op) if op in step.ops else len(step.ops)
+    return step.ops[at + 1].name if at + 1 < len(step.ops) else ""

@@ -5,6 +5,8 @@ sets `looked_up`. A section is where to look."""
 import re
 from dataclasses import dataclass, field
 
+from .differences import When
+
 SECTION = {name: f"18.{number}" for number, name in [pair.split() for pair in (
     "1 ACCESS,2 CLOSE,3 COMMIT,4 CREATE,7 GETATTR,8 GETFH,9 LINK,10 LOCK,11 LOCKT,12 LOCKU,13 LOOKUP,14 LOOKUPP,15 NVERIFY,16 OPEN,"
     "18 OPEN_DOWNGRADE,19 PUTFH,20 PUTPUBFH,21 PUTROOTFH,22 READ,23 READDIR,24 READLINK,25 REMOVE,26 RENAME,27 RESTOREFH,28 SAVEFH,"
@@ -61,15 +63,21 @@ LISTED = {name: set(words.split()) for name, words in {
     "ILLEGAL": "OP_ILLEGAL"}.items()}
 
 
+# in the place of a circumstance: whichever it is, or none
+ANY = object()
+
+
 @dataclass
 class Row:
-    """A difference that is known: patterns (whole) of the operation, of what differs, and of both sides; then section and reason."""
+    """A difference that is known: patterns (whole) of the operation, of what differs, and of both sides; then section and reason, and the circumstance
+    in which it counts, where that is a certain one."""
     operation: str
     what: str
     reference: str
     server: str
     section: str
     why: str
+    when: When = None
     looked_up: bool = False
     pattern: re.Pattern = field(init=False)
 
@@ -77,7 +85,7 @@ class Row:
         self.pattern = re.compile("\n".join(f"(?:{part})" for part in (self.operation, self.what, self.reference, self.server)), re.S)
 
     def meets(self, difference):
-        return self.pattern.fullmatch("\n".join(difference.key))
+        return self.when in (ANY, difference.when) and self.pattern.fullmatch("\n".join(difference.words))
 
 
 # What RFC 8881 leaves to a server.
@@ -85,54 +93,56 @@ ALLOWED = [Row(*words) for words in (
     # sessions and clients
     ("SEQUENCE", "status", "SEQ_FALSE_RETRY", "OK", "2.10.6.1.3.1", "a server need not find out a false retry, and gives the kept reply"),
     ("SEQUENCE", "status", "SEQ_FALSE_RETRY", "SEQ_MISORDERED|RETRY_UNCACHED_REP", "2.10.6.1.3.1", "a server need not find out a false retry"),
-    ("SEQUENCE", "status .kept.", "OK", "SEQ_FALSE_RETRY", "2.10.6.1.3.1", "which callers count as one under AUTH_SYS is open"),
-    (".*", "status .not to be kept.", ".*", "RETRY_UNCACHED_REP", "2.10.6.1.3", "the caller did not ask that the reply be kept"),
+    ("SEQUENCE", "status", "OK", "SEQ_FALSE_RETRY", "2.10.6.1.3.1", "which callers count as one under AUTH_SYS is open", When.KEPT),
+    (".*", "status", ".*", "RETRY_UNCACHED_REP", "2.10.6.1.3", "the caller did not ask that the reply be kept", When.NOT_KEPT),
     (".*", "status", "REP_TOO_BIG", "OK", "2.10.6.4", "how large a reply will be is the server's estimate"),
     (".*", "status", ".*", "REP_TOO_BIG_TO_CACHE", "2.10.6.4", "the reply would not fit what the channel keeps"),
     ("SEQUENCE", "status", "TOO_MANY_OPS|REQ_TOO_BIG|SEQ_MISORDERED|BAD_HIGH_SLOT", "TOO_MANY_OPS|REQ_TOO_BIG|SEQ_MISORDERED|BAD_HIGH_SLOT", "15.1",
      "the order of the checks"),
     ("SEQUENCE", "status", "TOO_MANY_OPS", "OK", "15.2", "the error is listed for each operation, so one behind may bear it"),
-    ("COMPOUND", "tag .kept.", ".*", ".*", "2.10.6.1.3", "a kept reply has the tag of its own call"),
+    ("COMPOUND", "tag", ".*", ".*", "2.10.6.1.3", "a kept reply has the tag of its own call", When.KEPT),
     (".*", "status", ".*", "DELAY", "15.1.1.3", "the caller is to try again"),
     ("CREATE_SESSION", "grant of .*", ".*", ".*", "18.36.3", "a channel may be granted less than was asked for"),
     ("CREATE_SESSION", "status", "OK", "TOOSMALL", "18.36.3", "what is too small a channel is the server's matter"),
     ("CREATE_SESSION", "status", "TOOSMALL", "OK", "18.36.3", "what is too small a channel is the server's matter"),
     ("EXCHANGE_ID", "status", "PERM|NOT_SAME|NOENT", "NOT_SAME|PERM|NOENT", "18.35.4", "the order of the checks of an update"),
-    ("SEQUENCE|DESTROY_SESSION|CREATE_SESSION|.*", "status .lease over.", "BADSESSION|STALE_CLIENTID|BAD_STATEID|OK", ".*", "8.4.2.4",
-     "a server may let a client be whose lease has run out"),
-    ("CREATE_SESSION|EXCHANGE_ID", "(status|sequence id) .behind a refusal.", ".*", ".*", "18.36.4", "which refusals of CREATE_SESSION use a number up"),
+    ("SEQUENCE|DESTROY_SESSION|CREATE_SESSION|.*", "status", "BADSESSION|STALE_CLIENTID|BAD_STATEID|OK", ".*", "8.4.2.4",
+     "a server may let a client be whose lease has run out", When.LEASE_OVER),
+    ("CREATE_SESSION|EXCHANGE_ID", "status|sequence id", ".*", ".*", "18.36.4", "which refusals of CREATE_SESSION use a number up", When.BEHIND_A_REFUSAL),
     # opens and state
     ("OPEN", "delegation", ".*", ".*", "10.4", "a delegation is the server's choice"),
     ("OPEN", "result flags", ".*", ".*", "18.16.3", "they tell the server's ways"),
     ("CLOSE", "stateid of CLOSE", ".*", ".*", "18.2.4", "it is of no use, and the invalid special one a SHOULD"),
-    ("TEST_STATEID|FREE_STATEID", "status.*", "OLD_STATEID|BAD_STATEID", "OLD_STATEID|BAD_STATEID|EXPIRED", "18.48.3", "which of the errors"),
-    ("LOCK|LOCKT", "denied (offset|length|locktype|owner|clientid) .held.", ".*", ".*", "18.10.4", "any lock that clashes may be told"),
+    ("TEST_STATEID|FREE_STATEID", "status.*", "OLD_STATEID|BAD_STATEID", "OLD_STATEID|BAD_STATEID|EXPIRED", "18.48.3", "which of the errors", ANY),
+    ("LOCK|LOCKT", "denied (offset|length|locktype|owner|clientid)", ".*", ".*", "18.10.4", "any lock that clashes may be told", When.HELD),
     ("PUTFH", "status", "STALE|BADHANDLE", "STALE|BADHANDLE", "18.19.3", "a handle that no server gave, or of an object that is gone"),
-    (".*", "status .removed, open.", ".*", "STALE|NOENT", "18.25.4", "a removed file need not live on while it is open"),
-    ("LINK", "status .removed, open.", "NOENT", "OK|STALE", "18.9.4", "an open file without a name may get one"),
+    (".*", "status", ".*", "STALE|NOENT", "18.25.4", "a removed file need not live on while it is open", When.REMOVED_OPEN),
+    ("LINK", "status", "NOENT", "OK|STALE", "18.9.4", "an open file without a name may get one", When.REMOVED_OPEN),
     (".*", "status", "STALE", "OK", "4.2.1", "a handle of a removed object may stay good for a while"),
     ("CLOSE", "status", "OK", "LOCKS_HELD", "18.2.3", "a server may refuse to close while locks are held"),
     ("READ", "status", "OPENMODE", "OK|LOCKED", "9.1.2", "a server may let an open for writing read, where no other open denies it"),
     ("WRITE|SETATTR|READ", "status", "LOCKED|ACCESS", "ACCESS|LOCKED|OPENMODE", "9.1.2", "the order of the checks"),
-    ("READ|WRITE|SETATTR|OPEN_DOWNGRADE|LOCK|LOCKU|CLOSE", "status .another user.", "OK", "ACCESS|PERM|WRONG_CRED", "18.22.4",
-     "permission may be judged anew for the user of each request"),
-    ("READ|WRITE|SETATTR", "status .owner of the file.", "ACCESS", "OK", "18.22.4", "a server may let the owner of a file read and write it"),
+    ("READ|WRITE|SETATTR|OPEN_DOWNGRADE|LOCK|LOCKU|CLOSE", "status", "OK", "ACCESS|PERM|WRONG_CRED", "18.22.4",
+     "permission may be judged anew for the user of each request", When.ANOTHER_USER),
+    ("READ|WRITE|SETATTR", "status", "ACCESS", "OK", "18.22.4", "a server may let the owner of a file read and write it", When.OWNER_OF_THE_FILE),
     ("OPEN|CREATE|SETATTR", "status", "BADOWNER", ".*", "5.9", "which texts name an owner is the server's matter"),
     ("OPEN|CREATE|SETATTR", "status", ".*", "BADOWNER", "5.9", "which texts name an owner is the server's matter"),
-    ("OPEN", "status .attributes of an exclusive create.", ".*", "INVAL|ATTRNOTSUPP", "18.16.3", "an attribute that an exclusive create does not take"),
-    ("OPEN", "status .exclusive again.", ".*", "EXIST", "18.16.3", "the verifier may be lost once the file was used"),
+    ("OPEN", "status", ".*", "INVAL|ATTRNOTSUPP", "18.16.3", "an attribute that an exclusive create does not take", When.EXCLUSIVE_ATTRIBUTES),
+    ("OPEN", "status", ".*", "EXIST", "18.16.3", "the verifier may be lost once the file was used", When.EXCLUSIVE_AGAIN),
     (".*", "status", "BAD_STATEID", "OLD_STATEID", "8.2.2", "a seqid far ahead is one from before a wrap"),
     ("READ", "eof of no bytes", ".*", ".*", "18.22.3", "whether a READ of no bytes tells the end"),
     ("OPEN|CREATE|LOOKUP|REMOVE|RENAME|LINK", "status", "BADCHAR|BADNAME", "OK|NOENT|INVAL|EXIST|BADNAME|BADCHAR|NOTEMPTY|ISDIR", "14.5",
      "which characters a name may have is the server's matter"),
     ("CREATE|OPEN", "status", "NAMETOOLONG", "OK", "5.8.2", "how long the text of a link may be"),
-    (".*", "attr Time_(Access|Modify) .exclusive.", ".*", ".*", "18.16.3", "an exclusive create may keep its verifier there"),
-    (".*", "attr Mode of a link|(attr|change) .* .a link's mode.|(status|bit .*) .a link.", ".*", ".*", "6.2.4", "a link's mode has no use"),
-    (".*", "(attr|change|status).* .moved.", ".*", ".*", "18.26.3", "whether RENAME is a change of the object that it moves"),
-    (".*", "attr Mode .not given.", ".*", ".*", "18.16.3", "no mode was given"),
-    (".*", "attr Owner_Group .not given.", ".*", ".*", "5.8.2.27", "no group was given, and the directory's may be taken"),
-    ("LOCK|LOCKT|LOCKU", "status .beyond 2.63.", ".*", "BAD_RANGE|INVAL", "18.10.3", "a server may keep ranges of fewer bits"),
-    ("READ|WRITE|COMMIT", "status .beyond 2.63.", ".*", "INVAL|FBIG", "18.32.4", "a server may have smaller files"),
+    (".*", "attr Time_(Access|Modify)", ".*", ".*", "18.16.3", "an exclusive create may keep its verifier there", When.EXCLUSIVE),
+    (".*", "attr Mode of a link", ".*", ".*", "6.2.4", "a link's mode has no use"),
+    (".*", "(attr|change) .*", ".*", ".*", "6.2.4", "a link's mode has no use", When.A_LINKS_MODE),
+    (".*", "status|bit .*", ".*", ".*", "6.2.4", "a link's mode has no use", When.A_LINK),
+    (".*", "(attr|change|status).*", ".*", ".*", "18.26.3", "whether RENAME is a change of the object that it moves", When.MOVED),
+    (".*", "attr Mode", ".*", ".*", "18.16.3", "no mode was given", When.NOT_GIVEN),
+    (".*", "attr Owner_Group", ".*", ".*", "5.8.2.27", "no group was given, and the directory's may be taken", When.NOT_GIVEN),
+    ("LOCK|LOCKT|LOCKU", "status", ".*", "BAD_RANGE|INVAL", "18.10.3", "a server may keep ranges of fewer bits", When.BEYOND),
+    ("READ|WRITE|COMMIT", "status", ".*", "INVAL|FBIG", "18.32.4", "a server may have smaller files", When.BEYOND),
     ("WRITE|SETATTR|OPEN", "status", "FBIG", "OK|NOSPC", "5.8.2", "how large a file may be is the server's matter"),
     ("LOCK", "status", "DENIED", "DEADLOCK", "18.10.4", "a server may find a deadlock"),
     # attributes
@@ -150,8 +160,8 @@ ALLOWED = [Row(*words) for words in (
     ("READ", "fewer bytes", ".*", ".*", "18.22.3", "fewer bytes may be given"),
     ("SETATTR|OPEN|CREATE|VERIFY|NVERIFY", "status", "ATTRNOTSUPP", ".*", "5.5", "the server knows more attributes"),
     ("VERIFY|NVERIFY", "status", "INVAL", "ATTRNOTSUPP|NOT_SAME|OK|SAME", "18.31.3", "an attribute that cannot be compared"),
-    ("VERIFY", "status .a time.", "NOT_SAME", "OK", "5.8.2", "a server's clock may be so coarse that two calls have one time"),
-    ("NVERIFY", "status .a time.", "OK", "SAME", "5.8.2", "a server's clock may be so coarse that two calls have one time"),
+    ("VERIFY", "status", "NOT_SAME", "OK", "5.8.2", "a server's clock may be so coarse that two calls have one time", When.A_TIME),
+    ("NVERIFY", "status", "OK", "SAME", "5.8.2", "a server's clock may be so coarse that two calls have one time", When.A_TIME),
     ("SECINFO_NO_NAME", "flavors", ".*", ".*", "18.45.4", "which flavors a server takes"),
     ("GETATTR|READDIR", "status", "INVAL", "OK", "5.5", "an attribute that is only set: INVAL, or left out"),
     (".*", "identity by FileId", "new", "one given before", "5.8.2.14", "the number of a removed object may be given again"),
@@ -160,46 +170,46 @@ ALLOWED = [Row(*words) for words in (
     (".*", "change info is atomic", ".*", ".*", "18.25.4", "atomic change info is the server's choice"),
     ("RPC", "kind of reply", "compound BADXDR", "accepted 4", "15.1.1.1", "a compound may be read whole before any of it runs"),
     ("WRITE", "fewer bytes", ".*", ".*", "18.32.4", "fewer bytes may be written"),
-    (".*", "(status|bit .*) .mode not given.", ".*", ".*", "18.16.3", "no mode was given, so the object may have another"),
+    (".*", "status|bit .*", ".*", ".*", "18.16.3", "no mode was given, so the object may have another", When.MODE_NOT_GIVEN),
 )]
 
 # Where this project's profile departs from RFC 8881, and the reference is not to be believed (docs/PROTOCOL.md, docs/DECISIONS.md).
 OURS = [Row(*words) for words in (
-    ("OPEN", "status .bits of no meaning.", ".*", "INVAL", "18.16.3", "the profile looks at the two low bits of the access alone"),
-    ("OPEN", "status .own deny.", ".*", "SHARE_DENIED", "9.7", "the RFC excepts no open of the same owner, the profile does"),
+    ("OPEN", "status", ".*", "INVAL", "18.16.3", "the profile looks at the two low bits of the access alone", When.NO_MEANING),
+    ("OPEN", "status", ".*", "SHARE_DENIED", "9.7", "the RFC excepts no open of the same owner, the profile does", When.OWN_DENY),
     ("OPEN_DOWNGRADE", "status", "OK", "INVAL", "18.18.3", "the RFC asks for what some of the owner's OPENs gave, the profile for a part of the bits"),
-    ("OPEN|LOCK", "status .before RECLAIM_COMPLETE.", ".*", "GRACE", "18.51.3", "the RFC wants RECLAIM_COMPLETE first, the profile does not"),
+    ("OPEN|LOCK", "status", ".*", "GRACE", "18.51.3", "the RFC wants RECLAIM_COMPLETE first, the profile does not", When.BEFORE_RECLAIM_COMPLETE),
     ("LOCK", "identity of state|seqid of the stateid", ".*", ".*", "8.2.1", "the RFC has a lock state for each open, the profile one for each owner and file"),
     ("DESTROY_SESSION", "status", "OK", "CONN_NOT_BOUND_TO_SESSION", "18.37.3", "the RFC wants a connection of the session, the profile any"),
     (".*", "status", "NOTSUPP", ".*", "17", "operations and claims that the profile leaves out"),
     ("CREATE", "status", "BADTYPE", ".*", "18.4.3", "devices, sockets and fifos, which the profile leaves out"),
-    ("EXCHANGE_ID|CREATE_SESSION|DESTROY_SESSION|DESTROY_CLIENTID", "status .in a session.", "NOTSUPP", ".*", "18.37.3",
-     "the RFC lets them be sent behind SEQUENCE, the profile does not"),
+    ("EXCHANGE_ID|CREATE_SESSION|DESTROY_SESSION|DESTROY_CLIENTID", "status", "NOTSUPP", ".*", "18.37.3",
+     "the RFC lets them be sent behind SEQUENCE, the profile does not", When.IN_A_SESSION),
     ("READDIR", "dircount", ".*", ".*", "18.23.3", "the profile does not look at dircount"),
 )]
 
 # What is not settled by what we know of the RFC.
 UNCLEAR = [Row(*words) for words in (
     ("EXCHANGE_ID|CREATE_SESSION", "status", "CLID_INUSE|OK", "OK|CLID_INUSE", "18.35.4", "what another user meets who has the same owner"),
-    ("SEQUENCE|DESTROY_SESSION|DESTROY_CLIENTID|CREATE_SESSION", "status .owner in doubt.", ".*", ".*", "18.35.4",
-     "whether EXCHANGE_ID by another user ends the old record at once, or CREATE_SESSION does"),
+    ("SEQUENCE|DESTROY_SESSION|DESTROY_CLIENTID|CREATE_SESSION", "status", ".*", ".*", "18.35.4",
+     "whether EXCHANGE_ID by another user ends the old record at once, or CREATE_SESSION does", When.OWNER_IN_DOUBT),
     ("OPEN", "attribute set .*", "no", "yes", "18.16.3", "attributes of a file that was there are told as set"),
     ("READLINK", "status", "WRONG_TYPE", "INVAL", "18.24.4", "which of the errors"),
     ("OPEN", "status", "NOTDIR", "SYMLINK", "18.16.3", "what a link in the place of the directory is"),
-    ("SEQUENCE", "status .0 on a slot that was not used.", ".*", ".*", "18.46.3", "whether the number 0 repeats something on a slot that was not used"),
-    ("VERIFY|NVERIFY", "status .size of no file.", ".*", ".*", "5.8.1.5", "what the size of a link or of a directory is"),
+    ("SEQUENCE", "status", ".*", ".*", "18.46.3", "whether the number 0 repeats something on a slot that was not used", When.UNUSED_SLOT),
+    ("VERIFY|NVERIFY", "status", ".*", ".*", "5.8.1.5", "what the size of a link or of a directory is", When.SIZE_OF_NO_FILE),
     ("attributes", "attr Size of a link", ".*", ".*", "5.8.1.5", "whether the size of a link is that of its text"),
     ("attributes", "attr RDAttr_Error", "none", "an error", "5.8.1.12", "whether the attributes of an entry want the right to search the directory"),
     ("SEQUENCE", "status", "BAD_HIGH_SLOT", "OK", "18.46.3", "whether the highest slot must be judged"),
     ("SETATTR|OPEN|CREATE", "status", "INVAL", "OK", "5.8.2", "bits above 4,095 in a mode"),
-    (".*", "status .a zero byte in a name.", ".*", ".*", "14.5", "whether a name may have a zero byte; what ends a name there may take it for another"),
+    (".*", "status", ".*", ".*", "14.5", "whether a name may have a zero byte; what ends a name there may take it for another", When.ZERO_BYTE),
     ("LOOKUPP", "status", "ACCESS", "OK", "18.14.3", "whether the way up wants the right to search"),
-    (".*", "attr Mode .below setgid.", ".*", ".*", "6.2.4", "whether what is made in a directory whose mode has 02000 has it too"),
-    ("READ|WRITE", "status .no bytes.", ".*", ".*", "18.22.3", "whether an open that denies is in the way of no bytes"),
-    ("SETATTR", "status .as it is.", ".*", ".*", "18.30.3", "whether anybody may set the owner and the group that are there"),
-    ("RENAME", "status .a directory gets another parent.", ".*", ".*", "18.26.3", "whether that wants the right to write the directory itself"),
-    ("RENAME", "status .nothing to do.", ".*", ".*", "18.26.3", "whether rights are asked for where both names are of one object"),
-    (".*", "status.*", "BAD_STATEID", "EXPIRED", "8.2.4", "what the state is that ended with its client"),
+    (".*", "attr Mode", ".*", ".*", "6.2.4", "whether what is made in a directory whose mode has 02000 has it too", When.BELOW_SETGID),
+    ("READ|WRITE", "status", ".*", ".*", "18.22.3", "whether an open that denies is in the way of no bytes", When.NO_BYTES),
+    ("SETATTR", "status", ".*", ".*", "18.30.3", "whether anybody may set the owner and the group that are there", When.AS_IT_IS),
+    ("RENAME", "status", ".*", ".*", "18.26.3", "whether that wants the right to write the directory itself", When.ANOTHER_PARENT),
+    ("RENAME", "status", ".*", ".*", "18.26.3", "whether rights are asked for where both names are of one object", When.NOTHING_TO_DO),
+    (".*", "status.*", "BAD_STATEID", "EXPIRED", "8.2.4", "what the state is that ended with its client", ANY),
 )]
 
 
@@ -219,7 +229,7 @@ def verdict(difference):
             difference.verdict, difference.section, difference.why = word, row.section, row.why
             difference.looked_up = row.looked_up
             return
-    of_operation = difference.what == "status" or difference.what.startswith("status (")
+    of_operation = difference.what == "status"
     if of_operation and difference.operation != "COMPOUND" and difference.reference not in ("OK", "none") and difference.reference not in LISTED.get(difference.operation, difference.reference):
         difference.verdict, difference.section, difference.looked_up = "ours", "15.2", False
         difference.why = f"the reference answers an error that is not listed for {difference.operation}"

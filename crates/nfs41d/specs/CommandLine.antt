@@ -4,7 +4,8 @@ use Rattle.nfs_serve.specs.Script.{connection_count}
 use Rattle.nfs41d.specs.declared.asked.Order.{Order}
 use Rattle.nfs41d.specs.declared.asked.Order.TheVariants.{Replay, Serve}
 
--- 1 to 1,000,000 connections, or no end of them; 1 to 16 at once
+-- 1 to 1,000,000 connections, or no end of them; 1 to 16 at once; a line of status after each 1 to 86,400 seconds, or none
 abbrev pub MayBeAsked : Order → Type 0
 MayBeAsked (Replay settings) = Unit {0}
-MayBeAsked (Serve listen connections at_once settings) = IfSome connections (λ n. (1 ≤ n) × (n ≤ 1000000)) × (1 ≤ at_once) × (at_once ≤ connection_count)
+MayBeAsked (Serve listen connections at_once settings status) = IfSome connections (λ n. (1 ≤ n) × (n ≤ 1000000)) × (1 ≤ at_once) × (at_once ≤ connection_count)
+    × IfSome status (λ n. (1 ≤ n) × (n ≤ 86400))

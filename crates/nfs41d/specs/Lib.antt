@@ -2,6 +2,7 @@ pub mod CommandLine
 pub mod ExitStatus
 pub mod Accepting
 pub mod Places
+pub mod Tally
 pub mod Left
 pub mod SettingsFile
 pub mod Readings

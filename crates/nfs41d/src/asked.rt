@@ -18,5 +18,7 @@ pub enum Order<'a> {
         at_once: u32,
         /// The path of the settings file, if one is named.
         settings: Option<&'a str>,
+        /// After how many seconds it says again what it does, from 1 to 86,400; `None` where it does not.
+        status: Option<u32>,
     },
 }

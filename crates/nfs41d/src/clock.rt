@@ -1,6 +1,6 @@
 //! The system's clock, as the server reads it for many connections.
 
-ghost use Rattle.std.specs.Prelude.{◌≡◌, ◌≤◌, ◌<◌, ◌+◌, ◌/◌, ◌%◌, ◌^◌, ℕ, List, Option, [], ◌∷◌, None, min};
+ghost use Rattle.std.specs.Prelude.{◌≡◌, ◌≤◌, ◌<◌, ◌+◌, ◌-◌, ◌/◌, ◌%◌, ◌^◌, ℕ, List, Option, [], ◌∷◌, None, min, max};
 ghost use Rattle.nfs_serve.specs.Script.{last_moment};
 ghost use Rattle.nfs_serve.specs.Told.{Told, Sweep, Turn, Moment, Late, Logs};
 ghost use Rattle.nfs_pace.specs.Paced.{second, risen, begins, begins_turn, is_late, starts, takes, tells};
@@ -51,6 +51,8 @@ impl<R: rt::Clock> Readings for SystemReadings<'_, R> {
 pub struct PacedClock<S: Readings> {
     readings: S,
     at: Paced,
+    /// In this sweep, how many microseconds passed at most from one reading to the next behind a record.
+    longest: u64,
 }
 
 impl<'a, R: rt::Clock> PacedClock<SystemReadings<'a, R>> {
@@ -63,7 +65,17 @@ impl<'a, R: rt::Clock> PacedClock<SystemReadings<'a, R>> {
         PacedClock {
             readings,
             at: Paced::new(lease, read),
+            longest: 0,
         }
+    }
+}
+
+impl<S: Readings> PacedClock<S> {
+    /// How many microseconds a record of this sweep took at most, with the reads and writes between it and the reading before it.
+    pub fn longest(&self) -> u64
+        ensures { result ≡ self.now.longest }
+    {
+        self.longest
     }
 }
 
@@ -82,9 +94,11 @@ impl<S: Readings> Clock for PacedClock<S> {
 
     /// What this sweep may show is told by what is read at its begin.
     fn begin_sweep(&mut self)
-        ensures { Logs None None (Sweep ∷ []) × (read : ℕ) × Takes (S.reads self.old.readings) (S.reads self.new.readings) self.old.at read × (self.new.at ≡ begins risen self.old.at read) }
+        ensures { Logs None None (Sweep ∷ []) × (read : ℕ) × Takes (S.reads self.old.readings) (S.reads self.new.readings) self.old.at read
+            × (self.new.at ≡ begins risen self.old.at read) × (self.new.longest ≡ 0) }
     {
         let read = self.readings.micros().unwrap_or(self.at.read());
+        self.longest = 0;
         self.at.begin_sweep(read);
     }
 
@@ -98,9 +112,11 @@ impl<S: Readings> Clock for PacedClock<S> {
     /// Whether the turn has lasted for 2 ms at what is read now.
     fn is_late(&mut self) -> bool
         ensures { Logs None None (Late result ∷ []) × (read : ℕ) × Takes (S.reads self.old.readings) (S.reads self.new.readings) self.old.at read
-            × (self.new.at ≡ takes self.old.at read) × (result ≡ is_late self.old.at read) }
+            × (self.new.at ≡ takes self.old.at read) × (result ≡ is_late self.old.at read) × (self.new.longest ≡ max self.old.longest (read - self.old.at.read)) }
     {
-        let read = self.readings.micros().unwrap_or(self.at.read());
+        let before = self.at.read();
+        let read = self.readings.micros().unwrap_or(before);
+        self.longest = self.longest.max(read.saturating_sub(before));
         self.at.is_late(read)
     }
 }

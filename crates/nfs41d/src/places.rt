@@ -2,7 +2,8 @@
 //!
 //! Nothing here reads a clock or a socket. A moment is a number of microseconds that whoever calls has read, and an address the 32 bits of IPv4.
 
-ghost use Rattle.std.specs.Prelude.{◌≡◌, ◌≤◌, ◌<◌, ◌*◌, ℕ, MatchOption, IfOk, IfSome, length, replicate, set, false, true, None, Some, ◌||◌, ◌&&◌, not};
+ghost use Rattle.std.specs.Prelude.{◌≡◌, ◌≤◌, ◌<◌, ◌*◌, ℕ, MatchOption, IfOk, IfSome, length, replicate, set, is_some, false, true, None, Some, ◌||◌, ◌&&◌, not};
+ghost use Rattle.std.specs.List.{count_by};
 ghost use Rattle.nfs_serve.specs.Script.{connection_count};
 ghost use Rattle.nfs41d.specs.Places.{at, silence, is_overdue, is_of, places_of, crowd, IsFull, IsFree, NoneOverdue, IsLongestOverdue, NoneCrowded, IsMostCrowded, Gives, newcomer, asking, answered, AllFree, IsFair};
 
@@ -62,6 +63,20 @@ impl Places {
             guests,
             lease: u64::from(lease) * MICROS,
         })
+    }
+
+    /// How many places there are, free or not.
+    pub fn count(&self) -> usize
+        ensures { result ≡ length self.now.guests }
+    {
+        self.guests.len()
+    }
+
+    /// How many of them are taken.
+    pub fn taken(&self) -> usize
+        ensures { result ≡ count_by is_some self.now.guests }
+    {
+        self.guests.iter().filter(|guest| guest.is_some()).count()
     }
 
     /// The place that a newcomer of this address is given now, if there is one for it. Who has it gives way.

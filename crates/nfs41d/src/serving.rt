@@ -5,30 +5,32 @@ ghost use Rattle.nfs41d.specs.ExitStatus.{IsOfConnections};
 
 use crate::fault::Fault;
 use crate::sockets::Listening;
-use nfs_serve::{Clock, Hub, Server};
+use nfs_serve::{Clock, Hub, Server, Watch};
 use std::alloc::Global;
 use std::io::Write;
 
-/// Says on `told` which address the ports are of, and serves the connections that come there, until they are over.
+/// Says on `told` which address the ports are of, and serves the connections that come there, until they are over. The watch looks on.
 ///
 /// `Start` where the address is not told; `Accept` where no connection can be taken any more.
-pub fn serve<P, C, W>(
+pub fn serve<P, C, S, W>(
     alloc: Global,
     server: &mut Server,
     hub: &mut Hub,
     ports: &mut P,
     clock: &mut C,
+    watch: &mut S,
     told: &mut W,
 ) -> Result<(), Fault>
 where
     P: Listening,
     C: Clock,
+    S: Watch<P, C>,
     W: Write,
     ensures { MatchResult result (λ _. Unit {0}) (λ fault. IsOfConnections fault) }
 {
     let addr = ports.local_addr().map_err(|_| Fault::Start)?;
     let _ = writeln!(told, "nfs41d: listening on {addr}");
-    server.serve_ports(alloc, hub, ports, clock);
+    server.serve_ports(alloc, hub, ports, clock, watch);
     if ports.failed() {
         return Err(Fault::Accept);
     }

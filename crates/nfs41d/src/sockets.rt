@@ -1,12 +1,14 @@
 //! TCP connections as the ports of a hub, by readiness.
 
-ghost use Rattle.std.specs.Prelude.{◌≡◌, ◌≤◌, ◌<◌, None, IfSome, IfOk};
+ghost use Rattle.std.specs.Prelude.{◌≡◌, ◌≤◌, ◌<◌, None, Some, IfSome, IfOk, unwrap_or, not, nat_eq, length};
 ghost use Rattle.nfs_serve.specs.Script.{last_connection, connection_count};
 ghost use Rattle.nfs_serve.specs.Shows.{ComesWithin, TakesWithin};
 ghost use Rattle.nfs41d.specs.Accepting.{lasts};
+ghost use Rattle.nfs41d.specs.Tally.{no_calls};
 
 use crate::left::Left;
 use crate::places::{MOST_PLACES, Places};
+use crate::tally::Tally;
 use mio::net::{TcpListener, TcpStream};
 use mio::{Events, Interest, Poll, Token};
 use nfs_pace::{MICROS, patience};
@@ -142,6 +144,8 @@ pub struct Sockets<'a, R: rt::Clock> {
     begun: Option<Instant>,
     /// How many microseconds later the last wait ended.
     now: u64,
+    /// What was answered, where that is asked for.
+    tally: Option<Tally>,
     failed: bool,
 }
 
@@ -174,12 +178,48 @@ impl<'a, R: Net + AllocGlobal + rt::Clock> Sockets<'a, R> {
             patience: Duration::from_micros(patience(lease)),
             begun: Instant::now(rt).ok(),
             now: 0,
+            tally: None,
             failed: false,
         })
     }
 }
 
 impl<R: rt::Clock> Sockets<'_, R> {
+    /// What is answered is counted from now on.
+    pub fn count_calls(&mut self)
+        ensures { self.new ≡ record self.old { tally = Some no_calls } }
+    {
+        self.tally = Some(Tally::NONE);
+    }
+
+    /// What was answered since then.
+    pub fn tally(&self) -> Tally
+        ensures { result ≡ unwrap_or self.entry.now.tally no_calls }
+    {
+        self.tally.unwrap_or(Tally::NONE)
+    }
+
+    /// How many microseconds after the begin of all the last wait ended.
+    pub fn now(&self) -> u64
+        ensures { result ≡ self.entry.now.now }
+    {
+        self.now
+    }
+
+    /// Who has a place.
+    pub fn places(&self) -> &Places
+        ensures { result.now ≡ self.entry.now.places }
+    {
+        &self.places
+    }
+
+    /// Whether a connection waits for a place.
+    pub fn is_awaited(&self) -> bool
+        ensures { result ≡ not (nat_eq (length self.entry.now.newcomers.items) 0) }
+    {
+        !self.newcomers.is_empty()
+    }
+
     /// The connection on a port.
     fn connection(&mut self, port: u32) -> Option<&mut Connection> {
         match self.connections.get_mut(port as usize) {
@@ -412,6 +452,13 @@ impl<R: rt::Clock> Ports for Sockets<'_, R> {
             self.places.took(port as usize, self.now);
         }
         took
+    }
+
+    fn answered(&mut self, port: u32, reply: &[u8]) {
+        let _ = port;
+        if let Some(tally) = &mut self.tally {
+            tally.note(reply);
+        }
     }
 
     fn count(&mut self, port: u32) {

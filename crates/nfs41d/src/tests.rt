@@ -34,6 +34,8 @@ fn an_order_to_serve_has_its_address_its_numbers_and_its_settings(
         "16",
         "--connections",
         "1000000",
+        "--status",
+        "86400",
         "--listen",
         "127.0.0.1:2049",
     ];
@@ -43,7 +45,8 @@ fn an_order_to_serve_has_its_address_its_numbers_and_its_settings(
             listen: "127.0.0.1:2049",
             connections: Some(1_000_000),
             at_once: 16,
-            settings: Some("there.toml")
+            settings: Some("there.toml"),
+            status: Some(86_400)
         })
     );
     assert!(rt; is_so);

@@ -15,6 +15,9 @@ use std::alloc::{AllocError, Global};
 /// The most connections of one run.
 const MAX_CONNECTIONS: u32 = 1_000_000;
 
+/// The most seconds from one line of status to the next.
+const MAX_STATUS: u32 = 86_400;
+
 /// Reads the words of a command line, the program's name first.
 ///
 /// `Arguments` where they are no order, help included; `Start` for want of memory.
@@ -54,7 +57,8 @@ fn serve_command<'a>(alloc: Global) -> Result<Command<'a>, AllocError> {
         .arg(option(alloc, "listen").required(true))?
         .arg(option(alloc, "connections"))?
         .arg(option(alloc, "at-once"))?
-        .arg(option(alloc, "settings"))
+        .arg(option(alloc, "settings"))?
+        .arg(option(alloc, "status"))
 }
 
 /// An option that takes a value.
@@ -74,11 +78,13 @@ fn order_of<'a>(matches: &ArgMatches<'a>) -> Option<Order<'a>>
             let listen = found.get_str("listen")?;
             let connections = given(found.get_str("connections"), MAX_CONNECTIONS)?;
             let asked = given(found.get_str("at-once"), MOST_PLACES)?;
+            let status = given(found.get_str("status"), MAX_STATUS)?;
             Some(Order::Serve {
                 listen,
                 connections,
                 at_once: at_once(connections, asked),
                 settings: found.get_str("settings"),
+                status,
             })
         }
         _ => None,

@@ -1,6 +1,6 @@
 //! The table of client records, and the ids that they get (RFC 8881 section 2.4).
 
-ghost use Rattle.std.specs.Prelude.{◌≡◌, ◌<◌, ◌==◌, position, None};
+ghost use Rattle.std.specs.Prelude.{◌≡◌, ◌<◌, ◌==◌, length, position, None};
 ghost use Rattle.std.specs.Option.{option_copied};
 ghost use Rattle.nfs_clients.specs.Roster.{next_id, no_clients, client_at, without, last_counter};
 ghost use Rattle.nfs_clients.specs.Marks.{has_client};
@@ -39,6 +39,13 @@ impl Clients {
             instance,
             last: 0,
         }
+    }
+
+    /// How many records there are.
+    pub fn count(&self) -> usize
+        ensures { result ≡ length self.now.records }
+    {
+        self.records.len()
     }
 
     /// The id of the record that `exchange` would add: the instance, and behind it the counter.

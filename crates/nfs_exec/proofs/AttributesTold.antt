@@ -1,7 +1,7 @@
 -- GETATTR tells the change, the size and the lease in their places, whatever else is asked for.
-use Rattle.std.proofs.Common.{◌≡◌, ℕ, ◌+◌, Bool, true, false, cond, List, [], ◌∷◌, ◌++◌, length, take, drop, Option, Some, None, refl, sym, ◌∙◌, ap, subst, arith}
+use Rattle.std.proofs.Common.{◌≡◌, ℕ, ◌+◌, Bool, true, false, cond, List, [], ◌∷◌, ◌++◌, length, take, drop, Option, Some, None, refl, sym, ◌∙◌, ap, arith}
 use Rattle.std.specs.Option.{option_map_or}
-use Rattle.std.specs.Prelude.{option_map, Ok}
+use Rattle.std.specs.Prelude.{option_map, is_some, Ok}
 use Rattle.std.proofs.lemmas.Bool.{false≢true}
 use Rattle.std.proofs.lemmas.List.{length-append}
 use Rattle.std.proofs.lemmas.Grind.{flat_map-append}
@@ -18,7 +18,7 @@ use Rattle.nfs_tree.specs.Files.{stored_in, change_of}
 use Rattle.nfs_attrs.specs.declared.about.About.{About}
 use Rattle.nfs_attrs.specs.declared.mask.Mask.{Mask}
 use Rattle.nfs_attrs.specs.Mask.{mask_of, has, trimmed_words, common}
-use Rattle.nfs_attrs.specs.Attributes.{Attribute, read_only, type_number, value_of, values_in, readable, attributes, values}
+use Rattle.nfs_attrs.specs.Attributes.{Attribute, read_only, read_write, type_number, value_of, values_in, readable, attributes, values}
 use Rattle.nfs_names.specs.declared.context.Context.{Context}
 use Rattle.nfs_names.specs.declared.node.Node.{Node}
 use Rattle.nfs_names.specs.Attributes.{about}
@@ -29,7 +29,7 @@ use Rattle.nfs_names.specs.State.{State}
 use Rattle.nfs_names.proofs.NameLaws.{by_get_attr}
 use Rattle.nfs_exec.specs.AttributesTold.{sizes, asked_from, TellsValue}
 use Rattle.nfs_exec.specs.Ops.{RanOp}
-use Rattle.nfs_exec.proofs.AnsweredRun.{in_room_is, too_big, as_step, IsRun}
+use Rattle.nfs_exec.proofs.OneRun.{IsRun, by_ok}
 
 -- the values of the lines in front of one, and those of it and of the lines behind it
 cut : (asked : Mask) (a : About) (o : Object) (front : List Attribute) (line : Attribute) (behind : List Attribute) → has asked line.number ≡ true
@@ -51,7 +51,15 @@ unfolding attributes number
 change_long asked a o =
     long_if (has asked 0) _ _ 16 _ refl (long_if (has asked 1) _ _ 4 _ (length_number (type_number o.kind)) (long_if (has asked 2) _ [] 4 0 refl refl))
 
-lease_long : (asked : Mask) (a : About) (o : Object) → length (values_in (take 10 attributes) asked a o) ≡ asked_from asked 0 (take 10 sizes)
+size_long : (asked : Mask) (a : About) (o : Object) → length (values_in (take 4 attributes) asked a o) ≡ asked_from asked 0 (take 4 sizes)
+unfolding attributes number hyper
+size_long asked a o =
+    long_if (has asked 0) _ _ 16 _ refl
+    (long_if (has asked 1) _ _ 4 _ (length_number (type_number o.kind))
+    (long_if (has asked 2) _ _ 4 _ refl
+    (long_if (has asked 3) _ [] 8 0 (length_hyper o.change) refl)))
+
+pub lease_long : (asked : Mask) (a : About) (o : Object) → length (values_in (take 10 attributes) asked a o) ≡ asked_from asked 0 (take 10 sizes)
 unfolding attributes number hyper
 lease_long asked a o =
     long_if (has asked 0) _ _ 16 _ refl
@@ -70,7 +78,12 @@ change_cut : (asked : Mask) (a : About) (o : Object) → has asked 3 ≡ true
 unfolding values attributes
 change_cut asked a o is = cut asked a o (take 3 attributes) (read_only 3 uint64 (λ a o. o.change)) (drop 4 attributes) is
 
-lease_cut : (asked : Mask) (a : About) (o : Object) → has asked 10 ≡ true
+size_cut : (asked : Mask) (a : About) (o : Object) → has asked 4 ≡ true
+    → values asked a o ≡ values_in (take 4 attributes) asked a o ++ (hyper o.size ++ values_in (drop 5 attributes) asked a o)
+unfolding values attributes
+size_cut asked a o is = cut asked a o (take 4 attributes) (read_write 4 uint64 (λ a o. o.size) (λ s. is_some s.size)) (drop 5 attributes) is
+
+pub lease_cut : (asked : Mask) (a : About) (o : Object) → has asked 10 ≡ true
     → values asked a o ≡ values_in (take 10 attributes) asked a o ++ (number a.lease ++ values_in (drop 11 attributes) asked a o)
 unfolding values attributes
 lease_cut asked a o is = cut asked a o (take 10 attributes) (read_only 10 uint32 (λ a o. a.lease)) (drop 11 attributes) is
@@ -92,13 +105,9 @@ told : (P : List ℕ → Type 0) (d : RanOp) → IsRun d → (words : List ℕ) 
     → P (spell_result (Res.GetAttr (record { attrmask = trimmed_words (common (mask_of words) readable); attr_vals = values (mask_of words) (about d.before.store k) k.object }))))
     → P d.result
 told P d r words item ok each =
-    let same = as_step d r (Operation (Op.GetAttr words)) item in
-    subst (λ (d : RanOp). P d.result) (sym same)
-    (in_room_is (λ s. is_ok s.outcome.status ≡ true → P s.outcome.result) r.limit r.sofar r.now r.refused d.before d.context (Operation (Op.GetAttr words))
-    (λ ok. absurd (too_big d.before d.context (Operation (Op.GetAttr words)) ok))
+    by_ok (λ text s. P text) d r (Operation (Op.GetAttr words)) item ok
     (by_get_attr (λ o. of_store.is_ok (status_of_result o.result) ≡ true → P (spell_result o.result)) d.before.store d.context words
     (λ f h ok. absurd (false≢true (sym h.done ∙ ok))) (λ k there plain ok. each k there))
-    (ap (λ (d : RanOp). is_ok d.status) (sym same) ∙ ok))
 
 pub change_in : (d : RanOp) → IsRun d → (words : List ℕ) (n : ℕ) → d.item ≡ Operation (Op.GetAttr words) → has (mask_of words) 3 ≡ true → is_ok d.status ≡ true
     → d.context.current ≡ Some n → TellsValue 3 (hyper (change_of d.before.store.tree n)) (mask_of words) d.result
@@ -112,6 +121,20 @@ change_in d r words n item is ok at =
           (change_cut (mask_of words) a k.object is
           ∙ ap (λ (c : ℕ). values_in (take 3 attributes) (mask_of words) a k.object ++ (hyper c ++ values_in (drop 4 attributes) (mask_of words) a k.object))
           (change_found d.before.store d.context n k at there));
+    }))
+
+pub size_in : (d : RanOp) → IsRun d → (words : List ℕ) (size : ℕ) → d.item ≡ Operation (Op.GetAttr words) → has (mask_of words) 4 ≡ true → is_ok d.status ≡ true
+    → ((k : Node) → current d.before.store d.context ≡ Ok k → k.object.size ≡ size) → TellsValue 4 (hyper size) (mask_of words) d.result
+size_in d r words size item is ok found =
+    told (TellsValue 4 (hyper size) (mask_of words)) d r words item ok (λ k there. (let a = about d.before.store k in
+    record {
+      front = values_in (take 4 attributes) (mask_of words) a k.object;
+      behind = values_in (drop 5 attributes) (mask_of words) a k.object;
+      long = size_long (mask_of words) a k.object;
+      answers = ap (λ (vals : List ℕ). spell_result (Res.GetAttr (record { attrmask = trimmed_words (common (mask_of words) readable); attr_vals = vals })))
+          (size_cut (mask_of words) a k.object is
+          ∙ ap (λ (c : ℕ). values_in (take 4 attributes) (mask_of words) a k.object ++ (hyper c ++ values_in (drop 5 attributes) (mask_of words) a k.object))
+          (found k there));
     }))
 
 pub lease_in : (d : RanOp) → IsRun d → (words : List ℕ) → d.item ≡ Operation (Op.GetAttr words) → has (mask_of words) 10 ≡ true → is_ok d.status ≡ true

@@ -13,7 +13,7 @@ use Rattle.nfs_xdr.proofs.Tables.{at_of_in, at_without, at_with, at_push}
 use Rattle.nfs_compound.specs.declared.op.Item.{Item}
 use Rattle.nfs_compound.specs.declared.op.Item.TheVariants.{Operation}
 use Rattle.nfs_compound.specs.declared.op.Op.TheVariants as Op
-use Rattle.nfs_compound.specs.Request.{Request, item_number}
+use Rattle.nfs_compound.specs.Request.{Request}
 use Rattle.nfs_compound.specs.declared.session_args.CreateSession.{CreateSession}
 use Rattle.nfs_compound.specs.declared.session_args.Sequence.{Sequence}
 use Rattle.nfs_clients.specs.Roster.{ClientRecord, Roster, IsRoster, id_of as client_id, client_at, without, is_unconfirmed_of, unconfirmed_of, confirmed_of}
@@ -21,11 +21,9 @@ use Rattle.nfs_clients.specs.Roster.{next_id}
 use Rattle.nfs_clients.specs.ExchangeId.{Ask, Case, Refuses, Stays, Adds, has_room, case_by, case_of, does, new_client, with_new}
 use Rattle.nfs_clients.specs.CreateSession as clients
 use Rattle.nfs_clients.specs.CreateSession.{leaving, without_any, with_confirmed, with_kept, confirms, keeps, verdict_by}
-use Rattle.nfs_clients.specs.DestroyClientId.{destroy_fault}
 use Rattle.nfs_clients.specs.Marks.{has_open, has_open_by, has_reclaimed, with_reclaimed, with_open}
 use Rattle.nfs_clients.specs.declared.created.CreateResult.{CreateResult}
 use Rattle.nfs_clients.specs.declared.created.CreateResult.TheVariants.{Done, Refused}
-use Rattle.nfs_clients.specs.declared.destroy.DestroyFault.{DestroyFault}
 use Rattle.nfs_clients.specs.declared.destroy.DestroyFault.TheVariants.{Stale, Busy}
 use Rattle.nfs_clients.proofs.Members.{the_id, mild_keeps, mild_reclaims, mild_holds, fresh, roster_filter, roster_changed, roster_without, roster_confirmed}
 use Rattle.nfs_clients.proofs.Members.{roster_new, without_unconfirmed}
@@ -35,18 +33,17 @@ use Rattle.nfs_sessions.specs.declared.channel.Wish.{Wish}
 use Rattle.nfs_sessions.specs.declared.sessions.SessionFault.{SessionFault}
 use Rattle.nfs_sessions.specs.Id.{id_of}
 use Rattle.nfs_sessions.specs.SessionSlots.{GrantedSlots}
-use Rattle.nfs_sessions.specs.Sessions.{Session, SessionTable, is_session, session_at, create, create_unless, create_fault, fault_status, with_session}
+use Rattle.nfs_sessions.specs.Sessions.{Session, SessionTable, is_session, session_at, create_unless, create_fault, fault_status, with_session}
 use Rattle.nfs_sessions.specs.Sessions.{with_slots}
 use Rattle.nfs_sessions.specs.Sessions as sessions
 use Rattle.nfs_lease.specs.Renewals.{Book, has_run_out, with_lease, with_renewal, without_lease}
-use Rattle.nfs_exec.specs.Machine.{Machine, IsMachine, Outcome, or_delay, starts, with_mark, is_client, is_confirmed}
-use Rattle.nfs_exec.specs.Place.{item_fault}
-use Rattle.nfs_exec.specs.ExchangeId.{exchange_id, exchange_id_number, ask_of, leases_behind, without_any_lease}
-use Rattle.nfs_exec.specs.CreateSession.{create_session_number, by_verdict, creates, by_created, confirmed, wish_of, without_any_sessions, without_any_opens}
-use Rattle.nfs_exec.specs.Destroy.{destroy_session, destroyed_unless, has_session}
+use Rattle.nfs_exec.specs.Machine.{Machine, IsMachine, starts, with_mark, is_client, is_confirmed}
+use Rattle.nfs_exec.specs.ExchangeId.{ask_of, leases_behind, without_any_lease}
+use Rattle.nfs_exec.specs.CreateSession.{by_created, confirmed, wish_of, without_any_sessions, without_any_opens}
+use Rattle.nfs_exec.specs.Destroy.{has_session}
 use Rattle.nfs_exec.specs.Sequence as sequence
-use Rattle.nfs_exec.specs.Sequence.{Sequenced, sequenced}
-use Rattle.nfs_exec.specs.Compound.{carried_out, by_fault, first_item, renewed, begun, run_in, in_session, by_first, compound}
+use Rattle.nfs_exec.specs.Sequence.{sequenced}
+use Rattle.nfs_exec.specs.Compound.{first_item, renewed, begun, run_in, compound}
 use Rattle.nfs_exec.specs.Expiry.{expired}
 use Rattle.nfs_exec.proofs.Exchanging.{room_of}
 use Rattle.nfs_names.specs.declared.context.Context.{Context}
@@ -54,21 +51,24 @@ use Rattle.nfs_names.specs.Context.{begins}
 use Rattle.nfs_names.specs.Ending.{has_open as has_open_in}
 use Rattle.nfs_names.specs.declared.node.Node.{Node}
 use Rattle.nfs_names.specs.Checks.{current}
-use Rattle.nfs_names.specs.Outcome.{Outcome as OfStore, is_ok}
+use Rattle.nfs_names.specs.Outcome.{Outcome as OfStore}
 use Rattle.nfs_names.specs.State.{State, moment}
 use Rattle.nfs_names.proofs.Untouched.{Leaves, leaves_each}
 use Rattle.nfs_opens.specs.Table.{Table}
+use Rattle.nfs_opens.specs.TableInvariants.{IsTable}
+use Rattle.nfs_opens.proofs.TableLemmas.{table_new}
 use Rattle.nfs_files.proofs.Outcomes as files
 use Rattle.nfs_files.proofs.Outcomes.{for_each}
-use Rattle.nfs_files.proofs.OwnOpens.{AreNumbered, Spares, Everybody, OthersThan, spares_all, spares_others}
+use Rattle.nfs_files.proofs.TableSteps.{table_staying_is}
+use Rattle.nfs_files.proofs.OwnOpens.{Spares, Everybody, OthersThan, spares_all, spares_others}
 use Rattle.nfs_results.specs.Largest.{largest}
 use Rattle.nfs_exec.specs.ReclaimComplete.{reclaim_complete, of_one, of_all}
 use Rattle.nfs_exec.specs.Behind.{Step, step, on_store, moves_opens, marked_if, otherwise}
 use Rattle.nfs_exec.specs.Run.{run, in_room, reserve, is_here, behind_here}
 use Rattle.nfs_exec.proofs.Behind.{by_step, follow_kept}
+use Rattle.nfs_exec.proofs.ByEvent.{by_compound, by_alone}
 use Rattle.nfs_exec.proofs.Keeping.{runs_means}
-use Rattle.nfs_exec.proofs.Marks.{changed_holds, keeps_holds, confirms_holds, kept_holds, gone_holds, new_holds, open_staying, numbered_staying}
-use Rattle.nfs_exec.proofs.Marks.{numbered_without}
+use Rattle.nfs_exec.proofs.Marks.{changed_holds, keeps_holds, confirms_holds, kept_holds, gone_holds, new_holds, open_staying}
 
 pub of_start : (mode instance lease : ℕ) → instance < 4294967296 → IsMachine (starts mode instance lease)
 of_start mode instance lease small = record {
@@ -77,7 +77,7 @@ of_start mode instance lease small = record {
   confirmed = λ s there. absurd there;
   marks = λ client. refl;
   opened = λ client holds. absurd (false≢true holds);
-  numbers = omega arith;
+  table = table_new instance;
 }
 
 abbrev mark_of : Option ClientRecord → Bool
@@ -121,7 +121,7 @@ of_expired m now is =
           ∙ ap (λ b. not (out c) && b) (is.marks c) ∙ sym (open_staying (λ k. not (out k)) m.store c);
       opened = λ c holds. (let stays = and_parts (not (out c)) (has_open_in m.store c) (sym (open_staying (λ k. not (out k)) m.store c) ∙ holds) in
           ap mark_of (at c ∙ ap (λ b. cond b (client_at m.clients c) None) stays.0) ∙ is.opened c stays.1);
-      numbers = numbered_staying (λ k. not (out k)) m.store is.numbers;
+      table = table_staying_is (λ k. not (out k)) m.store.opens is.table;
     }
 
 -- Without a client that has neither a session nor an open.
@@ -152,7 +152,7 @@ of_destroyed_client m client is none unheld =
       marks = λ c. ap has_open_by (at c) ∙ gone_holds (eqb c client) (client_at m.clients c)
           ∙ ap (λ b. not (eqb c client) && b) (is.marks c) ∙ still c (cases_eq c client);
       opened = λ c holds. ap mark_of (at c) ∙ stays c holds (cases_eq c client);
-      numbers = is.numbers;
+      table = is.table;
     }
   where
     nothing : (c : ℕ) → c ≡ client → has_open_in m.store c ≡ false
@@ -174,7 +174,7 @@ of_fewer_sessions m t is fewer = record {
   confirmed = λ s there. is.confirmed s (fewer s there);
   marks = is.marks;
   opened = is.opened;
-  numbers = is.numbers;
+  table = is.table;
 }
 
 -- A renewal, and a slot that keeps a reply.
@@ -196,7 +196,7 @@ of_renewed m client now is = record {
   confirmed = is.confirmed;
   marks = is.marks;
   opened = is.opened;
-  numbers = is.numbers;
+  table = is.table;
 }
 
 in_slots : (t : SessionTable) (id : SessionId) (change : GrantedSlots → GrantedSlots) (s : Session)
@@ -217,7 +217,7 @@ of_kept m id change is = record {
   confirmed = λ s there. (let was = in_slots m.sessions id change s there in ap (is_confirmed m.clients) was.2 ∙ is.confirmed was.0 was.1);
   marks = is.marks;
   opened = is.opened;
-  numbers = is.numbers;
+  table = is.table;
 }
 
 -- A client's result that is kept.
@@ -253,7 +253,7 @@ of_kept_result m client result is = record {
   confirmed = λ s there. kept_mark m.clients client s.client result ∙ is.confirmed s there;
   marks = λ c. changed_holds m.clients client c (keeps result) (mild_keeps result).id (keeps_holds result) ∙ is.marks c;
   opened = λ c holds. kept_mark m.clients client c result ∙ is.opened c holds;
-  numbers = is.numbers;
+  table = is.table;
 }
 
 -- What an id names where one record may have gone.
@@ -363,7 +363,7 @@ of_new m a now is room =
           ap mark_of (new_at t a n is.clients)
           ∙ new_mark (next_id t) n (new_client t a) (client_at t n) (is_id (option_map the_id o) n)
           (keeps_confirmed t a.owner o n is.clients refl mark) mark);
-      numbers = is.numbers;
+      table = is.table;
     }
 
 pub of_exchanged : (m : Machine) (a : Ask) (now : ℕ) (case : Case) → IsMachine m → case_of m.clients a ≡ case
@@ -408,6 +408,10 @@ marked : (here : Bool) (f : Option ClientRecord) → is_some f ≡ true → (her
 marked true f there other = marked_here f there
 marked false f there other = other refl
 
+table_without : (s : State) (o : Option ℕ) → IsTable s.opens → IsTable (without_any_opens s o).opens
+table_without s None is = is
+table_without s (Some gone) is = table_staying_is (λ c. not (eqb c gone)) s.opens is
+
 pub of_confirmed : (m : Machine) (now client : ℕ) (body : List ℕ) (t : SessionTable) → IsMachine m →
     is_client m.clients client ≡ true → ((s : Session) → In s t.sessions → (s.client ≡ client) ⊎ In s m.sessions.sessions) →
     IsMachine (confirmed (record m { sessions = t }) now client body)
@@ -440,7 +444,7 @@ of_confirmed m now client body t is known sessions =
           kept_mark (with_confirmed r client) client n (Done body) ∙ ap mark_of (confirmed_at r client n)
           ∙ ap (λ (f : Option ClientRecord). mark_of (cond (eqb n client) (option_map confirms f) f)) stays
           ∙ marked (eqb n client) (client_at r n) (some_of_mark (client_at r n) old) (λ other. old));
-      numbers = numbered_without m.store gone is.numbers;
+      table = table_without m.store gone is.table;
     }
 
 known_runs : (o : Option ClientRecord) (number uid : ℕ) → verdict_by o number uid ≡ clients.Runs → is_some o ≡ true
@@ -453,30 +457,7 @@ of_made m now c wish None is known = of_confirmed m now c.clientid _ (with_sessi
     (λ s there. elim (in_push m.sessions.sessions _ s there) [ inl new ↦ inl (ap (λ (s : Session). s.client) new) | inr old ↦ inr old ])
 of_made m now c wish (Some fault) is known = of_kept_result m c.clientid (Refused (fault_status fault)) is
 
-delayed : (m : Machine) (o : Outcome) (refused : Bool) (n : ℕ) → IsMachine m → IsMachine o.machine → IsMachine (or_delay refused m n o).machine
-delayed m o refused n before after = elim (cases_Bool (refused && is_ok o.status)) [
-  | inl here ↦ rw here before
-  | inr other ↦ rw other after
-]
-
-of_created : (m : Machine) (now : ℕ) (refused : Bool) (c : CreateSession) (v : clients.Verdict) → IsMachine m
-    → (v ≡ clients.Runs → is_client m.clients c.clientid ≡ true) → IsMachine (by_verdict m now refused c v).machine
-of_created m now refused c clients.Stale is known = is
-of_created m now refused c (clients.Again (Done body)) is known = is
-of_created m now refused c (clients.Again (Refused status)) is known = is
-of_created m now refused c clients.Misordered is known = is
-of_created m now refused c clients.InUse is known = is
-of_created m now refused c clients.Runs is known =
-    let did = create m.sessions c.clientid (wish_of m c) in
-    delayed m (creates m now c did) refused create_session_number is (of_made m now c (wish_of m c) (create_fault m.sessions (wish_of m c)) is (known refl))
-
 -- The operations that stand alone.
-
-of_destroyed : (m : Machine) (client : ℕ) (o : Option DestroyFault) → IsMachine m →
-    (o ≡ None → (list_any (λ (s : Session). eqb s.client client) m.sessions.sessions ≡ false) × (has_open m.clients client ≡ false)) →
-    IsMachine (destroyed_unless m client o).machine
-of_destroyed m client None is none = of_destroyed_client m client is (none refl).0 (none refl).1
-of_destroyed m client (Some fault) is none = is
 
 nothing_left : (a b held : Bool) → cond a (Some Stale) (cond (b || held) (Some Busy) None) ≡ None → (b ≡ false) × (held ≡ false)
 nothing_left true b held e = absurd cc
@@ -484,31 +465,15 @@ nothing_left false true held e = absurd cc
 nothing_left false false true e = absurd cc
 nothing_left false false false e = (refl, refl)
 
-of_destroyed_session : (m : Machine) (sessionid : List ℕ) → IsMachine m → IsMachine (destroy_session m sessionid).machine
-of_destroyed_session m sessionid is = elim (cases_Bool (is_some (session_at m.sessions (id_of sessionid)))) [
-  | inl stood ↦ rw stood (of_fewer_sessions m (sessions.destroyed m.sessions (id_of sessionid)) is
-      (λ s there. (in_filter (λ s. not (is_session (id_of sessionid) s)) m.sessions.sessions s there).0))
-  | inr not_there ↦ rw not_there is
-]
-
-carried : (m : Machine) (who : Caller) (now : ℕ) (refused : Bool) (i : Item) → IsMachine m → IsMachine (carried_out m who now refused i).machine
-carried m who now refused (Operation (Op.ExchangeId e)) is =
-    delayed m (exchange_id m who now e) refused exchange_id_number is (of_exchanged m (ask_of who e) now (case_of m.clients (ask_of who e)) is refl)
-carried m who now refused (Operation (Op.CreateSession c)) is = of_created m now refused c
-    (clients.create_verdict m.clients c.clientid c.sequence who.uid) is (known_runs (client_at m.clients c.clientid) c.sequence who.uid)
-carried m who now refused (Operation (Op.DestroySession sessionid)) is = of_destroyed_session m sessionid is
-carried m who now refused (Operation (Op.DestroyClientId client)) is =
-    of_destroyed m client (destroy_fault m.clients client (has_session m.sessions client)) is
-    (nothing_left (not (is_client m.clients client)) (has_session m.sessions client) (has_open m.clients client))
-carried m who now refused i is = is
-
 first : (m : Machine) (declared : ℕ) (who : Caller) (now : ℕ) (refused : Bool) (i : Item)
     → IsMachine m → IsMachine (first_item m declared who now refused i).machine
-first m declared who now refused i is = go (item_fault declared i)
-  where
-    go : (f : Option Status) → IsMachine (by_fault m (item_number i) f (carried_out m who now refused i)).machine
-    go None = carried m who now refused i is
-    go (Some status) = is
+first m declared who now refused i is = by_alone (λ o. IsMachine o.machine) m declared who now refused i (λ status result. is)
+    (λ e at. of_exchanged m (ask_of who e) now (case_of m.clients (ask_of who e)) is refl)
+    (λ c at runs. of_made m now c (wish_of m c) (create_fault m.sessions (wish_of m c)) is (known_runs (client_at m.clients c.clientid) c.sequence who.uid runs))
+    (λ sessionid at stood. of_fewer_sessions m (sessions.destroyed m.sessions (id_of sessionid)) is
+    (λ s there. (in_filter (λ s. not (is_session (id_of sessionid) s)) m.sessions.sessions s there).0))
+    (λ client at none. (let left = nothing_left (not (is_client m.clients client)) (has_session m.sessions client) (has_open m.clients client) none in
+    of_destroyed_client m client is left.0 left.1))
 
 -- One operation behind a SEQUENCE, of a client that is confirmed; and whoever runs the next one is.
 
@@ -527,7 +492,7 @@ of_reclaimed m x is known = elim (cases_Bool (has_reclaimed m.clients x.client))
       confirmed = λ s there. reclaims_mark s.client ∙ is.confirmed s there;
       marks = λ c. changed_holds m.clients x.client c reclaims mild_reclaims.id (λ c. refl) ∙ is.marks c;
       opened = λ c holds. reclaims_mark c ∙ is.opened c holds;
-      numbers = is.numbers;
+      table = is.table;
     };
     client = reclaims_mark x.client ∙ known;
   })
@@ -558,11 +523,11 @@ of_store m s is spares = record {
   confirmed = is.confirmed;
   marks = λ c. is.marks c ∙ sym (spares.same c tt);
   opened = λ c holds. is.opened c (sym (spares.same c tt) ∙ holds);
-  numbers = spares.numbers;
+  table = spares.table;
 }
 
-spares_same : (t u : Table) → u ≡ t → AreNumbered t → Spares Everybody t u
-spares_same t u same is = subst (Spares Everybody t) (sym same) (record { same = λ c spared. refl; numbers = is })
+spares_same : (t u : Table) → u ≡ t → IsTable t → Spares Everybody t u
+spares_same t u same is = subst (Spares Everybody t) (sym same) (record { same = λ c spared. refl; table = is })
 
 -- an operation behind which all others have, and the client's record is marked
 
@@ -606,7 +571,7 @@ of_marked m client s is known spares =
       confirmed = λ t there. marking_mark m.clients client t.client mark ∙ is.confirmed t there;
       marks = λ c. ap has_open_by (marking_at m.clients client c mark) ∙ marks_at c (cases_eq c client);
       opened = λ c holds. marking_mark m.clients client c mark ∙ opened_at c holds (cases_eq c client);
-      numbers = spares.numbers;
+      table = spares.table;
     }
   where
     marks_at : (c : ℕ) → (c ≡ client) ⊎ (c ≢ client) →
@@ -629,14 +594,14 @@ of_step m x now refused i is known =
   where
     by_names : (o : OfStore) → Leaves m.store x o.state o.context → Stands (on_store m o)
     by_names o left = record {
-      machine = of_store m o.state is (spares_same m.store.opens o.state.opens left.opens is.numbers);
+      machine = of_store m o.state is (spares_same m.store.opens o.state.opens left.opens is.table);
       client = ap (is_confirmed m.clients) left.client ∙ known;
     }
 
     by_mark : (moves : Bool) → moves_opens i ≡ moves → Stands (marked_if moves x.client (on_store m (files.comes_to refused m.store x (moment now) i)))
     by_mark true can =
         let o = files.comes_to refused m.store x (moment now) i in
-        let own = spares_others refused m.store x (moment now) i is.numbers in
+        let own = spares_others refused m.store x (moment now) i is.table in
         record {
           machine = of_marked m x.client o.state is known own.opens;
           client = marking_mark m.clients x.client o.context.client (has_open_in o.state x.client) ∙ ap (is_confirmed m.clients) own.client ∙ known;
@@ -644,7 +609,7 @@ of_step m x now refused i is known =
     by_mark false cannot =
         let o = files.comes_to refused m.store x (moment now) i in
         let all = spares_all refused m.store x (moment now) i (λ a same. false≢true (sym cannot ∙ ap moves_opens same))
-        (λ a same. false≢true (sym cannot ∙ ap moves_opens same)) is.numbers in
+        (λ a same. false≢true (sym cannot ∙ ap moves_opens same)) is.table in
         record { machine = of_store m o.state is all.opens; client = ap (is_confirmed m.clients) all.client ∙ known }
 
     one : (found : Result Node Status) → Stands (record { outcome = of_one m found; context = x })
@@ -686,26 +651,10 @@ runs_for m r who size s c is runs =
 
 -- The whole compound.
 
-sequenced_kept : (m : Machine) (r : Request) (who : Caller) (size now : ℕ) (choice : Option ℕ) (s : Sequence) (more : List Item) (v : Sequenced) →
-    IsMachine m → sequenced m r who size s ≡ v → IsMachine (in_session m r who now choice s more v).machine
-sequenced_kept m r who size now choice s more (sequence.Refuses status) is comes = is
-sequenced_kept m r who size now choice s more (sequence.Repeats reply) is comes = is
-sequenced_kept m r who size now choice s more (sequence.Runs c) is comes =
-    let ran = run_in (renewed m now s) r who now (behind_here choice) s c more in
-    of_kept ran.machine (id_of s.sessionid) _
-    (of_run c.response (begun r s c) now (behind_here choice) (renewed m now s) (begins (id_of s.sessionid).client who) more
-    (of_renewed m (id_of s.sessionid).client now is)
-    (runs_for m r who size s c is comes))
-
-items_kept : (m : Machine) (r : Request) (who : Caller) (size now : ℕ) (choice : Option ℕ) (items : List Item)
-    → IsMachine m → IsMachine (by_first m r who size now choice items).machine
-items_kept m r who size now choice [] is = is
-items_kept m r who size now choice (Operation (Op.Sequence s) ∷ more) is = sequenced_kept m r who size now choice s more (sequenced m r who size s) is refl
-items_kept m r who size now choice (item ∷ more) is = first m r.declared who now (is_here choice) item is
-
 pub of_compound : (m : Machine) (r : Request) (who : Caller) (size now : ℕ) (choice : Option ℕ)
     → IsMachine m → IsMachine (compound m r who size now choice).machine
-of_compound m r who size now choice is = elim (cases_Bool (eqb r.minor 1)) [
-  | inl one ↦ rw one (items_kept m r who size now choice r.left is)
-  | inr other ↦ rw other is
-]
+of_compound m r who size now choice is = by_compound (λ left ds run. IsMachine left) m r who size now choice is
+    (λ item. first m r.declared who now (is_here choice) item is) (λ s more c comes.
+    of_kept (run_in (renewed m now s) r who now (behind_here choice) s c more).machine (id_of s.sessionid) _
+    (of_run c.response (begun r s c) now (behind_here choice) (renewed m now s) (begins (id_of s.sessionid).client who) more
+    (of_renewed m (id_of s.sessionid).client now is) (runs_for m r who size s c is comes)))

@@ -1,38 +1,29 @@
 -- What holds of a store, and of it where clients other than one end, holds behind an operation that stands alone, if that is no CREATE_SESSION by which another id
 -- takes that client's place.
-use Rattle.std.proofs.Common.{◌≡◌, ◌≢◌, ℕ, suc, ◌+◌, ◌<◌, Bool, true, false, cond, not, List, [], ◌∷◌, Option, Some, None, refl, sym, ◌∙◌, ap, arith, inl, inr}
-use Rattle.std.specs.Prelude.{◌==◌, ◌&&◌, find, option_map, is_some, bytes_eq, Result, Ok, Err}
+use Rattle.std.proofs.Common.{◌≡◌, ◌≢◌, ℕ, suc, ◌+◌, ◌<◌, Bool, true, false, not, List, [], ◌∷◌, Option, Some, None, refl, sym, ◌∙◌, ap, subst, arith, inl, inr}
+use Rattle.std.specs.Prelude.{◌==◌, ◌&&◌, find, option_map, bytes_eq, Result, Ok, Err}
 use Rattle.std.specs.Option.{option_map_or}
 use Rattle.std.proofs.lemmas.Bool.{cases_Bool, eq-eqb, ne_eqb, eqb-true, and_parts, and_from, false≢true}
 use Rattle.nfs_xdr.specs.Caller.{Caller}
 use Rattle.nfs_xdr.specs.Tables.{In}
-use Rattle.nfs_xdr.specs.declared.status.Status.{Status}
-use Rattle.nfs_xdr.specs.declared.status.Status.TheVariants.{Delay}
 use Rattle.nfs_xdr.proofs.Lists.{any_in, in_any, find_in}
 use Rattle.nfs_compound.specs.declared.op.Item.{Item}
 use Rattle.nfs_compound.specs.declared.op.Item.TheVariants.{Operation}
 use Rattle.nfs_compound.specs.declared.op.Op.TheVariants as Op
-use Rattle.nfs_compound.specs.Request.{item_number}
 use Rattle.nfs_compound.specs.declared.session_args.CreateSession.{CreateSession}
 use Rattle.nfs_clients.specs.CreateSession as clients
 use Rattle.nfs_clients.specs.CreateSession.{leaving, leaving_by, is_other_confirmed_of}
 use Rattle.nfs_clients.specs.Roster.{ClientRecord, Roster, client_at}
-use Rattle.nfs_clients.specs.declared.created.CreateResult.TheVariants as results
-use Rattle.nfs_clients.specs.DestroyClientId.{destroy_fault}
-use Rattle.nfs_clients.specs.declared.destroy.DestroyFault.{DestroyFault}
-use Rattle.nfs_sessions.specs.Id.{id_of}
-use Rattle.nfs_sessions.specs.Sessions.{SessionTable, session_at, create}
+use Rattle.nfs_sessions.specs.Sessions.{SessionTable, create}
 use Rattle.nfs_sessions.specs.declared.id.SessionId.{SessionId}
 use Rattle.nfs_sessions.specs.declared.sessions.SessionFault.{SessionFault}
 use Rattle.nfs_names.specs.State.{State}
 use Rattle.nfs_names.specs.Outcome.{is_ok}
-use Rattle.nfs_exec.specs.Machine.{Machine, Outcome, or_delay, refuses}
-use Rattle.nfs_exec.specs.Place.{item_fault}
-use Rattle.nfs_exec.specs.ExchangeId.{exchange_id, exchange_id_number}
-use Rattle.nfs_exec.specs.CreateSession.{create_session_number, by_verdict, creates, by_created, wish_of, without_any_opens}
-use Rattle.nfs_exec.specs.Destroy.{destroy_session, destroyed_unless, has_session}
-use Rattle.nfs_exec.specs.Compound.{carried_out, by_fault, first_item}
+use Rattle.nfs_exec.specs.Machine.{Machine}
+use Rattle.nfs_exec.specs.CreateSession.{by_created, wish_of, without_any_opens}
+use Rattle.nfs_exec.specs.Compound.{first_item}
 use Rattle.nfs_exec.specs.LockHeld.{is_of_owner, takes_place}
+use Rattle.nfs_exec.proofs.ByEvent.{by_alone}
 
 -- what confirms no other id of a client's owner removes no record of the client's
 pub not_leaving : (t : Roster) (id client : ℕ) → not (id == client) && option_map_or (λ (k : ClientRecord). is_of_owner t client k.owner) (client_at t id) false ≡ false
@@ -70,53 +61,15 @@ made : (client : ℕ) (P : State → Type 0) → HoldsForOthers client P → (m 
 made client P others m now c t (Ok id) is spares = others m.store (leaving m.clients c.clientid) (not_leaving m.clients c.clientid client spares) is
 made client P others m now c t (Err fault) is spares = is
 
-delayed : (P : State → Type 0) (m : Machine) (o : Outcome) (refused : Bool) (n : ℕ) (mine : Bool) → P m.store → (is_ok o.status && mine ≡ false → P o.machine.store)
-    → is_ok (or_delay refused m n o).status && mine ≡ false → P (or_delay refused m n o).machine.store
-delayed P m o refused n mine before after = go (refused && is_ok o.status)
-  where
-    go : (b : Bool) → is_ok (cond b (refuses m n Delay) o).status && mine ≡ false → P (cond b (refuses m n Delay) o).machine.store
-    go true spares = before
-    go false spares = after spares
-
-created : (client : ℕ) (P : State → Type 0) → HoldsForOthers client P → (m : Machine) (now : ℕ) (refused : Bool) (c : CreateSession) (v : clients.Verdict)
-    → P m.store → is_ok (by_verdict m now refused c v).status && takes_place client m.clients (Operation (Op.CreateSession c)) ≡ false
-    → P (by_verdict m now refused c v).machine.store
-created client P others m now refused c clients.Stale is spares = is
-created client P others m now refused c (clients.Again (results.Done body)) is spares = is
-created client P others m now refused c (clients.Again (results.Refused status)) is spares = is
-created client P others m now refused c clients.Misordered is spares = is
-created client P others m now refused c clients.InUse is spares = is
-created client P others m now refused c clients.Runs is spares =
-    let did = create m.sessions c.clientid (wish_of m c) in
-    delayed P m (creates m now c did) refused create_session_number (takes_place client m.clients (Operation (Op.CreateSession c))) is
-    (made client P others m now c did.after did.answer is) spares
-
-destroyed : (P : State → Type 0) (m : Machine) (gone : ℕ) (o : Option DestroyFault) → P m.store → P (destroyed_unless m gone o).machine.store
-destroyed P m gone None is = is
-destroyed P m gone (Some fault) is = is
-
-session : (P : State → Type 0) (m : Machine) (sessionid : List ℕ) → P m.store → P (destroy_session m sessionid).machine.store
-session P m sessionid is = elim (cases_Bool (is_some (session_at m.sessions (id_of sessionid)))) [ inl stood ↦ rw stood is | inr gone ↦ rw gone is ]
-
-carried : (client : ℕ) (P : State → Type 0) → HoldsForOthers client P → (m : Machine) (who : Caller) (now : ℕ) (refused : Bool) (i : Item) → P m.store
-    → is_ok (carried_out m who now refused i).status && takes_place client m.clients i ≡ false → P (carried_out m who now refused i).machine.store
-carried client P others m who now refused (Operation (Op.ExchangeId e)) is spares =
-    delayed P m (exchange_id m who now e) refused exchange_id_number false is (λ none. is) spares
-carried client P others m who now refused (Operation (Op.CreateSession c)) is spares =
-    created client P others m now refused c (clients.create_verdict m.clients c.clientid c.sequence who.uid) is spares
-carried client P others m who now refused (Operation (Op.DestroySession sessionid)) is spares = session P m sessionid is
-carried client P others m who now refused (Operation (Op.DestroyClientId gone)) is spares =
-    destroyed P m gone (destroy_fault m.clients gone (has_session m.sessions gone)) is
-carried client P others m who now refused i is spares = is
-
 pub holds_alone : (client : ℕ) (P : State → Type 0) → HoldsForOthers client P → (m : Machine) (declared : ℕ) (who : Caller) (now : ℕ) (refused : Bool) (i : Item)
     → P m.store → is_ok (first_item m declared who now refused i).status && takes_place client m.clients i ≡ false → P (first_item m declared who now refused i).machine.store
-holds_alone client P others m declared who now refused i is = go (item_fault declared i)
-  where
-    go : (f : Option Status) → is_ok (by_fault m (item_number i) f (carried_out m who now refused i)).status && takes_place client m.clients i ≡ false
-        → P (by_fault m (item_number i) f (carried_out m who now refused i)).machine.store
-    go None spares = carried client P others m who now refused i is spares
-    go (Some status) spares = is
+holds_alone client P others m declared who now refused i is =
+    by_alone (λ o. is_ok o.status && takes_place client m.clients i ≡ false → P o.machine.store) m declared who now refused i (λ status result spares. is)
+    (λ e at spares. is) (λ c at runs spares.
+    (let did = create m.sessions c.clientid (wish_of m c) in
+    made client P others m now c did.after did.answer is
+    (subst (λ j. is_ok (by_created m now c did.after did.answer).status && takes_place client m.clients j ≡ false) at spares)))
+    (λ sessionid at stood spares. is) (λ gone at none spares. is)
 
 -- whoever ends by it: no record has an id above all
 abbrev pub above : List ClientRecord → ℕ

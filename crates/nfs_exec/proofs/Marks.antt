@@ -1,10 +1,9 @@
 -- Who has an open: by the marks of client records, and in the store.
-use Rattle.std.proofs.Common.{◌≡◌, ℕ, suc, Bool, true, false, cond, eqb, List, [], ◌∷◌, Option, Some, None, refl, ◌∙◌, ap, inl, inr}
+use Rattle.std.proofs.Common.{◌≡◌, ℕ, Bool, true, false, cond, eqb, List, [], ◌∷◌, Option, Some, None, refl, ◌∙◌, ap, inl, inr}
 use Rattle.std.specs.Prelude.{not, ◌&&◌, filter, is_some, option_map}
 use Rattle.std.specs.List.{list_any}
 use Rattle.std.proofs.lemmas.Bool.{cases_Bool, cases_eq, ne_eqb, eq-eqb}
-use Rattle.nfs_xdr.specs.Tables.{IsRising}
-use Rattle.nfs_xdr.proofs.Tables.{at_with, IsRising-filter}
+use Rattle.nfs_xdr.proofs.Tables.{at_with}
 use Rattle.nfs_clients.specs.Roster.{ClientRecord, Roster, client_at, with_changed}
 use Rattle.nfs_clients.specs.CreateSession.{confirms, following, keeps, uses_up}
 use Rattle.nfs_clients.specs.Marks.{has_open, has_open_by}
@@ -14,7 +13,6 @@ use Rattle.nfs_opens.specs.declared.records.OpenState.{OpenState}
 use Rattle.nfs_names.specs.State.{State}
 use Rattle.nfs_names.specs.Ending.{staying}
 use Rattle.nfs_names.specs.Ending as store
-use Rattle.nfs_exec.specs.CreateSession.{without_any_opens}
 
 -- The marks.
 
@@ -80,14 +78,3 @@ any_staying stays c (o ∷ os) =
 -- who stays has an open behind the others' end where there was one before
 pub open_staying : (stays : ℕ → Bool) (s : State) (c : ℕ) → store.has_open (staying stays s) c ≡ (stays c && store.has_open s c)
 open_staying stays s c = any_staying stays c s.opens.opens
-
--- the numbers of opens rise, and were all given
-abbrev pub AreNumbered : State → Type 0
-AreNumbered s = IsRising (λ (o : OpenState). o.number) 1 s.opens.opens (suc s.opens.last)
-
-pub numbered_staying : (stays : ℕ → Bool) (s : State) → AreNumbered s → AreNumbered (staying stays s)
-numbered_staying stays s is = IsRising-filter (λ (o : OpenState). o.number) (λ o. stays o.client) 1 (suc s.opens.last) s.opens.opens is
-
-pub numbered_without : (s : State) (o : Option ℕ) → AreNumbered s → AreNumbered (without_any_opens s o)
-numbered_without s None is = is
-numbered_without s (Some gone) is = numbered_staying (λ c. not (eqb c gone)) s is

@@ -16,7 +16,7 @@ use Rattle.nfs_names.specs.State.{State, moment}
 use Rattle.nfs_names.proofs.Untouched.{leaves_each}
 use Rattle.nfs_files.proofs.Outcomes as files
 use Rattle.nfs_files.proofs.Outcomes.{for_each}
-use Rattle.nfs_files.proofs.OwnOpens.{spares_others}
+use Rattle.nfs_files.proofs.Effected.{same_client}
 use Rattle.nfs_results.specs.Largest.{largest}
 use Rattle.nfs_exec.specs.Machine.{Machine}
 use Rattle.nfs_exec.specs.Behind.{step, on_store, moves_opens, marked_if, otherwise}
@@ -59,11 +59,11 @@ marked_apart c m x now refused i true is other = (
     own = item_apart c refused m.store x (moment now) i is.table other;
     known = known_apart_from m.clients c x.client _ (λ r. refl) other;
   },
-  (spares_others refused m.store x (moment now) i is.table.opens).client,
+  same_client refused m.store x (moment now) i,
 )
 marked_apart c m x now refused i false is other = (
   record { own = item_apart c refused m.store x (moment now) i is.table other; known = refl },
-  (spares_others refused m.store x (moment now) i is.table.opens).client,
+  same_client refused m.store x (moment now) i,
 )
 
 of_one_apart : (c : ℕ) (m : Machine) (v : Result Node Status) → client_at (of_one m v).machine.clients c ≡ client_at m.clients c

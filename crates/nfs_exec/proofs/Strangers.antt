@@ -1,12 +1,12 @@
 -- A request that does not name a client leaves it all that it has.
-use Rattle.std.proofs.Common.{◌≡◌, ◌≢◌, ℕ, suc, ◌≤◌, Bool, true, false, cond, eqb, not, List, [], ◌∷◌, Option, Some, None, Result, Ok, Err, refl, sym, ◌∙◌, ap, arith, inl, inr}
+use Rattle.std.proofs.Common.{◌≡◌, ◌≢◌, ℕ, suc, ◌≤◌, Bool, true, false, cond, not, List, ◌∷◌, Option, Some, None, Result, Ok, Err, refl, sym, ◌∙◌, ap, arith, inl, inr}
 use Rattle.std.specs.Prelude.{◌==◌, ◌&&◌, ◌||◌, filter, find, bytes_eq, is_some, option_map}
 use Rattle.std.specs.Option.{option_map_or}
 use Rattle.std.proofs.lemmas.Bool.{cases_Bool, eqb-true, ne_eqb, eqb-false, and_parts, false≢true}
 use Rattle.nfs_xdr.specs.Caller.{Caller}
 use Rattle.nfs_xdr.specs.Tables.{In}
 use Rattle.nfs_xdr.specs.declared.status.Status.{Status}
-use Rattle.nfs_xdr.specs.declared.status.Status.TheVariants.{Delay, MinorVersMismatch}
+use Rattle.nfs_xdr.specs.declared.status.Status.TheVariants.{Delay}
 use Rattle.nfs_xdr.proofs.Lists.{find_in, find_kept, find_push_some, filter_past}
 use Rattle.nfs_xdr.proofs.Tables.{at_without, in_bounds, in_once}
 use Rattle.nfs_compound.specs.declared.op.Item.{Item}
@@ -14,7 +14,6 @@ use Rattle.nfs_compound.specs.declared.op.Item.TheVariants.{Operation}
 use Rattle.nfs_compound.specs.declared.op.Op.TheVariants as Op
 use Rattle.nfs_compound.specs.Request.{Request, item_number}
 use Rattle.nfs_compound.specs.declared.session_args.CreateSession.{CreateSession}
-use Rattle.nfs_compound.specs.declared.session_args.Sequence.{Sequence}
 use Rattle.nfs_clients.specs.Roster.{ClientRecord, Roster, IsRoster, id_of as client_id, next_id, client_at, is_unconfirmed_of, unconfirmed_of}
 use Rattle.nfs_clients.specs.ExchangeId.{Ask, Case, Refuses, Stays, Adds, case_of, does, new_client}
 use Rattle.nfs_clients.specs.CreateSession as clients
@@ -39,10 +38,10 @@ use Rattle.nfs_exec.specs.CreateSession.{create_session_number, by_verdict, crea
 use Rattle.nfs_exec.specs.Destroy.{destroy_session, destroyed_unless, has_session}
 use Rattle.nfs_exec.specs.Run.{run, is_here, behind_here}
 use Rattle.nfs_exec.specs.Sequence as sequence
-use Rattle.nfs_exec.specs.Sequence.{Sequenced, sequenced}
-use Rattle.nfs_exec.specs.Compound.{carried_out, by_fault, first_item, bare, renewed, begun, in_session, by_first, compound}
+use Rattle.nfs_exec.specs.Compound.{carried_out, by_fault, first_item, renewed, begun, compound}
 use Rattle.nfs_exec.specs.Expiry.{expired}
 use Rattle.nfs_exec.specs.Own.{sessions_of, IsAsBefore, has_owner, is_named_in}
+use Rattle.nfs_exec.proofs.ByEvent.{by_answered}
 use Rattle.nfs_exec.proofs.Behind.{run_leases, run_sessions}
 use Rattle.nfs_exec.proofs.WholeRun.{Is}
 use Rattle.nfs_files.proofs.OthersTables.{same, both, clients_gone, filter_changed, filter_pushed}
@@ -284,11 +283,12 @@ expired_strange client m k now at stays =
 
 -- The whole compound.
 
-session_runs_strange : (client : ℕ) (m : Machine) (r : Request) (who : Caller) (now : ℕ) (choice : Option ℕ) (s : Sequence) (more : List Item) (v : Sequenced) → Is m
-    → (id_of s.sessionid).client ≢ client → IsAsBefore client m (in_session m r who now choice s more v).machine
-session_runs_strange client m r who now choice s more (sequence.Refuses status) is other = as_it_was client m
-session_runs_strange client m r who now choice s more (sequence.Repeats reply) is other = as_it_was client m
-session_runs_strange client m r who now choice s more (sequence.Runs c) is other =
+pub compound_strange : (client : ℕ) (m : Machine) (k : ClientRecord) (r : Request) (who : Caller) (size now : ℕ) (choice : Option ℕ) → Is m → IsMachine m
+    → client_at m.clients client ≡ Some k → is_named_in client m.clients r.left ≡ false → IsAsBefore client m (compound m r who size now choice).machine
+compound_strange client m k r who size now choice is machine at none = by_answered (λ a ds run. IsAsBefore client m a.machine) m r who size now choice
+    (λ text. as_it_was client m) (λ item more one here. first_strange client m k r.declared who now (is_here choice) item more machine.clients at (rw here at none))
+    (λ s more c here runs.
+    (let other = eqb-false (id_of s.sessionid).client client (rw here at none) in
     let x = begins (id_of s.sessionid).client who in
     let ran = run c.response (begun r s c) now (behind_here choice) (renewed m now s) x more in
     let apart = run_apart client c.response (begun r s c) now (behind_here choice) (renewed m now s) x more is other in
@@ -299,20 +299,4 @@ session_runs_strange client m r who now choice s more (sequence.Runs c) is other
       lease = ap (λ (b : Book). b.renewed client) (run_leases c.response (begun r s c) now (behind_here choice) (renewed m now s) x more)
           ∙ lease_renewed m.leases client (id_of s.sessionid).client now (λ here. other (sym here));
       own = apart.own;
-    }
-
-items_strange : (client : ℕ) (m : Machine) (k : ClientRecord) (r : Request) (who : Caller) (size now : ℕ) (choice : Option ℕ) (items : List Item) → Is m → IsRoster m.clients
-    → client_at m.clients client ≡ Some k → is_named_in client m.clients items ≡ false → IsAsBefore client m (by_first m r who size now choice items).machine
-items_strange client m k r who size now choice [] is roster at none = as_it_was client m
-items_strange client m k r who size now choice (Operation (Op.Sequence s) ∷ more) is roster at none =
-    session_runs_strange client m r who now choice s more (sequenced m r who size s) is (eqb-false (id_of s.sessionid).client client none)
-items_strange client m k r who size now choice (item ∷ more) is roster at none =
-    first_strange client m k r.declared who now (is_here choice) item more roster at none
-
-pub compound_strange : (client : ℕ) (m : Machine) (k : ClientRecord) (r : Request) (who : Caller) (size now : ℕ) (choice : Option ℕ) → Is m → IsMachine m
-    → client_at m.clients client ≡ Some k → is_named_in client m.clients r.left ≡ false → IsAsBefore client m (compound m r who size now choice).machine
-compound_strange client m k r who size now choice is machine at none = go (eqb r.minor 1)
-  where
-    go : (b : Bool) → IsAsBefore client m (cond b (by_first m r who size now choice r.left) (bare r MinorVersMismatch m)).machine
-    go true = items_strange client m k r who size now choice r.left is machine.clients at none
-    go false = as_it_was client m
+    }))

@@ -1,27 +1,15 @@
 -- What a state keeps, through whole runs.
 use Rattle.std.proofs.Common.{◌≡◌, ℕ, ◌+◌, Bool, true, false, cond, eqb, ltb, List, [], ◌∷◌, length, Option, Some, None, refl, sym, subst, arith, inl, inr}
-use Rattle.std.specs.Prelude.{Result, Ok, Err, is_some, not, ◌&&◌}
+use Rattle.std.specs.Prelude.{Result, Ok, Err, not}
 use Rattle.std.proofs.lemmas.Bool.{cases_Bool}
-use Rattle.nfs_xdr.specs.Caller.{Caller}
 use Rattle.nfs_xdr.specs.Tables.{In}
 use Rattle.nfs_xdr.specs.declared.status.Status.{Status}
 use Rattle.nfs_compound.specs.declared.op.Item.{Item}
 use Rattle.nfs_compound.specs.declared.op.Item.TheVariants.{Operation}
 use Rattle.nfs_compound.specs.declared.op.Op.TheVariants as Op
-use Rattle.nfs_compound.specs.Request.{Request, item_number}
-use Rattle.nfs_compound.specs.declared.session_args.CreateSession.{CreateSession}
-use Rattle.nfs_compound.specs.declared.session_args.Sequence.{Sequence}
 use Rattle.nfs_results.specs.Largest.{largest}
-use Rattle.nfs_clients.specs.CreateSession as clients
-use Rattle.nfs_clients.specs.CreateSession.{leaving}
 use Rattle.nfs_clients.specs.Marks.{has_reclaimed}
-use Rattle.nfs_clients.specs.DestroyClientId.{destroy_fault}
-use Rattle.nfs_clients.specs.declared.created.CreateResult.TheVariants.{Done as DoneBefore, Refused}
-use Rattle.nfs_clients.specs.declared.destroy.DestroyFault.{DestroyFault}
 use Rattle.nfs_sessions.specs.Id.{id_of}
-use Rattle.nfs_sessions.specs.Sessions.{SessionTable, session_at, create}
-use Rattle.nfs_sessions.specs.declared.id.SessionId.{SessionId}
-use Rattle.nfs_sessions.specs.declared.sessions.SessionFault.{SessionFault}
 use Rattle.nfs_lease.specs.Renewals.{has_run_out}
 use Rattle.nfs_opens.specs.TableInvariants.{IsTable}
 use Rattle.nfs_opens.proofs.TableLemmas.{table_new}
@@ -40,20 +28,17 @@ use Rattle.nfs_files.proofs.Outcomes.{for_each}
 use Rattle.nfs_names.proofs.Sound as of_names
 use Rattle.nfs_files.proofs.Sound as of_files
 use Rattle.nfs_names.specs.Outcome.{is_ok}
-use Rattle.nfs_exec.specs.Machine.{Machine, Outcome, or_delay, starts, HasNoClashes}
+use Rattle.nfs_exec.specs.Machine.{Machine, starts, HasNoClashes}
 use Rattle.nfs_exec.specs.Behind.{Step, step, on_store, moves_opens, marked_if, otherwise}
 use Rattle.nfs_exec.specs.Run.{run, in_room, reserve, is_here, behind_here}
-use Rattle.nfs_exec.specs.Place.{item_fault}
 use Rattle.nfs_exec.specs.ReclaimComplete.{reclaim_complete, of_one, of_all}
-use Rattle.nfs_exec.specs.ExchangeId.{exchange_id, exchange_id_number}
-use Rattle.nfs_exec.specs.CreateSession.{create_session_number, by_verdict, creates, by_created, wish_of, without_any_opens}
-use Rattle.nfs_exec.specs.Destroy.{destroy_session, destroyed_unless, has_session}
-use Rattle.nfs_exec.specs.Sequence as sequence
-use Rattle.nfs_exec.specs.Sequence.{Sequenced, sequenced}
-use Rattle.nfs_exec.specs.Compound.{carried_out, by_fault, first_item, renewed, begun, in_session, by_first, compound}
+use Rattle.nfs_exec.specs.CreateSession.{without_any_opens}
+use Rattle.nfs_exec.specs.Compound.{renewed, begun}
 use Rattle.nfs_exec.specs.Laws.{MachineEvent, Expires, Asks, stepped, all_stepped}
 use Rattle.nfs_exec.proofs.Behind.{by_step, follow_kept}
-use Rattle.nfs_exec.specs.Ops.{RanOp, ops, ops_in, ops_of, ops_by}
+use Rattle.nfs_exec.proofs.ByEvent.{by_compound}
+use Rattle.nfs_exec.proofs.Lone.{holds_whoever}
+use Rattle.nfs_exec.specs.Ops.{RanOp, ops, ops_by}
 use Rattle.nfs_exec.specs.Runs.{NoneInRuns}
 use Rattle.nfs_files.proofs.TreeFiles.{IsWhole, tree_ended, tree_new}
 use Rattle.nfs_files.proofs.TableSteps.{table_item, table_staying_is}
@@ -107,7 +92,7 @@ whole_step m x now refused i is =
     (let sound = of_files.sound_item refused m.store x (moment now) i is.tree is.table is.store in record {
       tree = sound.tree;
       store = sound.store;
-      table = table_item refused m.store x (moment now) i is.tree is.store is.table;
+      table = table_item refused m.store x (moment now) i is.table;
       few = few_files refused m.store x (moment now) i is.table is.few;
     })))
     (λ none other. subst IsWhole (sym (otherwise_store m x i)) is)
@@ -153,90 +138,27 @@ without_whole : (s : State) (o : Option ℕ) → IsWhole s → IsWhole (without_
 without_whole s None is = is
 without_whole s (Some client) is = whole_ended (λ c. not (eqb c client)) s is
 
-made_whole : (m : Machine) (now : ℕ) (c : CreateSession) (t : SessionTable) (v : Result SessionId SessionFault) → Is m → Is (by_created m now c t v).machine
-made_whole m now c t (Ok id) is = without_whole m.store (leaving m.clients c.clientid) is
-made_whole m now c t (Err fault) is = is
+-- what holds of the machine behind an event, and around each operation that it ran
+record WholeBehind (left : Machine) (ds : List RanOp) : Type 0 where
+  whole : Is left
+  each : (d : RanOp) → In d ds → Around d
 
-delayed : (m : Machine) (o : Outcome) (refused : Bool) (n : ℕ) → Is m → Is o.machine → Is (or_delay refused m n o).machine
-delayed m o refused n before after = elim (cases_Bool (refused && is_ok o.status)) [ inl here ↦ rw here before | inr other ↦ rw other after ]
-
-created_whole : (m : Machine) (now : ℕ) (refused : Bool) (c : CreateSession) (v : clients.Verdict) → Is m → Is (by_verdict m now refused c v).machine
-created_whole m now refused c clients.Stale is = is
-created_whole m now refused c (clients.Again (DoneBefore body)) is = is
-created_whole m now refused c (clients.Again (Refused status)) is = is
-created_whole m now refused c clients.Misordered is = is
-created_whole m now refused c clients.InUse is = is
-created_whole m now refused c clients.Runs is =
-    let did = create m.sessions c.clientid (wish_of m c) in
-    delayed m (creates m now c did) refused create_session_number is (made_whole m now c did.after did.answer is)
-
-destroyed_whole : (m : Machine) (client : ℕ) (o : Option DestroyFault) → Is m → Is (destroyed_unless m client o).machine
-destroyed_whole m client None is = is
-destroyed_whole m client (Some fault) is = is
-
-session_whole : (m : Machine) (sessionid : List ℕ) → Is m → Is (destroy_session m sessionid).machine
-session_whole m sessionid is = elim (cases_Bool (is_some (session_at m.sessions (id_of sessionid)))) [ inl stood ↦ rw stood is | inr gone ↦ rw gone is ]
-
-carried : (m : Machine) (who : Caller) (now : ℕ) (refused : Bool) (i : Item) → Is m → Is (carried_out m who now refused i).machine
-carried m who now refused (Operation (Op.ExchangeId e)) is = delayed m (exchange_id m who now e) refused exchange_id_number is is
-carried m who now refused (Operation (Op.CreateSession c)) is =
-    created_whole m now refused c (clients.create_verdict m.clients c.clientid c.sequence who.uid) is
-carried m who now refused (Operation (Op.DestroySession sessionid)) is = session_whole m sessionid is
-carried m who now refused (Operation (Op.DestroyClientId client)) is =
-    destroyed_whole m client (destroy_fault m.clients client (has_session m.sessions client)) is
-carried m who now refused i is = is
-
-first : (m : Machine) (declared : ℕ) (who : Caller) (now : ℕ) (refused : Bool) (i : Item) → Is m → Is (first_item m declared who now refused i).machine
-first m declared who now refused i is = go (item_fault declared i)
-  where
-    go : (f : Option Status) → Is (by_fault m (item_number i) f (carried_out m who now refused i)).machine
-    go None = carried m who now refused i is
-    go (Some status) = is
-
--- the whole compound
-
-whole_session : (m : Machine) (r : Request) (who : Caller) (now : ℕ) (choice : Option ℕ) (s : Sequence) (more : List Item) (v : Sequenced) → Is m
-    → Is (in_session m r who now choice s more v).machine
-whole_session m r who now choice s more (sequence.Refuses status) is = is
-whole_session m r who now choice s more (sequence.Repeats reply) is = is
-whole_session m r who now choice s more (sequence.Runs c) is =
-    whole_run c.response (begun r s c) now (behind_here choice) (renewed m now s) (begins (id_of s.sessionid).client who) more is
-
-whole_first : (m : Machine) (r : Request) (who : Caller) (size now : ℕ) (choice : Option ℕ) (items : List Item) → Is m
-    → Is (by_first m r who size now choice items).machine
-whole_first m r who size now choice [] is = is
-whole_first m r who size now choice (Operation (Op.Sequence s) ∷ more) is =
-    whole_session m r who now choice s more (sequenced m r who size s) is
-whole_first m r who size now choice (item ∷ more) is = first m r.declared who now (is_here choice) item is
-
-pub whole_compound : (m : Machine) (r : Request) (who : Caller) (size now : ℕ) (choice : Option ℕ) → Is m → Is (compound m r who size now choice).machine
-whole_compound m r who size now choice is = elim (cases_Bool (eqb r.minor 1)) [
-  | inl one ↦ rw one (whole_first m r who size now choice r.left is)
-  | inr other ↦ rw other is
-]
-
-session_ops : (m : Machine) (r : Request) (who : Caller) (now : ℕ) (choice : Option ℕ) (s : Sequence) (more : List Item) (v : Sequenced) → Is m
-    → (d : RanOp) → In d (ops_in m r who now choice s more v) → Around d
-session_ops m r who now choice s more (sequence.Refuses status) is d there = absurd there
-session_ops m r who now choice s more (sequence.Repeats reply) is d there = absurd there
-session_ops m r who now choice s more (sequence.Runs c) is d there =
-    whole_ops c.response (begun r s c) now (behind_here choice) (renewed m now s) (begins (id_of s.sessionid).client who) more is d there
-
-first_ops : (m : Machine) (r : Request) (who : Caller) (size now : ℕ) (choice : Option ℕ) (items : List Item) → Is m
-    → (d : RanOp) → In d (ops_of m r who size now choice items) → Around d
-first_ops m r who size now choice [] is d there = absurd there
-first_ops m r who size now choice (Operation (Op.Sequence s) ∷ more) is d there =
-    session_ops m r who now choice s more (sequenced m r who size s) is d there
-first_ops m r who size now choice (item ∷ more) is d there = absurd there
+whole_behind : (m : Machine) (e : MachineEvent) → Is m → WholeBehind (stepped m e) (ops_by m e)
+whole_behind m (Expires now) is =
+    record { whole = whole_ended (λ client. not (has_run_out m.leases now client)) m.store is; each = λ d there. absurd there }
+whole_behind m (Asks r who size now choice) is = by_compound (λ left ds run. WholeBehind left ds) m r who size now choice
+    (record { whole = is; each = λ d there. absurd there })
+    (λ item. record { whole = holds_whoever IsWhole without_whole m r.declared who now (is_here choice) item is; each = λ d there. absurd there })
+    (λ s more c same. (let x = begins (id_of s.sessionid).client who in record {
+      whole = whole_run c.response (begun r s c) now (behind_here choice) (renewed m now s) x more is;
+      each = whole_ops c.response (begun r s c) now (behind_here choice) (renewed m now s) x more is;
+    }))
 
 pub event_ops : (m : Machine) (e : MachineEvent) → Is m → (d : RanOp) → In d (ops_by m e) → Around d
-event_ops m (Expires now) is d there = absurd there
-event_ops m (Asks r who size now choice) is d there =
-    first_ops m r who size now choice r.left is d (in_more (eqb r.minor 1) d (ops_of m r who size now choice r.left) there)
+event_ops m e is = (whole_behind m e is).each
 
 pub whole_event : (m : Machine) (e : MachineEvent) → Is m → Is (stepped m e)
-whole_event m (Expires now) is = whole_ended (λ client. not (has_run_out m.leases now client)) m.store is
-whole_event m (Asks r who size now choice) is = whole_compound m r who size now choice is
+whole_event m e is = (whole_behind m e is).whole
 
 pub whole_events : (m : Machine) (events : List MachineEvent) → Is m → Is (all_stepped m events)
 whole_events m [] is = is

@@ -1,5 +1,10 @@
--- An attribute as GETATTR tells it, whatever else is asked for: its value stands behind those of the attributes before it (RFC 8881 sections 5 and 18.7).
+-- An attribute as GETATTR and READDIR tell it, whatever else is asked for: its value stands behind those of the attributes before it (RFC 8881 sections 5, 18.7 and
+-- 18.23).
 use Rattle.std.specs.Prelude.{◌≡◌, ℕ, ◌+◌, List, [], ◌∷◌, ◌++◌, length, take, if◌then◌else◌}
+use Rattle.nfs_xdr.specs.Tables.{In}
+use Rattle.nfs_results.specs.declared.res.Entry.{Entry}
+use Rattle.nfs_results.specs.declared.res.Fattr.{Fattr}
+use Rattle.nfs_results.specs.declared.res.ReadDirOk.{ReadDirOk}
 use Rattle.nfs_results.specs.declared.res.Res.TheVariants as Res
 use Rattle.nfs_results.specs.Results.{spell_result}
 use Rattle.nfs_attrs.specs.declared.mask.Mask.{Mask}
@@ -22,3 +27,18 @@ pub record TellsValue (n : ℕ) (value : List ℕ) (asked : Mask) (result : List
   pub behind : List ℕ
   pub long : length front ≡ asked_from asked 0 (take n sizes)
   pub answers : result ≡ spell_result (Res.GetAttr (record { attrmask = trimmed_words (common asked readable); attr_vals = front ++ (value ++ behind) }))
+
+-- of what was asked for and can be read, attribute n, of the first eleven, has this value in its place
+pub record HasValue (n : ℕ) (value : List ℕ) (asked : Mask) (told : Fattr) : Type 0 where
+  pub front : List ℕ
+  pub behind : List ℕ
+  pub long : length front ≡ asked_from asked 0 (take n sizes)
+  pub mask : told.attrmask ≡ trimmed_words (common asked readable)
+  pub values : told.attr_vals ≡ front ++ (value ++ behind)
+
+-- the result of a READDIR that was answered NFS4_OK: each of its entries has it
+pub record EntriesTell (n : ℕ) (value : List ℕ) (asked : Mask) (result : List ℕ) : Type 0 where
+  pub listed : ReadDirOk
+  pub answers : result ≡ spell_result (Res.ReadDir listed)
+  pub verifier : length listed.cookieverf ≡ 8
+  pub each : (e : Entry) → In e listed.entries → HasValue n value asked e.attrs

@@ -1,4 +1,5 @@
 pub mod Machine
+pub mod Held
 pub mod Place
 pub mod ExchangeId
 pub mod CreateSession
@@ -17,6 +18,7 @@ pub mod Sequencing
 pub mod Delayed
 pub mod DelayedOpen
 pub mod Ops
+pub mod Kept
 pub mod LockHeld
 pub mod AttributesTold
 pub mod SessionLasts
@@ -27,3 +29,5 @@ pub mod Renewing
 pub mod Runs
 pub mod WrittenRun
 pub mod OneSession
+pub mod Handles
+pub mod LockOwners

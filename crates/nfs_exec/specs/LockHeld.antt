@@ -28,6 +28,8 @@ use Rattle.nfs_files.specs.LockTold.{Names, LockTold, Stands, IsAlike, IsBeside,
 use Rattle.nfs_exec.specs.Machine.{Machine}
 use Rattle.nfs_exec.specs.Run.{is_here}
 use Rattle.nfs_exec.specs.Compound.{first_item}
+use Rattle.nfs_exec.specs.Kept as kept
+use Rattle.nfs_exec.specs.Kept.{Kept, While}
 use Rattle.nfs_exec.specs.Laws.{MachineEvent, Expires, Asks, ran}
 use Rattle.nfs_exec.specs.Ops.{RanOp}
 
@@ -60,18 +62,25 @@ pub record Spares (k : LockTold) (d : RanOp) : Type 0 where
   pub unlocks : (w : Wish) → UnlocksFor d k.state w → IsBeside w k
   pub closes : ClosesOf d k.opened → ⊥
 
-abbrev pub AreSpared : LockTold → List RanOp → Type 0
-AreSpared k ds = (d : RanOp) → In d ds → Spares k d
-
 -- it stands before the operation, which is no LOCK that clashes with it and answered NFS4_OK
 pub record StandsBefore (k : LockTold) (d : RanOp) : Type 0 where
   pub stands : Stands k d.before.store.opens
   pub refused : (n : ℕ) (w : Wish) → LocksFor d n w → Clashes k n w → ⊥
 
--- before each operation, as long as all before it spared it
+abbrev pub the_lock : LockTold → Kept
+the_lock k = record {
+  Way = Unit {0};
+  Stands = λ way s. Stands k s.opens;
+  Before = λ way d. StandsBefore k d;
+  Spares = Spares k;
+  after = λ way d. way;
+}
+
+abbrev pub AreSpared : LockTold → List RanOp → Type 0
+AreSpared k ds = kept.AreSpared (the_lock k) ds
+
 abbrev pub StandsWhile : LockTold → List RanOp → Type 0
-StandsWhile k [] = Unit {0}
-StandsWhile k (d ∷ more) = StandsBefore k d × (Spares k d → Stands k d.behind.store.opens × StandsWhile k more)
+StandsWhile k ds = While (the_lock k) tt ds
 
 -- A LOCK told the lock: its range, or a part of it, in its way; and the open that its lock state then has.
 pub record Tells (k : LockTold) (d : RanOp) : Type 0 where

@@ -1,14 +1,15 @@
 -- What stands between two records: the meanings of the server's tables; and what one operation comes to.
-use Rattle.std.specs.Prelude.{◌≡◌, ℕ, suc, Bool, true, false, ◌&&◌, List, is_some, if◌then◌else◌}
+use Rattle.std.specs.Prelude.{◌≡◌, ℕ, Bool, true, false, ◌&&◌, List, is_some, if◌then◌else◌}
 use Rattle.std.specs.Option.{option_map_or}
 use Rattle.nfs_xdr.specs.declared.status.Status.{Status}
 use Rattle.nfs_xdr.specs.declared.status.Status.TheVariants.{Delay}
-use Rattle.nfs_xdr.specs.Tables.{IsRising, In}
+use Rattle.nfs_xdr.specs.Tables.{In}
 use Rattle.nfs_results.specs.declared.res.Res.{Res}
 use Rattle.nfs_results.specs.Results.{status_of_result, spell_result, refusal}
 use Rattle.nfs_opens.specs.declared.records.OpenState.{OpenState}
 use Rattle.nfs_ranges.specs.Holders.{HasNoClash}
 use Rattle.nfs_opens.specs.Table.{clashes_with, as_asked}
+use Rattle.nfs_opens.specs.TableInvariants.{IsTable}
 use Rattle.nfs_names.specs.Outcome.{is_ok}
 use Rattle.nfs_names.specs.Ending.{has_open}
 use Rattle.nfs_names.specs.State.{State, new_store, moment, state_of}
@@ -75,8 +76,8 @@ pub record IsMachine (m : Machine) : Type 0 where
   pub marks : (client : ℕ) → marked.has_open m.clients client ≡ has_open m.store client
   -- who has an open is there and confirmed
   pub opened : (client : ℕ) → has_open m.store client ≡ true → is_confirmed m.clients client ≡ true
-  -- the numbers of opens rise, and were all given
-  pub numbers : IsRising (λ o. o.number) 1 m.store.opens.opens (suc m.store.opens.last)
+  -- the table of opens is one
+  pub table : IsTable m.store.opens
 
 -- the machine that the tables are
 abbrev pub machine_of : Tables → Machine

@@ -9,6 +9,7 @@ use Rattle.nfs_compound.specs.declared.op.Op.TheVariants as Op
 use Rattle.nfs_opens.specs.Opening.{own_open}
 use Rattle.nfs_files.specs.Open.{asking}
 use Rattle.nfs_files.specs.OpenTold.{names_open, OpenTold, Bits, bits_with, bits_had, bits_behind, IsOpenWith, claimed, forbids}
+use Rattle.nfs_exec.specs.Kept.{Kept, While, AreSpared, after_all}
 use Rattle.nfs_exec.specs.Ops.{RanOp}
 use Rattle.nfs_exec.specs.LockHeld.{ClosesOf}
 
@@ -24,19 +25,24 @@ pub record IsOpenBefore (k : OpenTold) (b : Bits) (d : RanOp) : Type 0 where
   pub stands : IsOpenWith k b d.before.store.opens
   pub refused : (n : ℕ) (o : OpensAs d n k.file) → forbids k b d.context o.asked ≡ true → ⊥
 
+abbrev pub the_open : OpenTold → Kept
+the_open k = record {
+  Way = Bits;
+  Stands = λ b s. IsOpenWith k b s.opens;
+  Before = IsOpenBefore k;
+  Spares = λ d. ClosesOf d k.number → ⊥;
+  after = λ b d. bits_behind k.number d.item d.result b;
+}
+
 -- before each operation, as long as none before it closed it, with the bits that it has by then
 abbrev pub OpenWhile : OpenTold → Bits → List RanOp → Type 0
-OpenWhile k b [] = Unit {0}
-OpenWhile k b (d ∷ more) =
-    IsOpenBefore k b d
-    × ((ClosesOf d k.number → ⊥) → (let c = bits_behind k.number d.item d.result b in IsOpenWith k c d.behind.store.opens × OpenWhile k c more))
+OpenWhile k b ds = While (the_open k) b ds
 
 abbrev pub NoneCloses : OpenTold → List RanOp → Type 0
-NoneCloses k ds = (d : RanOp) → In d ds → ClosesOf d k.number → ⊥
+NoneCloses k ds = AreSpared (the_open k) ds
 
 abbrev pub bits_left : ℕ → Bits → List RanOp → Bits
-bits_left n b [] = b
-bits_left n b (d ∷ more) = bits_left n (bits_behind n d.item d.result b) more
+bits_left n b ds = after_all (λ b d. bits_behind n d.item d.result b) b ds
 
 -- An OPEN told the open: it answered its stateid, and the bits are those that it asked for, joined to what its owner had of the file before it.
 pub record TellsOpen (k : OpenTold) (b : Bits) (d : RanOp) : Type 0 where

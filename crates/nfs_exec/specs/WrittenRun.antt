@@ -11,6 +11,8 @@ use Rattle.nfs_tree.specs.Files.{data_at}
 use Rattle.nfs_attrs.specs.Handle.{handle_of}
 use Rattle.nfs_names.specs.State.{is_used}
 use Rattle.nfs_files.specs.Written.{Byte, StandsIn, Lasts, Writes, Spares, Reads, GivesIt}
+use Rattle.nfs_exec.specs.Kept as kept
+use Rattle.nfs_exec.specs.Kept.{Kept, While}
 use Rattle.nfs_exec.specs.Machine.{starts}
 use Rattle.nfs_exec.specs.Laws.{MachineEvent, stepped, all_stepped}
 use Rattle.nfs_exec.specs.Ops.{RanOp, ops_by}
@@ -23,9 +25,6 @@ WritesIt b d = Writes b d.context d.item d.result
 abbrev pub SparesIt : Byte → RanOp → Type 0
 SparesIt b d = Spares b d.before.store d.context d.item d.result
 
-abbrev pub AreSpared : Byte → List RanOp → Type 0
-AreSpared b ds = (d : RanOp) → In d ds → SparesIt b d
-
 -- While its file has a name or an open, it stands there, and no PUTFH of the file's filehandle answers NFS4ERR_STALE; and a READ of it that answers NFS4_OK is
 -- given it.
 pub record StandsBefore (b : Byte) (d : RanOp) : Type 0 where
@@ -34,10 +33,21 @@ pub record StandsBefore (b : Byte) (d : RanOp) : Type 0 where
       → handle_of h ≡ Some (record { instance = d.before.store.instance; number = b.file }) → d.result ≡ spell_result (refusal (op_number Num.PutFh) Stale) → ⊥
   pub read : (r : Reads b.file b.place d.context d.item d.result) → GivesIt b d.context d.item d.result r
 
--- before each operation, as long as all before it spared it
+abbrev pub the_byte : Byte → Kept
+the_byte b = record {
+  Way = Unit {0};
+  Stands = λ way s. Lasts b s.tree;
+  Before = λ way d. StandsBefore b d;
+  Spares = SparesIt b;
+  after = λ way d. way;
+}
+
+abbrev pub AreSpared : Byte → List RanOp → Type 0
+AreSpared b ds = kept.AreSpared (the_byte b) ds
+
+-- before each operation it stands, as long as all before it spared it; and it lasts behind those
 abbrev pub StandsWhile : Byte → List RanOp → Type 0
-StandsWhile b [] = Unit {0}
-StandsWhile b (d ∷ more) = StandsBefore b d × (SparesIt b d → StandsWhile b more)
+StandsWhile b ds = While (the_byte b) tt ds
 
 -- In every run: where it stands in its file or that is gone for good, it does so behind what spares it, and stands in between; and so from a WRITE on that told it.
 abbrev pub StandsInRuns : Type 0

@@ -19,6 +19,7 @@ mod create_session;
 mod destroy;
 mod exchange_id;
 mod expiry;
+mod held;
 pub mod laws;
 mod place;
 mod reclaim_complete;
@@ -27,4 +28,5 @@ mod sequence;
 mod tables;
 mod world;
 
+pub use held::Held;
 pub use world::World;

@@ -7,7 +7,9 @@ ghost use Rattle.nfs_exec.specs.Machine.{starts, IsMachine, HasNoClashes, machin
 ghost use Rattle.nfs_exec.specs.Compound.{compound};
 ghost use Rattle.nfs_exec.specs.View.{IsOpened, HasReplyRoom, Answers};
 ghost use Rattle.nfs_exec.specs.Expiry.{expired};
+ghost use Rattle.nfs_exec.specs.Held.{held};
 
+use crate::held::Held;
 use crate::tables::Tables;
 use nfs_compound::Compound;
 use nfs_sessions::Sessions;
@@ -82,6 +84,20 @@ impl World {
         ensures { result.now ≡ (machine_of self.now).sessions }
     {
         &self.tables.sessions
+    }
+
+    /// How much of each kind stands.
+    pub fn held(&self) -> Held
+        ensures { result ≡ held (machine_of self.now) }
+    {
+        let tables = &self.tables;
+        Held {
+            clients: tables.clients.count(),
+            sessions: tables.sessions.count(),
+            objects: tables.store.tree.count(),
+            opens: tables.store.opens.open_count(),
+            locks: tables.store.opens.lock_count(),
+        }
     }
 
     /// No byte of a file has a writer beside another holder, and no two owners' opens clash, in every world; this does nothing

@@ -1,10 +1,10 @@
--- Each operation on open files comes to effects that fit, or to none: what every effect keeps, each operation keeps.
-use Rattle.std.proofs.Common.{◌≡◌, ℕ, suc, Bool, true, false, Option, Some, None, refl, sym, ◌∙◌, ap, subst, inl, inr}
-use Rattle.std.specs.Prelude.{◌==◌, ◌&&◌, Result, Ok, Err}
+-- Each operation on open files had effects that fit, or none: the one walk over the operations.
+use Rattle.std.proofs.Common.{◌≡◌, ℕ, suc, ◌+◌, Bool, true, false, Option, Some, None, [], ◌∷◌, refl, sym, ◌∙◌, ap, subst, inl, inr}
+use Rattle.std.specs.Prelude.{◌==◌, ◌&&◌, Ok}
 use Rattle.std.proofs.lemmas.Bool.{cases_Bool, eqb-true, eqb-false}
+use Rattle.nfs_xdr.specs.Checks.{first_fault}
 use Rattle.nfs_xdr.specs.Tables.{In}
 use Rattle.nfs_xdr.specs.declared.time.Time.{Time}
-use Rattle.nfs_xdr.specs.declared.status.Status.{Status}
 use Rattle.nfs_xdr.proofs.Lists.{find_in}
 use Rattle.nfs_xdr.proofs.Tables.{in_once}
 use Rattle.nfs_compound.specs.Arguments.{arguments}
@@ -13,28 +13,26 @@ use Rattle.nfs_compound.specs.declared.stateid.Stateid.{Stateid}
 use Rattle.nfs_compound.specs.declared.open_args.Close.{Close}
 use Rattle.nfs_compound.specs.declared.open_args.OpenDowngrade.{OpenDowngrade}
 use Rattle.nfs_compound.specs.declared.lock_args.LockU.{LockU}
-use Rattle.nfs_compound.specs.declared.lock_args.LockType.{LockType}
-use Rattle.nfs_compound.specs.declared.lock_args.Lock as args
+use Rattle.nfs_compound.specs.declared.lock_args.Lock.{Lock}
 use Rattle.nfs_compound.specs.declared.file_args.Write.{Write}
 use Rattle.nfs_compound.specs.declared.file_args.SetAttr.{SetAttr}
 use Rattle.nfs_compound.specs.declared.open_args.Open.{Open}
 use Rattle.nfs_compound.specs.declared.op.Op.{Op}
 use Rattle.nfs_compound.specs.declared.op.Item.{Item}
 use Rattle.nfs_compound.specs.declared.op.Item.TheVariants.{Operation, Fault}
+use Rattle.nfs_results.specs.declared.res.Res.{Res}
+use Rattle.nfs_results.specs.declared.res.Res.TheVariants as Res
+use Rattle.nfs_results.specs.Results.{status_of_result}
 use Rattle.nfs_tree.specs.Object.{no_sets}
 use Rattle.nfs_tree.specs.Bytes.{has_bytes}
 use Rattle.nfs_tree.specs.Calls.{write_fault}
 use Rattle.nfs_ranges.specs.declared.Held.{Held}
-use Rattle.nfs_attrs.specs.declared.wanted.Wanted.{Wanted}
 use Rattle.nfs_opens.specs.declared.stateid.StateId.{StateId}
-use Rattle.nfs_opens.specs.declared.stateid.CurrentSeqid.TheVariants.{Any}
 use Rattle.nfs_opens.specs.declared.records.OpenState.{OpenState}
 use Rattle.nfs_opens.specs.declared.records.LockState.{LockState}
-use Rattle.nfs_opens.specs.declared.locking.Wish.{Wish}
 use Rattle.nfs_opens.specs.StateId.{last_number}
 use Rattle.nfs_opens.specs.Table.{Table, open_at, lock_at}
 use Rattle.nfs_opens.specs.TableInvariants.{IsTable}
-use Rattle.nfs_opens.specs.Opening as opening
 use Rattle.nfs_opens.specs.Locking as locking
 use Rattle.nfs_opens.proofs.CallLaws.{IsLocked}
 use Rattle.nfs_names.specs.declared.context.Context.{Context}
@@ -42,24 +40,20 @@ use Rattle.nfs_names.specs.declared.node.Node.{Node}
 use Rattle.nfs_names.specs.State.{State, with_tree}
 use Rattle.nfs_names.specs.Ending.{with_opens}
 use Rattle.nfs_names.specs.Faults.{status_of}
-use Rattle.nfs_names.specs.Outcome.{checked, mapped}
+use Rattle.nfs_names.specs.Outcome.{Outcome, checked, done, is_ok}
 use Rattle.nfs_names.specs.Checks.{current}
-use Rattle.nfs_names.proofs.Found.{came, checked_ok}
+use Rattle.nfs_names.proofs.Found.{checked_ok}
 use Rattle.nfs_names.proofs.Ones.{by_delay}
-use Rattle.nfs_files.proofs.Answered.{by_found}
 use Rattle.nfs_names.proofs.Effects.{Makes}
 use Rattle.nfs_names.proofs.Rows.{none_mapped}
 use Rattle.nfs_files.specs.declared.opening.Found.{Found}
 use Rattle.nfs_files.specs.declared.opening.Found.TheVariants.{There, Absent}
 use Rattle.nfs_files.specs.declared.ranges.Wished.{Wished}
-use Rattle.nfs_files.specs.StateIds.{meant, wire_id}
-use Rattle.nfs_files.specs.Target.{the_file, with_stateid}
-use Rattle.nfs_files.specs.Ranges.{range, wish, wished, wished_by}
-use Rattle.nfs_files.specs.Bytes.{writable}
+use Rattle.nfs_files.specs.declared.setting.Setting.{Setting}
+use Rattle.nfs_files.specs.Bytes.{file_checks, readable, writable}
 use Rattle.nfs_files.specs.Operation.{grows}
-use Rattle.nfs_files.proofs.Outcomes.{one, comes_to}
-use Rattle.nfs_files.specs.Close.{spent, close}
-use Rattle.nfs_files.specs.Commit.{commit}
+use Rattle.nfs_files.specs.Close.{close}
+use Rattle.nfs_files.specs.Commit.{write_verifier, commit}
 use Rattle.nfs_files.specs.FreeStateid.{free_stateid}
 use Rattle.nfs_files.specs.Lock as of_lock
 use Rattle.nfs_files.specs.LockT.{tested, lock_t}
@@ -67,7 +61,7 @@ use Rattle.nfs_files.specs.LockU.{lock_u}
 use Rattle.nfs_files.specs.Open as of_open
 use Rattle.nfs_files.specs.OpenParts.{tree_fault}
 use Rattle.nfs_files.specs.OpenDowngrade.{bits, open_downgrade}
-use Rattle.nfs_files.specs.Read.{read}
+use Rattle.nfs_files.specs.Read.{was_read, read}
 use Rattle.nfs_files.specs.SetAttr as of_set
 use Rattle.nfs_files.specs.SetAttrParts as set_parts
 use Rattle.nfs_files.specs.TestStateid.{test_stateid}
@@ -78,28 +72,10 @@ use Rattle.nfs_files.proofs.OpenAnswers.{file_regular_behind}
 use Rattle.nfs_files.proofs.Granted.{tree_free}
 use Rattle.nfs_files.proofs.Opened.{shared_free}
 use Rattle.nfs_files.proofs.OthersTables.{OpensAreOf, LocksAreOf, lock_is_of}
-use Rattle.nfs_files.proofs.OpensMoved.{by_close, by_free, by_downgrade, by_lock, by_unlock}
-use Rattle.nfs_files.proofs.Effects.{Kept, Names, Writes, Resizes, Changes, Opens, Narrows, Closes, Locks, Begins, Unlocks, Frees}
-
--- Whose wish it is.
-mapped_wish : (x : Context) (how : LockType) (first file : ℕ) (v : Result ℕ Status) (w : Wish) → mapped (λ last. wish x how first last file) v ≡ Ok w → w.client ≡ x.client
-mapped_wish x how first file (Err status) w e = absurd cc
-mapped_wish x how first file (Ok last) w e = let is : wish x how first last file ≡ w = cc in sym (ap (λ (w : Wish). w.client) is)
-
-pub wish_client : (s : State) (x : Context) (how : LockType) (offset size : ℕ) (w : Wish) → wished s x how offset size ≡ Ok w → w.client ≡ x.client
-unfolding wished
-wish_client s x how offset size w e =
-    let d = came (the_file s x) _ w e in mapped_wish x how offset d.found.number (range offset size) w d.then
-
-mapped_wished : (w : Wish) (v : Result StateId Status) (k : Wished) → ◌≡◌ {A = Result Wished Status} (mapped (λ id. record { wish = w; id = id }) v) (Ok k) → k.wish ≡ w
-mapped_wished w (Err status) k e = absurd cc
-mapped_wished w (Ok id) k e = let is : record { wish = w; id = id } ≡ k = cc in sym (ap (λ (k : Wished). k.wish) is)
-
-wished_client : (s : State) (x : Context) (how : LockType) (offset size : ℕ) (given : Stateid) (v : Result Wish Status) (k : Wished)
-    → ((w : Wish) → v ≡ Ok w → wished s x how offset size ≡ Ok w) → wished_by x given v ≡ Ok k → k.wish.client ≡ x.client
-wished_client s x how offset size given v k each e =
-    let f = came v _ k e in
-    ap (λ (w : Wish). w.client) (mapped_wished f.found (meant x Any given) k f.then) ∙ wish_client s x how offset size f.found (each f.found f.is)
+use Rattle.nfs_files.proofs.Outcomes.{one, one_or_delay, comes_to}
+use Rattle.nfs_files.proofs.OpensMoved.{answered, by_close, by_free, by_downgrade, by_lock, by_unlock}
+use Rattle.nfs_files.proofs.Wishes.{IsWish, wish_is, wish_range, lock_wish, unlock_wish}
+use Rattle.nfs_files.proofs.Effects.{Effect, Names, Writes, Resizes, Changes, Opens, Narrows, Closes, Locks, Begins, Unlocks, Frees, Fits, Cause, Caused, Did, OpensAs, behind, table_behind, opens_behind, kept}
 
 -- Whose an open or a lock state is that was found under its number.
 locks_of : (t : Table) (n client : ℕ) (l : LockState) → IsTable t → lock_at t n ≡ Some l → l.client ≡ client → LocksAreOf t n client
@@ -114,124 +90,243 @@ open_is t n o is found p here named =
 opens_of : (t : Table) (n client : ℕ) (o : OpenState) → IsTable t → open_at t n ≡ Some o → o.client ≡ client → OpensAreOf t n client
 opens_of t n client o is found mine p here named = ap (λ (o : OpenState). o.client) (open_is t n o is found p here named) ∙ mine
 
-module _ {P : State → Context → Type 0} (s : State) (x : Context) (kept : Kept s.opens P) (is : P s x) where
-  -- LOCK
-  locked_kept : (w : Wish) (did : StateId × Table) → w.client ≡ x.client → IsLocked s.opens w did → P (with_opens s did.1) x
-  locked_kept w did client (inl more) = subst (λ after. P (with_opens s after) x) (sym more.left)
-      (kept.effects s x (Locks more.number w)
-      (λ table. locks_of s.opens more.number x.client more.state table more.found ((more.own table).0 ∙ client)) is)
-  locked_kept w did client (inr first) = subst (λ after. P (with_opens s after) x) (sym first.left)
-      (kept.effects s x (Begins first.opened first.owner w) (λ table. record {
-        mine = client;
-        left = eqb-false s.opens.last last_number first.room;
-        table = table;
-      }) is)
+module _ (s : State) (x : Context) where
+  -- no effect, or one alone
+  nothing : (op : Op) (r : Res) → Did s x op (done s x r)
+  nothing op r = record { effects = []; caused = tt; state = refl; client = refl }
 
-  lock_kept : (a : args.Lock) → P (of_lock.lock s x a).state (of_lock.lock s x a).context
-  lock_kept a = by_lock (λ o. P o.state o.context) s x a (λ status. is) (λ h. is) (λ k did judged granted law.
-      (let client : k.wish.client ≡ x.client = wished_client s x a.locktype a.offset a.length (of_lock.stateid_in a.locker) _ k
-      (λ w e. (checked_ok (wished s x a.locktype a.offset a.length) (of_lock.reclaim_checks a) w e).0) judged in
-      kept.handles (with_opens s did.1) x (with_stateid x (wire_id did.0)) refl (locked_kept k.wish did client law)))
+  had : (op : Op) (o : Outcome) (e : Effect) → (IsTable s.opens → Fits s x.client e) → Cause s x op o.result e → is_ok (status_of_result o.result) ≡ true
+      → o.state ≡ behind s e → o.context.client ≡ x.client → Did s x op o
+  had op o e fits cause ok state client =
+      record { effects = e ∷ []; caused = (record { fits = fits; cause = cause; ok = ok }, tt); state = state; client = client }
+
+  -- LOCK
+  locked_did : (a : Lock) (k : Wished) (did : StateId × Table) → of_lock.locking s x a ≡ Ok k → of_lock.locks_as s.opens a.locker k.id k.wish ≡ Ok did
+      → IsLocked s.opens k.wish did → Did s x (Op.Lock a) (of_lock.locked s x (Ok did))
+  locked_did a k did judged granted (inl more) =
+      let wish = lock_wish s x a k judged in
+      let is : IsWish x a.offset a.length k.wish = wish_is s x a.locktype a.offset a.length k.wish wish in
+      had (Op.Lock a) (of_lock.locked s x (Ok did)) (Locks more.number k.wish) (λ table. record {
+        range = wish_range s x a.locktype a.offset a.length k.wish wish;
+        access = more.access;
+        judged = more.judged;
+        state = more.state;
+        found = more.found;
+        of_file = (more.own table).1;
+        mine = locks_of s.opens more.number x.client more.state table more.found ((more.own table).0 ∙ is.client);
+      }) (record {
+        asked = a;
+        id = k.id;
+        did = did;
+        is = refl;
+        judged = judged;
+        granted = granted;
+        state = ap (λ (i : StateId). i.number) more.answer;
+      }) refl (ap (with_opens s) more.left) refl
+  locked_did a k did judged granted (inr first) =
+      let wish = lock_wish s x a k judged in
+      let is : IsWish x a.offset a.length k.wish = wish_is s x a.locktype a.offset a.length k.wish wish in
+      had (Op.Lock a) (of_lock.locked s x (Ok did)) (Begins first.opened first.owner k.wish) (λ table. record {
+        mine = is.client;
+        left = eqb-false s.opens.last last_number first.room;
+        range = wish_range s x a.locktype a.offset a.length k.wish wish;
+        access = first.access;
+        judged = first.judged;
+        state = first.state;
+        found = first.found;
+        same = first.mine;
+        of_file = first.there;
+        table = table;
+      }) (record {
+        asked = a;
+        id = k.id;
+        did = did;
+        is = refl;
+        judged = judged;
+        granted = granted;
+        state = ap (λ (i : StateId). i.number) first.answer;
+      }) refl (ap (with_opens s) first.left) refl
 
   -- LOCKU
-  lock_u_kept : (a : LockU) → P (lock_u s x a).state (lock_u s x a).context
-  lock_u_kept a = by_unlock (λ o. P o.state o.context) s x a (λ status. is) (λ k did judged granted law.
-      (let client : k.wish.client ≡ x.client = wished_client s x a.locktype a.offset a.length a.lock_stateid _ k (λ w e. e) judged in
-      let w = k.wish in
-      kept.handles (with_opens s did.1) x (with_stateid x (wire_id did.0)) refl
-      (subst (λ after. P (with_opens s after) x) (sym law.left) (kept.effects s x (Unlocks k.id.number w.file w.first w.last)
-      (λ table. locks_of s.opens k.id.number x.client law.state table law.found (law.mine ∙ client)) is))))
+  unlock_did : (a : LockU) → Did s x (Op.LockU a) (lock_u s x a)
+  unlock_did a = by_unlock (Did s x (Op.LockU a)) s x a (λ status. nothing _ _) (λ k did judged granted law.
+      (let is : IsWish x a.offset a.length k.wish = wish_is s x a.locktype a.offset a.length k.wish (unlock_wish s x a k judged) in
+      had (Op.LockU a) _ (Unlocks k.id.number k.wish) (λ table. locks_of s.opens k.id.number x.client law.state table law.found (law.mine ∙ is.client))
+      (record { asked = a; id = k.id; did = did; is = refl; judged = judged; granted = granted; state = refl }) refl (ap (with_opens s) law.left) refl))
 
   -- CLOSE
-  close_kept : (a : Close) → P (close s x a).state (close s x a).context
-  close_kept a = by_close (λ o. P o.state o.context) s x a (λ status. is) (λ t did judged granted law.
-      kept.handles _ x (with_stateid x spent) refl (kept.effects s x (Closes t.id.number t.file) (λ table. record {
+  close_did : (a : Close) → Did s x (Op.Close a) (close s x a)
+  close_did a = by_close (Did s x (Op.Close a)) s x a (λ status. nothing _ _) (λ t did judged granted law.
+      had (Op.Close a) _ (Closes t.id.number t.file) (λ table. record {
         mine = opens_of s.opens t.id.number x.client law.state table law.found law.mine;
         of_file = λ o there named. ap (λ (o : OpenState). o.file) (open_is s.opens t.id.number law.state table law.found o there named) ∙ law.there;
         table = table;
-      }) is))
+      }) (record { asked = a; file = t.file; id = t.id; did = did; is = refl; judged = judged; granted = granted; opened = refl }) refl refl refl)
 
   -- FREE_STATEID
-  free_kept : (given : Stateid) → P (free_stateid s x given).state (free_stateid s x given).context
-  free_kept given = by_free (λ o. P o.state o.context) s x given (λ status. is) (λ id did law.
-      kept.effects s x (Frees id.number) (λ table. locks_of s.opens id.number x.client law.state table law.found law.mine) is)
+  free_did : (given : Stateid) → Did s x (Op.FreeStateid given) (free_stateid s x given)
+  free_did given = by_free (Did s x (Op.FreeStateid given)) s x given (λ status. nothing _ _) (λ id did law.
+      had (Op.FreeStateid given) _ (Frees id.number) (λ table. record {
+        state = law.state;
+        found = law.found;
+        empty = law.empty;
+        mine = locks_of s.opens id.number x.client law.state table law.found law.mine;
+        table = table;
+      }) tt refl refl refl)
 
   -- OPEN_DOWNGRADE
-  downgrade_kept : (a : OpenDowngrade) → P (open_downgrade s x a).state (open_downgrade s x a).context
-  downgrade_kept a = by_downgrade (λ o. P o.state o.context) s x a (λ status. is) (λ t did law.
-      kept.handles _ x (with_stateid x (wire_id did.0)) refl
-      (kept.effects s x (Narrows t.id.number (bits a.share_access) (bits a.share_deny))
-      (λ table. opens_of s.opens t.id.number x.client law.state table law.found law.mine) is))
+  downgrade_did : (a : OpenDowngrade) → Did s x (Op.OpenDowngrade a) (open_downgrade s x a)
+  downgrade_did a = by_downgrade (Did s x (Op.OpenDowngrade a)) s x a (λ status. nothing _ _) (λ t did law.
+      had (Op.OpenDowngrade a) _ (Narrows t.id.number (bits a.share_access) (bits a.share_deny)) (λ table. record {
+        state = law.state;
+        found = law.found;
+        narrower = law.narrower;
+        mine = opens_of s.opens t.id.number x.client law.state table law.found law.mine;
+      }) (a, refl) refl refl refl)
 
   -- OPEN
-  found_kept : (now : Time) (a : Open) (f : Found) → tree_fault s.tree a f ≡ None → P (with_tree s (of_open.tree_of s.tree x now a f)) x
-  found_kept now a (There place f true) none = kept.effects s x (Resizes f.number 0 no_sets now) (λ table. none) is
-  found_kept now a (There place f false) none = is
-  found_kept now a (Absent m) none = kept.effects s x
-      (Names (Makes m.place.number (of_open.name_of a.claim) (of_open.new_of a m.wanted) (of_open.sets_of x now a m.wanted) now)) (λ table. none) is
+  opened_did : (now : Time) (a : Open) (f : Found) → of_open.asked_for s x a ≡ Ok f → tree_fault s.tree a f ≡ None
+      → (IsTable s.opens → Fits (with_tree s (of_open.tree_of s.tree x now a f)) x.client (Opens (of_open.asking x a (of_open.file_of s.tree f))))
+      → Did s x (Op.Open a) (of_open.opened s x now a f)
+  opened_did now a (There place f true) is none fits =
+      let opens : OpensAs s x (Op.Open a) (of_open.opened s x now a (There place f true)).result (There place f true) =
+      record { asked = a; is = refl; found = is; ok = _; sets = refl; answers = refl } in
+      record {
+        effects = Resizes f.number 0 no_sets now ∷ Opens (of_open.asking x a f.number) ∷ [];
+        caused = (
+          record { fits = λ table. none; cause = inr (record { place = place; file = f; opens = opens; number = refl; empty = refl }); ok = refl },
+          (record { fits = fits; cause = (There place f true, opens); ok = refl }, tt),
+        );
+        state = refl;
+        client = refl;
+      }
+  opened_did now a (There place f false) is none fits =
+      had (Op.Open a) (of_open.opened s x now a (There place f false)) (Opens (of_open.asking x a f.number)) fits
+      (There place f false, record { asked = a; is = refl; found = is; ok = _; sets = refl; answers = refl }) refl refl refl
+  opened_did now a (Absent m) is none fits =
+      let opens : OpensAs s x (Op.Open a) (of_open.opened s x now a (Absent m)).result (Absent m) =
+      record { asked = a; is = refl; found = is; ok = _; sets = refl; answers = refl } in
+      record {
+        effects = Names (Makes m.place.number (of_open.name_of a.claim) (of_open.new_of a m.wanted) (of_open.sets_of x now a m.wanted) now)
+            ∷ Opens (of_open.asking x a (s.tree.last_object + 1)) ∷ [];
+        caused = (
+          record { fits = λ table. none; cause = (Absent m, opens); ok = refl },
+          (record { fits = fits; cause = (Absent m, opens); ok = refl }, tt),
+        );
+        state = refl;
+        client = refl;
+      }
 
-  open_kept : (now : Time) (a : Open) → P (of_open.open_file s x now a).state (of_open.open_file s x now a).context
+  open_did : (now : Time) (a : Open) → Did s x (Op.Open a) (of_open.open_file s x now a)
   unfolding of_open.open_file
-  open_kept now a =
-      by_found P s x Num.Open (checked (of_open.asked_for s x a) (of_open.last_checks s x a)) (of_open.opened s x now a) is (λ f granted.
+  open_did now a = answered (Did s x (Op.Open a)) s x Num.Open (checked (of_open.asked_for s x a) (of_open.last_checks s x a)) (of_open.opened s x now a)
+      (λ status. nothing _ _) (λ f granted.
       (let p = checked_ok (of_open.asked_for s x a) (of_open.last_checks s x a) f granted in
-      let asked = of_open.asking x a (of_open.file_of s.tree f) in
-      kept.handles _ x (record x { current = Some (of_open.file_of s.tree f); stateid = wire_id (opening.opens s.opens asked).id }) refl
-      (kept.effects (with_tree s (of_open.tree_of s.tree x now a f)) x (Opens asked)
-      (λ table. record { mine = refl; regular = file_regular_behind s x now a f p.0; free = shared_free s x a f p.1; table = table })
-      (found_kept now a f (tree_free s x a f p.0 p.1)))))
+      opened_did now a f p.0 (tree_free s x a f p.0 p.1)
+      (λ table. record { mine = refl; regular = file_regular_behind s x now a f p.0; free = shared_free s x a f p.1; table = table })))
 
   -- WRITE
-  written_kept : (now : Time) (w : Write) (d : Node) → write_fault s.tree d.number w.offset w.bytes ≡ None
-      → P (with_tree s (of_write.with_bytes s.tree w d now)) x
-  written_kept now w d none = elim (cases_Bool (has_bytes w.bytes)) [
-    | inl some ↦ rw some (kept.effects s x (Writes d.number w.offset w.bytes now) (λ table. (none, some)) is)
-    | inr empty ↦ rw empty is
+  written_did : (now : Time) (w : Write) (d : Node) → writable s x w.stateid (current s x) ≡ Ok d → first_fault (of_write.last_checks s w d) ≡ None
+      → write_fault s.tree d.number w.offset w.bytes ≡ None → Did s x (Op.Write w) (of_write.was_written s x now w d)
+  written_did now w d found checks none = elim (cases_Bool (has_bytes w.bytes)) [
+    | inl some ↦ had (Op.Write w) (of_write.was_written s x now w d) (Writes d.number w.offset w.bytes now) (λ table. (none, some)) (record {
+      asked = w;
+      is = refl;
+      from = refl;
+      bytes = refl;
+      file = d;
+      found = found;
+      checked = checks;
+      some = some;
+      number = refl;
+      answers = refl;
+    }) refl (rw some refl) refl
+    | inr empty ↦ record { effects = []; caused = tt; state = rw empty refl; client = refl }
   ]
 
-  write_kept : (now : Time) (w : Write) → P (of_write.write s x now w).state (of_write.write s x now w).context
+  write_did : (now : Time) (w : Write) → Did s x (Op.Write w) (of_write.write s x now w)
   unfolding of_write.write
-  write_kept now w =
-      by_found P s x Num.Write (checked (writable s x w.stateid (current s x)) (of_write.last_checks s w)) (of_write.was_written s x now w) is (λ d granted.
+  write_did now w =
+      answered (Did s x (Op.Write w)) s x Num.Write (checked (writable s x w.stateid (current s x)) (of_write.last_checks s w)) (of_write.was_written s x now w)
+      (λ status. nothing _ _) (λ d granted.
       (let p = checked_ok (writable s x w.stateid (current s x)) (of_write.last_checks s w) d granted in
-      written_kept now w d (none_mapped status_of (write_fault s.tree d.number w.offset w.bytes) (write_found s x w d p.0 ∙ p.1))))
+      written_did now w d p.0 p.1 (none_mapped status_of (write_fault s.tree d.number w.offset w.bytes) (write_found s x w d p.0 ∙ p.1))))
 
   -- SETATTR
-  set_kept : (n : ℕ) (now : Time) (w : Wanted) (size : Option ℕ) → set_parts.tree_fault s.tree n w size ≡ None → P (with_tree s (of_set.with_set s.tree n now w size)) x
-  set_kept n now w (Some size) none = kept.effects s x (Resizes n size (of_set.sets_of now w) now) (λ table. none) is
-  set_kept n now w None none = elim (cases_Bool (of_set.gives_some w)) [
-    | inl some ↦ rw some (kept.effects s x (Changes n (of_set.sets_of now w) now) (λ table. tt) is)
-    | inr nothing ↦ rw nothing is
+  set_did : (now : Time) (a : SetAttr) (m : Setting) (size : Option ℕ) → m.wanted.size ≡ size → of_set.asked_for s x a ≡ Ok m
+      → set_parts.tree_fault s.tree m.node.number m.wanted size ≡ None
+      → Did s x (Op.SetAttr a) (record (of_set.was_set s x now a m) { state = with_tree s (of_set.with_set s.tree m.node.number now m.wanted size) })
+  set_did now a m (Some size) is found none = had (Op.SetAttr a) _ (Resizes m.node.number size (of_set.sets_of now m.wanted) now) (λ table. none)
+      (inl (record { asked = a; is = refl; setting = m; found = found; number = refl; sets = is; words = _; answers = refl })) refl refl refl
+  set_did now a m None is found none = elim (cases_Bool (of_set.gives_some m.wanted)) [
+    | inl some ↦ had (Op.SetAttr a) _ (Changes m.node.number (of_set.sets_of now m.wanted) now) (λ table. tt)
+        (record { asked = a; is = refl; setting = m; found = found; number = refl; sets = is; words = _; answers = refl }) refl (rw some refl) refl
+    | inr empty ↦ record { effects = []; caused = tt; state = rw empty refl; client = refl }
   ]
 
-  set_attr_kept : (now : Time) (a : SetAttr) → P (of_set.set_attr s x now a).state (of_set.set_attr s x now a).context
+  set_attr_did : (now : Time) (a : SetAttr) → Did s x (Op.SetAttr a) (of_set.set_attr s x now a)
   unfolding of_set.set_attr
-  set_attr_kept now a = by_found P s x Num.SetAttr (checked (of_set.asked_for s x a) (of_set.last_checks s)) (of_set.was_set s x now a) is (λ m granted.
+  set_attr_did now a =
+      answered (Did s x (Op.SetAttr a)) s x Num.SetAttr (checked (of_set.asked_for s x a) (of_set.last_checks s)) (of_set.was_set s x now a)
+      (λ status. nothing _ _) (λ m granted.
       (let p = checked_ok (of_set.asked_for s x a) (of_set.last_checks s) m granted in
-      set_kept m.node.number now m.wanted m.wanted.size
+      set_did now a m m.wanted.size refl p.0
       (none_mapped status_of (set_parts.tree_fault s.tree m.node.number m.wanted m.wanted.size) (set_found s x a m p.0 ∙ p.1))))
 
-  tested_kept : (o : Option Held) → P (tested s x o).state (tested s x o).context
-  tested_kept None = is
-  tested_kept (Some h) = is
+  tested_did : (op : Op) (o : Option Held) → Did s x op (tested s x o)
+  tested_did op None = nothing op _
+  tested_did op (Some h) = nothing op _
 
   -- By the operation.
-  kept_one : (now : Time) (op : Op) → P (one s x now op).state (one s x now op).context
+  did_one : (now : Time) (op : Op) → Did s x op (one s x now op)
   unfolding commit lock_t read test_stateid
-  kept_one now (Op.Close a) = close_kept a
-  kept_one now (Op.Commit a) = by_found P s x Num.Commit _ _ is (λ d e. is)
-  kept_one now (Op.FreeStateid given) = free_kept given
-  kept_one now (Op.Lock a) = lock_kept a
-  kept_one now (Op.LockT a) = by_found P s x Num.LockT _ _ is (λ w e. tested_kept (locking.test_lock s.opens a.owner.owner w))
-  kept_one now (Op.LockU a) = lock_u_kept a
-  kept_one now (Op.Open a) = open_kept now a
-  kept_one now (Op.OpenDowngrade a) = downgrade_kept a
-  kept_one now (Op.Read a) = by_found P s x Num.Read _ _ is (λ d e. is)
-  kept_one now (Op.SetAttr a) = set_attr_kept now a
-  kept_one now (Op.TestStateid given) = is
-  kept_one now (Op.Write a) = write_kept now a
-  kept_one now op = is
+  did_one now (Op.Close a) = close_did a
+  did_one now (Op.Commit a) =
+      answered {A = Node} (Did s x (Op.Commit a)) s x Num.Commit (checked (current s x) file_checks) (λ d. done s x (Res.Commit (write_verifier s)))
+      (λ status. nothing _ _) (λ d e. nothing _ _)
+  did_one now (Op.FreeStateid given) = free_did given
+  did_one now (Op.Lock a) =
+      by_lock (Did s x (Op.Lock a)) s x a (λ status. nothing _ _) (λ h. nothing _ _) (λ k did judged granted law. locked_did a k did judged granted law)
+  did_one now (Op.LockT a) = answered (Did s x (Op.LockT a)) s x Num.LockT _ _ (λ status. nothing _ _)
+      (λ w e. tested_did (Op.LockT a) (locking.test_lock s.opens a.owner.owner w))
+  did_one now (Op.LockU a) = unlock_did a
+  did_one now (Op.Open a) = open_did now a
+  did_one now (Op.OpenDowngrade a) = downgrade_did a
+  did_one now (Op.Read a) =
+      answered {A = Node} (Did s x (Op.Read a)) s x Num.Read (readable s x a.stateid (current s x)) (λ d. done s x (Res.Read (was_read s a d)))
+      (λ status. nothing _ _) (λ d e. nothing _ _)
+  did_one now (Op.SetAttr a) = set_attr_did now a
+  did_one now (Op.TestStateid given) = nothing (Op.TestStateid given) _
+  did_one now (Op.Write a) = write_did now a
+  did_one now op = nothing op _
 
-  pub kept_item : (refused : Bool) (now : Time) (i : Item) → P (comes_to refused s x now i).state (comes_to refused s x now i).context
-  kept_item refused now (Operation op) = by_delay (λ o. P o.state o.context) (grows s x op && refused) s x (arguments op).op (one s x now op) is (kept_one now op)
-  kept_item refused now (Fault n status) = is
+  pub did : (refused : Bool) (now : Time) (op : Op) → Did s x op (one_or_delay refused s x now op)
+  did refused now op = by_delay (Did s x op) (grows s x op && refused) s x (arguments op).op (one s x now op) (nothing op _) (did_one now op)
+
+-- What each effect keeps that an operation has, the operation keeps; and what holds of no operation is kept where there is none.
+pub caused_item : (P : State → Type 0) (refused : Bool) (s : State) (x : Context) (now : Time) (i : Item)
+    → ((op : Op) → i ≡ Operation op → (t : State) (e : Effect) → Caused s x op (comes_to refused s x now i).result t e → P t → P (behind t e))
+    → P s → P (comes_to refused s x now i).state
+caused_item P refused s x now (Operation op) each is = kept P s x op (one_or_delay refused s x now op) (did s x refused now op) (each op refl) is
+caused_item P refused s x now (Fault n status) each is = is
+
+-- the same of the table of opens
+pub caused_opens : (P : Table → Type 0) (refused : Bool) (s : State) (x : Context) (now : Time) (i : Item)
+    → ((op : Op) → i ≡ Operation op → (t : State) (e : Effect) → Caused s x op (comes_to refused s x now i).result t e → P t.opens → P (table_behind t.opens e))
+    → P s.opens → P (comes_to refused s x now i).state.opens
+caused_opens P refused s x now i each is =
+    caused_item (λ t. P t.opens) refused s x now i (λ op same t e caused is. subst P (sym (opens_behind t e)) (each op same t e caused is)) is
+
+-- and of what each effect keeps that fits, whatever caused it
+pub kept_item : (P : State → Type 0) (refused : Bool) (s : State) (x : Context) (now : Time) (i : Item)
+    → ((t : State) (e : Effect) → (IsTable s.opens → Fits t x.client e) → P t → P (behind t e)) → P s → P (comes_to refused s x now i).state
+kept_item P refused s x now i each is = caused_item P refused s x now i (λ op same t e caused is. each t e caused.fits is) is
+
+pub kept_opens : (P : Table → Type 0) (refused : Bool) (s : State) (x : Context) (now : Time) (i : Item)
+    → ((t : State) (e : Effect) → (IsTable s.opens → Fits t x.client e) → P t.opens → P (table_behind t.opens e))
+    → P s.opens → P (comes_to refused s x now i).state.opens
+kept_opens P refused s x now i each is = caused_opens P refused s x now i (λ op same t e caused is. each t e caused.fits is) is
+
+pub same_client : (refused : Bool) (s : State) (x : Context) (now : Time) (i : Item) → (comes_to refused s x now i).context.client ≡ x.client
+same_client refused s x now (Operation op) = (did s x refused now op).client
+same_client refused s x now (Fault n status) = refl

@@ -1,30 +1,56 @@
--- What operations on open files do to a store, as data: beside the effects of operations on names those on bytes, attributes, opens and locks.
-use Rattle.std.proofs.Common.{◌≡◌, ◌≢◌, ℕ, ◌+◌, true, List, [], ◌∷◌, ◌++◌, None, refl}
+-- What operations on open files do to a store, as data: beside the effects of operations on names those on bytes, attributes, opens and locks;
+-- where each fits, what caused it, and which an operation had. A law over all operations is cases of effects.
+use Rattle.std.proofs.Common.{◌≡◌, ◌≢◌, ℕ, ◌+◌, ◌⊎◌, true, false, List, [], ◌∷◌, ◌++◌, Option, Some, None, refl, sym, subst}
+use Rattle.std.specs.Prelude.{Ok}
+use Rattle.nfs_xdr.specs.Checks.{first_fault}
 use Rattle.nfs_xdr.specs.Tables.{In}
 use Rattle.nfs_xdr.specs.declared.time.Time.{Time}
+use Rattle.nfs_xdr.specs.declared.status.Status.TheVariants.{Nfs4Ok}
+use Rattle.nfs_compound.specs.declared.file_args.SetAttr.{SetAttr}
+use Rattle.nfs_compound.specs.declared.file_args.Write.{Write}
+use Rattle.nfs_compound.specs.declared.op.Op.{Op}
+use Rattle.nfs_compound.specs.declared.open_args.Open.{Open}
+use Rattle.nfs_compound.specs.declared.open_args.OpenDowngrade.{OpenDowngrade}
+use Rattle.nfs_results.specs.declared.res.OpenOk.{OpenOk}
+use Rattle.nfs_results.specs.declared.res.Res.{Res}
+use Rattle.nfs_results.specs.declared.res.Res.TheVariants as Res
+use Rattle.nfs_results.specs.Results.{status_of_result}
 use Rattle.nfs_tree.specs.declared.sets.Sets.{Sets}
 use Rattle.nfs_tree.specs.Files.{with_changed}
 use Rattle.nfs_tree.specs.Bytes.{has_bytes, with_written, with_resized}
 use Rattle.nfs_tree.specs.Calls.{is_regular_at, write_fault, resize_fault}
 use Rattle.nfs_tree.specs.TreeInvariants.{IsTree}
-use Rattle.nfs_ranges.specs.Holders.{holding, cleared}
+use Rattle.nfs_ranges.specs.Holders.{holding, cleared, holds_any}
 use Rattle.nfs_opens.specs.declared.share.Share.{Share}
+use Rattle.nfs_opens.specs.declared.records.LockState.{LockState}
 use Rattle.nfs_opens.specs.declared.records.OpenState.{OpenState}
 use Rattle.nfs_opens.specs.declared.locking.Wish.{Wish}
 use Rattle.nfs_opens.specs.StateId.{last_number}
 use Rattle.nfs_opens.specs.Holding.{on_file}
-use Rattle.nfs_opens.specs.Table.{Table, Asked, with_open, with_lock}
+use Rattle.nfs_opens.specs.Table.{Table, Asked, open_at, lock_at, with_open, with_lock}
 use Rattle.nfs_opens.specs.TableInvariants.{IsTable}
 use Rattle.nfs_opens.specs.Calls.{open_fault}
-use Rattle.nfs_opens.specs.Opening.{opens, narrows}
+use Rattle.nfs_opens.specs.Opening.{opens, narrows, is_narrower}
 use Rattle.nfs_opens.specs.Closing.{without_open, without_lock}
-use Rattle.nfs_opens.specs.Locking.{raised}
+use Rattle.nfs_opens.specs.Locking.{lock_judged, raised}
 use Rattle.nfs_names.specs.declared.context.Context.{Context}
-use Rattle.nfs_names.specs.State.{State, with_tree, without_unused}
+use Rattle.nfs_names.specs.declared.node.Node.{Node}
+use Rattle.nfs_names.specs.Checks.{current}
 use Rattle.nfs_names.specs.Ending.{with_opens}
+use Rattle.nfs_names.specs.Outcome.{Outcome, is_ok}
+use Rattle.nfs_names.specs.State.{State, with_tree, without_unused}
 use Rattle.nfs_names.proofs.Effects as names
 use Rattle.nfs_names.proofs.Untouched.{unused_opens, opens_kept}
+use Rattle.nfs_files.specs.Bytes.{writable}
+use Rattle.nfs_files.specs.Open as of_open
+use Rattle.nfs_files.specs.SetAttr as of_set
+use Rattle.nfs_files.specs.Write as of_write
+use Rattle.nfs_files.specs.declared.opening.Found.{Found}
+use Rattle.nfs_files.specs.declared.opening.Found.TheVariants.{There}
+use Rattle.nfs_files.specs.declared.setting.Setting.{Setting}
+use Rattle.nfs_files.proofs.Inside as inside
 use Rattle.nfs_files.proofs.OthersTables.{OpensAreOf, LocksAreOf}
+use Rattle.nfs_files.proofs.Wishes.{IsRange}
 
 -- Bytes are written, cut or lengthened; attributes are set. An open comes or is joined, is narrowed, or goes with its locks and with a file that
 -- nothing else uses. A lock state holds more bytes, comes with its first ones, holds fewer, or goes.
@@ -38,7 +64,7 @@ pub data Effect : Type 0 where
   Closes : ℕ → ℕ → Effect
   Locks : ℕ → Wish → Effect
   Begins : ℕ → List ℕ → Wish → Effect
-  Unlocks : ℕ → ℕ → ℕ → ℕ → Effect
+  Unlocks : ℕ → Wish → Effect
   Frees : ℕ → Effect
 
 abbrev pub table_behind : Table → Effect → Table
@@ -51,7 +77,7 @@ table_behind t (Begins opened owner w) = record t {
   held = on_file t.held w.file (λ h. holding h (t.last + 1) w.kind w.first w.last);
   last = t.last + 1;
 }
-table_behind t (Unlocks n file first last) = record (with_lock t n raised) { held = on_file t.held file (λ h. cleared h n first last) }
+table_behind t (Unlocks n w) = record (with_lock t n raised) { held = on_file t.held w.file (λ h. cleared h n w.first w.last) }
 table_behind t (Frees n) = without_lock t n
 table_behind t e = t
 
@@ -63,6 +89,17 @@ behind s (Changes n sets now) = with_tree s (record s.tree { objects = with_chan
 behind s (Closes n file) = without_unused (with_opens s (without_open s.opens n)) file
 behind s e = with_opens s (table_behind s.opens e)
 
+pub opens_behind : (s : State) (e : Effect) → (behind s e).opens ≡ table_behind s.opens e
+opens_behind s (Names e) = opens_kept s e
+opens_behind s (Closes n file) = unused_opens (with_opens s (without_open s.opens n)) file
+opens_behind s e = refl
+
+abbrev pub behind_all : State → List Effect → State
+behind_all s [] = s
+behind_all s (e ∷ more) = behind_all (behind s e) more
+
+-- Where each fits.
+
 -- what is opened is a file, of the client, and a number is left where one is wanted
 pub record IsOpening (s : State) (client : ℕ) (a : Asked) : Type 0 where
   pub mine : a.client ≡ client
@@ -70,17 +107,49 @@ pub record IsOpening (s : State) (client : ℕ) (a : Asked) : Type 0 where
   pub free : open_fault s.opens a ≡ None
   pub table : IsTable s.opens
 
--- what is closed is an open of the client and of the file
-pub record IsClosing (s : State) (client n file : ℕ) : Type 0 where
-  pub mine : OpensAreOf s.opens n client
-  pub of_file : (o : OpenState) → In o s.opens.opens → o.number ≡ n → o.file ≡ file
-  pub table : IsTable s.opens
+-- what has less is an open of the client that has what is left of it
+pub record IsNarrowing (t : Table) (client n : ℕ) (access deny : Share) : Type 0 where
+  pub state : OpenState
+  pub found : open_at t n ≡ Some state
+  pub narrower : is_narrower access deny state ≡ true
+  pub mine : OpensAreOf t n client
 
--- what comes is a lock state of the client, and a number is left for it
-pub record IsBeginning (s : State) (client : ℕ) (w : Wish) : Type 0 where
+-- what is closed is an open of the client and of the file
+pub record IsClosing (t : Table) (client n file : ℕ) : Type 0 where
+  pub mine : OpensAreOf t n client
+  pub of_file : (o : OpenState) → In o t.opens → o.number ≡ n → o.file ≡ file
+  pub table : IsTable t
+
+-- what holds more is a lock state of the client and of the file, and nobody else's lock is in the way
+pub record IsLocking (t : Table) (client n : ℕ) (w : Wish) : Type 0 where
+  pub range : IsRange w.first w.last
+  pub access : Share
+  pub judged : lock_judged t n access w ≡ Ok tt
+  pub state : LockState
+  pub found : lock_at t n ≡ Some state
+  pub of_file : state.file ≡ w.file
+  pub mine : LocksAreOf t n client
+
+-- what comes is a lock state of the client under an open of it, and a number is left for it
+pub record IsBeginning (t : Table) (client opened : ℕ) (w : Wish) : Type 0 where
   pub mine : w.client ≡ client
-  pub left : s.opens.last ≢ last_number
-  pub table : IsTable s.opens
+  pub left : t.last ≢ last_number
+  pub range : IsRange w.first w.last
+  pub access : Share
+  pub judged : lock_judged t 0 access w ≡ Ok tt
+  pub state : OpenState
+  pub found : open_at t opened ≡ Some state
+  pub same : state.client ≡ w.client
+  pub of_file : state.file ≡ w.file
+  pub table : IsTable t
+
+-- what goes is a lock state of the client that holds nothing
+pub record IsFreeing (t : Table) (client n : ℕ) : Type 0 where
+  pub state : LockState
+  pub found : lock_at t n ≡ Some state
+  pub empty : holds_any (t.held state.file) n ≡ false
+  pub mine : LocksAreOf t n client
+  pub table : IsTable t
 
 -- The tree refuses nothing of it; and the opens and lock states are the client's.
 abbrev pub Fits : State → ℕ → Effect → Type 0
@@ -89,19 +158,92 @@ Fits s client (Writes n offset text now) = (write_fault s.tree n offset text ≡
 Fits s client (Resizes n size sets now) = resize_fault s.tree n size ≡ None
 Fits s client (Changes n sets now) = Unit {0}
 Fits s client (Opens a) = IsOpening s client a
-Fits s client (Narrows n access deny) = OpensAreOf s.opens n client
-Fits s client (Closes n file) = IsClosing s client n file
-Fits s client (Begins opened owner w) = IsBeginning s client w
-Fits s client (Locks n w) = LocksAreOf s.opens n client
-Fits s client (Unlocks n file first last) = LocksAreOf s.opens n client
-Fits s client (Frees n) = LocksAreOf s.opens n client
+Fits s client (Narrows n access deny) = IsNarrowing s.opens client n access deny
+Fits s client (Closes n file) = IsClosing s.opens client n file
+Fits s client (Locks n w) = IsLocking s.opens client n w
+Fits s client (Begins opened owner w) = IsBeginning s.opens client opened w
+Fits s client (Unlocks n w) = LocksAreOf s.opens n client
+Fits s client (Frees n) = IsFreeing s.opens client n
 
--- What each effect keeps, where it fits if the operation began with a table that is one; and what the context's move does not touch.
-pub record Kept (begun : Table) (P : State → Context → Type 0) : Type 0 where
-  pub effects : (s : State) (x : Context) (e : Effect) → (IsTable begun → Fits s x.client e) → P s x → P (behind s e) x
-  pub handles : (s : State) (x y : Context) → y.client ≡ x.client → P s x → P s y
+-- What caused it, by the operation and its result.
 
-pub opens_behind : (s : State) (e : Effect) → (behind s e).opens ≡ table_behind s.opens e
-opens_behind s (Names e) = opens_kept s e
-opens_behind s (Closes n file) = unused_opens (with_opens s (without_open s.opens n)) file
-opens_behind s e = refl
+-- a WRITE of these bytes to the file of the current filehandle
+pub record WritesTo (s : State) (x : Context) (op : Op) (r : Res) (n offset : ℕ) (text : List ℕ) : Type 0 where
+  pub asked : Write
+  pub is : op ≡ Op.Write asked
+  pub from : asked.offset ≡ offset
+  pub bytes : asked.bytes ≡ text
+  pub file : Node
+  pub found : writable s x asked.stateid (current s x) ≡ Ok file
+  pub checked : first_fault (of_write.last_checks s asked file) ≡ None
+  pub some : has_bytes asked.bytes ≡ true
+  pub number : file.number ≡ n
+  pub answers : r ≡ Res.Write (of_write.write_ok s asked)
+
+-- a SETATTR of the object of the current filehandle, with a size or none
+pub record SetsOf (s : State) (x : Context) (op : Op) (r : Res) (n : ℕ) (size : Option ℕ) : Type 0 where
+  pub asked : SetAttr
+  pub is : op ≡ Op.SetAttr asked
+  pub setting : Setting
+  pub found : of_set.asked_for s x asked ≡ Ok setting
+  pub number : setting.node.number ≡ n
+  pub sets : setting.wanted.size ≡ size
+  pub words : List ℕ
+  pub answers : r ≡ Res.SetAttr Nfs4Ok words
+
+-- an OPEN that found this
+pub record OpensAs (s : State) (x : Context) (op : Op) (r : Res) (f : Found) : Type 0 where
+  pub asked : Open
+  pub is : op ≡ Op.Open asked
+  pub found : of_open.asked_for s x asked ≡ Ok f
+  pub ok : OpenOk
+  pub sets : ok.attrset ≡ of_open.set_of asked f
+  pub answers : r ≡ Res.Open ok
+
+-- an OPEN with size 0 of a file that was there
+pub record OpensEmpty (s : State) (x : Context) (op : Op) (r : Res) (n size : ℕ) : Type 0 where
+  pub place : ℕ
+  pub file : Node
+  pub opens : OpensAs s x op r (There place file true)
+  pub number : file.number ≡ n
+  pub empty : size ≡ 0
+
+abbrev pub Cause : State → Context → Op → Res → Effect → Type 0
+Cause s x op r (Names e) = (f : Found) × OpensAs s x op r f
+Cause s x op r (Writes n offset text now) = WritesTo s x op r n offset text
+Cause s x op r (Resizes n size sets now) = SetsOf s x op r n (Some size) ⊎ OpensEmpty s x op r n size
+Cause s x op r (Changes n sets now) = SetsOf s x op r n None
+Cause s x op r (Opens a) = (f : Found) × OpensAs s x op r f
+Cause s x op r (Narrows n access deny) = (asked : OpenDowngrade) × (op ≡ Op.OpenDowngrade asked)
+Cause s x op r (Closes n file) = inside.Closes s x op n
+Cause s x op r (Locks n w) = inside.Locks s x op n w
+Cause s x op r (Begins opened owner w) = inside.Locks s x op (s.opens.last + 1) w
+Cause s x op r (Unlocks n w) = inside.Unlocks s x op n w
+Cause s x op r (Frees n) = Unit {0}
+
+-- Which effects an operation had, in their order.
+
+-- an effect on a state on the way: it fits, if the operation began with a table that is one; something caused it; and what did answers NFS4_OK
+pub record Caused (s : State) (x : Context) (op : Op) (r : Res) (t : State) (e : Effect) : Type 0 where
+  pub fits : IsTable s.opens → Fits t x.client e
+  pub cause : Cause s x op r e
+  pub ok : is_ok (status_of_result r) ≡ true
+
+abbrev pub AllCaused : State → Context → Op → Res → State → List Effect → Type 0
+AllCaused s x op r t [] = Unit {0}
+AllCaused s x op r t (e ∷ more) = Caused s x op r t e × AllCaused s x op r (behind t e) more
+
+pub record Did (s : State) (x : Context) (op : Op) (o : Outcome) : Type 0 where
+  pub effects : List Effect
+  pub caused : AllCaused s x op o.result s effects
+  pub state : o.state ≡ behind_all s effects
+  pub client : o.context.client ≡ x.client
+
+-- what each effect keeps, what was done keeps
+pub kept : (P : State → Type 0) (s : State) (x : Context) (op : Op) (o : Outcome) → Did s x op o
+    → ((t : State) (e : Effect) → Caused s x op o.result t e → P t → P (behind t e)) → P s → P o.state
+kept P s x op o did each is = subst P (sym did.state) (go did.effects s did.caused is)
+  where
+    go : (es : List Effect) (t : State) → AllCaused s x op o.result t es → P t → P (behind_all t es)
+    go [] t caused is = is
+    go (e ∷ es) t caused is = go es (behind t e) caused.1 (each t e caused.0 is)

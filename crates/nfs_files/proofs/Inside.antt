@@ -4,6 +4,8 @@ use Rattle.nfs_xdr.specs.declared.time.Time.{Time}
 use Rattle.nfs_compound.specs.declared.lock_args.Lock as args
 use Rattle.nfs_compound.specs.declared.lock_args.LockU.{LockU}
 use Rattle.nfs_compound.specs.declared.open_args.Close.{Close}
+use Rattle.nfs_compound.specs.declared.op.Item.{Item}
+use Rattle.nfs_compound.specs.declared.op.Item.TheVariants.{Operation}
 use Rattle.nfs_compound.specs.declared.op.Op.{Op}
 use Rattle.nfs_opens.specs.declared.records.LockState.{LockState}
 use Rattle.nfs_opens.specs.declared.stateid.StateId.{StateId}
@@ -20,7 +22,7 @@ use Rattle.nfs_names.specs.Outcome.{is_ok}
 use Rattle.nfs_files.specs.Target.{target}
 use Rattle.nfs_files.specs.Lock.{locking, locks_as}
 use Rattle.nfs_files.specs.LockU.{unlocking}
-use Rattle.nfs_files.proofs.Outcomes.{one_or_delay}
+use Rattle.nfs_files.proofs.Outcomes.{one_or_delay, comes_to}
 use Rattle.nfs_files.specs.LockTold.{LockTold, IsBeside, IsAlike, Stands, Clashes}
 
 -- a LOCK that is granted: lock state n holds the bytes of the wish from now on
@@ -74,9 +76,9 @@ pub record Tells (k : LockTold) (s : State) (x : Context) (op : Op) (left : Tabl
 
 -- An operation that spares a lock, or does not answer NFS4_OK, leaves it.
 abbrev pub SparedLocksStay : Type 0
-SparedLocksStay = (k : LockTold) (s : State) (x : Context) (now : Time) (refused : Bool) (op : Op) → IsTable s.opens → k.first ≤ k.last
-    → (is_ok (status_of_result (one_or_delay refused s x now op).result) ≡ true → Spares k s x op) → Stands k s.opens
-    → Stands k (one_or_delay refused s x now op).state.opens
+SparedLocksStay = (k : LockTold) (s : State) (x : Context) (now : Time) (refused : Bool) (i : Item) → IsTable s.opens → k.first ≤ k.last
+    → (is_ok (status_of_result (comes_to refused s x now i).result) ≡ true → (op : Op) → i ≡ Operation op → Spares k s x op) → Stands k s.opens
+    → Stands k (comes_to refused s x now i).state.opens
 
 -- A LOCK that clashes with a lock that stands is not granted.
 abbrev pub ClashesAreNotGranted : Type 0

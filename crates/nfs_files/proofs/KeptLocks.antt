@@ -21,7 +21,7 @@ use Rattle.nfs_opens.specs.Locking.{raised}
 use Rattle.nfs_ranges.proofs.HolderLemmas.{unmet}
 use Rattle.nfs_opens.proofs.LockLemmas.{holds_none}
 use Rattle.nfs_opens.proofs.StepLemmas.{judged_tells}
-use Rattle.nfs_opens.proofs.CallLaws.{first_state, IsLocked}
+use Rattle.nfs_opens.proofs.CallLaws.{IsLocked}
 use Rattle.nfs_files.specs.LockTold.{LockTold, IsBeside, IsAlike, Stands, Clashes}
 
 -- bytes
@@ -52,7 +52,7 @@ on_file_keeps : (held : FileHolders) (file : ℕ) (g : Holders → Holders) (f s
 on_file_keeps held file g f s b o keeps is = elim (cases_Bool (eqb f file)) [ inl here ↦ rw here (keeps (held f) is) | inr there ↦ rw there is ]
 
 -- a lock state that takes bytes beside the lock, or in the lock's kind, holds it as before
-held_alike : (k : LockTold) (w : Wish) (h : Holders) (n b : ℕ) → (n ≡ k.state → IsAlike w k) → k.first ≤ b → b ≤ k.last
+pub held_alike : (k : LockTold) (w : Wish) (h : Holders) (n b : ℕ) → (n ≡ k.state → IsAlike w k) → k.first ≤ b → b ≤ k.last
     → h k.state b ≡ Some k.kind → holding h n w.kind w.first w.last k.state b ≡ Some k.kind
 held_alike k w h n b spares lo hi is = elim (cases_eq n k.state) [
   | inl same ↦ by_wish same (spares same)
@@ -154,15 +154,6 @@ stands_first k t w new table is =
       held = λ b lo hi. on_file_same t.held w.file (λ h. holding h (t.last + 1) w.kind w.first w.last) k.file k.state b
           (λ h. held_other h (t.last + 1) w.kind w.first w.last k.state b (λ same. absurd (other same))) ∙ is.held b lo hi;
     }
-
--- a LOCK that is granted leaves the lock where it spares it
-pub stands_locked : (k : LockTold) (t : Table) (w : Wish) (did : StateId × Table) → IsTable t → IsLocked t w did
-    → (did.0.number ≡ k.state → IsAlike w k) → Stands k t → Stands k did.1
-stands_locked k t w did table (inl more) spares is =
-    subst (Stands k) (sym more.left) (stands_raised k t more.number w.file (λ h. holding h more.number w.kind w.first w.last)
-    (λ h b lo hi. held_alike k w h more.number b (λ mine. spares (ap (λ (i : StateId). i.number) more.answer ∙ mine)) lo hi) is)
-stands_locked k t w did table (inr first) spares is =
-    subst (Stands k) (sym first.left) (stands_first k t w (first_state t w first.owner first.opened) table is)
 
 -- no lock state has number 0
 no_zero : (t : Table) (file b : ℕ) (kind : Kind) → IsTable t → t.held file 0 b ≡ Some kind → ⊥

@@ -22,14 +22,15 @@ pub mod Outcomes
 pub mod OpenAnswers
 pub mod Granted
 pub mod OthersTables
+pub mod Wishes
+pub mod Inside
+pub mod KeptLocks
 pub mod Effects
 pub mod Effected
 pub mod Sound
 pub mod OwnOpens
 pub mod Whole
 pub mod OpenTree
-pub mod Inside
-pub mod KeptLocks
 pub mod KeptOps
 pub mod ToldLocks
 pub mod LockOwners
@@ -44,3 +45,8 @@ pub mod PromptFiles
 pub mod WrittenTrees
 pub mod WrittenOps
 pub mod WrittenTold
+pub mod FileImages
+pub mod FileOps
+pub mod ChangesAt
+pub mod ChangesTold
+pub mod OpenRows

@@ -1,5 +1,5 @@
 -- An operation of one client leaves another what it has.
-use Rattle.std.proofs.Common.{◌≡◌, ◌≢◌, ℕ, ◌+◌, Bool, eqb, Option, Some, None, refl, sym, ◌∙◌, subst, inl, inr}
+use Rattle.std.proofs.Common.{◌≡◌, ◌≢◌, ℕ, ◌+◌, Bool, eqb, Option, Some, None, refl, sym, ◌∙◌, inl, inr}
 use Rattle.std.proofs.lemmas.Bool.{cases_Bool, eqb-true, and_parts}
 use Rattle.nfs_xdr.specs.declared.time.Time.{Time}
 use Rattle.nfs_xdr.proofs.Lists.{find_in}
@@ -18,8 +18,8 @@ use Rattle.nfs_files.proofs.Outcomes.{comes_to}
 use Rattle.nfs_files.proofs.KeptLocks.{held_other, cleared_other}
 use Rattle.nfs_files.specs.Own.{HasAsBefore}
 use Rattle.nfs_files.proofs.OthersTables.{same, open_is_of, open_changed, lock_changed, open_new, lock_new, open_gone, lock_gone, both}
-use Rattle.nfs_files.proofs.Effects.{Effect, Opens, Narrows, Closes, Locks, Begins, Unlocks, Frees, Fits, table_behind, opens_behind}
-use Rattle.nfs_files.proofs.Effected.{kept_item}
+use Rattle.nfs_files.proofs.Effects.{Effect, Opens, Narrows, Closes, Locks, Begins, Unlocks, Frees, Fits, table_behind}
+use Rattle.nfs_files.proofs.Effected.{kept_opens}
 
 -- bytes of one lock state move, and none of another's
 moved_apart : (held : FileHolders) (file n : ℕ) (g : Holders → Holders) → ((h : Holders) (s b : ℕ) → s ≢ n → g h s b ≡ h s b)
@@ -44,31 +44,21 @@ opened_apart c t a None e is other = open_new c t (opening.new_open t a) (t.last
 table_apart : (c : ℕ) (s : State) (client : ℕ) (e : Effect) → Fits s client e → client ≢ c → HasAsBefore c s.opens (table_behind s.opens e)
 table_apart c s client (Opens a) fits other =
     opened_apart c s.opens a (opening.own_open s.opens a) refl fits.table (is_other a.client client c fits.mine other)
-table_apart c s client (Narrows n access deny) fits other = open_changed c client s.opens n (opening.narrows access deny) other (λ o. refl) fits
+table_apart c s client (Narrows n access deny) fits other = open_changed c client s.opens n (opening.narrows access deny) other (λ o. refl) fits.mine
 table_apart c s client (Closes n file) fits other = open_gone c client s.opens n fits.table other fits.mine
 table_apart c s client (Locks n w) fits other = lock_changed c client s.opens n locking.raised
-    (on_file s.opens.held w.file (λ h. holding h n w.kind w.first w.last)) other (λ l. refl) fits (held_apart s.opens.held w n)
+    (on_file s.opens.held w.file (λ h. holding h n w.kind w.first w.last)) other (λ l. refl) fits.mine (held_apart s.opens.held w n)
 table_apart c s client (Begins opened owner w) fits other = lock_new c s.opens _
     (on_file s.opens.held w.file (λ h. holding h (s.opens.last + 1) w.kind w.first w.last)) fits.table (is_other w.client client c fits.mine other)
     (held_apart s.opens.held w (s.opens.last + 1))
-table_apart c s client (Unlocks n file first last) fits other = lock_changed c client s.opens n locking.raised
-    (on_file s.opens.held file (λ h. cleared h n first last)) other (λ l. refl) fits
-    (moved_apart s.opens.held file n (λ h. cleared h n first last) (λ h s b beside. cleared_other h n first last s b (λ named. absurd (beside (sym named)))))
-table_apart c s client (Frees n) fits other = lock_gone c client s.opens n other fits
+table_apart c s client (Unlocks n w) fits other = lock_changed c client s.opens n locking.raised
+    (on_file s.opens.held w.file (λ h. cleared h n w.first w.last)) other (λ l. refl) fits
+    (moved_apart s.opens.held w.file n (λ h. cleared h n w.first w.last)
+    (λ h s b beside. cleared_other h n w.first w.last s b (λ named. absurd (beside (sym named)))))
+table_apart c s client (Frees n) fits other = lock_gone c client s.opens n other fits.mine
 table_apart c s client e fits other = same c s.opens
-
--- what another has, by whoever's operation
-record Apart (c : ℕ) (s : State) (x : Context) (left : State) (behind : Context) : Type 0 where
-  pub own : HasAsBefore c s.opens left.opens
-  pub client : behind.client ≡ x.client
 
 pub item_apart : (c : ℕ) (refused : Bool) (s : State) (x : Context) (now : Time) (i : Item) → IsTable s.opens → x.client ≢ c
     → HasAsBefore c s.opens (comes_to refused s x now i).state.opens
-item_apart c refused s x now i table other = (kept_item {P = Apart c s x} s x (record {
-  effects = λ t y e fits is. record {
-    own = both c s.opens t.opens _ is.own
-        (subst (HasAsBefore c t.opens) (sym (opens_behind t e)) (table_apart c t y.client e (fits table) (is_other y.client x.client c is.client other)));
-    client = is.client;
-  };
-  handles = λ t y z same is. record { own = is.own; client = same ∙ is.client };
-}) (record { own = same c s.opens; client = refl }) refused now i).own
+item_apart c refused s x now i table other = kept_opens (HasAsBefore c s.opens) refused s x now i
+    (λ t e fits is. both c s.opens t.opens (table_behind t.opens e) is (table_apart c t x.client e (fits table) other)) (same c s.opens)

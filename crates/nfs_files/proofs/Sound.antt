@@ -80,7 +80,7 @@ was_open t n m e =
     let q = in_any (λ (o : OpenState). o.file == m) (filter (λ o. not (o.number == n)) t.opens) e in
     any_in (λ (o : OpenState). o.file == m) t.opens q.0 (in_filter (λ (o : OpenState). not (o.number == n)) t.opens q.0 q.1).0 q.2
 
-but_closed : (s : State) (client n file : ℕ) → IsClosing s client n file → IsStore s → IsStoreBut (with_opens s (without_open s.opens n)) file
+but_closed : (s : State) (client n file : ℕ) → IsClosing s.opens client n file → IsStore s → IsStoreBut (with_opens s (without_open s.opens n)) file
 but_closed s client n file closing is = record {
   used = λ m other there. used_open (m == root) (has_row s.tree.rows m) (list_any (λ o. o.file == m) s.opens.opens)
       (list_any (λ o. o.file == m) (without_open s.opens n).opens) (stays_open s.opens n file m closing.of_file other) (is.used m there);
@@ -102,11 +102,7 @@ store_kept s client (Closes n file) fits tree is = store_without (with_opens s (
 store_kept s client e fits tree is = store_opens s (table_behind s.opens e) (λ m. refl) is
 
 pub sound_item : (b : Bool) (s : State) (x : Context) (now : Time) (i : Item) → IsTree s.tree → IsTable s.opens → IsStore s → IsSound (comes_to b s x now i).state
-sound_item b s x now i tree table is =
-    kept_item {P = λ u y. IsSound u} s x (record {
-      effects = λ u y e fits sound. record {
-        tree = tree_kept u y.client e (fits table) sound.tree sound.store;
-        store = store_kept u y.client e (fits table) sound.tree sound.store;
-      };
-      handles = λ u y z same sound. sound;
-    }) (record { tree = tree; store = is }) b now i
+sound_item b s x now i tree table is = kept_item IsSound b s x now i (λ u e fits sound. record {
+  tree = tree_kept u x.client e (fits table) sound.tree sound.store;
+  store = store_kept u x.client e (fits table) sound.tree sound.store;
+}) (record { tree = tree; store = is })

@@ -1,5 +1,5 @@
 -- What no operation changes: how long a lease lasts. And numbers of opens and lock states stay below 2^64, since none is given behind the last.
-use Rattle.std.proofs.Common.{◌≡◌, ℕ, ◌≤◌, Bool, eqb, Option, Some, None, refl, sym, ◌∙◌, ap, subst, arith, inl, inr}
+use Rattle.std.proofs.Common.{◌≡◌, ℕ, ◌≤◌, Bool, eqb, Option, Some, None, refl, ◌∙◌, ap, arith, inl, inr}
 use Rattle.std.specs.Prelude.{is_none}
 use Rattle.std.specs.Option.{ForSome}
 use Rattle.std.specs.List.{list_any}
@@ -26,8 +26,8 @@ use Rattle.nfs_names.proofs.Ones.{each_of}
 use Rattle.nfs_names.proofs.Effects as names_effects
 use Rattle.nfs_names.proofs.Effects.{Removes, Moves}
 use Rattle.nfs_names.proofs.Effected as names_effected
-use Rattle.nfs_files.proofs.Effects.{Effect, Names, Opens, Begins, Closes, Fits, behind, table_behind, opens_behind}
-use Rattle.nfs_files.proofs.Effected.{kept_item}
+use Rattle.nfs_files.proofs.Effects.{Effect, Names, Opens, Begins, Closes, Fits, behind, table_behind}
+use Rattle.nfs_files.proofs.Effected.{kept_item, kept_opens}
 
 -- no number behind the last that there can be was given
 abbrev pub Few : Table → Type 0
@@ -57,8 +57,7 @@ lease_names refused s x now i = each_of (λ o. o.state.lease ≡ s.lease) (names
     (names_effects.of_states (λ t. t.lease ≡ s.lease) (λ t e fits is. name_lease t e ∙ is)) refused s x now i refl)
 
 pub lease_files : (refused : Bool) (s : State) (x : Context) (now : Time) (i : Item) → (comes_to refused s x now i).state.lease ≡ s.lease
-lease_files refused s x now i = kept_item {P = λ t y. t.lease ≡ s.lease} s x
-    (record { effects = λ t y e fits is. file_lease t e ∙ is; handles = λ t y z same is. is }) refl refused now i
+lease_files refused s x now i = kept_item (λ t. t.lease ≡ s.lease) refused s x now i (λ t e fits is. file_lease t e ∙ is) refl
 
 -- how many numbers were given
 
@@ -76,7 +75,4 @@ table_few s client (Begins opened owner w) fits few = let other = fits.left in o
 table_few s client e fits few = few
 
 pub few_files : (refused : Bool) (s : State) (x : Context) (now : Time) (i : Item) → IsTable s.opens → Few s.opens → Few (comes_to refused s x now i).state.opens
-few_files refused s x now i table few = kept_item {P = λ t y. Few t.opens} s x (record {
-  effects = λ t y e fits is. subst Few (sym (opens_behind t e)) (table_few t y.client e (fits table) is);
-  handles = λ t y z same is. is;
-}) few refused now i
+few_files refused s x now i table few = kept_opens Few refused s x now i (λ t e fits is. table_few t x.client e (fits table) is) few

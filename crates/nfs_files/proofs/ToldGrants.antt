@@ -28,7 +28,7 @@ use Rattle.nfs_results.specs.declared.res.Res.{Res}
 use Rattle.nfs_results.specs.Results.{spell_result, refusal, done_head, status_of_result}
 use Rattle.nfs_results.proofs.Lengths.{length_head, length_spelled}
 use Rattle.nfs_opens.specs.declared.stateid.StateId.{StateId}
-use Rattle.nfs_opens.specs.declared.stateid.CurrentSeqid.TheVariants.{Any, Own}
+use Rattle.nfs_opens.specs.declared.stateid.CurrentSeqid.TheVariants.{Own}
 use Rattle.nfs_opens.specs.declared.records.LockState.{LockState}
 use Rattle.nfs_opens.specs.declared.locking.Wish.{Wish}
 use Rattle.nfs_opens.specs.declared.locking.OpenFault.{OpenFault}
@@ -50,9 +50,9 @@ use Rattle.nfs_files.specs.declared.ranges.Wished.{Wished}
 use Rattle.nfs_files.specs.declared.target.Target.{Target}
 use Rattle.nfs_files.specs.StateIds.{wire_id, meant}
 use Rattle.nfs_files.specs.Target.{target, the_file}
-use Rattle.nfs_files.specs.Ranges.{wish, wished, wished_by}
+use Rattle.nfs_files.specs.Ranges.{wish, wished}
 use Rattle.nfs_files.specs.Operation.{grows}
-use Rattle.nfs_files.proofs.Effected.{wish_client}
+use Rattle.nfs_files.proofs.Wishes.{wish_is, lock_wish, unlock_wish}
 use Rattle.nfs_files.proofs.Outcomes.{one, one_or_delay}
 use Rattle.nfs_files.specs.Close.{spent, closes, close, closed}
 use Rattle.nfs_files.specs.Lock as of_lock
@@ -60,7 +60,7 @@ use Rattle.nfs_files.specs.LockU.{unlocking, unlocks, lock_u}
 use Rattle.nfs_files.specs.LockTold.{Names, LockTold}
 use Rattle.nfs_files.proofs.Inside.{Locks, Unlocks, Closes}
 use Rattle.nfs_files.specs.Laws.{ClashesAreRefused, ToldLocksAreHeld}
-use Rattle.nfs_files.proofs.KeptOps.{reclaim_parts, id_parts, lock_ok, clashing}
+use Rattle.nfs_files.proofs.KeptOps.{lock_ok, clashing}
 use Rattle.nfs_files.proofs.ToldLocks.{granted_held, left_by}
 use Rattle.nfs_files.proofs.Steady.{Few}
 
@@ -206,7 +206,7 @@ lock_tells s x now refused a n w table few locks ok =
     let r : (one_or_delay refused s x now (Op.Lock a)).result ≡ Res.Lock (wire_id locks.did.0) =
     ok_same (grows s x (Op.Lock a) && refused) s x Num.Lock (one s x now (Op.Lock a)) refl ok ∙ lock_result s x now a m locks.did judged granted in
     record {
-      wish = reclaim_parts x a (wished s x a.locktype a.offset a.length) (of_lock.stateid_in a.locker) m judged;
+      wish = lock_wish s x a m judged;
       names = subst (Names Num.Lock (spell_result (one_or_delay refused s x now (Op.Lock a)).result)) locks.state
           (names_text Num.Lock _ locks.did.0 (ap spell_result r ∙ lock_spelled locks.did.0) small);
     }
@@ -223,7 +223,7 @@ lock_grants_told s x now refused a n w table few wish names =
     by_answer : (m : Wished) → of_lock.locking s x a ≡ Ok m → (v : Result (StateId × Table) OpenFault) → of_lock.locks_as s.opens a.locker m.id m.wish ≡ v
         → Names Num.Lock (spell_result (of_lock.locked s x v).result) n → Locks s x (Op.Lock a) n w
     by_answer m judged (Ok did) granted told =
-        let same : m.wish ≡ w = ok_is (reclaim_parts x a (wished s x a.locktype a.offset a.length) (of_lock.stateid_in a.locker) m judged) wish in
+        let same : m.wish ≡ w = ok_is (lock_wish s x a m judged) wish in
         let small = (lock_clients s.opens a.locker m.id m.wish did table few granted).small in
         subst (Locks s x (Op.Lock a) n) same (record {
           asked = a;
@@ -254,10 +254,6 @@ unlocked_id t id client file first last did table few its =
     let below = bounds.1 in
     (ap (λ (i : StateId). i.number) its.answer, omega arith)
 
-unlock_wish : (x : Context) (a : LockU) (v : Result Wish Status) (m : Wished) → wished_by x a.lock_stateid v ≡ Ok m → v ≡ Ok m.wish
-unlock_wish x a (Err status) m e = absurd cc
-unlock_wish x a (Ok w) m e = ap Ok (id_parts m (λ (k : Wished). k.wish) _ w (λ id. refl) (meant x Any a.lock_stateid) e)
-
 unlock_result : (s : State) (x : Context) (now : Time) (a : LockU) (m : Wished) (did : StateId × Table) → unlocking s x a ≡ Ok m
     → locking.unlock s.opens m.id m.wish.client m.wish.file m.wish.first m.wish.last ≡ Ok did → (one s x now (Op.LockU a)).result ≡ Res.LockU (wire_id did.0)
 unfolding lock_u
@@ -279,7 +275,7 @@ unlock_tells s x now refused a n w table few unlocks ok =
     let number = id.0 in
     let low = id.1 in
     record {
-      wish = unlock_wish x a (wished s x a.locktype a.offset a.length) m judged;
+      wish = unlock_wish s x a m judged;
       names = subst (Names Num.LockU (spell_result (one_or_delay refused s x now (Op.LockU a)).result)) (number ∙ unlocks.state)
           (names_text Num.LockU _ unlocks.did.0 (ap spell_result r ∙ unlock_spelled unlocks.did.0) (omega arith));
     }
@@ -380,7 +376,7 @@ told_client s x now refused a n w table few wish names l there number =
     let done = told_done s x now refused a n w table few wish names in
     (lock_clients s.opens a.locker done.id w done.did table few done.granted).client l (subst (λ (t : Table). In l t.locks) done.left there)
     (number ∙ sym done.number)
-    ∙ wish_client s x a.locktype a.offset a.length w wish
+    ∙ (wish_is s x a.locktype a.offset a.length w wish).client
 
 pub told_held : ToldLocksAreHeld
 told_held s x now refused a n w table few wish names b lo hi =

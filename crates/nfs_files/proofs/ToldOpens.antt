@@ -14,8 +14,6 @@ use Rattle.nfs_xdr.specs.declared.status.Status.TheVariants.{Inval, Delay}
 use Rattle.nfs_xdr.proofs.Checks.{all_passed}
 use Rattle.nfs_xdr.proofs.Lists.{find_in, none_any, map_in, push_in, last_in, stays_in, find_push_none}
 use Rattle.nfs_xdr.proofs.Tables.{in_bounds}
-use Rattle.nfs_compound.specs.Arguments.{arguments}
-use Rattle.nfs_compound.specs.declared.lock_args.Lock as args
 use Rattle.nfs_compound.specs.declared.open_args.Open.{Open}
 use Rattle.nfs_compound.specs.declared.open_args.OpenClaim.{OpenClaim}
 use Rattle.nfs_compound.specs.declared.open_args.OpenClaim.TheVariants.{Null, Fh}
@@ -23,18 +21,16 @@ use Rattle.nfs_compound.specs.Stateid.{stateid}
 use Rattle.nfs_compound.specs.declared.op_num.OpNum.{OpNum}
 use Rattle.nfs_compound.specs.declared.op_num.OpNum.TheVariants as Num
 use Rattle.nfs_compound.specs.OpNum.{op_number}
-use Rattle.nfs_compound.specs.declared.stateid.Stateid.{Stateid}
-use Rattle.nfs_compound.specs.declared.lock_args.LockU.{LockU}
-use Rattle.nfs_compound.specs.declared.open_args.Close.{Close}
 use Rattle.nfs_compound.specs.declared.open_args.OpenDowngrade.{OpenDowngrade}
 use Rattle.nfs_compound.specs.declared.op.Op.{Op}
+use Rattle.nfs_compound.specs.declared.op.Item.{Item}
 use Rattle.nfs_compound.specs.declared.op.Item.TheVariants.{Operation}
 use Rattle.nfs_results.specs.declared.res.ChangeInfo.{ChangeInfo}
 use Rattle.nfs_results.specs.Items.{open_ok}
+use Rattle.nfs_results.specs.declared.res.Res.{Res}
 use Rattle.nfs_results.specs.declared.res.Res.TheVariants as Res
 use Rattle.nfs_results.specs.Results.{spell_result, done_head, status_of_result}
 use Rattle.nfs_results.proofs.Lengths.{length_spelled}
-use Rattle.nfs_ranges.specs.declared.Held.{Held}
 use Rattle.nfs_tree.specs.declared.object.Object.{Object}
 use Rattle.nfs_tree.specs.declared.row.Row.{Row}
 use Rattle.nfs_tree.specs.declared.sets.Sets.{Sets}
@@ -44,7 +40,6 @@ use Rattle.nfs_tree.proofs.RowsKept.{entry_self}
 use Rattle.nfs_opens.specs.declared.share.Share.{Share}
 use Rattle.nfs_opens.specs.declared.stateid.StateId.{StateId}
 use Rattle.nfs_opens.specs.declared.records.OpenState.{OpenState}
-use Rattle.nfs_opens.specs.declared.locking.Wish.{Wish}
 use Rattle.nfs_opens.specs.Share.{meets, joined}
 use Rattle.nfs_opens.specs.StateId.{last_number}
 use Rattle.nfs_opens.specs.Table.{Table, Asked, is_own, is_owners, clashes_with, with_open}
@@ -52,94 +47,39 @@ use Rattle.nfs_opens.specs.Calls.{open_fault, open_checks}
 use Rattle.nfs_opens.specs.TableInvariants.{IsTable}
 use Rattle.nfs_opens.specs.Closing as closing
 use Rattle.nfs_opens.specs.Opening as opening
-use Rattle.nfs_opens.specs.Locking as locking
 use Rattle.nfs_names.specs.declared.context.Context.{Context}
 use Rattle.nfs_names.specs.declared.node.Node.{Node}
 use Rattle.nfs_names.specs.declared.making.Making.{Making}
 use Rattle.nfs_names.specs.State.{State}
-use Rattle.nfs_names.specs.Ending.{with_opens}
 use Rattle.nfs_names.specs.Checks.{node_as, node_at, current}
 use Rattle.nfs_names.specs.Create.{attributes_in}
 use Rattle.nfs_names.specs.Outcome.{Outcome, refuses, checked, mapped, or_delay, is_ok}
 use Rattle.nfs_names.proofs.Found.{came, checked_ok, ok_is}
-use Rattle.nfs_names.proofs.Ones.{by_delay}
-use Rattle.nfs_names.proofs.Untouched.{unused_opens}
 use Rattle.nfs_files.specs.declared.target.Target.{Target}
 use Rattle.nfs_files.specs.declared.opening.Found.{Found}
 use Rattle.nfs_files.specs.declared.opening.Found.TheVariants.{There, Absent}
 use Rattle.nfs_files.specs.StateIds.{wire_id}
-use Rattle.nfs_files.specs.Operation.{grows}
-use Rattle.nfs_files.proofs.Outcomes.{one, one_or_delay}
-use Rattle.nfs_files.specs.Close.{close}
-use Rattle.nfs_files.specs.Commit.{commit}
-use Rattle.nfs_files.specs.FreeStateid.{free_stateid}
-use Rattle.nfs_files.specs.Lock as of_lock
-use Rattle.nfs_files.specs.LockT.{tested, lock_t}
-use Rattle.nfs_files.specs.LockU.{lock_u}
+use Rattle.nfs_files.proofs.Outcomes.{one_or_delay, comes_to}
 use Rattle.nfs_files.specs.Open as of_open
 use Rattle.nfs_files.specs.Open.{access_of, deny_of}
 use Rattle.nfs_files.specs.OpenDowngrade.{bits, narrowed, open_downgrade}
-use Rattle.nfs_files.specs.Read.{read}
-use Rattle.nfs_files.specs.SetAttr.{was_set, set_attr}
-use Rattle.nfs_files.specs.TestStateid.{test_stateid}
-use Rattle.nfs_files.specs.Write.{was_written, write}
 use Rattle.nfs_files.specs.OpenTold.{names_open, OpenTold, Bits, bits_with, bits_had, bits_behind, IsOpenWith, named_in, claimed, forbids}
 use Rattle.nfs_files.specs.OpenLaws.{IsToldOpen, ToldOpensStand, ForbiddenOpensAreRefused}
 use Rattle.nfs_files.proofs.Inside.{Closes}
-use Rattle.nfs_opens.proofs.CallLaws.{IsLocked, IsNarrowed}
-use Rattle.nfs_files.proofs.OpensMoved.{answered, by_close, by_free, by_downgrade, by_lock, by_unlock}
-use Rattle.nfs_files.proofs.KeptOps.{found, close_ok}
+use Rattle.nfs_opens.proofs.CallLaws.{IsNarrowed}
+use Rattle.nfs_files.proofs.OpensMoved.{answered, by_downgrade}
+use Rattle.nfs_files.proofs.Effects as effects
+use Rattle.nfs_files.proofs.Effects.{Effect, Caused, table_behind}
+use Rattle.nfs_files.proofs.Effected.{caused_opens}
 use Rattle.nfs_files.proofs.Opened.{shared_free}
 use Rattle.nfs_files.proofs.Steady.{Few}
 
--- What moves no open.
+-- What moves no bits.
 
-abbrev Alike : State → State → Type 0
-Alike s u = u.opens.opens ≡ s.opens.opens
-
-free_alike : (s : State) (x : Context) (given : Stateid) → Alike s (free_stateid s x given).state
-free_alike s x given = by_free (λ o. Alike s o.state) s x given (λ status. refl) (λ id did freed. refl)
-
-locked_alike : (t : Table) (w : Wish) (did : StateId × Table) → IsLocked t w did → did.1.opens ≡ t.opens
-locked_alike t w did (inl more) = ap (λ (u : Table). u.opens) more.left
-locked_alike t w did (inr first) = ap (λ (u : Table). u.opens) first.left
-
-lock_alike : (s : State) (x : Context) (a : args.Lock) → Alike s (of_lock.lock s x a).state
-lock_alike s x a = by_lock (λ o. Alike s o.state) s x a (λ status. refl) (λ h. refl) (λ m did judged granted locked. locked_alike s.opens m.wish did locked)
-
-lock_u_alike : (s : State) (x : Context) (a : LockU) → Alike s (lock_u s x a).state
-lock_u_alike s x a = by_unlock (λ o. Alike s o.state) s x a (λ status. refl) (λ m did judged granted its. ap (λ (u : Table). u.opens) its.left)
-
-tested_alike : (s : State) (x : Context) (o : Option Held) → Alike s (tested s x o).state
-tested_alike s x None = refl
-tested_alike s x (Some h) = refl
-
-abbrev moves_bits : Op → Bool
-moves_bits (Op.Close a) = true
-moves_bits (Op.Open a) = true
-moves_bits (Op.OpenDowngrade a) = true
-moves_bits op = false
-
-one_alike : (s : State) (x : Context) (now : Time) (op : Op) → moves_bits op ≡ false → Alike s (one s x now op).state
-unfolding commit lock_t read set_attr test_stateid write
-one_alike s x now (Op.Close a) e = absurd (true≢false e)
-one_alike s x now (Op.Open a) e = absurd (true≢false e)
-one_alike s x now (Op.OpenDowngrade a) e = absurd (true≢false e)
-one_alike s x now (Op.Commit a) e = found (Alike s) s x Num.Commit _ _ refl (λ d e. refl)
-one_alike s x now (Op.FreeStateid given) e = free_alike s x given
-one_alike s x now (Op.Lock a) e = lock_alike s x a
-one_alike s x now (Op.LockT a) e = found (Alike s) s x Num.LockT _ _ refl (λ w e. tested_alike s x (locking.test_lock s.opens a.owner.owner w))
-one_alike s x now (Op.LockU a) e = lock_u_alike s x a
-one_alike s x now (Op.Read a) e = found (Alike s) s x Num.Read _ _ refl (λ d e. refl)
-one_alike s x now (Op.SetAttr a) e = found (Alike s) s x Num.SetAttr _ (was_set s x now a) refl (λ m e. refl)
-one_alike s x now (Op.TestStateid given) e = refl
-one_alike s x now (Op.Write a) e = found (Alike s) s x Num.Write _ (was_written s x now a) refl (λ d e. refl)
-one_alike s x now op e = refl
-
-other_bits : (n : ℕ) (op : Op) (text : List ℕ) (b : Bits) → moves_bits op ≡ false → bits_behind n (Operation op) text b ≡ b
-other_bits n (Op.Open a) text b e = absurd (true≢false e)
-other_bits n (Op.OpenDowngrade a) text b e = absurd (true≢false e)
-other_bits n op text b e = refl
+abbrev moves_bits : Item → Bool
+moves_bits (Operation (Op.Open a)) = true
+moves_bits (Operation (Op.OpenDowngrade a)) = true
+moves_bits i = false
 
 pub same_opens : (k : OpenTold) (b : Bits) (t u : Table) → u.opens ≡ t.opens → IsOpenWith k b t → IsOpenWith k b u
 same_opens k b t u same is = record {
@@ -283,22 +223,32 @@ pushed_left k b t new last is = record {
   deny = is.deny;
 }
 
--- CLOSE
+-- What moves no bits leaves it, unless it closed it.
 
-close_left : (k : OpenTold) (b : Bits) (s : State) (x : Context) (a : Close) → ((n : ℕ) → Closes s x (Op.Close a) n → n ≢ k.number)
-    → IsOpenWith k b s.opens → IsOpenWith k b (close s x a).state.opens
-close_left k b s x a spares is = by_close (λ o. IsOpenWith k b o.state.opens) s x a (λ status. is) (λ t did judged granted its.
-    subst (IsOpenWith k b) (sym (unused_opens (with_opens s (closing.without_open s.opens t.id.number)) t.file))
-    (closed_left k b s.opens t.id.number
-    (spares t.id.number (record { asked = a; file = t.file; id = t.id; did = did; is = refl; judged = judged; granted = granted; opened = refl })) is))
+effect_left : (k : OpenTold) (b : Bits) (s : State) (x : Context) (op : Op) (r : Res) (t : State) (e : Effect) → moves_bits (Operation op) ≡ false
+    → ((n : ℕ) → Closes s x op n → n ≢ k.number) → Caused s x op r t e → IsOpenWith k b t.opens → IsOpenWith k b (table_behind t.opens e)
+effect_left k b s x op r t (effects.Opens a) other spares caused is =
+    let (f, opens) = caused.cause in absurd (true≢false (sym (ap (λ op. moves_bits (Operation op)) opens.is) ∙ other))
+effect_left k b s x op r t (effects.Narrows n access deny) other spares caused is =
+    absurd (true≢false (sym (ap (λ op. moves_bits (Operation op)) caused.cause.1) ∙ other))
+effect_left k b s x op r t (effects.Closes n file) other spares caused is = closed_left k b t.opens n (spares n caused.cause) is
+effect_left k b s x op r t e other spares caused is = same_opens k b t.opens (table_behind t.opens e) refl is
+
+abbrev pub ClosesNot : OpenTold → State → Context → Item → Outcome → Type 0
+ClosesNot k s x i o = is_ok (status_of_result o.result) ≡ true → (op : Op) → i ≡ Operation op → (n : ℕ) → Closes s x op n → n ≢ k.number
+
+unmoved_left : (k : OpenTold) (b : Bits) (refused : Bool) (s : State) (x : Context) (now : Time) (i : Item) → moves_bits i ≡ false
+    → ClosesNot k s x i (comes_to refused s x now i) → IsOpenWith k b s.opens → IsOpenWith k b (comes_to refused s x now i).state.opens
+unmoved_left k b refused s x now i stays spares is = caused_opens (IsOpenWith k b) refused s x now i (λ op same t e caused is.
+    effect_left k b s x op (comes_to refused s x now i).result t e (sym (ap moves_bits same) ∙ stays) (spares caused.ok op same) caused is) is
 
 -- OPEN_DOWNGRADE
 
-abbrev LeftBy : OpenTold → Bits → Op → Outcome → Type 0
-LeftBy k b op o = IsOpenWith k (bits_behind k.number (Operation op) (spell_result o.result) b) o.state.opens
+abbrev pub LeftBy : OpenTold → Bits → Item → Outcome → Type 0
+LeftBy k b i o = IsOpenWith k (bits_behind k.number i (spell_result o.result) b) o.state.opens
 
 downgrade_refused : (k : OpenTold) (b : Bits) (s : State) (x : Context) (a : OpenDowngrade) → IsOpenWith k b s.opens
-    → (status : Status) → LeftBy k b (Op.OpenDowngrade a) (refuses s x Num.OpenDowngrade status)
+    → (status : Status) → LeftBy k b (Operation (Op.OpenDowngrade a)) (refuses s x Num.OpenDowngrade status)
 downgrade_refused k b s x a is status =
     subst (λ v. IsOpenWith k (cond v (record { access = bits a.share_access; deny = bits a.share_deny }) b) s.opens)
     (sym (short_names_none Num.OpenDowngrade (op_number Num.OpenDowngrade) status k.number)) is
@@ -308,7 +258,7 @@ narrow_mild access deny = record { number = λ o. refl; client = λ o. refl; own
 
 narrowed_left : (k : OpenTold) (b : Bits) (s : State) (x : Context) (a : OpenDowngrade) (t : Target) (did : StateId × Table) → IsTable s.opens → Few s.opens
     → IsOpenWith k b s.opens → IsNarrowed s.opens t.id x.client t.file (bits a.share_access) (bits a.share_deny) did
-    → LeftBy k b (Op.OpenDowngrade a) (narrowed s x did.0 (with_open s.opens t.id.number (opening.narrows (bits a.share_access) (bits a.share_deny))))
+    → LeftBy k b (Operation (Op.OpenDowngrade a)) (narrowed s x did.0 (with_open s.opens t.id.number (opening.narrows (bits a.share_access) (bits a.share_deny))))
 narrowed_left k b s x a t did table few is its =
     let n = t.id.number in
     let access = bits a.share_access in
@@ -324,14 +274,14 @@ narrowed_left k b s x a t did table few is its =
     (n == k.number) refl (narrow_mild access deny) (λ o access deny. (refl, refl)) is)
 
 downgrade_left : (k : OpenTold) (b : Bits) (s : State) (x : Context) (a : OpenDowngrade) → IsTable s.opens → Few s.opens → IsOpenWith k b s.opens
-    → LeftBy k b (Op.OpenDowngrade a) (open_downgrade s x a)
-downgrade_left k b s x a table few is = by_downgrade (LeftBy k b (Op.OpenDowngrade a)) s x a (downgrade_refused k b s x a is)
+    → LeftBy k b (Operation (Op.OpenDowngrade a)) (open_downgrade s x a)
+downgrade_left k b s x a table few is = by_downgrade (LeftBy k b (Operation (Op.OpenDowngrade a))) s x a (downgrade_refused k b s x a is)
     (λ t did its. narrowed_left k b s x a t did table few is its)
 
 -- OPEN
 
 open_refused : (k : OpenTold) (b : Bits) (s : State) (x : Context) (a : Open) → IsOpenWith k b s.opens
-    → (status : Status) → LeftBy k b (Op.Open a) (refuses s x Num.Open status)
+    → (status : Status) → LeftBy k b (Operation (Op.Open a)) (refuses s x Num.Open status)
 open_refused k b s x a is status =
     subst (λ v. IsOpenWith k (cond v (bits_with b a) b) s.opens) (sym (short_names_none Num.Open (op_number Num.Open) status k.number)) is
 
@@ -376,7 +326,7 @@ abbrev pub asking : State → Context → Open → Found → Asked
 asking s x a f = of_open.asking x a (of_open.file_of s.tree f)
 
 opened_left : (k : OpenTold) (b : Bits) (s : State) (x : Context) (now : Time) (a : Open) (f : Found) → IsTable s.opens → Few s.opens
-    → IsFree s.opens (asking s x a f) → IsOpenWith k b s.opens → LeftBy k b (Op.Open a) (of_open.opened s x now a f)
+    → IsFree s.opens (asking s x a f) → IsOpenWith k b s.opens → LeftBy k b (Operation (Op.Open a)) (of_open.opened s x now a f)
 opened_left k b s x now a f table few free is =
     let asked = asking s x a f in
     let did = opening.opens s.opens asked in
@@ -385,39 +335,28 @@ opened_left k b s x now a f table few free is =
     (opens_left k b s.opens asked (opening.own_open s.opens asked) table refl is)
 
 open_left : (k : OpenTold) (b : Bits) (s : State) (x : Context) (now : Time) (a : Open) → IsTable s.opens → Few s.opens → IsOpenWith k b s.opens
-    → LeftBy k b (Op.Open a) (of_open.open_file s x now a)
+    → LeftBy k b (Operation (Op.Open a)) (of_open.open_file s x now a)
 unfolding of_open.open_file
 open_left k b s x now a table few is =
-    answered (LeftBy k b (Op.Open a)) s x Num.Open (checked (of_open.asked_for s x a) (of_open.last_checks s x a)) (of_open.opened s x now a)
+    answered (LeftBy k b (Operation (Op.Open a))) s x Num.Open (checked (of_open.asked_for s x a) (of_open.last_checks s x a)) (of_open.opened s x now a)
     (open_refused k b s x a is) (λ f granted.
     (let p = checked_ok (of_open.asked_for s x a) (of_open.last_checks s x a) f granted in
     opened_left k b s x now a f table few (free_of s.opens (asking s x a f) (shared_free s x a f p.1)) is))
 
-delayed_left : (k : OpenTold) (b : Bits) (v : Bool) (s : State) (x : Context) (a : Open) (o : Outcome) → IsOpenWith k b s.opens → LeftBy k b (Op.Open a) o
-    → LeftBy k b (Op.Open a) (or_delay v s x Num.Open o)
+delayed_left : (k : OpenTold) (b : Bits) (v : Bool) (s : State) (x : Context) (a : Open) (o : Outcome) → IsOpenWith k b s.opens → LeftBy k b (Operation (Op.Open a)) o
+    → LeftBy k b (Operation (Op.Open a)) (or_delay v s x Num.Open o)
 delayed_left k b v s x a o is left = elim (cases_Bool (v && is_ok (status_of_result o.result))) [
   | inl delayed ↦ rw delayed (open_refused k b s x a is Delay)
   | inr other ↦ rw other left
 ]
 
 -- By the operation: an open stands behind it, with the bits that it has then, unless it closed it.
-pub told_open_left : (k : OpenTold) (b : Bits) (refused : Bool) (s : State) (x : Context) (now : Time) (op : Op) → IsTable s.opens → Few s.opens
-    → (is_ok (status_of_result (one_or_delay refused s x now op).result) ≡ true → (n : ℕ) → Closes s x op n → n ≢ k.number) → IsOpenWith k b s.opens
-    → LeftBy k b op (one_or_delay refused s x now op)
-told_open_left k b refused s x now (Op.Close a) table few spares is = close_left k b s x a (λ n closes.
-    spares (subst (λ o. is_ok (status_of_result (one s x now o).result) ≡ true) (sym closes.is)
-    (close_ok s x now closes.asked closes.file closes.id closes.did closes.judged closes.granted)) n closes) is
-told_open_left k b refused s x now (Op.OpenDowngrade a) table few spares is = downgrade_left k b s x a table few is
-told_open_left k b refused s x now (Op.Open a) table few spares is =
+pub told_open_left : (k : OpenTold) (b : Bits) (refused : Bool) (s : State) (x : Context) (now : Time) (i : Item) → IsTable s.opens → Few s.opens
+    → ClosesNot k s x i (comes_to refused s x now i) → IsOpenWith k b s.opens → LeftBy k b i (comes_to refused s x now i)
+told_open_left k b refused s x now (Operation (Op.OpenDowngrade a)) table few spares is = downgrade_left k b s x a table few is
+told_open_left k b refused s x now (Operation (Op.Open a)) table few spares is =
     delayed_left k b refused s x a (of_open.open_file s x now a) is (open_left k b s x now a table few is)
-told_open_left k b refused s x now op table few spares is = elim (cases_Bool (moves_bits op)) [
-  | inl moves ↦ absurd cc
-  | inr stays ↦
-      (let o = one_or_delay refused s x now op in
-      subst (λ c. IsOpenWith k c o.state.opens) (sym (other_bits k.number op (spell_result o.result) b stays))
-      (by_delay (λ o. IsOpenWith k b o.state.opens) (grows s x op && refused) s x (arguments op).op (one s x now op) is
-      (same_opens k b s.opens (one s x now op).state.opens (one_alike s x now op stays) is)))
-]
+told_open_left k b refused s x now i table few spares is = unmoved_left k b refused s x now i refl spares is
 
 -- What an OPEN that answers a stateid did.
 

@@ -1,5 +1,5 @@
 -- A byte that lasts, through each operation.
-use Rattle.std.proofs.Common.{◌≡◌, ℕ, ◌+◌, ◌<◌, ◌^◌, Bool, true, false, cond, ltb, List, ◌++◌, length, Option, Some, None, refl, sym, ◌∙◌, ap, subst, arith, inl, inr}
+use Rattle.std.proofs.Common.{◌≡◌, ℕ, ◌+◌, ◌<◌, ◌≤◌, ◌⊎◌, ◌^◌, Bool, true, false, cond, ltb, List, ◌++◌, length, Option, Some, None, refl, sym, ◌∙◌, ap, subst, arith, inl, inr}
 use Rattle.std.specs.Prelude.{◌==◌, ◌&&◌, Result, Ok, Err}
 use Rattle.std.specs.Int.{w32, from_be_bytes}
 use Rattle.std.specs.Option.{option_map_or}
@@ -12,8 +12,6 @@ use Rattle.nfs_xdr.specs.declared.status.Status.{Status}
 use Rattle.nfs_xdr.specs.declared.status.Status.TheVariants.{Inval}
 use Rattle.nfs_xdr.proofs.Checks.{all_passed}
 use Rattle.nfs_xdr.proofs.Putting.{length_number}
-use Rattle.nfs_compound.specs.declared.lock_args.Lock as locks
-use Rattle.nfs_compound.specs.Arguments.{arguments}
 use Rattle.nfs_compound.specs.declared.attributes.Attributes.{Attributes}
 use Rattle.nfs_compound.specs.declared.file_args.Write.{Write}
 use Rattle.nfs_compound.specs.declared.file_args.SetAttr.{SetAttr}
@@ -23,28 +21,23 @@ use Rattle.nfs_compound.specs.declared.open_args.OpenHow.TheVariants.{NoCreate, 
 use Rattle.nfs_compound.specs.declared.open_args.CreateHow.TheVariants.{Unchecked, Guarded, Exclusive, Exclusive41}
 use Rattle.nfs_compound.specs.declared.open_args.OpenClaim.{OpenClaim}
 use Rattle.nfs_compound.specs.declared.open_args.OpenClaim.TheVariants.{Null, Previous, DelegateCur, DelegatePrev, Fh, DelegCurFh, DelegPrevFh}
-use Rattle.nfs_compound.specs.declared.stateid.Stateid.{Stateid}
-use Rattle.nfs_compound.specs.declared.lock_args.LockU.{LockU}
-use Rattle.nfs_compound.specs.declared.open_args.Close.{Close}
-use Rattle.nfs_compound.specs.declared.open_args.OpenDowngrade.{OpenDowngrade}
 use Rattle.nfs_compound.specs.declared.op_num.OpNum.{OpNum}
+use Rattle.nfs_compound.specs.declared.stateid.Stateid.{Stateid}
 use Rattle.nfs_compound.specs.declared.op_num.OpNum.TheVariants as Num
 use Rattle.nfs_compound.specs.declared.op.Op.{Op}
 use Rattle.nfs_compound.specs.declared.op.Item.{Item}
-use Rattle.nfs_compound.specs.declared.op.Item.TheVariants.{Operation, Fault}
+use Rattle.nfs_compound.specs.declared.op.Item.TheVariants.{Operation}
 use Rattle.nfs_results.specs.Items as item
+use Rattle.nfs_results.specs.declared.res.Res.{Res}
 use Rattle.nfs_results.specs.declared.res.Res.TheVariants as Res
 use Rattle.nfs_results.specs.declared.res.WriteOk.{WriteOk}
 use Rattle.nfs_results.specs.Results.{spell_result, done_head}
-use Rattle.nfs_ranges.specs.declared.Held.{Held}
 use Rattle.nfs_tree.specs.declared.object.Object.{Object}
-use Rattle.nfs_tree.specs.Object.{no_sets}
 use Rattle.nfs_tree.specs.Files.{object_at, lookup as looked_up, named}
 use Rattle.nfs_tree.specs.Bytes.{has_bytes}
 use Rattle.nfs_tree.specs.Names.{with_moved, without_name}
 use Rattle.nfs_attrs.specs.declared.wanted.Wanted.{Wanted}
 use Rattle.nfs_opens.specs.Closing as closing
-use Rattle.nfs_opens.specs.Locking as locking
 use Rattle.nfs_names.specs.declared.context.Context.{Context}
 use Rattle.nfs_names.specs.declared.node.Node.{Node}
 use Rattle.nfs_names.specs.declared.making.Making.{Making}
@@ -56,34 +49,23 @@ use Rattle.nfs_names.specs.Create.{attributes_in}
 use Rattle.nfs_names.specs.Rename.{without_replaced}
 use Rattle.nfs_names.proofs.Found.{came, ok_is, checked_ok}
 use Rattle.nfs_names.specs.Operation as names
-use Rattle.nfs_names.proofs.Ones.{by_delay, each_of}
+use Rattle.nfs_names.proofs.Ones.{each_of}
 use Rattle.nfs_names.proofs.Effects as names_effects
 use Rattle.nfs_names.proofs.Effects.{Makes, Links, Removes, Moves}
 use Rattle.nfs_names.proofs.Effected.{kept_item}
-use Rattle.nfs_files.specs.declared.opening.Found.{Found}
 use Rattle.nfs_files.specs.declared.opening.Found.TheVariants.{There, Absent}
 use Rattle.nfs_files.specs.declared.setting.Setting.{Setting}
 use Rattle.nfs_files.specs.Bytes.{file_checks, writing, may_use, writable}
-use Rattle.nfs_files.specs.Operation.{grows}
-use Rattle.nfs_files.proofs.Outcomes.{one, comes_to}
-use Rattle.nfs_files.specs.Close.{close}
-use Rattle.nfs_files.specs.Commit.{commit}
-use Rattle.nfs_files.specs.FreeStateid.{free_stateid}
-use Rattle.nfs_files.specs.Lock as of_lock
-use Rattle.nfs_files.specs.LockT.{tested, lock_t}
-use Rattle.nfs_files.specs.LockU.{lock_u}
+use Rattle.nfs_files.proofs.Outcomes.{comes_to}
+use Rattle.nfs_files.proofs.Effects.{Effect, Names, Writes, Resizes, Changes, Closes, SetsOf, OpensEmpty, Caused, behind}
+use Rattle.nfs_files.proofs.Effected.{caused_item}
 use Rattle.nfs_files.specs.Open as of_open
 use Rattle.nfs_files.specs.Open.{makes, access_of, place_checks, there_checks, absent_checks, cuts, by_handle}
-use Rattle.nfs_files.specs.OpenDowngrade.{open_downgrade}
-use Rattle.nfs_files.specs.Read.{read}
 use Rattle.nfs_files.specs.SetAttr as of_set
-use Rattle.nfs_files.specs.TestStateid.{test_stateid}
 use Rattle.nfs_files.specs.Write as of_write
 use Rattle.nfs_files.specs.Written.{Byte, Lasts, Spares, NamesLeaveBytes}
 use Rattle.nfs_files.proofs.Passing.{if_passed_ok, mapped_came}
-use Rattle.nfs_files.proofs.KeptOps.{found}
 use Rattle.nfs_files.proofs.WrittenTrees.{lasts_new, lasts_link, lasts_without, lasts_moved, lasts_rest, lasts_forget, lasts_changed, lasts_written, lasts_resized}
-use Rattle.nfs_files.proofs.OpensMoved.{by_close, by_free, by_downgrade, by_lock, by_unlock}
 
 -- an object that goes for want of use
 lasts_unused : (b : Byte) (s : State) (n : ℕ) → Lasts b s.tree → Lasts b (without_unused s n).tree
@@ -102,17 +84,17 @@ lasts_replaced : (b : Byte) (s : State) (o : Option ℕ) → LastsIn b s → Las
 lasts_replaced b s None is = is
 lasts_replaced b s (Some n) is = lasts_unused b s n is
 
-lasts_effect : (b : Byte) → names_effects.Each (LastsIn b)
-lasts_effect b s (Makes d name new sets now) fits is = lasts_new b s.tree d name new sets now is
-lasts_effect b s (Links n d name now) fits is = lasts_link b s.tree n d name now is
-lasts_effect b s (Removes d name now) fits is =
+names_last : (b : Byte) (s : State) (e : names_effects.Effect) → LastsIn b s → LastsIn b (names_effects.behind s e)
+names_last b s (Makes d name new sets now) is = lasts_new b s.tree d name new sets now is
+names_last b s (Links n d name now) is = lasts_link b s.tree n d name now is
+names_last b s (Removes d name now) is =
     lasts_unused b (with_tree s (without_name s.tree d name now)) (named s.tree d name) (lasts_without b s.tree d name now is)
-lasts_effect b s (Moves m now) fits is =
+names_last b s (Moves m now) is =
     lasts_replaced b (with_tree s (with_moved s.tree m now)) (looked_up s.tree m.target m.name) (lasts_moved b s.tree m now is)
 
 pub names_leave_bytes : NamesLeaveBytes
 names_leave_bytes b refused s x now i is = each_of (λ o. LastsIn b o.state) (names.comes_to refused s x now i)
-    (kept_item (λ s x. LastsIn b s) (names_effects.of_states (LastsIn b) (lasts_effect b)) refused s x now i is)
+    (kept_item (λ s x. LastsIn b s) (names_effects.of_states (LastsIn b) (λ s e fits is. names_last b s e is)) refused s x now i is)
 
 -- Files: the object of the current filehandle.
 
@@ -157,35 +139,6 @@ few_written s w d none some =
     let most = ltb-false _ _ (guarded (has_bytes w.bytes) (ltb 1048576 (w.offset + length w.bytes)) checks.0 some) in
     omega arith
 
-abbrev LeftBy : Byte → State → Context → Item → Outcome → Type 0
-LeftBy b s x i o = Spares b s x i (spell_result o.result) → Lasts b o.state.tree
-
-written_left : (b : Byte) (s : State) (x : Context) (now : Time) (w : Write) (d : Node) → writable s x w.stateid (current s x) ≡ Ok d
-    → first_fault (of_write.last_checks s w d) ≡ None → LastsIn b s → LeftBy b s x (Operation (Op.Write w)) (of_write.was_written s x now w d)
-written_left b s x now w d e none is spares = elim (cases_Bool (has_bytes w.bytes)) [
-  | inl some ↦ rw some (lasts_written b s.tree d.number w.offset w.bytes now (λ at from below.
-      (let spelled = write_spelled (of_write.write_ok s w) in
-      spares.writes (record {
-        asked = w;
-        is = refl;
-        at = current_number s x d (writable_at s x w.stateid d e) ∙ ap (λ n. Some n) at;
-        count = number (length w.bytes);
-        more = spelled.0;
-        answers = spelled.1;
-        long = length_number (length w.bytes);
-        from = from;
-        below = subst (λ n. b.place < w.offset + n) (sym (number_back (length w.bytes) (few_written s w d none some))) below;
-      }))) is)
-  | inr empty ↦ rw empty is
-]
-
-lasts_write : (b : Byte) (s : State) (x : Context) (now : Time) (w : Write) → LastsIn b s → LeftBy b s x (Operation (Op.Write w)) (of_write.write s x now w)
-unfolding of_write.write
-lasts_write b s x now w is =
-    by_found (LeftBy b s x (Operation (Op.Write w))) s x Num.Write (checked (writable s x w.stateid (current s x)) (of_write.last_checks s w)) (of_write.was_written s x now w)
-    (λ status spares. is) (λ d granted.
-    (let p = checked_ok (writable s x w.stateid (current s x)) (of_write.last_checks s w) d granted in written_left b s x now w d p.0 p.1 is))
-
 -- SETATTR
 record IsSetting (s : State) (x : Context) (a : SetAttr) (m : Setting) : Type 0 where
   pub at : x.current ≡ Some m.node.number
@@ -203,38 +156,6 @@ setting_is s x a m e =
       at = current_number s x d.found d.is ∙ ap (λ (m : Setting). Some m.node.number) same;
       reads = w.is ∙ ap (λ (m : Setting). Ok m.wanted) same;
     }
-
-set_left : (b : Byte) (s : State) (x : Context) (now : Time) (a : SetAttr) (m : Setting) → IsSetting s x a m → LastsIn b s
-    → LeftBy b s x (Operation (Op.SetAttr a)) (of_set.was_set s x now a m)
-set_left b s x now a m is lasts spares = by_size m.wanted.size refl
-  where
-    by_size : (o : Option ℕ) → m.wanted.size ≡ o → Lasts b (of_set.with_set s.tree m.node.number now m.wanted o)
-    by_size (Some size) e = lasts_resized b s.tree m.node.number size (of_set.sets_of now m.wanted) now (λ at. elim (cases_Bool (ltb b.place size)) [
-      | inl below ↦ ltb-true b.place size below
-      | inr behind ↦ absurd (spares.sizes (record {
-        asked = a;
-        is = refl;
-        at = is.at ∙ ap (λ n. Some n) at;
-        wanted = m.wanted;
-        reads = is.reads;
-        size = size;
-        sets = e;
-        cuts = ltb-false b.place size behind;
-        more = _;
-        answers = refl;
-      }))
-    ]) lasts
-    by_size None e = elim (cases_Bool (of_set.gives_some m.wanted)) [
-      | inl some ↦ rw some (lasts_changed b s.tree m.node.number now (of_set.sets_of now m.wanted) lasts)
-      | inr nothing ↦ rw nothing lasts
-    ]
-
-lasts_set : (b : Byte) (s : State) (x : Context) (now : Time) (a : SetAttr) → LastsIn b s → LeftBy b s x (Operation (Op.SetAttr a)) (of_set.set_attr s x now a)
-unfolding of_set.set_attr
-lasts_set b s x now a is =
-    by_found (LeftBy b s x (Operation (Op.SetAttr a))) s x Num.SetAttr (checked (of_set.asked_for s x a) (of_set.last_checks s)) (of_set.was_set s x now a)
-    (λ status spares. is) (λ m granted.
-    set_left b s x now a m (setting_is s x a m (checked_ok (of_set.asked_for s x a) (of_set.last_checks s) m granted).0) is)
 
 -- OPEN
 record IsCut (s : State) (x : Context) (o : Open) (f : Node) : Type 0 where
@@ -323,79 +244,73 @@ asks_empty o wanted (Create (Guarded a)) is e = absurd (false≢true (sym (ap (�
 asks_empty o wanted (Create (Exclusive v)) is e = absurd (false≢true (sym (ap (λ how. (makes how).cuts) is) ∙ (and_parts _ _ e).0))
 asks_empty o wanted (Create (Exclusive41 v a)) is e = absurd (false≢true (sym (ap (λ how. (makes how).cuts) is) ∙ (and_parts _ _ e).0))
 
-opened_left : (b : Byte) (s : State) (x : Context) (now : Time) (o : Open) (f : Found) → of_open.asked_for s x o ≡ Ok f → LastsIn b s
-    → LeftBy b s x (Operation (Op.Open o)) (of_open.opened s x now o f)
-opened_left b s x now o (Absent m) e is spares =
-    lasts_new b s.tree m.place.number (of_open.name_of o.claim) (of_open.new_of o m.wanted) (of_open.sets_of x now o m.wanted) now is
-opened_left b s x now o (There place f false) e is spares = is
-opened_left b s x now o (There place f true) e is spares =
-    lasts_resized b s.tree f.number 0 no_sets now (λ at.
-    (let cut = asked_cut s x o place f e in
-    let asks = asks_empty o cut.wanted o.openhow refl cut.cuts in
-    absurd (spares.opens (record {
-      asked = o;
-      is = refl;
-      directory = cut.directory;
-      at = cut.at;
-      name = cut.name;
-      claim = cut.claim;
-      names = cut.names ∙ ap (λ n. Some n) at;
-      given = asks.given;
-      how = asks.how;
-      wanted = cut.wanted;
-      reads = ap attributes_in (sym asks.same) ∙ cut.reads;
-      size = asks.size;
-      writes = asks.writes;
-      ok = _;
-      answers = refl;
-      sets = refl;
-    })))) is
+-- By the effect. What spares the byte cuts none of its file at or below it, and writes none over it.
 
-lasts_open : (b : Byte) (s : State) (x : Context) (now : Time) (o : Open) → LastsIn b s → LeftBy b s x (Operation (Op.Open o)) (of_open.open_file s x now o)
-unfolding of_open.open_file
-lasts_open b s x now o is =
-    by_found (LeftBy b s x (Operation (Op.Open o))) s x Num.Open (checked (of_open.asked_for s x o) (of_open.last_checks s x o)) (of_open.opened s x now o)
-    (λ status spares. is) (λ f granted. opened_left b s x now o f (checked_ok (of_open.asked_for s x o) (of_open.last_checks s x o) f granted).0 is)
+effect_lasts : (b : Byte) (s : State) (x : Context) (op : Op) (r : Res) (t : State) (e : Effect) → Spares b s x (Operation op) (spell_result r)
+    → Caused s x op r t e → Lasts b t.tree → Lasts b (behind t e).tree
+effect_lasts b s x op r t (Names e) spares caused is = names_last b t e is
+effect_lasts b s x op r t (Writes n offset text now) spares caused is =
+    let c = caused.cause in
+    let a = c.asked in
+    let spelled = write_spelled (of_write.write_ok s a) in
+    lasts_written b t.tree n offset text now (λ at from below. spares.writes (record {
+      asked = a;
+      is = ap Operation c.is;
+      at = current_number s x c.file (writable_at s x a.stateid c.file c.found) ∙ ap (λ n. Some n) (c.number ∙ at);
+      count = number (length a.bytes);
+      more = spelled.0;
+      answers = ap spell_result c.answers ∙ spelled.1;
+      long = length_number (length a.bytes);
+      from = subst (λ k. k ≤ b.place) (sym c.from) from;
+      below = subst (λ n. b.place < a.offset + n) (sym (number_back (length a.bytes) (few_written s a c.file c.checked c.some)))
+          (subst (λ k. b.place < k + length a.bytes) (sym c.from) (subst (λ (k : List ℕ). b.place < offset + length k) (sym c.bytes) below));
+    })) is
+effect_lasts b s x op r t (Resizes n size sets now) spares caused is = lasts_resized b t.tree n size sets now (λ at. by_cause caused.cause at) is
+  where
+    by_cause : SetsOf s x op r n (Some size) ⊎ OpensEmpty s x op r n size → n ≡ b.file → b.place < size
+    by_cause (inl c) at = elim (cases_Bool (ltb b.place size)) [
+      | inl below ↦ ltb-true b.place size below
+      | inr behind ↦ (let setting = setting_is s x c.asked c.setting c.found in
+          absurd (spares.sizes (record {
+            asked = c.asked;
+            is = ap Operation c.is;
+            at = setting.at ∙ ap (λ n. Some n) (c.number ∙ at);
+            wanted = c.setting.wanted;
+            reads = setting.reads;
+            size = size;
+            sets = c.sets;
+            cuts = ltb-false b.place size behind;
+            more = _;
+            answers = ap spell_result c.answers;
+          })))
+    ]
+    by_cause (inr c) at =
+        let o = c.opens in
+        let cut = asked_cut s x o.asked c.place c.file o.found in
+        let asks = asks_empty o.asked cut.wanted o.asked.openhow refl cut.cuts in
+        absurd (spares.opens (record {
+          asked = o.asked;
+          is = ap Operation o.is;
+          directory = cut.directory;
+          at = cut.at;
+          name = cut.name;
+          claim = cut.claim;
+          names = cut.names ∙ ap (λ n. Some n) (c.number ∙ at);
+          given = asks.given;
+          how = asks.how;
+          wanted = cut.wanted;
+          reads = ap attributes_in (sym asks.same) ∙ cut.reads;
+          size = asks.size;
+          writes = asks.writes;
+          ok = o.ok;
+          answers = ap spell_result o.answers;
+          sets = o.sets;
+        }))
+effect_lasts b s x op r t (Changes n sets now) spares caused is = lasts_changed b t.tree n now sets is
+effect_lasts b s x op r t (Closes n file) spares caused is = lasts_unused b (with_opens t (closing.without_open t.opens n)) file is
+effect_lasts b s x op r t e spares caused is = is
 
--- CLOSE
-lasts_close : (b : Byte) (s : State) (x : Context) (a : Close) → LastsIn b s → LastsIn b (close s x a).state
-lasts_close b s x a is = by_close (λ o. LastsIn b o.state) s x a (λ status. is) (λ t did judged granted its.
-    lasts_unused b (with_opens s (closing.without_open s.opens t.id.number)) t.file is)
-
--- those that leave the tree
-lasts_lock : (b : Byte) (s : State) (x : Context) (a : locks.Lock) → LastsIn b s → LastsIn b (of_lock.lock s x a).state
-lasts_lock b s x a is = by_lock (λ o. LastsIn b o.state) s x a (λ status. is) (λ h. is) (λ m did judged granted locked. is)
-
-lasts_unlock : (b : Byte) (s : State) (x : Context) (a : LockU) → LastsIn b s → LastsIn b (lock_u s x a).state
-lasts_unlock b s x a is = by_unlock (λ o. LastsIn b o.state) s x a (λ status. is) (λ m did judged granted unlocked. is)
-
-lasts_free : (b : Byte) (s : State) (x : Context) (given : Stateid) → LastsIn b s → LastsIn b (free_stateid s x given).state
-lasts_free b s x given is = by_free (λ o. LastsIn b o.state) s x given (λ status. is) (λ id did freed. is)
-
-lasts_downgrade : (b : Byte) (s : State) (x : Context) (a : OpenDowngrade) → LastsIn b s → LastsIn b (open_downgrade s x a).state
-lasts_downgrade b s x a is = by_downgrade (λ o. LastsIn b o.state) s x a (λ status. is) (λ t did narrowed. is)
-
-tested_left : (b : Byte) (s : State) (x : Context) (o : Option Held) → LastsIn b s → LastsIn b (tested s x o).state
-tested_left b s x None is = is
-tested_left b s x (Some h) is = is
-
-lasts_one : (b : Byte) (s : State) (x : Context) (now : Time) (op : Op) → LastsIn b s → LeftBy b s x (Operation op) (one s x now op)
-unfolding commit lock_t read test_stateid
-lasts_one b s x now (Op.Close a) is spares = lasts_close b s x a is
-lasts_one b s x now (Op.Commit a) is spares = found (LastsIn b) s x Num.Commit _ _ is (λ d e. is)
-lasts_one b s x now (Op.FreeStateid given) is spares = lasts_free b s x given is
-lasts_one b s x now (Op.Lock a) is spares = lasts_lock b s x a is
-lasts_one b s x now (Op.LockT a) is spares = found (LastsIn b) s x Num.LockT _ _ is (λ w e. tested_left b s x (locking.test_lock s.opens a.owner.owner w) is)
-lasts_one b s x now (Op.LockU a) is spares = lasts_unlock b s x a is
-lasts_one b s x now (Op.Open a) is spares = lasts_open b s x now a is spares
-lasts_one b s x now (Op.OpenDowngrade a) is spares = lasts_downgrade b s x a is
-lasts_one b s x now (Op.Read a) is spares = found (LastsIn b) s x Num.Read _ _ is (λ d e. is)
-lasts_one b s x now (Op.SetAttr a) is spares = lasts_set b s x now a is spares
-lasts_one b s x now (Op.TestStateid given) is spares = is
-lasts_one b s x now (Op.Write a) is spares = lasts_write b s x now a is spares
-lasts_one b s x now op is spares = is
-
-pub spared_bytes_last : (b : Byte) (refused : Bool) (s : State) (x : Context) (now : Time) (i : Item) → Lasts b s.tree → LeftBy b s x i (comes_to refused s x now i)
-spared_bytes_last b refused s x now (Operation op) is =
-    by_delay (LeftBy b s x (Operation op)) (grows s x op && refused) s x (arguments op).op (one s x now op) (λ spares. is) (lasts_one b s x now op is)
-spared_bytes_last b refused s x now (Fault n status) is = λ spares. is
+pub spared_bytes_last : (b : Byte) (refused : Bool) (s : State) (x : Context) (now : Time) (i : Item) → Lasts b s.tree
+    → (let o = comes_to refused s x now i in Spares b s x i (spell_result o.result) → Lasts b o.state.tree)
+spared_bytes_last b refused s x now i is spares = caused_item (LastsIn b) refused s x now i (λ op here t e caused is.
+    effect_lasts b s x op (comes_to refused s x now i).result t e (subst (λ j. Spares b s x j (spell_result (comes_to refused s x now i).result)) here spares) caused is) is

@@ -24,3 +24,4 @@ pub mod OpenTold
 pub mod Laws
 pub mod Written
 pub mod OpenLaws
+pub mod FileImage

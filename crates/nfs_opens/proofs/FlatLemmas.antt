@@ -1,9 +1,9 @@
 -- Lists that lie in blocks: what stands in one block, and round it.
-use Rattle.std.proofs.Common.{◌≡◌, ◌⊎◌, inl, inr, ℕ, zero, suc, ◌<◌, ◌≤◌, List, [], ◌∷◌, ◌++◌, set, length, get_or}
+use Rattle.std.proofs.Common.{◌≡◌, ◌⊎◌, inl, inr, ℕ, zero, suc, ◌+◌, ◌<◌, ◌≤◌, List, [], ◌∷◌, ◌++◌, set, length, get_or}
 use Rattle.std.proofs.Common.{Option, Some, None, refl, sym, ◌∙◌, ap, subst, arith}
 use Rattle.std.specs.Prelude.{slice_get, IfSome}
 use Rattle.std.specs.List.{insert, remove}
-use Rattle.std.proofs.lemmas.List.{append_assoc, append-nil}
+use Rattle.std.proofs.lemmas.List.{append_assoc, append-nil, length-append}
 use Rattle.nfs_xdr.specs.Tables.{In}
 use Rattle.nfs_opens.specs.Flat.{flat, last_of, front_of, rest_of}
 
@@ -92,6 +92,22 @@ module _ {X : Type 0} where
       ]
 
   -- The block at a place.
+
+  pub front_none : (bs : List (List X)) → front_of bs 0 ≡ []
+  front_none [] = refl
+  front_none (b ∷ bs) = refl
+
+  pub front_longer : (bs : List (List X)) (i : ℕ) (b : List X) → i < length bs → b ≡ get_or bs i b → length (front_of bs (suc i)) ≡ length (front_of bs i) + length b
+  front_longer [] i b less is = absurd (omega arith)
+  front_longer (c ∷ bs) zero b less is =
+      omega (arith, length-append c (front_of bs 0), ap (λ (xs : List X). length xs) (front_none bs), ap (λ (xs : List X). length xs) is)
+  front_longer (c ∷ bs) (suc i) b less is =
+      let more = front_longer bs i b (omega arith) is in
+      omega (arith, length-append c (front_of bs (suc i)), length-append c (front_of bs i), more)
+
+  pub front_is_all : (bs : List (List X)) → front_of bs (length bs) ≡ flat bs
+  front_is_all [] = refl
+  front_is_all (b ∷ bs) = ap (λ (ps : List X). b ++ ps) (front_is_all bs)
 
   pub got_block : (bs : List (List X)) (i : ℕ) (b : List X) → slice_get bs i ≡ Some b → (i < length bs) × (b ≡ get_or bs i b)
   got_block [] i b e = absurd cc

@@ -1,6 +1,6 @@
 //! States by their numbers, in blocks, so that one that goes moves those of its block alone.
 
-ghost use Rattle.std.specs.Prelude.{◌≡◌, ◌≢◌, ◌==◌, ◌&&◌, ◌+◌, ◌<◌, ◌≤◌, ◌++◌, ◌∷◌, [], true, false, not, length, filter, find, map, position, vec_capacity, List, slice_index_or, if◌then◌else◌, None, IfSome, IfNone, IfOk, OnOk, ℕ, nat_lt};
+ghost use Rattle.std.specs.Prelude.{◌≡◌, ◌≢◌, ◌==◌, ◌&&◌, ◌+◌, ◌<◌, ◌≤◌, ◌++◌, ◌∷◌, [], true, false, not, length, filter, find, map, position, vec_capacity, List, slice_index_or, if◌then◌else◌, None, IfSome, IfNone, IfOk, OnOk, ℕ, nat_lt, min};
 ghost use Rattle.std.specs.Option.{option_copied};
 ghost use Rattle.std.specs.List.Sorted.{IsPartitionPoint};
 ghost use Rattle.nfs_xdr.specs.Tables.{In};
@@ -8,6 +8,7 @@ ghost use Rattle.nfs_opens.specs.Index.{IsIndex};
 ghost use Rattle.nfs_opens.specs.Flat.{flat};
 ghost use Rattle.nfs_opens.specs.ByNumber.{ends_below, AreRising};
 ghost use Rattle.nfs_opens.specs.TableInvariants.{Rises};
+ghost use Rattle.nfs_opens.specs.StateId.{last_number};
 
 use crate::blocks::Index;
 use crate::index::{Entry, Sought, item_at};
@@ -87,6 +88,12 @@ impl<T: State> StateBlock<T> {
             Some(state) => state.number() < number,
             None => true,
         }
+    }
+
+    fn len(&self) -> usize
+        ensures { result ≡ length self.now }
+    {
+        self.states.len()
     }
 
     fn get(&self, number: u64) -> Option<&T>
@@ -176,6 +183,17 @@ fn place_with_room<T: State>(blocks: &[StateBlock<T>]) -> Option<usize>
     Some(last)
 }
 
+/// How many states lie in these blocks, or the greatest number where there are more.
+fn count_in<T: State>(blocks: &[StateBlock<T>]) -> u64
+    ensures { result ≡ min (length (flat blocks.now)) last_number }
+{
+    let mut count: u64 = 0;
+    for place in 0..blocks.len() {
+        count = count.saturating_add(blocks[place].len() as u64);
+    }
+    count
+}
+
 impl<T: State> ByNumber<T> {
     /// No states.
     pub(crate) fn new(alloc: Global) -> Self
@@ -192,6 +210,13 @@ impl<T: State> ByNumber<T> {
         ensures { Rises T.number 1 self.now.items }
     {
         let _ = &self.spare;
+    }
+
+    /// How many states there are, or the greatest number where there are more.
+    pub(crate) fn len(&self) -> u64
+        ensures { result ≡ min (length self.now.items) last_number }
+    {
+        count_in(&self.blocks)
     }
 
     /// The state of a number.

@@ -1,12 +1,13 @@
 //! All lock states.
 
-ghost use Rattle.std.specs.Prelude.{◌≡◌, ◌==◌, ◌&&◌, ◌<◌, ◌++◌, ◌∷◌, [], true, not, find, filter, map, nat_lt, if◌then◌else◌, OnOk};
+ghost use Rattle.std.specs.Prelude.{◌≡◌, ◌==◌, ◌&&◌, ◌<◌, ◌++◌, ◌∷◌, [], true, not, length, find, filter, map, nat_lt, min, if◌then◌else◌, OnOk};
 ghost use Rattle.std.specs.Option.{option_copied};
 ghost use Rattle.std.specs.List.{list_any};
 ghost use Rattle.nfs_xdr.specs.Tables.{In};
 ghost use Rattle.nfs_opens.specs.Keys.{lock_key, key_of};
 ghost use Rattle.nfs_opens.specs.TableInvariants.{Rises};
 ghost use Rattle.nfs_opens.specs.Locking.{raised};
+ghost use Rattle.nfs_opens.specs.StateId.{last_number};
 
 use crate::blocks::Index;
 use crate::by_number::ByNumber;
@@ -54,6 +55,13 @@ impl LockStates {
             by_open: Index::new(alloc),
             by_owner: Index::new(alloc),
         }
+    }
+
+    /// How many lock states there are, or the greatest number where there are more.
+    pub(crate) fn len(&self) -> u64
+        ensures { result ≡ min (length self.now.items) last_number }
+    {
+        self.states.len()
     }
 
     /// The lock state of a number.

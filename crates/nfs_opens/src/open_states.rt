@@ -1,6 +1,6 @@
 //! All opens.
 
-ghost use Rattle.std.specs.Prelude.{◌≡◌, ◌≢◌, ◌==◌, ◌&&◌, ◌<◌, ◌≤◌, ◌++◌, ◌∷◌, [], true, not, length, find, filter, map, nat_lt, if◌then◌else◌, OnOk};
+ghost use Rattle.std.specs.Prelude.{◌≡◌, ◌≢◌, ◌==◌, ◌&&◌, ◌<◌, ◌≤◌, ◌++◌, ◌∷◌, [], true, not, length, find, filter, map, nat_lt, min, if◌then◌else◌, OnOk};
 ghost use Rattle.std.specs.Option.{option_copied};
 ghost use Rattle.nfs_xdr.specs.Tables.{In};
 ghost use Rattle.nfs_opens.specs.TableInvariants.{HasOneEach, whose};
@@ -84,6 +84,13 @@ impl OpenStates {
         ensures { HasOneEach self.now.items }
     {
         let _ = &self.by_owner;
+    }
+
+    /// How many opens there are, or the greatest number where there are more.
+    pub(crate) fn len(&self) -> u64
+        ensures { result ≡ min (length self.now.items) last_number }
+    {
+        self.states.len()
     }
 
     /// The open of a number.

@@ -57,6 +57,24 @@ impl Opens {
         }
     }
 
+    /// How many opens there are.
+    pub fn open_count(&self) -> u64
+        ensures { result ≡ length (table self.now).opens }
+    {
+        // (that each has a number of its own, so that they are no more than numbers)
+        let _last = self.last;
+        self.opens.len()
+    }
+
+    /// How many lock states there are.
+    pub fn lock_count(&self) -> u64
+        ensures { result ≡ length (table self.now).locks }
+    {
+        // (the same)
+        let _last = self.last;
+        self.locks.len()
+    }
+
     /// What holds of every table; moves nothing.
     pub fn kept(&self)
         ensures { IsTable (table self.now) }

@@ -26,7 +26,32 @@ HasSizes asked (Res.ExchangeId r) = (length r.major_id ≤ 8) × (length r.serve
 HasSizes asked (Res.CreateSession s) = s.fore_chan_attrs.rdma_ird ≡ None
 HasSizes asked (Res.SecinfoNoName flavors) = length flavors ≤ 1
 HasSizes asked (Res.TestStateid codes) = length codes ≤ asked
-HasSizes asked other = Unit {0}
+HasSizes asked (Res.Access a) = Unit {0}
+HasSizes asked (Res.Close stateid) = Unit {0}
+HasSizes asked (Res.Commit writeverf) = Unit {0}
+HasSizes asked (Res.Link c) = Unit {0}
+HasSizes asked (Res.Lock stateid) = Unit {0}
+HasSizes asked Res.LockT = Unit {0}
+HasSizes asked (Res.LockU stateid) = Unit {0}
+HasSizes asked Res.Lookup = Unit {0}
+HasSizes asked Res.LookupP = Unit {0}
+HasSizes asked Res.NVerify = Unit {0}
+HasSizes asked (Res.OpenDowngrade stateid) = Unit {0}
+HasSizes asked Res.PutFh = Unit {0}
+HasSizes asked Res.PutPubFh = Unit {0}
+HasSizes asked Res.PutRootFh = Unit {0}
+HasSizes asked (Res.Remove c) = Unit {0}
+HasSizes asked (Res.Rename r) = Unit {0}
+HasSizes asked Res.RestoreFh = Unit {0}
+HasSizes asked Res.SaveFh = Unit {0}
+HasSizes asked Res.Verify = Unit {0}
+HasSizes asked (Res.Write w) = Unit {0}
+HasSizes asked Res.DestroySession = Unit {0}
+HasSizes asked Res.FreeStateid = Unit {0}
+HasSizes asked (Res.Sequence s) = Unit {0}
+HasSizes asked Res.DestroyClientId = Unit {0}
+HasSizes asked Res.ReclaimComplete = Unit {0}
+HasSizes asked (Res.Refused operation status) = Unit {0}
 
 -- a refusal that says no more than which attributes were set
 abbrev pub IsPlain : Res → Type 0

@@ -37,7 +37,36 @@ HasArrays (Res.ReadDir r) = length r.cookieverf ≡ 8
 HasArrays (Res.Write w) = length w.writeverf ≡ 8
 HasArrays (Res.CreateSession s) = length s.sessionid ≡ 16
 HasArrays (Res.Sequence s) = length s.sessionid ≡ 16
-HasArrays other = Unit {0}
+HasArrays (Res.Access a) = Unit {0}
+HasArrays (Res.Create c) = Unit {0}
+HasArrays (Res.GetAttr f) = Unit {0}
+HasArrays (Res.GetFh object) = Unit {0}
+HasArrays (Res.Link c) = Unit {0}
+HasArrays (Res.LockDenied d) = Unit {0}
+HasArrays Res.LockT = Unit {0}
+HasArrays (Res.LockTDenied d) = Unit {0}
+HasArrays Res.Lookup = Unit {0}
+HasArrays Res.LookupP = Unit {0}
+HasArrays Res.NVerify = Unit {0}
+HasArrays Res.PutFh = Unit {0}
+HasArrays Res.PutPubFh = Unit {0}
+HasArrays Res.PutRootFh = Unit {0}
+HasArrays (Res.Read r) = Unit {0}
+HasArrays (Res.ReadLink link) = Unit {0}
+HasArrays (Res.Remove c) = Unit {0}
+HasArrays (Res.Rename r) = Unit {0}
+HasArrays Res.RestoreFh = Unit {0}
+HasArrays Res.SaveFh = Unit {0}
+HasArrays (Res.SetAttr status attrsset) = Unit {0}
+HasArrays Res.Verify = Unit {0}
+HasArrays (Res.ExchangeId r) = Unit {0}
+HasArrays Res.DestroySession = Unit {0}
+HasArrays Res.FreeStateid = Unit {0}
+HasArrays (Res.SecinfoNoName flavors) = Unit {0}
+HasArrays (Res.TestStateid codes) = Unit {0}
+HasArrays Res.DestroyClientId = Unit {0}
+HasArrays Res.ReclaimComplete = Unit {0}
+HasArrays (Res.Refused operation status) = Unit {0}
 
 -- How it is read: what an operation that was done has behind NFS4_OK ..
 unfoldable pub done_at : OpNum → List ℕ → Option (Res × List ℕ)

@@ -45,7 +45,32 @@ fn size_of(op: &Op<'_>) -> u64
         Op::GetFh => 28,
         Op::Open(_) => 128,
         Op::TestStateid { stateids } => 12 + 4 * stateids.len() as u64,
-        _ => 64,
+        Op::Access { .. }
+        | Op::Close(_)
+        | Op::Commit(_)
+        | Op::Create(_)
+        | Op::Link { .. }
+        | Op::LockU(_)
+        | Op::Lookup { .. }
+        | Op::LookupP
+        | Op::NVerify { .. }
+        | Op::OpenDowngrade(_)
+        | Op::PutFh { .. }
+        | Op::PutPubFh
+        | Op::PutRootFh
+        | Op::Remove { .. }
+        | Op::Rename(_)
+        | Op::RestoreFh
+        | Op::SaveFh
+        | Op::SetAttr(_)
+        | Op::Verify { .. }
+        | Op::Write(_)
+        | Op::ExchangeId(_)
+        | Op::DestroySession { .. }
+        | Op::FreeStateid { .. }
+        | Op::SecinfoNoName { .. }
+        | Op::DestroyClientId { .. }
+        | Op::ReclaimComplete { .. } => 64,
     }
 }
 

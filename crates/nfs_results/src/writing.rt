@@ -53,7 +53,36 @@ fn measure(res: &Res<'_>) -> usize
         Res::Write(written) => measured(&written.writeverf),
         Res::CreateSession(made) => measured(&made.sessionid),
         Res::Sequence(accepted) => measured(&accepted.sessionid),
-        _ => 0,
+        Res::Access(_)
+        | Res::Create(_)
+        | Res::GetAttr(_)
+        | Res::GetFh(_)
+        | Res::Link(_)
+        | Res::LockDenied(_)
+        | Res::LockT
+        | Res::LockTDenied(_)
+        | Res::Lookup
+        | Res::LookupP
+        | Res::NVerify
+        | Res::PutFh
+        | Res::PutPubFh
+        | Res::PutRootFh
+        | Res::Read(_)
+        | Res::ReadLink(_)
+        | Res::Remove(_)
+        | Res::Rename(_)
+        | Res::RestoreFh
+        | Res::SaveFh
+        | Res::SetAttr { .. }
+        | Res::Verify
+        | Res::ExchangeId(_)
+        | Res::DestroySession
+        | Res::FreeStateid
+        | Res::SecinfoNoName(_)
+        | Res::TestStateid(_)
+        | Res::DestroyClientId
+        | Res::ReclaimComplete
+        | Res::Refused { .. } => 0,
     }
 }
 

@@ -1,16 +1,14 @@
 -- Acts one after the other, and what each call of a port comes to.
 use Rattle.std.proofs.Common.{◌≡◌, ℕ, not, ◌&&◌, ◌||◌, ◌+◌, ◌<◌, ◌≤◌, Bool, List, [], ◌∷◌, ◌++◌, length, filter, arith, flat_map, Option, Some, None, refl, sym, ap, subst, ◌∙◌}
-use Rattle.std.proofs.Common.{append_assoc, append-nil, inl, inr, true, false}
+use Rattle.std.proofs.Common.{append_assoc, append-nil, true, false}
 use Rattle.std.proofs.lemmas.List.Concat.{flat_map-append}
 use Rattle.std.proofs.lemmas.List.Elements.{filter-append}
-use Rattle.nfs_serve.specs.Talk.{max_reads}
 use Rattle.nfs_serve.specs.Step.{State}
-use Rattle.nfs_serve.specs.Desk.{Desk, HasMore, Unready, most_read, closed, leaving, Act, WriteBlocked, Closed, Failed, Stepped, Came, ReadBlocked, Ended, IsHungry, Does, Goes, IsStuck, Reads, ReadsOnce, is_of_read}
+use Rattle.nfs_serve.specs.Desk.{Desk, HasMore, Unready, MayClose, most_read, closed, leaving, Act, WriteBlocked, Closed, Failed, Stepped, Came, ReadBlocked, Ended, IsHungry, Does, Goes, IsStuck, Reads, ReadsOnce, is_of_read}
 use Rattle.nfs_serve.specs.Told.{Told, Logs}
 use Rattle.nfs_serve.specs.Deeds.{Deed, counted, shown, asked}
-use Rattle.nfs_serve.specs.declared.lane.Lane.{Lane}
 use Rattle.nfs_serve.specs.declared.lane.Budget.{Budget}
-use Rattle.nfs_serve.specs.Lane.{desk_of, is_first, Advances, Quiet, StepsOne}
+use Rattle.nfs_serve.specs.Lane.{Stand, is_first, Advances, Quiet, StepsOne}
 
 pub Logs-nil : {A : Type 0} (a : Option (List A)) → Logs a a []
 Logs-nil None = tt
@@ -50,14 +48,18 @@ reads_between xs mid ys none later few =
     (sym (filter-append is_of_read (xs ++ mid) ys ∙ ap (λ l. filter is_of_read (xs ++ mid) ++ l) later ∙ append-nil (filter is_of_read (xs ++ mid))))
     (reads_last xs mid none few)
 
-pub stays : (port : ℕ) (s : State) (d : Desk) (l : Option (List Deed)) (c : Option (List Told)) → Advances port [] s d s d l l c c
+-- a stand by its parts
+abbrev pub stands : State → Desk → Option (List Deed) → Option (List Told) → Stand
+stands s d l c = record { state = s; desk = d; log = l; told = c }
+
+pub stays : (port : ℕ) (s : State) (d : Desk) (l : Option (List Deed)) (c : Option (List Told)) → Advances port [] (stands s d l c) (stands s d l c)
 stays port s d l c = record { goes = (refl, refl); logs = Logs-nil l; clock = Logs-nil c }
 
 module _ {port : ℕ} {xs : List Act} {s u : State} {d c : Desk} {l0 l1 : Option (List Deed)} {c0 c1 : Option (List Told)}
-    (first : Advances port xs s d u c l0 l1 c0 c1) where
+    (first : Advances port xs (stands s d l0 c0) (stands u c l1 c1)) where
   -- further acts
   pub goes_on : (ys : List Act) (t : State) (e : Desk) (l2 : Option (List Deed)) (c2 : Option (List Told))
-      → Advances port ys u c t e l1 l2 c1 c2 → Advances port (xs ++ ys) s d t e l0 l2 c0 c2
+      → Advances port ys (stands u c l1 c1) (stands t e l2 c2) → Advances port (xs ++ ys) (stands s d l0 c0) (stands t e l2 c2)
   goes_on ys t e l2 c2 then_ = record {
     goes = Goes-append port s u t d c e xs ys first.goes then_.goes;
     logs = subst (Logs l0 l2) (sym (flat_map-append (shown port) xs ys)) (Logs-trans l0 l1 l2 _ _ first.logs then_.logs);
@@ -67,7 +69,7 @@ module _ {port : ℕ} {xs : List Act} {s u : State} {d c : Desk} {l0 l1 : Option
 -- one act that a port shows
 pub one_shown : (port : ℕ) (a : Act) (s : State) (d e : Desk) (l0 l1 : Option (List Deed)) (c : Option (List Told))
     → shown port a ≡ record { port = port; act = a } ∷ [] → asked a ≡ [] → Does port s d a s e
-    → Logs l0 l1 (record { port = port; act = a } ∷ []) → Advances port (a ∷ []) s d s e l0 l1 c c
+    → Logs l0 l1 (record { port = port; act = a } ∷ []) → Advances port (a ∷ []) (stands s d l0 c) (stands s e l1 c)
 one_shown port a s d e l0 l1 c is none does logs = record {
   goes = (s, e, does, (refl, refl));
   logs = subst (Logs l0 l1) (sym (ap (λ l. l ++ []) is)) logs;
@@ -98,42 +100,37 @@ quiet_on port xs ys d c e l0 l1 l2 p q = record {
 
 -- quiet acts as acts
 pub quiet_advances : (port : ℕ) (acts : List Act) (s : State) (d e : Desk) (l0 l1 : Option (List Deed)) (c : Option (List Told))
-    → Quiet port acts d e l0 l1 → Advances port acts s d s e l0 l1 c c
+    → Quiet port acts d e l0 l1 → Advances port acts (stands s d l0 c) (stands s e l1 c)
 quiet_advances port acts s d e l0 l1 c q = record {
   goes = q.goes s;
   logs = q.logs;
   clock = subst (Logs c c) (sym q.unasked) (Logs-nil c);
 }
 
--- a connection that has failed or ended, and is closed
-pub quiet_closes : (port : ℕ) (l0 l1 : Option (List Deed)) → Logs l0 l1 (record { port = port; act = Closed } ∷ []) → Quiet port (Closed ∷ []) leaving closed l0 l1
-quiet_closes port l0 l1 logs = quiet_act port Closed leaving closed l0 l1 refl refl refl (λ s. (refl, inl refl, refl)) logs
-
 -- a part that was stepped
-pub stepped : (port : ℕ) (s t : State) (a b : Lane) (l0 l1 : Option (List Deed)) (c0 c1 : Option (List Told)) (before left : Budget)
-    → (one : StepsOne port s t a b l0 l1 c0 c1 before left)
-    → Advances port (Stepped one.moment one.part left.late (is_first a.heard one.out) ∷ []) s (desk_of a) t (desk_of b) l0 l1 c0 c1
-stepped port s t a b l0 l1 c0 c1 before left one = record {
+pub stepped : (port : ℕ) (a b : Stand) (before left : Budget) → (one : StepsOne port a b before left)
+    → Advances port (Stepped one.moment one.part left.late (is_first a.desk.heard one.out) ∷ []) a b
+stepped port a b before left one = record {
   goes = (
-    t,
-    desk_of b,
+    b.state,
+    b.desk,
     (
-      b.connection,
-      b.unread,
+      b.desk.stream,
+      b.desk.unread,
       one.out,
       one.steps,
       refl,
-      alike one.live one.heard one.reads one.owed,
+      alike one.live one.gone one.heard one.reads one.owed,
     ),
     (refl, refl),
   );
-  logs = subst (Logs l0 l1) (sym (append-nil (counted port (is_first a.heard one.out)))) one.logs;
+  logs = subst (Logs a.log b.log) (sym (append-nil (counted port (is_first a.desk.heard one.out)))) one.logs;
   clock = one.clock;
 }
   where
-    alike : {live heard : Bool} {reads : ℕ} {owed : List ℕ} → b.live ≡ live → b.heard ≡ heard → b.reads ≡ reads → b.owed.bytes ≡ owed
-        → desk_of b ≡ record { live = live; gone = false; heard = heard; stream = b.connection; reads = reads; unread = b.unread; owed = owed }
-    alike p q r o = rw (← p, ← q, ← r, ← o) refl
+    alike : {live gone heard : Bool} {reads : ℕ} {owed : List ℕ} → b.desk.live ≡ live → b.desk.gone ≡ gone → b.desk.heard ≡ heard → b.desk.reads ≡ reads → b.desk.owed ≡ owed
+        → b.desk ≡ record { live = live; gone = gone; heard = heard; stream = b.desk.stream; reads = reads; unread = b.desk.unread; owed = owed }
+    alike p g q r o = rw (← p, ← g, ← q, ← r, ← o) refl
 
 pub stuck_behind : (xs ys : List Act) (d : Desk) → IsStuck ys d → IsStuck (xs ++ ys) d
 stuck_behind xs ys d h =
@@ -143,32 +140,34 @@ stuck_behind xs ys d h =
 -- what a read comes to
 pub read_blocked : (port : ℕ) (s : State) (d : Desk) (u : List ℕ) (l0 l1 : Option (List Deed)) (c : Option (List Told)) → IsHungry d → u ≡ []
     → Logs l0 l1 (record { port = port; act = ReadBlocked } ∷ [])
-    → Advances port (ReadBlocked ∷ []) s d s (record { live = d.live; gone = d.gone; heard = d.heard; stream = d.stream; reads = d.reads; unread = u; owed = d.owed }) l0 l1 c c
+    → Advances port (ReadBlocked ∷ []) (stands s d l0 c) (stands s (record { live = d.live; gone = d.gone; heard = d.heard; stream = d.stream; reads = d.reads; unread = u; owed = d.owed }) l1 c)
 read_blocked port s d u l0 l1 c hungry none logs = one_shown port ReadBlocked s d _ l0 l1 c refl refl
     (refl, hungry, ap (λ v. record { live = d.live; gone = d.gone; heard = d.heard; stream = d.stream; reads = d.reads; unread = v; owed = d.owed }) (none ∙ sym hungry.unread)) logs
 
 pub read_came : (port : ℕ) (s : State) (d : Desk) (u : List ℕ) (l0 l1 : Option (List Deed)) (c : Option (List Told)) → IsHungry d
     → 0 < length u → length u ≤ most_read → Logs l0 l1 (record { port = port; act = Came u } ∷ [])
-    → Advances port (Came u ∷ []) s d s (record { live = d.live; gone = d.gone; heard = d.heard; stream = d.stream; reads = d.reads + 1; unread = u; owed = d.owed }) l0 l1 c c
+    → Advances port (Came u ∷ []) (stands s d l0 c) (stands s (record { live = d.live; gone = d.gone; heard = d.heard; stream = d.stream; reads = d.reads + 1; unread = u; owed = d.owed }) l1 c)
 read_came port s d u l0 l1 c hungry some few logs = one_shown port (Came u) s d _ l0 l1 c refl refl (refl, hungry, some, few, refl) logs
 
-pub read_ended : (port : ℕ) (s : State) (d : Desk) (l0 l1 l2 : Option (List Deed)) (c : Option (List Told)) → IsHungry d
-    → Logs l0 l1 (record { port = port; act = Ended } ∷ []) → Logs l1 l2 (record { port = port; act = Closed } ∷ [])
-    → Advances port (Ended ∷ Closed ∷ []) s d s closed l0 l2 c c
-read_ended port s d l0 l1 l2 c hungry first later =
-    goes_on (one_shown port Ended s d leaving l0 l1 c refl refl (refl, hungry, refl) first) (Closed ∷ []) s closed l2 c
-    (quiet_advances port (Closed ∷ []) s leaving closed l1 l2 c (quiet_closes port l1 l2 later))
+pub read_ended : (port : ℕ) (s : State) (d : Desk) (l0 l1 : Option (List Deed)) (c : Option (List Told)) → IsHungry d
+    → Logs l0 l1 (record { port = port; act = Ended } ∷ []) → Advances port (Ended ∷ []) (stands s d l0 c) (stands s leaving l1 c)
+read_ended port s d l0 l1 c hungry logs = one_shown port Ended s d leaving l0 l1 c refl refl (refl, hungry, refl) logs
 
-pub read_failed : (port : ℕ) (s : State) (d : Desk) (l0 l1 l2 : Option (List Deed)) (c : Option (List Told)) → IsHungry d
-    → Logs l0 l1 (record { port = port; act = Failed } ∷ []) → Logs l1 l2 (record { port = port; act = Closed } ∷ [])
-    → Advances port (Failed ∷ Closed ∷ []) s d s closed l0 l2 c c
-read_failed port s d l0 l1 l2 c hungry first later = quiet_advances port (Failed ∷ Closed ∷ []) s d closed l0 l2 c
-    (quiet_on port (Failed ∷ []) (Closed ∷ []) d leaving closed l0 l1 l2
-    (quiet_act port Failed d leaving l0 l1 refl refl refl (λ s. (refl, hungry.live, refl)) first) (quiet_closes port l1 l2 later))
+pub read_failed : (port : ℕ) (s : State) (d : Desk) (l0 l1 : Option (List Deed)) (c : Option (List Told)) → d.live ≡ true
+    → Logs l0 l1 (record { port = port; act = Failed } ∷ []) → Advances port (Failed ∷ []) (stands s d l0 c) (stands s leaving l1 c)
+read_failed port s d l0 l1 c live logs = one_shown port Failed s d leaving l0 l1 c refl refl (refl, live, refl) logs
+
+-- a connection that may be closed is closed
+pub closes : (port : ℕ) (s : State) (d : Desk) (l0 l1 : Option (List Deed)) (c : Option (List Told)) → MayClose d
+    → Logs l0 l1 (record { port = port; act = Closed } ∷ []) → Advances port (Closed ∷ []) (stands s d l0 c) (stands s closed l1 c)
+closes port s d l0 l1 c may logs = one_shown port Closed s d closed l0 l1 c refl refl (refl, may, refl) logs
+
+pub reads_closed : (xs : List Act) → ReadsOnce xs → ReadsOnce (xs ++ Closed ∷ [])
+reads_closed xs once = subst (λ l. length l ≤ 1) (sym (filter-append is_of_read xs (Closed ∷ []) ∙ append-nil (filter is_of_read xs))) once
 
 -- acts behind a port that said that it is ready
 pub behind_nothing : (port : ℕ) (acts : List Act) (s t : State) (d e : Desk) (l0 l1 l2 : Option (List Deed)) (c0 c1 : Option (List Told)) → Logs l0 l1 []
-    → Advances port acts s d t e l1 l2 c0 c1 → Advances port acts s d t e l0 l2 c0 c1
+    → Advances port acts (stands s d l1 c0) (stands t e l2 c1) → Advances port acts (stands s d l0 c0) (stands t e l2 c1)
 behind_nothing port acts s t d e l0 l1 l2 c0 c1 none later = record {
   goes = later.goes;
   logs = Logs-trans l0 l1 l2 [] (flat_map (shown port) acts) none later.logs;
@@ -177,7 +176,7 @@ behind_nothing port acts s t d e l0 l1 l2 c0 c1 none later = record {
 
 -- a port that is passed over
 pub passed_over : (port : ℕ) (s : State) (d : Desk) (l0 l1 : Option (List Deed)) (c : Option (List Told)) → (HasMore d → ⊥)
-    → Logs l0 l1 (record { port = port; act = Unready } ∷ []) → Advances port (Unready ∷ []) s d s d l0 l1 c c
+    → Logs l0 l1 (record { port = port; act = Unready } ∷ []) → Advances port (Unready ∷ []) (stands s d l0 c) (stands s d l1 c)
 passed_over port s d l0 l1 c none logs = one_shown port Unready s d d l0 l1 c refl refl (refl, none, refl) logs
 
 pub reads_came : (xs ys : List Act) (u : List ℕ) → Reads ((xs ++ Came u ∷ []) ++ ys)
@@ -185,8 +184,3 @@ reads_came xs ys u = (xs, Came u, ys, append_assoc xs (Came u ∷ []) ys, tt)
 
 pub reads_blocked : (xs : List Act) → Reads (xs ++ ReadBlocked ∷ [])
 reads_blocked xs = (xs, ReadBlocked, [], refl, tt)
-
--- a connection that was read often enough
-pub closes_long : (port : ℕ) (s : State) (d : Desk) (l0 l1 : Option (List Deed)) (c : Option (List Told)) → d.live ≡ true → d.owed ≡ [] → d.unread ≡ [] → max_reads ≤ d.reads
-    → Logs l0 l1 (record { port = port; act = Closed } ∷ []) → Advances port (Closed ∷ []) s d s closed l0 l1 c c
-closes_long port s d l0 l1 c live owed unread many logs = one_shown port Closed s d closed l0 l1 c refl refl (refl, inr (live, owed, inr (unread, many)), refl) logs

@@ -5,11 +5,11 @@ use Rattle.std.proofs.lemmas.List.{map-set, get_or-set_same, get_or-set_other, g
 use Rattle.std.proofs.lemmas.List.Concat.{flat_map-append}
 use Rattle.nfs_serve.specs.Step.{State}
 use Rattle.nfs_serve.specs.Desk.{Desk, closed, HasMore}
-use Rattle.nfs_serve.specs.Told.{Told, Sweep, Logs}
+use Rattle.nfs_serve.specs.Told.{Told, Logs}
 use Rattle.nfs_serve.specs.Deeds.{Deed}
 use Rattle.nfs_serve.specs.Lane.{desk_of, desks_of}
 use Rattle.nfs_serve.specs.declared.lane.Lane.{Lane}
-use Rattle.nfs_serve.specs.Hub.{Desks, at, none_live, Round, Opens, Turns, OthersStay, Turning, shown_in, asked_in, asked_of, Sweeps, Sweeping, ServesRounds}
+use Rattle.nfs_serve.specs.Hub.{Desks, at, none_live, Round, Opens, Turns, OthersStay, Turning, shown_in, asked_of, Sweeps, Sweeping, ServesRounds}
 use Rattle.nfs_serve.proofs.Advancing.{Logs-nil, Logs-trans}
 
 pub at_same : (lanes : List Lane) (port : ℕ) (lane : Lane) → port < length lanes → at (desks_of (set lanes port lane)) port ≡ desk_of lane

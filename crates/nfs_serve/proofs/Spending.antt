@@ -1,5 +1,5 @@
 -- What acts use up of what may be done in a turn.
-use Rattle.std.proofs.Common.{◌≡◌, ℕ, ◌+◌, ◌-◌, ◌<◌, List, [], ◌∷◌, ◌++◌, length, filter, arith, Bool, true, false, ◌||◌, ap, refl, sym, subst, ◌∙◌, length-append}
+use Rattle.std.proofs.Common.{◌≡◌, ℕ, ◌+◌, ◌-◌, List, [], ◌∷◌, ◌++◌, length, filter, arith, Bool, true, false, ◌||◌, ap, refl, sym, subst, ◌∙◌, length-append}
 use Rattle.std.proofs.lemmas.List.Elements.{filter-append}
 use Rattle.nfs_serve.specs.Desk.{Act, Came, ReadBlocked, Ended, Took, WriteBlocked, Failed, Closed, Stepped, is_step, step_count, taken_by, taken_count, late_by, is_late}
 use Rattle.nfs_serve.specs.declared.lane.Budget.{Budget}
@@ -68,11 +68,11 @@ spends_stuck a = record { steps = omega arith; bytes = omega arith; late = sym (
 pub spends_closed : (a : Budget) → Spends (Closed ∷ []) a a
 spends_closed a = record { steps = omega arith; bytes = omega arith; late = sym (or_false a.late); within = (λ e. no e, tt) }
 
-pub spends_ended : (a : Budget) → Spends (Ended ∷ Closed ∷ []) a a
-spends_ended a = record { steps = omega arith; bytes = omega arith; late = sym (or_false a.late); within = (λ e. no e, (λ e. no e, tt)) }
+pub spends_ended : (a : Budget) → Spends (Ended ∷ []) a a
+spends_ended a = record { steps = omega arith; bytes = omega arith; late = sym (or_false a.late); within = (λ e. no e, tt) }
 
-pub spends_failed : (a : Budget) → Spends (Failed ∷ Closed ∷ []) a a
-spends_failed a = record { steps = omega arith; bytes = omega arith; late = sym (or_false a.late); within = (λ e. no e, (λ e. no e, tt)) }
+pub spends_failed : (a : Budget) → Spends (Failed ∷ []) a a
+spends_failed a = record { steps = omega arith; bytes = omega arith; late = sym (or_false a.late); within = (λ e. no e, tt) }
 
 -- bytes that the peer took
 pub spends_took : (bytes : List ℕ) (a b : Budget) → b.steps ≡ a.steps → b.bytes ≡ a.bytes - length bytes → b.late ≡ a.late → Spends (Took bytes ∷ []) a b

@@ -4,15 +4,15 @@ use Rattle.std.proofs.lemmas.Bool.Decides.{eqb_tells}
 use Rattle.std.proofs.lemmas.List.Concat.{flat_map-append}
 use Rattle.nfs_serve.specs.Step.{State}
 use Rattle.nfs_serve.specs.Script.{last_connection, connection_count}
-use Rattle.nfs_serve.specs.Desk.{Desk, opened, Act, Opened, HasMore, IsPassed, Goes, EndsTurn, most_steps, step_count}
+use Rattle.nfs_serve.specs.Desk.{Desk, opened, Act, Opened, HasMore, IsPassed, Goes, most_steps, step_count}
 use Rattle.nfs_serve.specs.Told.{Told, Sweep, Logs}
 use Rattle.nfs_serve.specs.Deeds.{Deed}
-use Rattle.nfs_serve.specs.Lane.{desk_of, desks_of, Advances, Visits}
+use Rattle.nfs_serve.specs.Lane.{desk_of, desks_of, Visits}
 use Rattle.nfs_serve.specs.declared.lane.Lane.{Lane}
 use Rattle.nfs_serve.specs.Hub.{Desks, at, Round, Opens, Turns, OthersStay, Turning, InOrder, IsOf, IsServed, HasTurn, Sweeps, shown_in, asked_in, asked_of, steps_in}
 use Rattle.nfs_serve.specs.Sweep.{SweepsBelow, Begins}
 use Rattle.nfs_serve.specs.Promises.Waiting.{WaitsForFew}
-use Rattle.nfs_serve.proofs.Advancing.{Logs-nil, Logs-trans}
+use Rattle.nfs_serve.proofs.Advancing.{Logs-nil, Logs-trans, stands}
 use Rattle.nfs_serve.proofs.Rounds.{at_same, at_other, at_lane, turning_on}
 
 -- a further turn, behind those of lower ports
@@ -62,9 +62,9 @@ sweep_start s old l c = record {
 -- the next port has its turn
 turned : (s t u : State) (old : Desks) (lanes : List Lane) (port : ℕ) (d lane : Lane) (l0 l1 l2 : Option (List Deed)) (c0 c1 c2 : Option (List Told))
     → SweepsBelow port s old t (at (desks_of lanes)) l0 l1 c0 c1 → port ≤ last_connection → port < length lanes
-    → Visits port t (desk_of (get_or lanes port d)) u (desk_of lane) l1 l2 c1 c2
+    → Visits port (stands t (desk_of (get_or lanes port d)) l1 c1) (stands u (desk_of lane) l2 c2)
     → SweepsBelow (suc port) s old u (at (desks_of (set lanes port lane))) l0 l2 c0 c2
-turned s t u old lanes port d lane l0 l1 l2 c0 c1 c2 before le within (acts, begun, begins, advances, ends) = record {
+turned s t u old lanes port d lane l0 l1 l2 c0 c1 c2 before le within (begun, begins, (acts, advances, ends)) = record {
   sweep = before.sweep ++ Turns port acts ∷ [];
   turning = turning_on s t u old (at (desks_of lanes)) (at (desks_of (set lanes port lane))) before.sweep (Turns port acts ∷ []) before.turning (
     u,
@@ -98,7 +98,7 @@ turned s t u old lanes port d lane l0 l1 l2 c0 c1 c2 before le within (acts, beg
 
 pub visited : (s t u : State) (old : Desks) (lanes : List Lane) (port : ℕ) (d lane : Lane) (l0 l1 l2 : Option (List Deed)) (c0 c1 c2 : Option (List Told))
     → SweepsBelow port s old t (at (desks_of lanes)) l0 l1 c0 c1 → port ≤ last_connection → port < length lanes
-    → Visits port t (desk_of (get_or lanes port d)) u (desk_of lane) l1 l2 c1 c2
+    → Visits port (stands t (desk_of (get_or lanes port d)) l1 c1) (stands u (desk_of lane) l2 c2)
     → SweepsBelow (port + 1) s old u (at (desks_of (set lanes port lane))) l0 l2 c0 c2
 visited s t u old lanes port d lane l0 l1 l2 c0 c1 c2 before le within v =
     let is : suc port ≡ port + 1 = omega arith in

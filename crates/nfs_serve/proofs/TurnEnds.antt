@@ -1,9 +1,12 @@
 -- How a turn ends, by what it stepped and left.
 use Rattle.std.proofs.Common.{◌≡◌, ℕ, suc, ◌-◌, ◌<◌, ◌≤◌, List, [], ◌∷◌, ◌++◌, length, Bool, true, false, ◌||◌, ◌⊎◌, inl, inr, refl, sym, ap, subst, ◌∙◌, arith}
-use Rattle.nfs_serve.specs.Desk.{Desk, Act, Stepped, most_steps, most_taken, step_count, taken_by, taken_count, is_late, late_by, StepsBefore, IsStuck, IsPassed, Unready, Reads, ReadsOnce, EndsTurn}
+use Rattle.nfs_serve.specs.Desk.{Desk, Act, Came, Stepped, most_steps, most_taken, step_count, taken_by, taken_count, is_late, late_by, StepsBefore, IsStuck, Unready, Reads, ReadsOnce, EndsTurn}
 use Rattle.nfs_serve.specs.declared.lane.Budget.{Budget}
+use Rattle.nfs_serve.specs.declared.lane.Rest.{Rest}
+use Rattle.nfs_serve.specs.declared.lane.Rest.TheVariants.{Clear, Stuck, Gone}
+use Rattle.nfs_serve.proofs.Advancing.{reads_came, stuck_behind}
 use Rattle.nfs_serve.proofs.Spending.{steps_append}
-use Rattle.nfs_serve.specs.Lane.{StepsWithin, Spends, IsSpent, HasHadEnough}
+use Rattle.nfs_serve.specs.Lane.{StepsWithin, Spends, IsSpent, HasHadEnough, Rests, EndsOrMayClose, whole}
 
 no : true ≡ false → ⊥
 no e = cc
@@ -34,7 +37,7 @@ steps_before n b (a ∷ front) moment part late first back h =
     (omega (arith, less), early, ap (λ l. l || is_late front) own ∙ rest.2)
 
 -- of a turn that does so much, and may do so much more
-module _ {acts : List Act} (left : Budget) (once : ReadsOnce acts) (spent : Spends acts (record { steps = 16; bytes = 65536; late = false }) left) where
+module _ {acts : List Act} (left : Budget) (once : ReadsOnce acts) (spent : Spends acts whole left) where
   few : step_count acts ≤ most_steps
   few = omega (arith, spent.steps)
 
@@ -62,3 +65,10 @@ module _ {acts : List Act} (left : Budget) (once : ReadsOnce acts) (spent : Spen
   pub ends_answered : {d : Desk} → d.live ≡ true → HasHadEnough left d.unread → d.owed ≡ [] → Reads acts → EndsTurn acts d
   ends_answered live (inl none) owed reads = (once, few, before, inr (inr (inl (none, owed, reads))))
   ends_answered live (inr h) owed reads = ends_full live (inr h) h.0 owed
+
+-- how it ends behind a read that brought bytes, by what came to rest then
+pub ends_behind : (xs ys : List Act) (u : List ℕ) (d : Desk) (left : Budget) (rest : Rest) → ReadsOnce ((xs ++ Came u ∷ []) ++ ys)
+    → Spends ((xs ++ Came u ∷ []) ++ ys) whole left → Rests rest ys d left → EndsOrMayClose rest ((xs ++ Came u ∷ []) ++ ys) d
+ends_behind xs ys u d left Clear once spent (live, stream, enough, owed) = ends_answered left once spent live enough owed (reads_came xs ys u)
+ends_behind xs ys u d left Stuck once spent stuck = ends_stuck left once spent (stuck_behind (xs ++ Came u ∷ []) ys d stuck)
+ends_behind xs ys u d left Gone once spent may = (once, (left, spent), may)

@@ -4,7 +4,8 @@ use Rattle.nfs_rpc.specs.RecordMarking.{is_too_long}
 use Rattle.nfs_serve.specs.Step.{State}
 use Rattle.nfs_serve.specs.Told.{Told, Turn, Moment, Late, Logs}
 use Rattle.nfs_serve.specs.Sequenced.{answers_sequence}
-use Rattle.nfs_serve.specs.Desk.{Desk, closed, Act, StepsPart, Goes, IsStuck, is_of_read, is_step, step_count, taken_by, taken_count, late_by, is_late, EndsTurn}
+use Rattle.nfs_serve.specs.Server.{KeptServer, state_of}
+use Rattle.nfs_serve.specs.Desk.{Desk, Act, StepsPart, Goes, MayClose, IsStuck, ReadsOnce, is_of_read, is_step, step_count, taken_by, taken_count, late_by, is_late, EndsTurn}
 use Rattle.nfs_serve.specs.Deeds.{Deed, counted, shown, asked}
 use Rattle.nfs_serve.specs.declared.lane.Budget.{Budget}
 use Rattle.nfs_serve.specs.declared.lane.Lane.{Lane}
@@ -14,7 +15,7 @@ use Rattle.nfs_serve.specs.declared.lane.Rest.TheVariants.{Clear, Stuck, Gone}
 abbrev pub desk_of : Lane → Desk
 desk_of lane = record {
   live = lane.live;
-  gone = false;
+  gone = lane.gone;
   heard = lane.heard;
   stream = lane.connection;
   reads = lane.reads;
@@ -25,17 +26,27 @@ desk_of lane = record {
 abbrev pub desks_of : List Lane → List Desk
 desks_of lanes = map desk_of lanes
 
--- the acts of one port: what they do, what they show, and what the clock told for them
-pub record Advances (port : ℕ) (acts : List Act) (s : State) (d : Desk) (t : State) (e : Desk) (l0 l1 : Option (List Deed)) (c0 c1 : Option (List Told)) : Type 0 where
-  pub goes : Goes port s d acts t e
-  pub logs : Logs l0 l1 (flat_map (shown port) acts)
-  pub clock : Logs c0 c1 (flat_map asked acts)
+-- what a port's acts go from and lead to: the server, the port, what the connections have shown and what the clock has told
+pub record Stand : Type 0 where
+  pub state : State
+  pub desk : Desk
+  pub log : Option (List Deed)
+  pub told : Option (List Told)
 
--- how a flush ends: nothing is owed, the peer took no more, or the connection was closed
+abbrev pub stand : KeptServer → Lane → Option (List Deed) → Option (List Told) → Stand
+stand kept lane log told = record { state = state_of kept; desk = desk_of lane; log = log; told = told }
+
+-- the acts of one port: what they do, what they show, and what the clock told for them
+pub record Advances (port : ℕ) (acts : List Act) (a b : Stand) : Type 0 where
+  pub goes : Goes port a.state a.desk acts b.state b.desk
+  pub logs : Logs a.log b.log (flat_map (shown port) acts)
+  pub clock : Logs a.told b.told (flat_map asked acts)
+
+-- how a flush ends: nothing is owed, the peer took no more, or the connection has failed
 abbrev pub FlushesTo : Rest → List Act → Desk → Desk → Type 0
 FlushesTo Clear acts d e = e ≡ record d { owed = [] }
 FlushesTo Stuck acts d e = IsStuck acts e
-FlushesTo Gone acts d e = e ≡ closed
+FlushesTo Gone acts d e = MayClose e
 
 -- acts that need no clock, leave the state as it is and read nothing
 pub record Quiet (port : ℕ) (acts : List Act) (d e : Desk) (l0 l1 : Option (List Deed)) : Type 0 where
@@ -72,42 +83,62 @@ abbrev pub HasHadEnough : Budget → List ℕ → Type 0
 HasHadEnough left unread = (unread ≡ []) ⊎ ((0 < length unread) × IsSpent left)
 
 -- what came to rest, where so much may still be done in its turn
-abbrev pub Settles : Rest → List Act → Desk → Budget → Type 0
-Settles Clear acts e left = (e.live ≡ true) × (e.gone ≡ false) × (is_too_long e.stream ≡ false) × HasHadEnough left e.unread × (e.owed ≡ [])
-Settles Stuck acts e left = IsStuck acts e
-Settles Gone acts e left = e ≡ closed
+abbrev pub Rests : Rest → List Act → Desk → Budget → Type 0
+Rests Clear acts e left = (e.live ≡ true) × (is_too_long e.stream ≡ false) × HasHadEnough left e.unread × (e.owed ≡ [])
+Rests Stuck acts e left = IsStuck acts e
+Rests Gone acts e left = MayClose e
+
+-- what came was answered so far, and nothing was read
+abbrev pub Settles : Rest → ℕ → Stand → Stand → Budget → Budget → Type 0
+Settles rest port a b old new = (acts : List Act) × Advances port acts a b × Rests rest acts b.desk new × (filter is_of_read acts ≡ []) × Spends acts old new
+
+-- what may be done in a turn
+abbrev pub whole : Budget
+whole = record { steps = 16; bytes = 65536; late = false }
+
+-- how a turn ends, or that the connection is to be closed then
+abbrev pub EndsOrMayClose : Rest → List Act → Desk → Type 0
+EndsOrMayClose Gone acts d = ReadsOnce acts × ((left : Budget) × Spends acts whole left) × MayClose d
+EndsOrMayClose rest acts d = EndsTurn acts d
+
+-- a turn, up to the closing of its connection
+abbrev pub TakesTurnUpTo : Rest → ℕ → Stand → Stand → Type 0
+TakesTurnUpTo rest port a b = (acts : List Act) × Advances port acts a b × EndsOrMayClose rest acts b.desk
+
+abbrev pub TakesTurn : ℕ → Stand → Stand → Type 0
+TakesTurn port a b = (acts : List Act) × Advances port acts a b × EndsTurn acts b.desk
 
 -- a session's SEQUENCE was answered in these bytes, for the first time
 abbrev pub is_first : Bool → List ℕ → Bool
 is_first heard out = not heard && answers_sequence out
 
 -- One part was stepped: what the clock told and the port was told, and what is used up.
-pub record StepsOne (port : ℕ) (s t : State) (a b : Lane) (l0 l1 : Option (List Deed)) (c0 c1 : Option (List Told)) (before left : Budget) : Type 0 where
+pub record StepsOne (port : ℕ) (a b : Stand) (before left : Budget) : Type 0 where
   pub moment : ℕ
   pub part : List ℕ
   pub out : List ℕ
-  pub clock : Logs c0 c1 (Moment moment ∷ Late left.late ∷ [])
-  pub logs : Logs l0 l1 (counted port (is_first a.heard out))
-  pub steps : StepsPart port s (desk_of a) moment part t b.connection b.unread out
-  pub owed : b.owed.bytes ≡ a.owed.bytes ++ out
-  pub heard : b.heard ≡ (a.heard || answers_sequence out)
-  pub live : b.live ≡ a.live
-  pub reads : b.reads ≡ a.reads
-  pub shorter : length b.unread < length a.unread
+  pub clock : Logs a.told b.told (Moment moment ∷ Late left.late ∷ [])
+  pub logs : Logs a.log b.log (counted port (is_first a.desk.heard out))
+  pub steps : StepsPart port a.state a.desk moment part b.state b.desk.stream b.desk.unread out
+  pub owed : b.desk.owed ≡ a.desk.owed ++ out
+  pub heard : b.desk.heard ≡ (a.desk.heard || answers_sequence out)
+  pub live : b.desk.live ≡ a.desk.live
+  pub gone : b.desk.gone ≡ a.desk.gone
+  pub reads : b.desk.reads ≡ a.desk.reads
+  pub shorter : length b.desk.unread < length a.desk.unread
   pub one : left.steps + 1 ≡ before.steps
   pub bytes : left.bytes ≡ before.bytes
 
 -- some parts were stepped, of what may be done, and nothing was read or written
-pub record StepsSome (port : ℕ) (s t : State) (a b : Lane) (l0 l1 : Option (List Deed)) (c0 c1 : Option (List Told)) (before left : Budget) : Type 0 where
+pub record StepsSome (port : ℕ) (a b : Stand) (before left : Budget) : Type 0 where
   pub acts : List Act
-  pub advances : Advances port acts s (desk_of a) t (desk_of b) l0 l1 c0 c1
+  pub advances : Advances port acts a b
   pub no_reads : filter is_of_read acts ≡ []
   pub spends : Spends acts before left
-  pub live : b.live ≡ a.live
-  pub shorter : length b.unread < length a.unread
+  pub live : b.desk.live ≡ a.desk.live
+  pub shorter : length b.desk.unread < length a.desk.unread
   pub bytes : left.bytes ≡ before.bytes
 
 -- a port has its turn, or is passed over in it; the clock is told that it begins
-abbrev pub Visits : ℕ → State → Desk → State → Desk → Option (List Deed) → Option (List Deed) → Option (List Told) → Option (List Told) → Type 0
-Visits port s d t e l0 l1 c0 c1 = (acts : List Act) × (begun : Option (List Told)) × Logs c0 begun (Turn ∷ [])
-    × Advances port acts s d t e l0 l1 begun c1 × EndsTurn acts e
+abbrev pub Visits : ℕ → Stand → Stand → Type 0
+Visits port a b = (begun : Option (List Told)) × Logs a.told begun (Turn ∷ []) × TakesTurn port (record a { told = begun }) b

@@ -24,6 +24,9 @@ pub mod LockKept
 pub mod Outlived
 pub mod HeldLock
 pub mod LockOwned
+pub mod LeaseListed
+pub mod Handles
+pub mod LockOwners
 pub mod AskedAgain
 pub mod SessionStays
 pub mod WrongLocks
@@ -32,6 +35,14 @@ pub mod WrittenStays
 pub mod WrittenWorked
 pub mod ChangeTells
 pub mod ChangeWorked
+pub mod FileRead
+pub mod FileReadWorked
+pub mod ChangeSeen
+pub mod ChangeNames
+pub mod ChangeNamesWorked
+pub mod ChangeSeenWorked
+pub mod NameStays
+pub mod NameWorked
 pub mod SessionsOnce
 pub mod OpenKept
 pub mod HeldOpen

@@ -5,6 +5,7 @@ ghost use Rattle.nfs_xdr.specs.Spelling.{number};
 ghost use Rattle.nfs_rpc.specs.View as view;
 ghost use Rattle.nfs_compound.specs.ReadRequest.{request_at};
 ghost use Rattle.nfs_exec.specs.Expiry.{expired};
+ghost use Rattle.nfs_exec.specs.Held.{held};
 ghost use Rattle.nfs_exec.specs.Machine.{IsMachine, HasNoClashes, machine_of};
 ghost use Rattle.nfs_rpc.specs.CallHead.{call_of};
 ghost use Rattle.nfs_serve.specs.Step.{State, step, new_state, reply_to, by_procedure, with_arguments};
@@ -19,7 +20,7 @@ use crate::Sink;
 use crate::form::{Form, Outcome};
 use crate::moving::{WriteFailed, put};
 use nfs_compound::{Compound, Garbage};
-use nfs_exec::World;
+use nfs_exec::{Held, World};
 use nfs_rpc::{AcceptStat, Call, LAST_FRAGMENT, Procedure, Refusal, write_head, write_refusal};
 use nfs_xdr::Sheet;
 use std::alloc::{AllocError, Global};
@@ -109,6 +110,13 @@ impl Engine {
         self.world.expire(self.moment);
     }
 
+    /// How much of each kind stands.
+    pub(crate) fn held(&self) -> Held
+        ensures { result ≡ held (state_of self.now.kept).machine }
+    {
+        self.world.held()
+    }
+
     /// No byte has a writer beside another holder, and no two owners' opens clash; this does nothing but say so.
     pub(crate) fn no_clash(&self)
         ensures { HasNoClashes (state_of self.now.kept).machine }
@@ -135,7 +143,7 @@ impl Engine {
         ensures kept { self.new.kept ≡ self.old.kept }
         ensures reply { self.new.reply ≡ [] }
     {
-        self.sheet.cut(FRONT);
+        self.sheet.cut(FRONT)
     }
 
     /// Writes what a record that came on a connection was answered.

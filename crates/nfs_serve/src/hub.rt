@@ -9,11 +9,11 @@ ghost use Rattle.nfs_serve.specs.Hub.{Serves, at};
 ghost use Rattle.nfs_serve.specs.Lane.{desks_of};
 ghost use Rattle.nfs_serve.specs.Sweep.{Begins, SweepsBelow};
 
-use crate::Clock;
 use crate::engine::Engine;
 use crate::lane::Lane;
 use crate::ports::{Next, Ports};
 use crate::script::LAST_CONNECTION;
+use crate::{Clock, Watch};
 use std::alloc::{AllocError, Global};
 use std::marker::Model;
 
@@ -55,17 +55,18 @@ impl Hub {
 }
 
 /// Closes every connection, then serves those that come until none is left and none will come.
-pub(crate) fn serve<P: Ports, C: Clock>(
+pub(crate) fn serve<P: Ports, C: Clock, W: Watch<P, C>>(
     alloc: Global,
     engine: &mut Engine,
     hub: &mut Hub,
     ports: &mut P,
     clock: &mut C,
+    watch: &mut W,
 )
     ensures { Serves (state_of engine.old.kept) (state_of engine.new.kept) hub.new (P.log ports.old) (P.log ports.new) (C.told clock.old) (C.told clock.new) }
 {
     reset_all(&mut hub.lanes);
-    serve_lanes(alloc, engine, &mut hub.lanes, ports, clock);
+    serve_lanes(alloc, engine, &mut hub.lanes, ports, clock, watch);
 }
 
 /// Closes all connections.
@@ -79,12 +80,13 @@ fn reset_all(lanes: &mut [Lane])
 }
 
 /// Serves from ports without a connection on.
-fn serve_lanes<P: Ports, C: Clock>(
+fn serve_lanes<P: Ports, C: Clock, W: Watch<P, C>>(
     alloc: Global,
     engine: &mut Engine,
     lanes: &mut [Lane],
     ports: &mut P,
     clock: &mut C,
+    watch: &mut W,
 )
     requires ports { length lanes.old ≡ connection_count }
     requires closed { (port : ℕ) → at (desks_of lanes.old) port ≡ closed }
@@ -98,6 +100,14 @@ fn serve_lanes<P: Ports, C: Clock>(
         }
         clock.begin_sweep();
         sweep(alloc, engine, lanes, ports, clock);
+        show(engine, ports, clock, watch);
+    }
+}
+
+/// Lets the watch look on, with what the server keeps where it asks for that.
+fn show<P: Ports, C: Clock, W: Watch<P, C>>(engine: &Engine, ports: &P, clock: &C, watch: &mut W) {
+    if watch.asks(ports, clock) {
+        watch.look(ports, clock, &engine.held());
     }
 }
 

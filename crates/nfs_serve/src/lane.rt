@@ -1,14 +1,13 @@
 //! One connection of many: what came, what is owed, and its turn.
 
-ghost use Rattle.std.specs.Prelude.{◌≡◌, ◌≤◌, ◌<◌, ◌||◌, ℕ, List, [], length, drop, filter, true, false, IfOk};
+ghost use Rattle.std.specs.Prelude.{◌≡◌, ◌≤◌, ◌<◌, ◌||◌, length, drop, true, false, IfOk};
 ghost use Rattle.nfs_serve.specs.Told.{Logs};
 ghost use Rattle.nfs_serve.specs.Deeds.{counted};
 ghost use Rattle.nfs_serve.specs.Shows.{readied};
 ghost use Rattle.nfs_rpc.specs.RecordMarking.{is_too_long};
-ghost use Rattle.nfs_serve.specs.Server.{state_of};
 ghost use Rattle.nfs_serve.specs.Script.{last_connection};
-ghost use Rattle.nfs_serve.specs.Desk.{Act, closed, opened, most_owed, EndsTurn, is_of_read, HasMore};
-ghost use Rattle.nfs_serve.specs.Lane.{desk_of, is_first, Advances, Flushes, IsLeft, IsSpent, Settles, Spends, StepsOne, StepsSome, Visits};
+ghost use Rattle.nfs_serve.specs.Desk.{closed, opened, leaving, most_owed, HasMore};
+ghost use Rattle.nfs_serve.specs.Lane.{desk_of, stand, is_first, Flushes, IsLeft, IsSpent, Settles, StepsOne, StepsSome, TakesTurn, TakesTurnUpTo, Visits};
 ghost use Rattle.nfs_serve.specs.Boxes as boxes;
 
 use crate::Clock;
@@ -31,6 +30,8 @@ const MOST_TAKEN: usize = 65_536;
 #[derive(Drop)]
 pub(crate) struct Lane {
     live: bool,
+    /// Whether its connection has ended or failed, and is to be closed.
+    gone: bool,
     /// Whether a session's SEQUENCE was answered on it.
     heard: bool,
     reads: u32,
@@ -67,7 +68,7 @@ pub(crate) enum Rest {
     Clear,
     /// The peer takes no more for now.
     Stuck,
-    /// The connection was closed.
+    /// The connection is to be closed.
     Gone,
 }
 
@@ -78,6 +79,7 @@ impl Lane {
     {
         Ok(Lane {
             live: false,
+            gone: false,
             heard: false,
             reads: 0,
             connection: Connection::new(alloc)?,
@@ -99,11 +101,20 @@ impl Lane {
         ensures { desk_of self.new ≡ closed }
     {
         self.live = false;
+        self.gone = false;
         self.heard = false;
         self.reads = 0;
         self.connection.close();
         self.unread.clear();
         self.owed.clear();
+    }
+
+    /// Its connection has ended or failed.
+    fn leave(&mut self)
+        ensures { desk_of self.new ≡ leaving }
+    {
+        self.reset();
+        self.gone = true;
     }
 
     /// Writes what is owed, as far as the peer takes it.
@@ -120,8 +131,7 @@ impl Lane {
                 }
                 Took::Blocked => return Rest::Stuck,
                 Took::Failed => {
-                    ports.close(port);
-                    self.reset();
+                    self.leave();
                     return Rest::Gone;
                 }
             }
@@ -153,7 +163,7 @@ impl Lane {
         requires laid { self.old.owed.laid ≤ most_owed }
         requires room { length self.old.owed.bytes ≤ most_owed }
         requires left { 0 < left.old.steps }
-        ensures { StepsOne port (state_of engine.old.kept) (state_of engine.new.kept) self.old self.new (P.log ports.old) (P.log ports.new) (C.told clock.old) (C.told clock.new) left.old left.new }
+        ensures { StepsOne port (stand engine.old.kept self.old (P.log ports.old) (C.told clock.old)) (stand engine.new.kept self.new (P.log ports.new) (C.told clock.new)) left.old left.new }
     {
         let before = self.owed.rest().len();
         let now = clock.now();
@@ -170,6 +180,7 @@ impl Lane {
         left.late = clock.is_late();
         let first = self.is_first(before);
         self.heard = either(self.heard, first);
+        ports.answered(port, &self.owed.rest()[before..]);
         count(port, ports, first);
     }
 
@@ -197,7 +208,7 @@ impl Lane {
         requires some { 0 < length self.old.unread }
         requires empty { length self.old.owed.bytes ≡ 0 }
         requires left { IsLeft left.old }
-        ensures { StepsSome port (state_of engine.old.kept) (state_of engine.new.kept) self.old self.new (P.log ports.old) (P.log ports.new) (C.told clock.old) (C.told clock.new) left.old left.new }
+        ensures { StepsSome port (stand engine.old.kept self.old (P.log ports.old) (C.told clock.old)) (stand engine.new.kept self.new (P.log ports.new) (C.told clock.new)) left.old left.new }
     {
         self.owed.clear();
         self.step_one(alloc, engine, port, ports, clock, left);
@@ -218,7 +229,7 @@ impl Lane {
     ) -> Rest
         requires port { port ≤ last_connection }
         requires live { self.old.live ≡ true }
-        ensures { (acts : List Act) × Advances port acts (state_of engine.old.kept) (desk_of self.old) (state_of engine.new.kept) (desk_of self.new) (P.log ports.old) (P.log ports.new) (C.told clock.old) (C.told clock.new) × Settles result acts (desk_of self.new) left.new × (filter is_of_read acts ≡ []) × Spends acts left.old left.new }
+        ensures { Settles result port (stand engine.old.kept self.old (P.log ports.old) (C.told clock.old)) (stand engine.new.kept self.new (P.log ports.new) (C.told clock.new)) left.old left.new }
     {
         loop {
             match self.flush(port, ports, left) {
@@ -227,8 +238,6 @@ impl Lane {
                 Rest::Gone => return Rest::Gone,
             }
             if self.connection.is_too_long() {
-                ports.close(port);
-                self.reset();
                 return Rest::Gone;
             }
             if self.unread.rest().is_empty() {
@@ -271,7 +280,7 @@ impl Lane {
         clock: &mut C,
     )
         requires port { port ≤ last_connection }
-        ensures { Visits port (state_of engine.old.kept) (desk_of self.old) (state_of engine.new.kept) (desk_of self.new) (P.log ports.old) (P.log ports.new) (C.told clock.old) (C.told clock.new) }
+        ensures { Visits port (stand engine.old.kept self.old (P.log ports.old) (C.told clock.old)) (stand engine.new.kept self.new (P.log ports.new) (C.told clock.new)) }
     {
         clock.begin_turn();
         if !self.has_turn(port, ports) {
@@ -291,11 +300,34 @@ impl Lane {
         clock: &mut C,
     )
         requires port { port ≤ last_connection }
-        ensures { (acts : List Act) × Advances port acts (state_of engine.old.kept) (desk_of self.old) (state_of engine.new.kept) (desk_of self.new) (P.log ports.old) (P.log ports.new) (C.told clock.old) (C.told clock.new) × EndsTurn acts (desk_of self.new) }
+        ensures { TakesTurn port (stand engine.old.kept self.old (P.log ports.old) (C.told clock.old)) (stand engine.new.kept self.new (P.log ports.new) (C.told clock.new)) }
     {
         if !self.live {
             return;
         }
+        match self.advance(alloc, engine, port, ports, clock) {
+            Rest::Clear => {}
+            Rest::Stuck => {}
+            Rest::Gone => {
+                ports.close(port);
+                self.reset();
+            }
+        }
+    }
+
+    /// A turn, up to the closing of its connection where that is gone.
+    fn advance<P: Ports, C: Clock>(
+        &mut self,
+        alloc: Global,
+        engine: &mut Engine,
+        port: u32,
+        ports: &mut P,
+        clock: &mut C,
+    ) -> Rest
+        requires port { port ≤ last_connection }
+        requires live { self.old.live ≡ true }
+        ensures { TakesTurnUpTo result port (stand engine.old.kept self.old (P.log ports.old) (C.told clock.old)) (stand engine.new.kept self.new (P.log ports.new) (C.told clock.new)) }
+    {
         let mut left = Budget {
             steps: MOST_STEPS,
             bytes: MOST_TAKEN,
@@ -303,36 +335,28 @@ impl Lane {
         };
         match self.settle(alloc, engine, port, ports, clock, &mut left) {
             Rest::Clear => {}
-            Rest::Stuck => return,
-            Rest::Gone => return,
+            Rest::Stuck => return Rest::Stuck,
+            Rest::Gone => return Rest::Gone,
         }
         if !self.unread.rest().is_empty() {
-            return;
+            return Rest::Clear;
         }
         if self.reads >= MAX_READS {
-            ports.close(port);
-            self.reset();
-            return;
+            return Rest::Gone;
         }
         match self.unread.receive(ports, port) {
             Came::Bytes(_) => {
                 self.reads += 1;
-                match self.settle(alloc, engine, port, ports, clock, &mut left) {
-                    Rest::Clear => return,
-                    Rest::Stuck => return,
-                    Rest::Gone => return,
-                }
+                self.settle(alloc, engine, port, ports, clock, &mut left)
             }
-            Came::Blocked => return,
+            Came::Blocked => Rest::Clear,
             Came::Ended => {
-                ports.close(port);
-                self.reset();
-                return;
+                self.leave();
+                Rest::Gone
             }
             Came::Failed => {
-                ports.close(port);
-                self.reset();
-                return;
+                self.leave();
+                Rest::Gone
             }
         }
     }

@@ -9,9 +9,15 @@ ghost use Rattle.nfs_serve.specs.Promises.Alone.{ExecutingAlone, StaysSettled};
 ghost use Rattle.nfs_serve.specs.Promises.AnsweredAgain.{AnsweredAgain};
 ghost use Rattle.nfs_serve.specs.Promises.Answering.{EachIsAnswered};
 ghost use Rattle.nfs_serve.specs.Promises.AskedAgain.{IsFreshThere, IsHadAgain, IsUnderItsXid};
+ghost use Rattle.nfs_serve.specs.Promises.ChangeNames.{NamesAreAlike};
+ghost use Rattle.nfs_serve.specs.Promises.ChangeNamesWorked.{IsFoundAgain, FindingsAreRefused};
+ghost use Rattle.nfs_serve.specs.Promises.ChangeSeen.{ReportsAreTrue, ChangesAreNew};
+ghost use Rattle.nfs_serve.specs.Promises.ChangeSeenWorked as change_seen;
 ghost use Rattle.nfs_serve.specs.Promises.ChangeTells.{ChangeTells, ReadsAreAlike, ChangeIsTold};
 ghost use Rattle.nfs_serve.specs.Promises.ChangeWorked.{ToldByChange, ChangesAreRefused};
 ghost use Rattle.nfs_serve.specs.Promises.Exchanges.{RunsTo, null_script, null_output, exchange_script, exchange_output};
+ghost use Rattle.nfs_serve.specs.Promises.FileRead.{ReadsAreWhole};
+ghost use Rattle.nfs_serve.specs.Promises.FileReadWorked.{IsReadWhole, ReadsAreRefused};
 ghost use Rattle.nfs_serve.specs.Promises.FreshRuns.{FreshRuns, NextRuns, Passes};
 ghost use Rattle.nfs_serve.specs.Promises.Laws.{HasOneReading, CutsAnywhere, BringsOnce, ConnectionsAreStreams};
 ghost use Rattle.nfs_serve.specs.Promises.Forms.{EachFormRunsRecords};
@@ -19,8 +25,13 @@ ghost use Rattle.nfs_serve.specs.Promises.GivenUp.{IsGivenUp};
 ghost use Rattle.nfs_serve.specs.Promises.HeldLock.{IsHeldTo, AreBothTold};
 ghost use Rattle.nfs_serve.specs.Promises.HeldOpen.{IsOpenTo};
 ghost use Rattle.nfs_serve.specs.Promises.LockKept.{LockKept, EachIsTold, OnlyOneIsTold, LeaseIsTold};
+ghost use Rattle.nfs_serve.specs.Promises.LeaseListed.{LeaseIsListed, IsListed};
+ghost use Rattle.nfs_serve.specs.Promises.Handles.{HandlesLead, HandlesTell, IsLedBack};
+ghost use Rattle.nfs_serve.specs.Promises.LockOwners.{StatesHaveOneOwner, OnlyOneOwnerIsTold, OneOwnerEach};
 ghost use Rattle.nfs_serve.specs.Promises.LockOwned.{EachIsOwned, OwnersApart};
 ghost use Rattle.nfs_serve.specs.Promises.LostReply.{IsAccepted, IsOverAWire};
+ghost use Rattle.nfs_serve.specs.Promises.NameStays.{NameStays, GoneStays};
+ghost use Rattle.nfs_serve.specs.Promises.NameWorked.{LeadsTo, NamesAreRefused};
 ghost use Rattle.nfs_serve.specs.Promises.Network.{ExactlyOnce, AnswersExecuted};
 ghost use Rattle.nfs_serve.specs.Promises.Numbered.{AnswersNumbered, ExactlyOnceByNumber, XidsSuffice};
 ghost use Rattle.nfs_serve.specs.Promises.OpenKept.{OpenKept, EachOpenIsTold};
@@ -267,14 +278,47 @@ pub fn lock_owners_are_apart()
     ensures { OwnersApart }
 {}
 
-/// In every run a GETATTR of attribute 10, whatever else it asks for, that answers NFS4_OK gives the number of seconds that leases last.
+/// In every run a GETATTR of attribute 10, whatever else it asks for, that answers NFS4_OK gives the number of seconds that leases last; and so does a READDIR, with
+/// each of its entries.
 pub fn lease_is_told()
-    ensures { LeaseIsTold }
+    ensures told { LeaseIsTold }
+    ensures listed { LeaseIsListed }
+{}
+
+/// The definitions compute: a READDIR of the root lists a file with the 90 seconds that leases last; and `lease_is_told` refuses an entry that says 91.
+pub fn a_lease_is_listed()
+    ensures { IsListed }
+{}
+
+/// A filehandle is a file: what a GETFH gave for an object leads back to it by PUTFH, in whatever later record, and to nothing else; and while the object has a name or an
+/// open it is not stale. Of two GETFHs the filehandles are the same just where the objects are.
+pub fn handles_lead()
+    ensures lead { HandlesLead }
+    ensures tell { HandlesTell }
+{}
+
+/// The definitions compute: a client gets the filehandle of a file, and a later PUTFH of it leads to the file. `handles_lead` refuses a PUTFH that leads to the next
+/// object, and one that answers NFS4ERR_STALE while the file has a name.
+pub fn a_handle_leads_back()
+    ensures { IsLedBack }
 {}
 
 /// Of two LOCKs that clash on a byte, each answered NFS4_OK and a stateid of its own, the second comes behind an end of the first.
 pub fn only_one_writer_is_told()
     ensures { OnlyOneIsTold }
+{}
+
+/// A lock state is of one lock owner: two LOCKs of new lock owners that are told it give the same string, in sessions of the same client. So of two LOCKs of different
+/// owners that clash on a byte, each answered NFS4_OK and whatever stateid, the second comes behind an end of the first.
+pub fn lock_states_have_one_owner()
+    ensures states { StatesHaveOneOwner }
+    ensures owners { OnlyOneOwnerIsTold }
+{}
+
+/// The definitions compute: a client that locked a byte for one owner asks for it for another, and is denied; `lock_states_have_one_owner` refuses a server that gives
+/// both owners one lock state.
+pub fn owners_share_no_lock()
+    ensures { OneOwnerEach }
 {}
 
 /// In every run a byte is held only by a lock state of a client that renewed its lease, by the records, at most a lease before.
@@ -351,6 +395,45 @@ pub fn change_is_told()
     ensures { ChangeIsTold }
 {}
 
+/// While a directory's change is the same, each name in it leads to the same object, or to none, and a listing has the same entries; and of two LOOKUPs of a name neither
+/// finds it where the other finds none.
+pub fn names_are_alike()
+    ensures { NamesAreAlike }
+{}
+
+/// The definitions compute: a name is looked up twice in the root, whose change is the same. That run meets the premises of `names_are_alike`.
+pub fn a_name_is_found_again()
+    ensures { IsFoundAgain }
+{}
+
+/// The definitions compute: over that run `names_are_alike` refuses a second LOOKUP that is answered NFS4ERR_NOENT, and a first one.
+pub fn wrong_findings_are_refused()
+    ensures { FindingsAreRefused }
+{}
+
+/// What CREATE, LINK, OPEN, REMOVE and RENAME report of a directory's change, if they are answered NFS4_OK, is its change before and behind the operation, with nothing
+/// in between.
+pub fn reports_are_true()
+    ensures { ReportsAreTrue }
+{}
+
+/// A change is seen: an operation that changes an object, and is answered NFS4_OK, gives it a change that is greater than at any moment before.
+pub fn changes_are_new()
+    ensures { ChangesAreNew }
+{}
+
+/// The definitions compute: OPEN makes a file, and reports the change of its directory; the file is written, and its change rises. That run meets the premises of
+/// `changes_are_new` and `reports_are_true`.
+pub fn a_change_is_seen()
+    ensures { change_seen.IsSeen }
+{}
+
+/// The definitions compute: `reports_are_true` refuses an OPEN that reports its directory's change as before, and one that reports that something came between; and
+/// `changes_are_new` refuses a WRITE that keeps the change.
+pub fn wrong_reports_are_refused()
+    ensures { change_seen.ReportsAreRefused }
+{}
+
 /// The definitions compute: a file is written, and its change rises; then it is read twice, and its change is the same, and so is the answer. That run meets the
 /// premises of `change_tells` and `reads_are_alike`.
 pub fn a_change_tells()
@@ -361,6 +444,48 @@ pub fn a_change_tells()
 /// `reads_are_alike` refuses a second READ that is answered zeros.
 pub fn wrong_changes_are_refused()
     ensures { ChangesAreRefused }
+{}
+
+/// What nobody wrote is zero: from the OPEN on that made a file, each READ of it that is answered NFS4_OK is given at each place what the last WRITE, cut or growth
+/// left there, and zero where there was none, up to the file's end; and is told whether it came to that end.
+pub fn reads_are_whole()
+    ensures { ReadsAreWhole }
+{}
+
+/// The definitions compute: a file is made, written, and written behind a gap; it is read, cut, grows and is read once more. That run meets the premises of
+/// `reads_are_whole`.
+pub fn a_file_is_read_whole()
+    ensures { IsReadWhole }
+{}
+
+/// The definitions compute: over that run `reads_are_whole` refuses a gap that is not zero, a growth that shows what was cut off, a READ of the whole file that tells
+/// that it goes on, and one of fewer bytes that tells that it ends there.
+pub fn wrong_reads_are_refused()
+    ensures { ReadsAreRefused }
+{}
+
+/// A name leads where it was said: what a CREATE, an OPEN, a LINK, a RENAME or a LOOKUP said of a name in a directory holds, whoever asks, until a REMOVE of it, or a
+/// RENAME from it or to it, is answered NFS4_OK.
+pub fn names_stay()
+    ensures { NameStays }
+{}
+
+/// A name that is gone is not found until it is made: behind a REMOVE of it or a RENAME from it that was answered NFS4_OK, or a LOOKUP of it that was answered
+/// NFS4ERR_NOENT, no LOOKUP of it is answered NFS4_OK until a CREATE, an OPEN, a LINK or a RENAME to it is.
+pub fn gone_names_stay_gone()
+    ensures { GoneStays }
+{}
+
+/// The definitions compute: a client makes a file, finds it by its name twice, and renames it; the new name leads to the file and the old one nowhere, and once it is
+/// removed, neither does the new one. That run meets the premises of `names_stay` and `gone_names_stay_gone`.
+pub fn a_name_leads()
+    ensures { LeadsTo }
+{}
+
+/// The definitions compute: `names_stay` refuses a LOOKUP that is answered NFS4ERR_NOENT, one that leads to another object and a tree that lost its names; and
+/// `gone_names_stay_gone` refuses a RENAME that leaves the old name, and a LOOKUP of it that is answered NFS4_OK.
+pub fn wrong_names_are_refused()
+    ensures { NamesAreRefused }
 {}
 
 /// A CREATE_SESSION that is answered NFS4_OK makes one session of its client, of the id that is answered, which did not stand before; or it changes nothing.

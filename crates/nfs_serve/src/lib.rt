@@ -38,6 +38,7 @@ mod server;
 mod sink;
 mod source;
 mod talking;
+mod watch;
 
 pub use buf_source::BufSource;
 pub use clock::Clock;
@@ -53,3 +54,4 @@ pub use server::{Server, Settings};
 pub use sink::Sink;
 pub use source::Source;
 pub use talking::Talk;
+pub use watch::Watch;

@@ -71,6 +71,11 @@ pub trait Ports {
         ensures bound { TakesWithin result bytes.now }
         ensures logs { Logs (log self.old) (log self.new) (took port result bytes.now) };
 
+    /// These bytes were put out for what was stepped on the port: the reply to a record, with its mark, or none.
+    fn answered(&mut self, port: u32, reply: &[u8])
+        requires port { port ≤ last_connection }
+        ensures logs { Logs (log self.old) (log self.new) [] };
+
     /// A session's SEQUENCE was answered on the connection, for the first time.
     fn count(&mut self, port: u32)
         requires port { port ≤ last_connection }

@@ -1,6 +1,7 @@
 //! A server: records, connections and scripts over one state.
 
 ghost use Rattle.std.specs.Prelude.{◌≡◌, ◌≢◌, ◌≤◌, [], false, IfOk, OnErr, replicate};
+ghost use Rattle.nfs_exec.specs.Held.{held};
 ghost use Rattle.nfs_exec.specs.Machine.{IsMachine, HasNoClashes};
 ghost use Rattle.nfs_serve.specs.Server.{fresh, held_on, IsWith, Steps, FeedsOr, Closes, IsNew, state_of};
 ghost use Rattle.nfs_serve.specs.Replay.{IsReplay};
@@ -18,7 +19,8 @@ use crate::moving::WriteFailed;
 use crate::running::{close_all, run};
 use crate::script::{Entry, LAST_CONNECTION, MAX_PIECE};
 use crate::talking::{Talk, converse};
-use crate::{BufSource, Clock, Ports, Sink, Source};
+use crate::{BufSource, Clock, Ports, Sink, Source, Watch};
+use nfs_exec::Held;
 use std::alloc::{AllocError, Global};
 use std::marker::Model;
 
@@ -81,6 +83,13 @@ impl Server {
         ensures { Steps result self.old self.new call.now now }
     {
         self.engine.record(alloc, call, now)
+    }
+
+    /// How many clients, sessions, objects, opens and lock states the server keeps.
+    pub fn held(&self) -> Held
+        ensures { result ≡ held (state_of self.now.kept).machine }
+    {
+        self.engine.held()
     }
 
     /// No byte of a file has a writer beside another holder, and no two opens of different owners clash, in every state that a
@@ -251,19 +260,20 @@ impl Server {
     /// Nothing is read on a port while a reply is owed there or a piece waits, and a turn never waits for its peer. The ports have
     /// their turns in their order, sweep after sweep: each that is ready or has a record to step has one, of 16 records at most. A connection
     /// is closed where its peer has ended or it has failed, and, once its replies are written, where its stream is too long or in
-    /// place of its 1,000,001st read.
-    pub fn serve_ports<P: Ports, C: Clock>(
+    /// place of its 1,000,001st read. Behind each sweep the watch looks on.
+    pub fn serve_ports<P: Ports, C: Clock, W: Watch<P, C>>(
         &mut self,
         alloc: Global,
         hub: &mut Hub,
         ports: &mut P,
         clock: &mut C,
+        watch: &mut W,
     )
         ensures run { Serves (state_of self.old.kept) (state_of self.new.kept) hub.new (P.log ports.old) (P.log ports.new) (C.told clock.old) (C.told clock.new) }
         ensures held { self.new.held ≡ self.old.held }
         ensures reply { self.new.reply ≡ [] }
     {
-        serve(alloc, &mut self.engine, hub, ports, clock);
+        serve(alloc, &mut self.engine, hub, ports, clock, watch);
         self.engine.forget_reply();
     }
 }

@@ -1,6 +1,6 @@
 //! The table of sessions (RFC 8881 sections 2.10, 18.36 and 18.37).
 
-ghost use Rattle.std.specs.Prelude.{◌≡◌, ◌≤◌, ◌+◌, ◌++◌, ◌==◌, None, IfOk, OnOk, OnErr, IsSomeAnd, is_some, option_map, count_by, find, filter, not, position};
+ghost use Rattle.std.specs.Prelude.{◌≡◌, ◌≤◌, ◌+◌, ◌++◌, ◌==◌, None, IfOk, OnOk, OnErr, IsSomeAnd, is_some, length, option_map, count_by, find, filter, not, position};
 ghost use Rattle.std.specs.Borrow.{sem};
 ghost use Rattle.std.specs.Option.{option_copied, option_copied_mut};
 ghost use Rattle.std.specs.List.{list_any};
@@ -138,6 +138,13 @@ impl Sessions {
             sessions: Vec::new(alloc),
             last: 0,
         }
+    }
+
+    /// How many sessions stand.
+    pub fn count(&self) -> usize
+        ensures { result ≡ length self.now.sessions }
+    {
+        self.sessions.len()
     }
 
     fn judge_create(&self, wish: &Wish) -> Result<(), SessionFault>

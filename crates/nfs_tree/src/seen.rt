@@ -1,25 +1,42 @@
 //! Where rows were last seen.
 
+ghost use Rattle.std.specs.Prelude.{◌≡◌, ◌≤◌, ◌+◌, nat_le, if◌then◌else◌, OnOk, OnErr};
+
 use std::alloc::{AllocError, Global};
 use std::cell::Cell;
+use std::marker::Model;
 
 /// For the key of each row the one at which the row of its directory was last seen: by now another row may stand there,
 /// or none. They stand close together and apart from the rows, so that going up waits for memory once for many rows.
+///
+/// Contracts see for how many keys there is room.
 #[derive(Drop)]
 pub(crate) struct Seen {
     above: Vec<Cell<u32>>,
 }
 
+impl Model for Seen {
+    ghost use Rattle.std.specs.Prelude.{ℕ, vec_len};
+
+    ghost Value = { ℕ };
+
+    ghost view = { λ s. vec_len s.above };
+}
+
 impl Seen {
     /// Nothing was seen. What comes later grows by `alloc`.
-    pub(crate) fn new(alloc: Global) -> Seen {
+    pub(crate) fn new(alloc: Global) -> Seen
+        ensures { result ≡ 0 }
+    {
         Seen {
             above: Vec::new(alloc),
         }
     }
 
     /// Where the row above the one at a key was last seen, or a key that no row has.
-    pub(crate) fn above(&self, key: u32) -> u32 {
+    pub(crate) fn above(&self, key: u32) -> u32
+        ensures { self.now ≤ key → result ≡ 4294967295 }
+    {
         match self.above.get(key as usize) {
             Some(seen) => seen.get(),
             None => u32::MAX,
@@ -34,7 +51,10 @@ impl Seen {
     }
 
     /// Has room for the next key, once it has room for those before.
-    pub(crate) fn reach(&mut self, key: u32) -> Result<(), AllocError> {
+    pub(crate) fn reach(&mut self, key: u32) -> Result<(), AllocError>
+        ensures ok { OnOk result (self.new ≡ (if nat_le self.old key then self.old + 1 else self.old)) }
+        ensures err { OnErr result (self.new ≡ self.old) }
+    {
         if self.above.len() <= key as usize {
             self.above.push(Cell::new(u32::MAX))?;
         }

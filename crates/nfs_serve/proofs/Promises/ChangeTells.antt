@@ -1,10 +1,10 @@
 -- The change attribute tells, through whatever records come.
-use Rattle.std.proofs.Common.{◌≡◌, ◌≢◌, ◌⊎◌, inl, inr, ℕ, ◌+◌, ◌<◌, ◌≤◌, Bool, true, false, cond, not, eqb, List, [], ◌∷◌, ◌++◌, map, length, take, drop, Option, Some, None, refl, sym, ◌∙◌, ap, subst, arith}
+use Rattle.std.proofs.Common.{◌≡◌, ◌≢◌, ◌⊎◌, inl, inr, ℕ, ◌+◌, ◌<◌, ◌≤◌, Bool, true, false, cond, not, List, [], ◌∷◌, ◌++◌, map, length, take, drop, Option, Some, None, refl, sym, ◌∙◌, ap, subst, arith}
 use Rattle.std.specs.Prelude.{◌==◌, nat_le, filter, option_map, is_some, if◌then◌else◌, Ok}
 use Rattle.std.specs.Option.{ForSome, option_map_or}
 use Rattle.std.proofs.lemmas.Bool.{cases_Bool, cases_eq, eq-eqb, ne_eqb, eqb-true, false≢true}
 use Rattle.nfs_xdr.specs.declared.time.Time.{Time}
-use Rattle.nfs_xdr.specs.declared.status.Status.TheVariants.{MinorVersMismatch, RepTooBig}
+use Rattle.nfs_xdr.specs.declared.status.Status.TheVariants.{RepTooBig}
 use Rattle.nfs_compound.specs.declared.file_args.Read.{Read}
 use Rattle.nfs_compound.specs.declared.op_num.OpNum.TheVariants as Num
 use Rattle.nfs_results.specs.Largest.{given}
@@ -18,17 +18,11 @@ use Rattle.nfs_files.specs.Read as of_read
 use Rattle.nfs_files.proofs.Passing.{if_passed_ok}
 use Rattle.nfs_files.proofs.WrittenOps.{by_found}
 use Rattle.nfs_files.proofs.WrittenTold.{short}
-use Rattle.nfs_exec.specs.Run.{in_room}
-use Rattle.nfs_xdr.specs.Caller.{Caller}
 use Rattle.nfs_xdr.specs.Tables.{In}
 use Rattle.nfs_xdr.proofs.Lists.{find_in, find_past, find_out, find_push_other, filter_past}
 use Rattle.nfs_compound.specs.declared.op.Item.{Item}
 use Rattle.nfs_compound.specs.declared.op.Item.TheVariants.{Operation}
 use Rattle.nfs_compound.specs.declared.op.Op.TheVariants as Op
-use Rattle.nfs_compound.specs.Request.{Request}
-use Rattle.nfs_compound.specs.declared.session_args.Sequence.{Sequence}
-use Rattle.nfs_lease.specs.Renewals.{has_run_out}
-use Rattle.nfs_sessions.specs.Id.{id_of}
 use Rattle.nfs_tree.specs.declared.row.Row.{Row}
 use Rattle.nfs_tree.specs.declared.sets.Sets.{Sets}
 use Rattle.nfs_tree.specs.declared.stored.Stored.{Stored}
@@ -38,10 +32,8 @@ use Rattle.nfs_tree.specs.Create.{New, with_new, new_object, data_of}
 use Rattle.nfs_tree.specs.Names.{with_link, without_name, forget, Move, moved_object, replaced_object, with_both_changed, with_moved}
 use Rattle.nfs_tree.specs.Bytes.{written, resized, with_bytes, with_written, with_resized}
 use Rattle.nfs_tree.proofs.Objects.{keeps_changed, stored_map, stored_within}
-use Rattle.nfs_opens.specs.Table.{Table}
 use Rattle.nfs_opens.specs.Closing.{without_open}
 use Rattle.nfs_names.specs.declared.context.Context.{Context}
-use Rattle.nfs_names.specs.Context.{begins}
 use Rattle.nfs_names.specs.State as store
 use Rattle.nfs_names.specs.State.{with_tree, is_used, without_unused, moment}
 use Rattle.nfs_names.specs.Ending.{with_opens, table_staying, staying}
@@ -56,23 +48,14 @@ use Rattle.nfs_files.proofs.Effects as files_effects
 use Rattle.nfs_files.proofs.Effects.{Names, Writes, Resizes, Changes, Closes}
 use Rattle.nfs_files.proofs.Effected as files_effected
 use Rattle.nfs_files.proofs.Outcomes as files
-use Rattle.nfs_files.proofs.Outcomes.{for_each}
 use Rattle.nfs_exec.specs.Machine.{Machine}
-use Rattle.nfs_exec.specs.Behind.{step, on_store, moves_opens, marked_if}
-use Rattle.nfs_exec.specs.Run.{is_here, behind_here}
-use Rattle.nfs_exec.specs.Sequence as sequence
-use Rattle.nfs_exec.specs.Sequence.{Sequenced, sequenced}
-use Rattle.nfs_exec.specs.Compound.{first_item, renewed, begun, bare, in_session, by_first}
 use Rattle.nfs_exec.specs.Laws.{MachineEvent, Expires, Asks, stepped}
-use Rattle.nfs_exec.specs.Ops.{RanOp, done, ops_in, ops_of as ops_first, ops_by, left_by, AreChained}
+use Rattle.nfs_exec.specs.Ops.{RanOp, ops_by}
 use Rattle.nfs_exec.proofs.AttributesTold.{change_in}
-use Rattle.nfs_exec.proofs.Behind.{by_step}
-use Rattle.nfs_exec.proofs.WholeRun.{Is, otherwise_store}
-use Rattle.nfs_exec.proofs.OpsRun.{are_run}
-use Rattle.nfs_exec.specs.CreateSession.{without_any_opens}
-use Rattle.nfs_exec.proofs.Lone.{holds_whoever}
-use Rattle.nfs_exec.proofs.AnsweredRun.{in_room_is, IsRun, ran_as, as_step, event_run}
-use Rattle.nfs_exec.proofs.OneWalk.{none_at, in_back}
+use Rattle.nfs_exec.proofs.WholeRun.{Is}
+use Rattle.nfs_exec.proofs.OneRun.{IsRun, by_item, by_run}
+use Rattle.nfs_exec.proofs.AnsweredRun.{event_run}
+use Rattle.nfs_exec.proofs.OneWalk.{IsKept, Throughout, throughout, throughout_from, none_at, in_back}
 use Rattle.nfs_serve.specs.Step.{State, new_state}
 use Rattle.nfs_serve.specs.Promises.Endpoint.{Arrival}
 use Rattle.nfs_serve.specs.Promises.Points.{state_after, reached, taken, before, asked_by, ops_of}
@@ -300,133 +283,37 @@ names_item n t refused s x now i is =
     (names_effected.kept_item (λ s x. Follows n t s.tree)
     (names_effects.of_states (λ s. Follows n t s.tree) (λ s e fits is. names_behind n t s e is)) refused s x now i is)
 
-files_kept : (n : ℕ) (t : Files) (begun : Table) → files_effects.Kept begun (λ s x. Follows n t s.tree)
-files_kept n t begun = record { effects = λ s x e fits is. files_behind n t s e is; handles = λ s x y same is. is }
-
 file_item : (n : ℕ) (t : Files) (refused : Bool) (s : store.State) (x : Context) (now : Time) (i : Item) → Follows n t s.tree
     → Follows n t (files.comes_to refused s x now i).state.tree
-file_item n t refused s x now i is = files_effected.kept_item {P = λ s x. Follows n t s.tree} s x (files_kept n t s.opens) is refused now i
-
-step_follows : (n : ℕ) (t : Files) (m : Machine) (x : Context) (now : ℕ) (refused : Bool) (i : Item) → Follows n t m.store.tree
-    → Follows n t (step m x now refused i).outcome.machine.store.tree
-step_follows n t m x now refused i is =
-    by_step (λ s. Follows n t s.outcome.machine.store.tree) m x now refused i (λ o e. names_item n t refused m.store x (moment now) i is o e)
-    (for_each (λ o. Follows n t (marked_if (moves_opens i) x.client (on_store m o)).outcome.machine.store.tree) refused m.store x (moment now) i
-    (by_mark (moves_opens i)))
-    (λ none other. subst (λ (s : store.State). Follows n t s.tree) (sym (otherwise_store m x i)) is)
-  where
-    by_mark : (moves : Bool) → Follows n t (marked_if moves x.client (on_store m (files.comes_to refused m.store x (moment now) i))).outcome.machine.store.tree
-    by_mark true = file_item n t refused m.store x (moment now) i is
-    by_mark false = file_item n t refused m.store x (moment now) i is
+file_item n t refused s x now i is = files_effected.kept_item (λ s. Follows n t s.tree) refused s x now i (λ s e fits is. files_behind n t s e is) is
 
 run_follows : (n : ℕ) (t : Files) (d : RanOp) → IsRun d → Follows n t d.before.store.tree → Follows n t d.behind.store.tree
-run_follows n t d r is =
-    subst (λ (d : RanOp). Follows n t d.behind.store.tree) (sym r.is)
-    (in_room_is (λ s. Follows n t s.outcome.machine.store.tree) r.limit r.sofar r.now r.refused d.before d.context d.item is
-    (step_follows n t d.before d.context r.now r.refused d.item is))
+run_follows n t d r is = by_run (λ status text s. Follows n t s.tree) d r is (names_item n t r.refused d.before.store d.context (moment r.now) d.item is)
+    (file_item n t r.refused d.before.store d.context (moment r.now) d.item is) (λ other. is)
 
--- Operations that are chained: before each of them, and behind all.
+-- The operations of an event: before each of them, and behind all.
 
-record Runs (n : ℕ) (t : Files) (ds : List RanOp) (left : Machine) : Type 0 where
-  pub within : (d : RanOp) → In d ds → Follows n t d.before.store.tree
-  pub behind : Follows n t left.store.tree
+abbrev Runs : ℕ → Files → List RanOp → Machine → Type 0
+Runs n t ds left = Throughout (λ s. Follows n t s.tree) ds left
 
-chain_runs : (n : ℕ) (t : Files) (m : Machine) (ds : List RanOp) → AreChained m ds → ((d : RanOp) → In d ds → IsRun d) → Follows n t m.store.tree
-    → Runs n t ds (left_by m ds)
-chain_runs n t m [] chained runs is = record { within = λ d there. absurd there; behind = is }
-chain_runs n t m (d ∷ more) chained runs is =
-    let here : Follows n t d.before.store.tree = subst (λ (m : Machine). Follows n t m.store.tree) (sym chained.0) is in
-    let rest = chain_runs n t d.behind more chained.1 (λ e there. runs e (inr there)) (run_follows n t d (runs d (inl refl)) here) in
-    record {
-      within = λ e there. elim there [
-        | inl same ↦ subst (λ (e : RanOp). Follows n t e.before.store.tree) (sym same) here
-        | inr later ↦ rest.within e later
-      ];
-      behind = rest.behind;
-    }
-
--- An event.
-
-without_follows_any : (n : ℕ) (t : Files) (s : store.State) (o : Option ℕ) → Follows n t s.tree → Follows n t (without_any_opens s o).tree
-without_follows_any n t s None is = is
-without_follows_any n t s (Some gone) is = staying_follows n t (λ c. not (c == gone)) s is
-
-alone_follows : (n : ℕ) (t : Files) (m : Machine) (declared : ℕ) (who : Caller) (now : ℕ) (refused : Bool) (i : Item) → Follows n t m.store.tree
-    → Follows n t (first_item m declared who now refused i).machine.store.tree
-alone_follows n t m declared who now refused i is = holds_whoever (λ s. Follows n t s.tree) (without_follows_any n t) m declared who now refused i is
-
-record Through (n : ℕ) (t : Files) (m behind : Machine) (ds : List RanOp) : Type 0 where
-  pub start : Machine
-  pub first : start.store ≡ m.store
-  pub chained : AreChained start ds
-  pub last : Follows n t (left_by start ds).store.tree → Follows n t behind.store.tree
-
-through_none : (n : ℕ) (t : Files) (m behind : Machine) → (Follows n t m.store.tree → Follows n t behind.store.tree) → Through n t m behind []
-through_none n t m behind each = record { start = m; first = refl; chained = tt; last = each }
-
-through_session : (n : ℕ) (t : Files) (m : Machine) (r : Request) (who : Caller) (now : ℕ) (choice : Option ℕ) (s : Sequence) (more : List Item) (v : Sequenced)
-    → Through n t m (in_session m r who now choice s more v).machine (ops_in m r who now choice s more v)
-through_session n t m r who now choice s more (sequence.Refuses status) = through_none n t m m (λ is. is)
-through_session n t m r who now choice s more (sequence.Repeats reply) = through_none n t m m (λ is. is)
-through_session n t m r who now choice s more (sequence.Runs c) =
-    let is = are_run c.response (begun r s c) now (behind_here choice) (renewed m now s) (begins (id_of s.sessionid).client who) more in
-    record {
-      start = renewed m now s;
-      first = refl;
-      chained = is.chained;
-      last = λ rest. subst (λ (m : Machine). Follows n t m.store.tree) (sym is.machine) rest;
-    }
-
-through_first : (n : ℕ) (t : Files) (m : Machine) (r : Request) (who : Caller) (size now : ℕ) (choice : Option ℕ) (items : List Item)
-    → Through n t m (by_first m r who size now choice items).machine (ops_first m r who size now choice items)
-through_first n t m r who size now choice [] = through_none n t m m (λ is. is)
-through_first n t m r who size now choice (Operation (Op.Sequence s) ∷ more) = through_session n t m r who now choice s more (sequenced m r who size s)
-through_first n t m r who size now choice (item ∷ more) =
-    through_none n t m (first_item m r.declared who now (is_here choice) item).machine (alone_follows n t m r.declared who now (is_here choice) item)
-
-through : (n : ℕ) (t : Files) (m : Machine) (e : MachineEvent) → Through n t m (stepped m e) (ops_by m e)
-through n t m (Expires now) = through_none n t m (stepped m (Expires now)) (staying_follows n t (λ client. not (has_run_out m.leases now client)) m.store)
-through n t m (Asks r who size now choice) = go (eqb r.minor 1)
-  where
-    go : (v : Bool) → Through n t m (cond v (by_first m r who size now choice r.left) (bare r MinorVersMismatch m)).machine (cond v (ops_first m r who size now choice r.left) [])
-    go true = through_first n t m r who size now choice r.left
-    go false = through_none n t m m (λ is. is)
+follows_kept : (n : ℕ) (t : Files) → IsKept (λ s. Follows n t s.tree)
+follows_kept n t = record { run = λ d r is. run_follows n t d r is; end = λ stays s is. staying_follows n t stays s is }
 
 event_runs : (n : ℕ) (t : Files) (m : Machine) (e : MachineEvent) → Is m → Follows n t m.store.tree → Runs n t (ops_by m e) (stepped m e)
-event_runs n t m e is follows =
-    let th = through n t m e in
-    let all = chain_runs n t th.start (ops_by m e) th.chained (λ d there. (event_run m e is d there).0)
-    (subst (λ (s : store.State). Follows n t s.tree) (sym th.first) follows) in
-    record { within = all.within; behind = th.last all.behind }
-
--- and from one of its operations on
-chained_at : (m : Machine) (front : List RanOp) (d : RanOp) (back : List RanOp) → AreChained m (front ++ d ∷ back) → AreChained d.behind back
-chained_at m [] d back chained = chained.1
-chained_at m (f ∷ front) d back chained = chained_at f.behind front d back chained.1
-
-left_at : (m : Machine) (front : List RanOp) (d : RanOp) (back : List RanOp) → left_by m (front ++ d ∷ back) ≡ left_by d.behind back
-left_at m [] d back = refl
-left_at m (f ∷ front) d back = left_at f.behind front d back
+event_runs n t m e is follows = throughout (λ s. Follows n t s.tree) (follows_kept n t) m e is follows
 
 low_there : (n : ℕ) (m : Machine) → Is m → is_there m.store.tree n ≡ true → n ≤ m.store.tree.last_object
 low_there n m is there =
     let within = stored_within root (m.store.tree.last_object + 1) m.store.tree.objects n is.tree.objects there in
     let below = within.1 in omega arith
 
+-- and from one of its operations on
 event_behind : (n : ℕ) (m : Machine) (e : MachineEvent) (front : List RanOp) (d : RanOp) (back : List RanOp) → Is m → ops_by m e ≡ front ++ d ∷ back
     → is_there d.before.store.tree n ≡ true → Runs n d.before.store.tree (d ∷ back) (stepped m e)
 event_behind n m e front d back is same there =
     let t = d.before.store.tree in
-    let th = through n t m e in
     let run : IsRun d = (event_run m e is d (subst (In d) (sym same) (in_back d front (d ∷ back) (inl refl)))).0 in
-    let chained : AreChained d.before (d ∷ back) = (refl, chained_at th.start front d back (subst (AreChained th.start) same th.chained)) in
-    let all = chain_runs n t d.before (d ∷ back) chained
-    (λ c in_c. (event_run m e is c (subst (In c) (sym same) (in_back c front (d ∷ back) in_c))).0)
-    (follows_itself n t (low_there n d.before run.whole there)) in
-    record {
-      within = all.within;
-      behind = th.last (subst (λ (m : Machine). Follows n t m.store.tree) (sym (ap (left_by th.start) same ∙ left_at th.start front d back)) all.behind);
-    }
+    throughout_from (λ s. Follows n t s.tree) (follows_kept n t) m e front d back is same (follows_itself n t (low_there n d.before run.whole there))
 
 -- Records.
 
@@ -520,26 +407,20 @@ record Shape (text : List ℕ) : Type 0 where
   pub behind : List ℕ
   pub answers : text ≡ done_head Num.Read ++ (eof ++ behind)
 
-read_room : (limit sofar now : ℕ) (refused : Bool) (m : Machine) (x : Context) (a : Read) (n : ℕ) (st : Stored) → x.current ≡ Some n → stored_in m.store.tree.objects n ≡ Some st
-    → (let s = in_room limit sofar now refused m x (Operation (Op.Read a)) in Shape s.outcome.result → s.outcome.result ≡ read_text st a.offset a.count)
-unfolding of_read.read
-read_room limit sofar now refused m x a n st at there =
-    in_room_is (λ s. Shape s.outcome.result → s.outcome.result ≡ read_text st a.offset a.count) limit sofar now refused m x (Operation (Op.Read a))
-    (λ shape. absurd (short Num.Read RepTooBig shape.eof shape.behind shape.long shape.answers))
-    (by_found (λ o. Shape (spell_result o.result) → spell_result o.result ≡ read_text st a.offset a.count) m.store x Num.Read (readable m.store x a.stateid (current m.store x)) _
-    (λ status shape. absurd (short Num.Read status shape.eof shape.behind shape.long shape.answers))
-    (λ d granted shape. read_is m.store x a n st d at there (readable_at m.store x a d granted)))
-
 read_run : (d : RanOp) → IsRun d → (n offset count : ℕ) (st : Stored) → stored_in d.before.store.tree.objects n ≡ Some st → ReadsOf n offset count d
     → d.result ≡ read_text st offset count
+unfolding of_read.read
 read_run d run n offset count st there reads =
     let a = reads.asked in
-    let same : d ≡ done d.before d.context (Operation (Op.Read a)) (ran_as d run (Operation (Op.Read a))) = as_step d run (Operation (Op.Read a)) reads.is in
-    let text = (ran_as d run (Operation (Op.Read a))).outcome.result in
-    ap (λ (d : RanOp). d.result) same
-    ∙ (read_room run.limit run.sofar run.now run.refused d.before d.context a n st reads.at there
-    (record { eof = reads.eof; long = reads.long; behind = reads.text; answers = ap (λ (d : RanOp). d.result) (sym same) ∙ reads.answers })
-    ∙ (ap (λ (k : ℕ). read_text st k a.count) reads.from ∙ ap (read_text st offset) reads.many))
+    let s = d.before.store in
+    let x = d.context in
+    by_item (λ status text s. Shape text → text ≡ read_text st a.offset a.count) d run (Operation (Op.Read a)) reads.is
+    (λ shape. absurd (short Num.Read RepTooBig shape.eof shape.behind shape.long shape.answers))
+    (by_found (λ o. Shape (spell_result o.result) → spell_result o.result ≡ read_text st a.offset a.count) s x Num.Read (readable s x a.stateid (current s x)) _
+    (λ status shape. absurd (short Num.Read status shape.eof shape.behind shape.long shape.answers))
+    (λ d granted shape. read_is s x a n st d reads.at there (readable_at s x a d granted)))
+    (record { eof = reads.eof; long = reads.long; behind = reads.text; answers = reads.answers })
+    ∙ (ap (λ (k : ℕ). read_text st k a.count) reads.from ∙ ap (read_text st offset) reads.many)
 
 there_stored : (t : Files) (n : ℕ) → is_there t n ≡ true → (st : Stored) × (stored_in t.objects n ≡ Some st)
 there_stored t n there = go (stored_in t.objects n) refl there
@@ -548,11 +429,11 @@ there_stored t n there = go (stored_in t.objects n) refl there
     go None e none = absurd (false≢true none)
     go (Some st) e some = (st, e)
 
-asked_run : (m : Machine) (o : Option MachineEvent) → Is m → (d : RanOp) → In d (option_map_or (ops_by m) o []) → IsRun d
+pub asked_run : (m : Machine) (o : Option MachineEvent) → Is m → (d : RanOp) → In d (option_map_or (ops_by m) o []) → IsRun d
 asked_run m None is d there = absurd there
 asked_run m (Some e) is d there = (event_run m e is d there).0
 
-later_run : (s : State) (more : List Arrival) → IsSound s → (e : RanOp) → RunsIn s more e → IsRun e
+pub later_run : (s : State) (more : List Arrival) → IsSound s → (e : RanOp) → RunsIn s more e → IsRun e
 later_run s [] sound e there = absurd there
 later_run s (c ∷ more) sound e (inl here) = asked_run (before s c) (asked_by s c) (whole_before s c sound.whole) e here
 later_run s (c ∷ more) sound e (inr late) = later_run (state_after s c) more (sound_next s c sound) e late

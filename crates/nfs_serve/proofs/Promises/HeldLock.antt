@@ -127,7 +127,7 @@ nothing = record {
 }
 
 -- a LOCK of the byte at an offset, and what it was answered
-abbrev asking : (offset : ℕ) → Lock
+abbrev pub asking : (offset : ℕ) → Lock
 asking offset = record {
   locktype = LockTypes.Write;
   reclaim = false;

@@ -1,5 +1,5 @@
 -- A lock that was told stays through all records that spare it and come in time.
-use Rattle.std.proofs.Common.{◌≡◌, ℕ, ◌+◌, ◌≤◌, true, false, cond, List, [], ◌∷◌, ◌++◌, length, Option, Some, None, refl, sym, subst, arith, inl, inr}
+use Rattle.std.proofs.Common.{◌≡◌, ℕ, ◌+◌, ◌≤◌, true, List, [], ◌∷◌, ◌++◌, length, Option, Some, None, refl, sym, subst, arith, inl, inr}
 use Rattle.std.specs.Option.{option_map_or}
 use Rattle.nfs_xdr.specs.Spelling.{number}
 use Rattle.nfs_xdr.specs.Tables.{In}
@@ -8,34 +8,35 @@ use Rattle.nfs_compound.specs.declared.op.Op.TheVariants as Op
 use Rattle.nfs_attrs.specs.Mask.{mask_of, has}
 use Rattle.nfs_names.specs.Outcome.{is_ok}
 use Rattle.nfs_exec.specs.Machine.{Machine}
-use Rattle.nfs_exec.specs.Laws.{MachineEvent, Asks}
+use Rattle.nfs_exec.specs.Laws.{MachineEvent, Expires, Asks}
 use Rattle.nfs_exec.specs.AttributesTold.{TellsValue}
 use Rattle.nfs_exec.specs.Ops.{RanOp, ops_by}
 use Rattle.nfs_opens.specs.declared.locking.Wish.{Wish}
 use Rattle.nfs_files.specs.LockTold.{LockTold, Stands}
-use Rattle.nfs_exec.specs.LockHeld.{LocksFor, AreSpared, StandsBefore, StandsWhile, Tells, replaces, renews}
-use Rattle.nfs_exec.proofs.HeldRun.{lock_frame, lock_through, told_kept}
-use Rattle.nfs_exec.proofs.OneWalk.{none_at}
+use Rattle.nfs_exec.specs.LockHeld.{LocksFor, the_lock, AreSpared, StandsBefore, StandsWhile, Tells}
+use Rattle.nfs_exec.proofs.HeldRun.{lock_stays, told_kept}
 use Rattle.nfs_exec.proofs.AnsweredRun.{event_state}
-use Rattle.nfs_exec.proofs.Lasting.{Lasts, compound_lasts, event_told}
+use Rattle.nfs_exec.proofs.Lasting.{Lasts, stepped_lasts, event_told}
 use Rattle.nfs_exec.proofs.WholeRun.{Is}
 use Rattle.nfs_serve.specs.Step.{State, new_state}
 use Rattle.nfs_serve.specs.Promises.Endpoint.{Arrival}
 use Rattle.nfs_serve.specs.Promises.Points.{state_after, state_after_all, reached, taken, before, asked_by, ops_of}
-use Rattle.nfs_serve.specs.Promises.LockKept.{renews_by, replaces_by, StaysHeld, AreInTime, LockKept, OnlyOneIsTold, LeaseIsTold, EachIsTold}
-use Rattle.nfs_serve.proofs.Promises.Points.{left, for_asked, next_is, IsSound, whole_before, sound_all, sound_new}
-use Rattle.nfs_serve.proofs.Promises.Staying.{Stays, stays_before, stays_next, stays_from}
+use Rattle.nfs_serve.specs.Promises.LockKept.{LockKept, OnlyOneIsTold, LeaseIsTold, EachIsTold}
+use Rattle.nfs_serve.proofs.Promises.Points.{left, for_asked, next_is, IsSound, whole_before, sound_next, sound_all, sound_new}
+use Rattle.nfs_serve.proofs.Promises.Staying.{Stays, told_from, through, stays_for, up_to}
 
 -- What attribute 10 says is how long a lease lasts.
 
-lasts_next : (s : State) (c : Arrival) (lease : ℕ) → Lasts lease s.machine → Lasts lease (state_after s c).machine
-lasts_next s c lease is =
+lasts_next : (s : State) (c : Arrival) (lease : ℕ) → IsSound s → Lasts lease s.machine → Lasts lease (state_after s c).machine
+lasts_next s c lease sound is =
+    let here : Lasts lease (before s c) = stepped_lasts s.machine (Expires (taken s c)) lease sound.whole is in
     subst (λ (s : State). Lasts lease s.machine) (sym (next_is s c))
-    (for_asked (λ o. Lasts lease (left (before s c) o)) s c is (λ r who. compound_lasts (before s c) r who (length c.bytes) (taken s c) c.choice lease is))
+    (for_asked (λ o. Lasts lease (left (before s c) o)) s c here
+    (λ r who. stepped_lasts (before s c) (Asks r who (length c.bytes) (taken s c) c.choice) lease (whole_before s c sound.whole) here))
 
-lasts_all : (s : State) (records : List Arrival) (lease : ℕ) → Lasts lease s.machine → Lasts lease (state_after_all s records).machine
-lasts_all s [] lease is = is
-lasts_all s (c ∷ more) lease is = lasts_all (state_after s c) more lease (lasts_next s c lease is)
+pub lasts_all : (s : State) (records : List Arrival) (lease : ℕ) → IsSound s → Lasts lease s.machine → Lasts lease (state_after_all s records).machine
+lasts_all s [] lease sound is = is
+lasts_all s (c ∷ more) lease sound is = lasts_all (state_after s c) more lease (sound_next s c sound) (lasts_next s c lease sound is)
 
 asked_told : (m : Machine) (o : Option MachineEvent) (lease : ℕ) (words : List ℕ) → Is m → Lasts lease m → (d : RanOp) → In d (option_map_or (ops_by m) o [])
     → d.item ≡ Operation (Op.GetAttr words) → has (mask_of words) 10 ≡ true → is_ok d.status ≡ true → TellsValue 10 (number lease) (mask_of words) d.result
@@ -47,67 +48,25 @@ lease_is_told mode instance lease records c d words there =
     let first = new_state mode instance lease in
     let s = reached mode instance lease records in
     let sound : IsSound s = sound_all first records (sound_new mode instance lease) in
-    asked_told (before s c) (asked_by s c) lease words (whole_before s c sound.whole) (lasts_all first records lease refl) d there
+    asked_told (before s c) (asked_by s c) lease words (whole_before s c sound.whole) (lasts_all first records lease (sound_new mode instance lease) refl) d there
 
--- what a record's compound, if it has one, does to it
-abbrev Through : LockTold → Machine → Option MachineEvent → Type 0
-Through k m o =
-    StandsWhile k (option_map_or (ops_by m) o [])
-    × (AreSpared k (option_map_or (ops_by m) o []) → option_map_or (replaces k.client m) o false ≡ false → Stands k (left m o).store.opens)
+-- Behind the record that told it, and through whatever records come.
 
 abbrev Lives : LockTold → (lease last : ℕ) → State → Type 0
-Lives k lease last s = Stays k.client lease last (Stands k) s
+Lives k lease last s = Stays k.client lease last (λ u. Stands k u.opens) s
 
-through : (k : LockTold) (lease last : ℕ) (s : State) (c : Arrival) → k.first ≤ k.last → Lives k lease last s → taken s c ≤ last + lease
-    → Through k (before s c) (asked_by s c)
-through k lease last s c some lives within =
-    let stands : Stands k (before s c).store.opens = stays_before k.client lease last (Stands k) s c (lock_frame k) lives within in
-    for_asked (Through k (before s c)) s c (tt, λ spared alone. stands)
-    (λ r who. lock_through k (before s c) (Asks r who (length c.bytes) (taken s c) c.choice) (whole_before s c lives.sound.whole) some stands)
-
-lives_next : (k : LockTold) (lease last : ℕ) (s : State) (c : Arrival) → k.first ≤ k.last → Lives k lease last s → taken s c ≤ last + lease
-    → AreSpared k (ops_of s c) → replaces_by k.client s c ≡ false → Lives k lease (cond (renews_by k.client s c) (taken s c) last) (state_after s c)
-lives_next k lease last s c some lives within spared alone =
-    stays_next k.client lease last (Stands k) (Stands k) s c lives ((through k lease last s c some lives within).1 spared alone)
-
-stays : (k : LockTold) (lease last : ℕ) (s : State) (records : List Arrival) → k.first ≤ k.last → Lives k lease last s → StaysHeld k lease last s records
-stays k lease last s [] some lives = lives.stands
-stays k lease last s (c ∷ more) some lives = (
-  lives.stands,
-  λ within. (
-    (through k lease last s c some lives within).0,
-    λ spared alone.
-        stays k lease (cond (renews_by k.client s c) (taken s c) last) (state_after s c) more some (lives_next k lease last s c some lives within spared alone),
-  ),
-)
-
--- The record that told it.
-
-record IsKeptFrom (k : LockTold) (m : Machine) (o : Option MachineEvent) (back : List RanOp) : Type 0 where
-  pub within : StandsWhile k back
-  pub behind : AreSpared k back → Stands k (left m o).store.opens
-  pub renewed : option_map_or (renews k.client m) o false ≡ true
-
-told_left : (k : LockTold) (m : Machine) (o : Option MachineEvent) (front : List RanOp) (lock : RanOp) (back : List RanOp) → Is m
-    → option_map_or (ops_by m) o [] ≡ front ++ lock ∷ back → Tells k lock → IsKeptFrom k m o back
-told_left k m None front lock back is e tells = absurd (none_at front lock back e)
-told_left k m (Some event) front lock back is e tells =
-    let kept = told_kept k m event front lock back is e tells in record { within = kept.within; behind = kept.behind; renewed = kept.renewed }
-
-pub told_lives : (mode instance lease : ℕ) (earlier : List Arrival) (c : Arrival) (k : LockTold) (front : List RanOp) (lock : RanOp) (back : List RanOp)
+told_lives : (mode instance lease : ℕ) (earlier : List Arrival) (c : Arrival) (k : LockTold) (front : List RanOp) (lock : RanOp) (back : List RanOp)
     → (let s = reached mode instance lease earlier in
     ops_of s c ≡ front ++ lock ∷ back → Tells k lock → StandsWhile k back × (AreSpared k back → Lives k lease (taken s c) (state_after s c)))
 told_lives mode instance lease earlier c k front lock back e tells =
     let s = reached mode instance lease earlier in
-    let sound : IsSound s = sound_all (new_state mode instance lease) earlier (sound_new mode instance lease) in
-    let kept : IsKeptFrom k (before s c) (asked_by s c) back = told_left k (before s c) (asked_by s c) front lock back (whole_before s c sound.whole) e tells in
-    (kept.within, λ spared. stays_from mode instance lease earlier c k.client (Stands k) kept.renewed (kept.behind spared))
+    told_from (the_lock k) tt k.client mode instance lease earlier c front lock back (λ is event same. told_kept k (before s c) event front lock back is same tells) e
 
 pub lock_kept : LockKept
 lock_kept mode instance lease earlier c k front lock back e tells =
     let s = reached mode instance lease earlier in
     let told = told_lives mode instance lease earlier c k front lock back e tells in
-    (told.0, λ spared more. stays k lease (taken s c) (state_after s c) more tells.range.1 (told.1 spared))
+    (told.0, λ spared more. stays_for (the_lock k) k.client lease (lock_stays k tells.range.1) (taken s c) tt (state_after s c) more (told.1 spared))
 
 -- Of two LOCKs that clash only one is told.
 
@@ -119,20 +78,15 @@ before_second k ds front second back same while all = go front (subst (StandsWhi
     go [] while all = while.0
     go (f ∷ front) while all = go front (while.1 (all f (inl refl))).1 (λ e there. all e (inr there))
 
-up_to : (k : LockTold) (lease last : ℕ) (s : State) (records : List Arrival) (Then : ℕ → State → Type 0) → k.first ≤ k.last → Lives k lease last s
-    → AreInTime k lease last s records Then → (to : ℕ) × (t : State) × Lives k lease to t × Then to t
-up_to k lease last s [] Then some lives all = (last, s, lives, all)
-up_to k lease last s (c ∷ more) Then some lives all =
-    up_to k lease (cond (renews_by k.client s c) (taken s c) last) (state_after s c) more Then some (lives_next k lease last s c some lives all.0 all.1 all.2) all.3
-
 pub only_one : OnlyOneIsTold
 only_one mode instance lease earlier c k front first back between d until second behind n w e tells spared all locks clash =
     let s = reached mode instance lease earlier in
     let some = tells.range.1 in
     let lives = (told_lives mode instance lease earlier c k front first back e tells).1 spared in
-    let (last, t, there, then) = up_to k lease (taken s c) (state_after s c) between
-    (λ last t. (ops_of t d ≡ until ++ second ∷ behind) × (taken t d ≤ last + lease) × AreSpared k until) some lives all in
-    (before_second k (ops_of t d) until second behind then.0 (through k lease last t d some there then.1).0 then.2).refused n w locks clash
+    let (way, last, t, there, then) = up_to (the_lock k) k.client lease (lock_stays k some) (taken s c) tt (state_after s c) between
+    (λ way last t. (ops_of t d ≡ until ++ second ∷ behind) × (taken t d ≤ last + lease) × AreSpared k until) lives all in
+    let while = (through (the_lock k) k.client lease (lock_stays k some) last way t d there then.1).0 in
+    (before_second k (ops_of t d) until second behind then.0 while then.2).refused n w locks clash
 
 -- Whatever LOCK was told told a lock.
 

@@ -41,7 +41,7 @@ state = record { number = 2; client = worked.told.client; owner = 0x6c ∷ []; f
 only : (P : LockState → Type 0) (l : LockState) → P state → In l (state ∷ []) → P l
 only P l is there = elim there [ inl same ↦ subst P (sym same) is | inr none ↦ absurd none ]
 
-one_letter : ◌≡◌ {A = List ℕ} (0x6c ∷ []) (0x6d ∷ []) → ⊥
+pub one_letter : ◌≡◌ {A = List ℕ} (0x6c ∷ []) (0x6d ∷ []) → ⊥
 one_letter e = let same : ◌≡◌ {A = ℕ} 0x6c 0x6d = ap (λ (name : List ℕ). get_or name 0 0) e in omega arith
 
 pub owners_apart : OwnersApart

@@ -1,30 +1,24 @@
 -- Whatever others send, a client has what it had while its lease lasts.
-use Rattle.std.proofs.Common.{◌≡◌, ℕ, ◌+◌, ◌≤◌, Bool, true, false, cond, eqb, List, [], ◌∷◌, length, Option, Some, None, refl, sym, ◌∙◌, ap, subst}
+use Rattle.std.proofs.Common.{◌≡◌, ℕ, ◌+◌, ◌≤◌, true, false, cond, List, [], ◌∷◌, length, Option, Some, None, refl, sym, ◌∙◌, ap, subst}
 use Rattle.std.specs.Prelude.{is_some, option_map}
 use Rattle.std.specs.Option.{option_map_or}
 use Rattle.std.proofs.lemmas.Bool.{and_parts, eqb-true, eq-eqb, false≢true}
 use Rattle.nfs_xdr.specs.Caller.{Caller}
-use Rattle.nfs_xdr.specs.declared.status.Status.TheVariants.{MinorVersMismatch}
 use Rattle.nfs_xdr.proofs.Lists.{find_in}
-use Rattle.nfs_compound.specs.declared.op.Item.{Item}
-use Rattle.nfs_compound.specs.declared.op.Item.TheVariants.{Operation}
-use Rattle.nfs_compound.specs.declared.op.Op.TheVariants as Op
 use Rattle.nfs_compound.specs.Request.{Request}
-use Rattle.nfs_compound.specs.declared.session_args.Sequence.{Sequence}
 use Rattle.nfs_lease.specs.Renewals.{Book}
 use Rattle.nfs_sessions.specs.Id.{id_of}
 use Rattle.nfs_sessions.specs.Sessions.{is_session, session_at}
 use Rattle.nfs_names.specs.Context.{begins}
-use Rattle.nfs_exec.specs.Compound.{bare, renewed, begun, in_session, by_first, compound}
+use Rattle.nfs_exec.specs.Compound.{renewed, begun, compound}
 use Rattle.nfs_exec.specs.Run.{behind_here}
-use Rattle.nfs_exec.specs.Sequence as sequence
-use Rattle.nfs_exec.specs.Sequence.{Sequenced, sequenced}
 use Rattle.nfs_exec.proofs.Behind.{run_leases}
+use Rattle.nfs_exec.proofs.ByEvent.{by_compound}
 use Rattle.nfs_exec.proofs.Keeping.{runs_means}
 use Rattle.nfs_opens.specs.Table.{Table}
 use Rattle.nfs_clients.specs.Roster.{ClientRecord, client_at}
 use Rattle.nfs_exec.specs.Machine.{Machine, IsMachine, is_client, is_confirmed}
-use Rattle.nfs_exec.specs.Laws.{Asks, first_runs, if_runs}
+use Rattle.nfs_exec.specs.Laws.{Asks}
 use Rattle.nfs_exec.specs.LockHeld.{replaces, is_of, renews}
 use Rattle.nfs_files.specs.Own.{HasAsBefore}
 use Rattle.nfs_exec.specs.Own.{IsAsBefore, is_named_by}
@@ -52,7 +46,7 @@ apart client s c sound =
     (λ r who. event_apart client (before s c) (Asks r who (length c.bytes) (taken s c) c.choice) (whole_before s c sound.whole))
 
 -- while others come, the client has what it had in this table
-rests_all : (client lease last : ℕ) (t : Table) (s : State) (others : List Arrival) → Stays client lease last (HasAsBefore client t) s
+rests_all : (client lease last : ℕ) (t : Table) (s : State) (others : List Arrival) → Stays client lease last (λ u. HasAsBefore client t u.opens) s
     → AreOthers client lease last s others → HasAsBefore client t (state_after_all s others).machine.store.opens
 rests_all client lease last t s [] rests all = rests.stands
 rests_all client lease last t s (c ∷ more) rests all =
@@ -62,15 +56,15 @@ rests_all client lease last t s (c ∷ more) rests all =
     let there : HasAsBefore client t left_is.store.opens =
     both client t (before s c).store.opens left_is.store.opens here (apart client s c rests.sound all.0 all.2) in
     rests_all client lease last t (state_after s c) more
-    (subst (λ b. Stays client lease (cond b (taken s c) last) (HasAsBefore client t) (state_after s c)) all.0
-    (stays_next client lease last (HasAsBefore client t) (HasAsBefore client t) s c rests there)) all.3
+    (subst (λ b. Stays client lease (cond b (taken s c) last) (λ u. HasAsBefore client t u.opens) (state_after s c)) all.0
+    (stays_next client lease last (λ u. HasAsBefore client t u.opens) (λ u. HasAsBefore client t u.opens) s c rests there)) all.3
 
 pub others_leave_all : OthersLeaveAll
 others_leave_all mode instance lease earlier c client others own all =
     let s = reached mode instance lease earlier in
     let t = (state_after s c).machine.store.opens in
     rests_all client lease (taken s c) t (state_after s c) others
-    (stays_from mode instance lease earlier c client (HasAsBefore client t) own
+    (stays_from mode instance lease earlier c client (λ u. HasAsBefore client t u.opens) own
     (subst (λ (m : Machine). HasAsBefore client t m.store.opens) (ap (λ (s : State). s.machine) (next_is s c)) (same client t))) all
 
 -- Whoever renews its lease is there.
@@ -79,13 +73,12 @@ mapped_some : (now : ℕ) (o : Option ℕ) → is_some o ≡ true → is_some (o
 mapped_some now None e = absurd (false≢true e)
 mapped_some now (Some r) e = refl
 
-session_there : (m : Machine) (r : Request) (who : Caller) (size now client : ℕ) (choice : Option ℕ) (s : Sequence) (more : List Item) (v : Sequenced) → IsMachine m
-    → sequenced m r who size s ≡ v → option_map_or (is_of client) (if_runs s v) false ≡ true
-    → is_some ((in_session m r who now choice s more v).machine.leases.renewed client) ≡ true
-session_there m r who size now client choice s more (sequence.Refuses status) is e of = absurd (false≢true of)
-session_there m r who size now client choice s more (sequence.Repeats reply) is e of = absurd (false≢true of)
-session_there m r who size now client choice s more (sequence.Runs c) is e of =
-    let id = id_of s.sessionid in
+compound_there : (m : Machine) (r : Request) (who : Caller) (size now client : ℕ) (choice : Option ℕ) → IsMachine m
+    → renews client m (Asks r who size now choice) ≡ true → is_some ((compound m r who size now choice).machine.leases.renewed client) ≡ true
+compound_there m r who size now client choice is = by_compound
+    (λ left ds run. option_map_or (is_of client) run false ≡ true → is_some (left.leases.renewed client) ≡ true) m r who size now choice
+    (λ of. absurd (false≢true of)) (λ item of. absurd (false≢true of)) (λ s more c e of.
+    (let id = id_of s.sessionid in
     let fresh = runs_means r who size s (session_at m.sessions id) c e in
     let there = find_in (is_session id) m.sessions.sessions fresh.session fresh.found in
     let mine : id.client ≡ client = eqb-true id.client client of in
@@ -93,23 +86,7 @@ session_there m r who size now client choice s more (sequence.Runs c) is e of =
     let known : is_confirmed m.clients client ≡ true = ap (is_confirmed m.clients) (sym own) ∙ is.confirmed fresh.session there.0 in
     let some : is_some (m.leases.renewed client) ≡ true = is.leased client ∙ confirmed_is m.clients client known in
     let lasts : is_some ((renewed m now s).leases.renewed client) ≡ true = rw (eq-eqb client id.client (sym mine)) (mapped_some now (m.leases.renewed client) some) in
-    ap (λ (b : Book). is_some (b.renewed client)) (run_leases c.response (begun r s c) now (behind_here choice) (renewed m now s) (begins id.client who) more) ∙ lasts
-
-items_there : (m : Machine) (r : Request) (who : Caller) (size now client : ℕ) (choice : Option ℕ) (items : List Item) → IsMachine m
-    → option_map_or (is_of client) (first_runs m r who size items) false ≡ true → is_some ((by_first m r who size now choice items).machine.leases.renewed client) ≡ true
-items_there m r who size now client choice [] is of = absurd (false≢true of)
-items_there m r who size now client choice (Operation (Op.Sequence s) ∷ more) is of =
-    session_there m r who size now client choice s more (sequenced m r who size s) is refl of
-items_there m r who size now client choice (item ∷ more) is of = absurd (false≢true of)
-
-compound_there : (m : Machine) (r : Request) (who : Caller) (size now client : ℕ) (choice : Option ℕ) → IsMachine m
-    → renews client m (Asks r who size now choice) ≡ true → is_some ((compound m r who size now choice).machine.leases.renewed client) ≡ true
-compound_there m r who size now client choice is = go (eqb r.minor 1)
-  where
-    go : (b : Bool) → option_map_or (is_of client) (cond b (first_runs m r who size r.left) None) false ≡ true
-        → is_some ((cond b (by_first m r who size now choice r.left) (bare r MinorVersMismatch m)).machine.leases.renewed client) ≡ true
-    go true of = items_there m r who size now client choice r.left is of
-    go false of = absurd (false≢true of)
+    ap (λ (b : Book). is_some (b.renewed client)) (run_leases c.response (begun r s c) now (behind_here choice) (renewed m now s) (begins id.client who) more) ∙ lasts))
 
 there_behind : (s : State) (c : Arrival) (client : ℕ) → IsMachine s.machine → renews_by client s c ≡ true → is_client (state_after s c).machine.clients client ≡ true
 there_behind s c client is own =

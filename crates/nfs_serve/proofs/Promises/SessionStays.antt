@@ -5,7 +5,7 @@ use Rattle.std.proofs.lemmas.Bool.{eqb-true, eq-eqb, and_parts, false≢true}
 use Rattle.std.proofs.lemmas.Option.{same_Some}
 use Rattle.nfs_compound.specs.declared.session_args.Sequence.{Sequence}
 use Rattle.nfs_lease.specs.Renewals.{has_run_out}
-use Rattle.nfs_opens.specs.Table.{Table}
+use Rattle.nfs_names.specs.State.{State as Store}
 use Rattle.nfs_sessions.specs.declared.id.SessionId.{SessionId}
 use Rattle.nfs_sessions.specs.Id.{id_of}
 use Rattle.nfs_sessions.specs.Sessions.{Session}
@@ -25,7 +25,7 @@ use Rattle.nfs_serve.proofs.Promises.Staying.{Stays, stays_next, stays_from}
 
 -- of the client's lease alone
 abbrev Renewed : (client lease last : ℕ) → State → Type 0
-Renewed client lease last s = Stays client lease last (λ (t : Table). Unit {0}) s
+Renewed client lease last s = Stays client lease last (λ (t : Store). Unit {0}) s
 
 has_before : (id : SessionId) (lease last : ℕ) (s : State) (c : Arrival) → Renewed id.client lease last s → taken s c ≤ last + lease → HasSession id s.machine
     → HasSession id (before s c)
@@ -53,7 +53,7 @@ stays id lease last s (c ∷ more) lives is = (
     here,
     λ other alone.
         stays id lease (cond (renews_by id.client s c) (taken s c) last) (state_after s c) more
-        (stays_next id.client lease last (λ (t : Table). Unit {0}) (λ (t : Table). Unit {0}) s c lives tt)
+        (stays_next id.client lease last (λ (t : Store). Unit {0}) (λ (t : Store). Unit {0}) s c lives tt)
         (has_left id s c here other alone),
   )),
 )
@@ -78,7 +78,7 @@ ran_there id s c there =
 pub sessions_stay : SessionsStay
 sessions_stay mode instance lease earlier c id there more =
     let s = reached mode instance lease earlier in
-    stays id lease (taken s c) (state_after s c) more (stays_from mode instance lease earlier c id.client (λ (t : Table). Unit {0}) (own_client id s c there) tt)
+    stays id lease (taken s c) (state_after s c) more (stays_from mode instance lease earlier c id.client (λ (t : Store). Unit {0}) (own_client id s c there) tt)
     (ran_there id s c there)
 
 -- The run, computed.

@@ -1,19 +1,20 @@
 -- A byte that was told stays through whatever records come.
-use Rattle.std.proofs.Common.{◌≡◌, List, [], ◌∷◌, ◌++◌, length, Option, Some, None, sym, ap, subst}
+use Rattle.std.proofs.Common.{◌≡◌, List, [], ◌∷◌, ◌++◌, Option, Some, None, sym, ap, subst}
 use Rattle.std.specs.Option.{option_map_or}
 use Rattle.nfs_exec.specs.Machine.{Machine}
-use Rattle.nfs_exec.specs.Laws.{MachineEvent, Expires, Asks}
+use Rattle.nfs_exec.specs.Laws.{MachineEvent, Expires}
 use Rattle.nfs_exec.specs.Ops.{RanOp, ops_by}
 use Rattle.nfs_files.specs.Written.{Byte}
-use Rattle.nfs_exec.specs.WrittenRun.{WritesIt, AreSpared, StandsWhile}
-use Rattle.nfs_exec.proofs.OneWalk.{none_at}
+use Rattle.nfs_exec.specs.WrittenRun.{WritesIt, the_byte, AreSpared, StandsWhile}
+use Rattle.nfs_exec.proofs.OneWalk.{event_walked, none_at}
 use Rattle.nfs_exec.proofs.WholeRun.{Is}
-use Rattle.nfs_exec.proofs.WrittenRun.{LastsIn, event_while, event_left, event_told}
+use Rattle.nfs_exec.proofs.WrittenRun.{LastsIn, byte_stays, event_told}
 use Rattle.nfs_serve.specs.Step.{State, new_state}
 use Rattle.nfs_serve.specs.Promises.Endpoint.{Arrival}
 use Rattle.nfs_serve.specs.Promises.Points.{state_after, reached, taken, before, asked_by}
 use Rattle.nfs_serve.specs.Promises.WrittenStays.{StaysWritten, BytesStay}
-use Rattle.nfs_serve.proofs.Promises.Points.{left, for_asked, next_is, IsSound, whole_before, sound_next, sound_all, sound_new}
+use Rattle.nfs_serve.proofs.Promises.Staying.{Through, through_asked}
+use Rattle.nfs_serve.proofs.Promises.Points.{left, next_is, IsSound, whole_before, sound_next, sound_all, sound_new}
 
 -- what holds of the state in which the byte lasts
 record Lives (b : Byte) (s : State) : Type 0 where
@@ -21,27 +22,18 @@ record Lives (b : Byte) (s : State) : Type 0 where
   pub lasts : LastsIn b s.machine
 
 -- what a record's compound does to it, if it has one
-record Does (b : Byte) (m : Machine) (o : Option MachineEvent) : Type 0 where
-  pub within : StandsWhile b (option_map_or (ops_by m) o [])
-  pub behind : AreSpared b (option_map_or (ops_by m) o []) → LastsIn b (left m o)
-
-does : (b : Byte) (s : State) (c : Arrival) → Lives b s → Does b (before s c) (asked_by s c)
-does b s c lives =
-    let m = before s c in
-    let is : Is m = whole_before s c lives.sound.whole in
-    let lasts : LastsIn b m = event_left b s.machine (Expires (taken s c)) lives.sound.whole lives.lasts (λ d there. absurd there) in
-    for_asked (Does b m) s c (record { within = tt; behind = λ all. lasts }) (λ r who.
-    (let e = Asks r who (length c.bytes) (taken s c) c.choice in
-    record { within = event_while b m e is lasts; behind = event_left b m e is lasts }))
+does : (b : Byte) (s : State) (c : Arrival) → Lives b s → Through (the_byte b) (λ m o. Unit {0}) tt (before s c) (asked_by s c)
+does b s c lives = through_asked (the_byte b) (λ m e. Unit {0}) (λ m o. Unit {0}) (λ m r who size now choice all. tt) (byte_stays b) tt s c lives.sound
+    ((event_walked (the_byte b) (λ m e. Unit {0}) (byte_stays b) s.machine (Expires (taken s c)) lives.sound.whole tt lives.lasts).1 (λ d there. absurd there) tt)
 
 stays : (b : Byte) (s : State) (records : List Arrival) → Lives b s → StaysWritten b s records
 stays b s [] lives = tt
 stays b s (c ∷ more) lives =
     let did = does b s c lives in (
-      did.within,
+      did.0,
       λ spared. stays b (state_after s c) more (record {
         sound = sound_next s c lives.sound;
-        lasts = subst (LastsIn b) (sym (ap (λ (s : State). s.machine) (next_is s c))) (did.behind spared);
+        lasts = subst (LastsIn b) (sym (ap (λ (s : State). s.machine) (next_is s c))) (did.1 spared tt);
       }),
     )
 

@@ -11,8 +11,10 @@ use Rattle.nfs_names.specs.Outcome.{is_ok}
 use Rattle.nfs_exec.specs.AttributesTold.{TellsValue}
 use Rattle.nfs_exec.specs.Ops.{RanOp}
 use Rattle.nfs_opens.specs.declared.locking.Wish.{Wish}
-use Rattle.nfs_files.specs.LockTold.{LockTold, Stands, Clashes}
-use Rattle.nfs_exec.specs.LockHeld.{LocksFor, AreSpared, StandsWhile, Tells, replaces, renews}
+use Rattle.nfs_files.specs.LockTold.{LockTold, Clashes}
+use Rattle.nfs_exec.specs.Kept as kept
+use Rattle.nfs_exec.specs.Kept.{Kept, While, after_all}
+use Rattle.nfs_exec.specs.LockHeld.{LocksFor, the_lock, AreSpared, StandsWhile, Tells, replaces, renews}
 use Rattle.nfs_serve.specs.Step.{State}
 use Rattle.nfs_serve.specs.Promises.Endpoint.{Arrival}
 use Rattle.nfs_serve.specs.Promises.Points.{state_after, reached, taken, before, asked_by, ops_of}
@@ -25,28 +27,35 @@ renews_by client s c = option_map_or (renews client (before s c)) (asked_by s c)
 abbrev pub replaces_by : ℕ → State → Arrival → Bool
 replaces_by client s c = option_map_or (replaces client (before s c)) (asked_by s c) false
 
--- The lock stands here, and stays through these records, where `last` is the moment of its client's last renewal: if the next
--- one is taken at most one lease behind that, the lock stands before each operation of it as long as all before it spared it,
--- and no LOCK there that clashes is answered NFS4_OK; and if they all spare it, and the record puts no other id in the
--- client's place, the same holds of the records behind it. (That each record is at most one lease behind the renewal before it is the
--- same as that neighbours among the renewals and the last record are: a record between two renewals is not later than the second.)
-abbrev pub StaysHeld : LockTold → (lease last : ℕ) → State → List Arrival → Type 0
-StaysHeld k lease last s [] = Stands k s.machine.store.opens
-StaysHeld k lease last s (c ∷ more) =
-    Stands k s.machine.store.opens
+-- It stands here, and stays through these records, where `last` is the moment of its client's last renewal: if the next one is taken at
+-- most one lease behind that, it stands before each operation of it as long as all before it spared it, and nothing there is answered that it forbids;
+-- and if they all spare it, and the record puts no other id in the client's place, the same holds of the records behind it, in the way in which it
+-- stands then. (That each record is at most one lease behind the renewal before it is the same as that neighbours among the renewals and the last
+-- record are: a record between two renewals is not later than the second.)
+abbrev pub StaysFor : (k : Kept) → (client lease last : ℕ) → k.Way → State → List Arrival → Type 0
+StaysFor k client lease last way s [] = k.Stands way s.machine.store
+StaysFor k client lease last way s (c ∷ more) =
+    k.Stands way s.machine.store
     × (taken s c ≤ last + lease →
-    StandsWhile k (ops_of s c)
-    × (AreSpared k (ops_of s c) → replaces_by k.client s c ≡ false →
-    StaysHeld k lease (if renews_by k.client s c then taken s c else last) (state_after s c) more))
+    While k way (ops_of s c)
+    × (kept.AreSpared k (ops_of s c) → replaces_by client s c ≡ false →
+    StaysFor k client lease (if renews_by client s c then taken s c else last) (after_all k.after way (ops_of s c)) (state_after s c) more))
 
--- The records come in time, and spare the lock and its client, up to a state and a moment of the client's last renewal of which this holds.
-abbrev pub AreInTime : LockTold → (lease last : ℕ) → State → List Arrival → (ℕ → State → Type 0) → Type 0
-AreInTime k lease last s [] Then = Then last s
-AreInTime k lease last s (c ∷ more) Then =
+-- The records come in time, and spare it and its client, up to a way, a state and a moment of the client's last renewal of which this holds.
+abbrev pub InTimeFor : (k : Kept) → (client lease last : ℕ) → k.Way → State → List Arrival → (k.Way → ℕ → State → Type 0) → Type 0
+InTimeFor k client lease last way s [] Then = Then way last s
+InTimeFor k client lease last way s (c ∷ more) Then =
     (taken s c ≤ last + lease)
-    × AreSpared k (ops_of s c)
-    × (replaces_by k.client s c ≡ false)
-    × AreInTime k lease (if renews_by k.client s c then taken s c else last) (state_after s c) more Then
+    × kept.AreSpared k (ops_of s c)
+    × (replaces_by client s c ≡ false)
+    × InTimeFor k client lease (if renews_by client s c then taken s c else last) (after_all k.after way (ops_of s c)) (state_after s c) more Then
+
+-- A lock does so where operations spare it: no LOCK that clashes is answered NFS4_OK.
+abbrev pub StaysHeld : LockTold → (lease last : ℕ) → State → List Arrival → Type 0
+StaysHeld k lease last s records = StaysFor (the_lock k) k.client lease last tt s records
+
+abbrev pub AreInTime : LockTold → (lease last : ℕ) → State → List Arrival → (ℕ → State → Type 0) → Type 0
+AreInTime k lease last s records Then = InTimeFor (the_lock k) k.client lease last tt s records (λ way. Then)
 
 -- In every run of a server whose leases last so many seconds, from its start on: a LOCK in the record's compound told the lock, and
 -- these operations are behind it there. The lock stands before each of them while they spare it; and if they all do, it stays through

@@ -1,30 +1,23 @@
 -- An open told is an open kept: what becomes, over any list of records, of an open that an OPEN told, and of its share reservation (RFC 8881 sections 8.3,
 -- 9.7, 18.2, 18.16 and 18.18).
-use Rattle.std.specs.Prelude.{◌≡◌, ℕ, ◌+◌, ◌≤◌, true, false, List, [], ◌∷◌, ◌++◌, if◌then◌else◌}
+use Rattle.std.specs.Prelude.{◌≡◌, ℕ, true, List, ◌∷◌, ◌++◌}
 use Rattle.nfs_xdr.specs.Tables.{In}
 use Rattle.nfs_compound.specs.declared.open_args.Open.{Open}
 use Rattle.nfs_compound.specs.declared.op_num.OpNum.TheVariants as Num
 use Rattle.nfs_compound.specs.declared.op.Item.TheVariants.{Operation}
 use Rattle.nfs_compound.specs.declared.op.Op.TheVariants as Op
-use Rattle.nfs_files.specs.OpenTold.{names_open, OpenTold, Bits, IsOpenWith}
+use Rattle.nfs_files.specs.OpenTold.{names_open, OpenTold, Bits}
 use Rattle.nfs_exec.specs.Ops.{RanOp}
-use Rattle.nfs_exec.specs.OpenHeld.{OpenWhile, NoneCloses, bits_left, TellsOpen}
+use Rattle.nfs_exec.specs.OpenHeld.{the_open, OpenWhile, NoneCloses, bits_left, TellsOpen}
 use Rattle.nfs_serve.specs.Step.{State}
 use Rattle.nfs_serve.specs.Promises.Endpoint.{Arrival}
 use Rattle.nfs_serve.specs.Promises.Points.{state_after, reached, taken, ops_of}
-use Rattle.nfs_serve.specs.Promises.LockKept.{renews_by, replaces_by}
+use Rattle.nfs_serve.specs.Promises.LockKept.{StaysFor, InTimeFor}
 
--- The open stands here with these bits, and stays through these records, where `last` is the moment of its client's last renewal: if the next one is taken at
--- most one lease behind that, the open stands before each operation of it, and no OPEN there that it forbids is answered NFS4_OK; and if none of them closes it,
--- and the record puts no other id in the client's place, the same holds of the records behind it, with the bits that it has then.
+-- The open stands here with these bits, and stays through these records, with the bits that it has by then, while none of their operations closes it: no OPEN
+-- there that it forbids is answered NFS4_OK.
 abbrev pub StaysOpen : OpenTold → Bits → (lease last : ℕ) → State → List Arrival → Type 0
-StaysOpen k b lease last s [] = IsOpenWith k b s.machine.store.opens
-StaysOpen k b lease last s (c ∷ more) =
-    IsOpenWith k b s.machine.store.opens
-    × (taken s c ≤ last + lease →
-    OpenWhile k b (ops_of s c)
-    × (NoneCloses k (ops_of s c) → replaces_by k.client s c ≡ false →
-    StaysOpen k (bits_left k.number b (ops_of s c)) lease (if renews_by k.client s c then taken s c else last) (state_after s c) more))
+StaysOpen k b lease last s records = StaysFor (the_open k) k.client lease last b s records
 
 -- In every run of a server whose leases last so many seconds, from its start on: an OPEN in the record's compound told the open, and these operations are
 -- behind it there. The open stands before each of them while none closes it; and if none does, it stays through whatever records come, from the moment of
@@ -44,9 +37,4 @@ EachOpenIsTold = (mode instance lease : ℕ) (records : List Arrival) (c : Arriv
 
 -- The records come in time and close it nowhere, and leave its client: up to a state and a moment of the client's last renewal, and to bits, of which this holds.
 abbrev pub LeaveOpen : OpenTold → Bits → (lease last : ℕ) → State → List Arrival → (Bits → ℕ → State → Type 0) → Type 0
-LeaveOpen k b lease last s [] Then = Then b last s
-LeaveOpen k b lease last s (c ∷ more) Then =
-    (taken s c ≤ last + lease)
-    × NoneCloses k (ops_of s c)
-    × (replaces_by k.client s c ≡ false)
-    × LeaveOpen k (bits_left k.number b (ops_of s c)) lease (if renews_by k.client s c then taken s c else last) (state_after s c) more Then
+LeaveOpen k b lease last s records Then = InTimeFor (the_open k) k.client lease last b s records Then

@@ -1,5 +1,6 @@
+use Rattle.nfs_serve.proofs.Promises.LeaseListed.{lease_is_listed}
 use Rattle.nfs_serve.proofs.Promises.LockKept.{lease_is_told}
 use Rattle.nfs_serve.proofs.laws.lease_is_told.Goals as goal
 
 pub returns : goal.returns
-returns c = lease_is_told
+returns c = record { told = lease_is_told; listed = lease_is_listed }

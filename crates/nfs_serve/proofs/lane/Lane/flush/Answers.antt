@@ -1,12 +1,12 @@
-use Rattle.std.proofs.Common.{◌≡◌, ◌<◌, ◌-◌, rules, refl, sym, [], ◌∷◌, ◌++◌, take, length, take-append-drop, length-take-le}
-use Rattle.nfs_serve.specs.Desk.{Took, WriteBlocked, Failed, Closed, leaving}
-use Rattle.nfs_serve.proofs.Advancing.{quiet_on, quiet_act, quiet_closes}
+use Rattle.std.proofs.Common.{◌≡◌, ◌<◌, ◌-◌, rules, refl, sym, ap, inl, [], ◌∷◌, ◌++◌, take, length, take-append-drop, length-take-le}
+use Rattle.nfs_serve.specs.Desk.{Took, WriteBlocked, Failed, leaving}
+use Rattle.nfs_serve.proofs.Advancing.{quiet_on, quiet_act}
 use Rattle.nfs_serve.proofs.Spending.{spends_on, spends_took, spends_stuck, spends_failed}
 use Rattle.nfs_serve.proofs.lane.Lane.flush.Goals as goal
 
 pub loop-ports-preserved : goal.loop-ports-preserved
 loop-ports-preserved g c =
-    let ((acts, so_far, spent), live, heard, long, reads, unread) = c.loop-ports.invariant in
+    let ((acts, so_far, spent), live, gone, heard, long, reads, unread) = c.loop-ports.invariant in
     let n = c.in-Bytes.n in
     let owed = c.loop-ports.self.owed.bytes in
     let some : 0 < length (take n c.rest-in-loop-ports.result.now) = search rules in
@@ -22,6 +22,7 @@ loop-ports-preserved g c =
         spends_on acts (Took (take n c.rest-in-loop-ports.result.now) ∷ []) _ _ _ spent (spends_took (take n c.rest-in-loop-ports.result.now) _ _ refl fewer refl),
       ),
       live,
+      gone,
       heard,
       long,
       reads,
@@ -30,7 +31,7 @@ loop-ports-preserved g c =
 
 pub returns-in-Blocked : goal.returns-in-Blocked
 returns-in-Blocked g c =
-    let ((acts, so_far, spent), live, heard, long, reads, unread) = c.loop-ports.invariant in
+    let ((acts, so_far, spent), live, gone, heard, long, reads, unread) = c.loop-ports.invariant in
     let owed : 0 < length c.loop-ports.self.owed.bytes = search rules in (
       acts ++ WriteBlocked ∷ [],
       quiet_on _ acts (WriteBlocked ∷ []) _ _ _ _ _ _ so_far
@@ -41,12 +42,10 @@ returns-in-Blocked g c =
 
 pub returns-in-Failed : goal.returns-in-Failed
 returns-in-Failed g c =
-    let ((acts, so_far, spent), live, heard, long, reads, unread) = c.loop-ports.invariant in (
-      acts ++ (Failed ∷ [] ++ Closed ∷ []),
-      quiet_on _ acts (Failed ∷ [] ++ Closed ∷ []) _ _ _ _ _ _ so_far
-          (quiet_on _ (Failed ∷ []) (Closed ∷ []) _ leaving _ _ _ _
-          (quiet_act _ Failed _ _ _ _ refl refl refl (λ s. (refl, live, refl)) c.in-Failed.ensures.logs)
-          (rw c.reset.ensures (quiet_closes _ _ _ c.close.ensures.logs))),
-      c.reset.ensures,
-      spends_on acts (Failed ∷ Closed ∷ []) _ _ _ spent (spends_failed _),
+    let ((acts, so_far, spent), live, gone, heard, long, reads, unread) = c.loop-ports.invariant in (
+      acts ++ Failed ∷ [],
+      rw c.leave.ensures (quiet_on _ acts (Failed ∷ []) _ _ leaving _ _ _ so_far
+          (quiet_act _ Failed _ _ _ _ refl refl refl (λ s. (refl, live, refl)) c.in-Failed.ensures.logs)),
+      inl (ap (λ d. d.gone) c.leave.ensures),
+      spends_on acts (Failed ∷ []) _ _ _ spent (spends_failed _),
     )

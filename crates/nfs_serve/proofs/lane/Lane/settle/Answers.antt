@@ -1,9 +1,8 @@
-use Rattle.std.proofs.Common.{◌≡◌, ◌⊎◌, ◌<◌, rules, refl, ap, ◌∙◌, [], ◌∷◌, ◌++◌, length, true, false, inl, inr, sym}
+use Rattle.std.proofs.Common.{◌≡◌, ◌<◌, rules, ap, ◌∙◌, [], ◌++◌, length, true, inl, inr, sym}
 use Rattle.std.proofs.lemmas.List.{nil_from_length}
-use Rattle.nfs_serve.specs.Desk.{Closed}
 use Rattle.nfs_serve.specs.Lane.{desk_of}
-use Rattle.nfs_serve.proofs.Advancing.{goes_on, quiet_advances, quiet_on, quiet_act, stuck_behind, none_read}
-use Rattle.nfs_serve.proofs.Spending.{spends_on, spends_closed}
+use Rattle.nfs_serve.proofs.Advancing.{goes_on, quiet_advances, stuck_behind, none_read}
+use Rattle.nfs_serve.proofs.Spending.{spends_on}
 use Rattle.nfs_serve.proofs.lane.Lane.settle.Goals as goal
 
 pub returns-in-Stuck : goal.returns-in-Stuck
@@ -33,14 +32,12 @@ returns-then-is_too_long g c =
     let ((acts, so_far, none_yet, spent), live) = c.loop-self.invariant in
     let (ys, quiet, clear, flushed) = c.in-Clear.ensures in
     let still : c.flush.new.self.live ≡ true = ap (λ d. d.live) clear ∙ live in
-    let long = sym c.is_too_long.ensures ∙ c.if-is_too_long.true in
-    let closing = quiet_on _ ys (Closed ∷ []) _ _ _ _ _ _ quiet
-    (quiet_act _ Closed _ _ _ _ refl refl refl (λ s. (refl, inr (still, ap (λ d. d.owed) clear, inl long), c.reset.ensures)) c.close.ensures.logs) in (
-      acts ++ (ys ++ Closed ∷ []),
-      goes_on so_far (ys ++ Closed ∷ []) _ _ _ _ (quiet_advances _ (ys ++ Closed ∷ []) _ _ _ _ _ _ closing),
-      c.reset.ensures,
-      none_read acts (ys ++ Closed ∷ []) none_yet closing.no_reads,
-      spends_on acts (ys ++ Closed ∷ []) _ _ _ spent (spends_on ys (Closed ∷ []) _ _ _ flushed (spends_closed _)),
+    let long = sym c.is_too_long.ensures ∙ c.if-is_too_long.true in (
+      acts ++ ys,
+      goes_on so_far ys _ _ _ _ (quiet_advances _ ys _ _ _ _ _ _ quiet),
+      inr (still, ap (λ d. d.owed) clear, inl long),
+      none_read acts ys none_yet quiet.no_reads,
+      spends_on acts ys _ _ _ spent flushed,
     )
 
 pub returns-then-is_empty : goal.returns-then-is_empty
@@ -53,7 +50,7 @@ returns-then-is_empty g c =
     let short = sym c.is_too_long.ensures ∙ c.if-is_too_long.false in (
       acts ++ ys,
       goes_on so_far ys _ _ _ _ (quiet_advances _ ys _ _ _ _ _ _ quiet),
-      (still, refl {a = false}, short, inl unread, ap (λ d. d.owed) clear),
+      (still, short, inl unread, ap (λ d. d.owed) clear),
       none_read acts ys none_yet quiet.no_reads,
       spends_on acts ys _ _ _ spent flushed,
     )
@@ -68,7 +65,7 @@ returns-then-is_spent g c =
     let short = sym c.is_too_long.ensures ∙ c.if-is_too_long.false in (
       acts ++ ys,
       goes_on so_far ys _ _ _ _ (quiet_advances _ ys _ _ _ _ _ _ quiet),
-      (still, refl {a = false}, short, inr (some, done), ap (λ d. d.owed) clear),
+      (still, short, inr (some, done), ap (λ d. d.owed) clear),
       none_read acts ys none_yet quiet.no_reads,
       spends_on acts ys _ _ _ spent flushed,
     )

@@ -1,4 +1,4 @@
-use Rattle.std.proofs.Common.{◌≡◌, ◌<◌, ◌≤◌, refl, sym, subst, ◌∙◌, ◌++◌, ap, [], ◌∷◌, rules, take, length, take-append-drop, take-take, arith, length-drop, length-take, length-take-le, min}
+use Rattle.std.proofs.Common.{◌≡◌, ◌<◌, ◌≤◌, refl, sym, subst, ◌∙◌, ◌++◌, ap, [], ◌∷◌, take, length, take-append-drop, take-take, arith, length-drop, length-take, length-take-le, min}
 use Rattle.std.specs.Prelude.{◌||◌, drop}
 use Rattle.std.proofs.lemmas.List.{drop_at}
 use Rattle.nfs_serve.specs.Told.{Moment, Late, Logs}
@@ -38,7 +38,8 @@ returns g c =
       part = part;
       out = out;
       clock = Logs-trans _ _ _ (Moment c.now-now.result ∷ []) (Late c.is_late-left.result ∷ []) c.now-now.ensures.tells c.is_late-left.ensures;
-      logs = subst (λ b. Logs (g.P.Ports.log c.args.ports.now) (g.P.Ports.log c.count.new.ports) (counted c.args.port b)) told c.count.ensures.logs;
+      logs = subst (λ b. Logs (g.P.Ports.log c.args.ports.now) (g.P.Ports.log c.count.new.ports) (counted c.args.port b)) told
+          (Logs-trans _ _ _ [] (counted c.args.port c.is_first-first.result) c.answered.ensures.logs c.count.ensures.logs);
       steps = record {
         live = c.requires.live;
         short = c.requires.short;
@@ -52,6 +53,7 @@ returns g c =
       owed = owed;
       heard = c.either-self.ensures ∙ ap (λ b. lane.heard || b) told ∙ heard_or lane.heard (answers_sequence out);
       live = refl;
+      gone = refl;
       reads = refl;
       shorter = shorter;
       one = omega (arith, c.requires.left);

@@ -1,8 +1,8 @@
-use Rattle.std.proofs.Common.{◌≡◌, ◌<◌, ◌++◌, [], ◌∷◌, refl, sym, ap, ◌∙◌, arith, rules, subst, false}
+use Rattle.std.proofs.Common.{◌≡◌, ◌++◌, [], ◌∷◌, refl, sym, ap, ◌∙◌, arith, rules, subst}
 use Rattle.std.proofs.lemmas.List.{nil_from_length}
 use Rattle.nfs_serve.specs.Server.{state_of}
 use Rattle.nfs_serve.specs.Desk.{Stepped}
-use Rattle.nfs_serve.specs.Lane.{desk_of, is_first, Advances}
+use Rattle.nfs_serve.specs.Lane.{stand, is_first, Advances}
 use Rattle.nfs_serve.proofs.Advancing.{stepped, goes_on, none_read}
 use Rattle.nfs_serve.proofs.Spending.{spends_on, spends_step}
 use Rattle.nfs_serve.proofs.lane.Lane.step_some.Goals as goal
@@ -15,11 +15,13 @@ loop-self-init g c =
     let lane = c.args.self.now in
     let acts = Stepped one.moment one.part c.step_one.new.left.late (is_first lane.heard one.out) ∷ [] in record {
       acts = acts;
-      advances = subst (λ o. Advances c.args.port acts (state_of c.args.engine.now.kept)
-          (record { live = lane.live; gone = false; heard = lane.heard; stream = lane.connection; reads = lane.reads; unread = lane.unread; owed = o })
-          (state_of c.step_one.new.engine.kept) (desk_of c.step_one.new.self) (g.P.Ports.log c.args.ports.now) (g.P.Ports.log c.step_one.new.ports)
-          (g.C.Clock.told c.args.clock.now) (g.C.Clock.told c.step_one.new.clock))
-          empty (stepped _ _ _ (record lane { owed = c.clear.new.self }) c.step_one.new.self _ _ _ _ _ _ one);
+      advances = subst (λ o. Advances c.args.port acts (record {
+        state = state_of c.args.engine.now.kept;
+        desk = record { live = lane.live; gone = lane.gone; heard = lane.heard; stream = lane.connection; reads = lane.reads; unread = lane.unread; owed = o };
+        log = g.P.Ports.log c.args.ports.now;
+        told = g.C.Clock.told c.args.clock.now;
+      }) (stand c.step_one.new.engine.kept c.step_one.new.self (g.P.Ports.log c.step_one.new.ports) (g.C.Clock.told c.step_one.new.clock)))
+          empty (stepped _ _ _ _ _ one);
       no_reads = refl;
       spends = spends_step one.moment one.part (is_first lane.heard one.out) c.args.left.now c.step_one.new.left one.one one.bytes c.requires.left;
       live = one.live;
@@ -34,7 +36,7 @@ loop-self-preserved g c =
     let left = c.is_spent.ensures.left (search rules) in
     let acts = Stepped one.moment one.part c.step_one-in-loop-self.new.left.late (is_first c.loop-self.self.heard one.out) ∷ [] in record {
       acts = before.acts ++ acts;
-      advances = goes_on before.advances acts _ _ _ _ (stepped _ _ _ c.loop-self.self c.step_one-in-loop-self.new.self _ _ _ _ _ _ one);
+      advances = goes_on before.advances acts _ _ _ _ (stepped _ _ _ _ _ one);
       no_reads = none_read before.acts acts before.no_reads refl;
       spends = spends_on before.acts acts _ _ _ before.spends
           (spends_step one.moment one.part (is_first c.loop-self.self.heard one.out) c.loop-self.left c.step_one-in-loop-self.new.left one.one one.bytes left);

@@ -9,22 +9,26 @@ use Rattle.nfs_serve.proofs.lane.Lane.visit.Goals as goal
 pub returns-then-not-has_turn : goal.returns-then-not-has_turn
 returns-then-not-has_turn g c =
     let off : c.has_turn.result ≡ false = search rules in (
-      Unready ∷ [],
       _,
       c.begin_turn.ensures,
-      passed_over _ _ _ _ _ _ (c.has_turn.ensures.none off)
-          (subst (λ b. Logs (g.P.Ports.log c.args.ports.now) (g.P.Ports.log c.has_turn.new.ports) (readied c.args.port b)) off c.has_turn.ensures.logs),
-      passes_over,
+      (
+        Unready ∷ [],
+        passed_over _ _ _ _ _ _ (c.has_turn.ensures.none off)
+            (subst (λ b. Logs (g.P.Ports.log c.args.ports.now) (g.P.Ports.log c.has_turn.new.ports) (readied c.args.port b)) off c.has_turn.ensures.logs),
+        passes_over,
+      ),
     )
 
 pub returns : goal.returns
 returns g c =
     let on : c.has_turn.result ≡ true = search rules in
     let (acts, advances, ends) = c.turn.ensures in (
-      acts,
       _,
       c.begin_turn.ensures,
-      behind_nothing _ acts _ _ _ _ _ _ _ _ _
-          (subst (λ b. Logs (g.P.Ports.log c.args.ports.now) (g.P.Ports.log c.has_turn.new.ports) (readied c.args.port b)) on c.has_turn.ensures.logs) advances,
-      ends,
+      (
+        acts,
+        behind_nothing _ acts _ _ _ _ _ _ _ _ _
+            (subst (λ b. Logs (g.P.Ports.log c.args.ports.now) (g.P.Ports.log c.has_turn.new.ports) (readied c.args.port b)) on c.has_turn.ensures.logs) advances,
+        ends,
+      ),
     )

@@ -1,0 +1,161 @@
+-- Names and listings of a directory whose change is the same.
+use Rattle.std.proofs.Common.{◌≡◌, ◌⊎◌, inl, inr, ℕ, Bool, true, false, cond, eqb, not, List, [], ◌∷◌, map, Option, Some, None, refl, sym, ◌∙◌, ap, subst}
+use Rattle.std.specs.Prelude.{◌==◌, ◌&&◌, nat_lt, find, filter, option_map, is_some, bytes_eq, Ok, ok_or}
+use Rattle.std.specs.List.{list_all}
+use Rattle.std.proofs.lemmas.Bool.{and_parts, false≢true}
+use Rattle.nfs_xdr.specs.Checks.{first_fault, judged}
+use Rattle.nfs_xdr.specs.Status.{status_number}
+use Rattle.nfs_xdr.specs.Tables.{In}
+use Rattle.nfs_xdr.specs.declared.status.Status.{Status}
+use Rattle.nfs_xdr.specs.declared.status.Status.TheVariants.{Nfs4Ok, NoEnt, RepTooBig, Stale, Symlink}
+use Rattle.nfs_xdr.proofs.Lists.{find_past, filter_past}
+use Rattle.nfs_compound.specs.declared.op.Item.TheVariants.{Operation}
+use Rattle.nfs_compound.specs.declared.op.Op.TheVariants as Op
+use Rattle.nfs_compound.specs.declared.op_num.OpNum.TheVariants as Num
+use Rattle.nfs_results.specs.declared.res.Res.TheVariants as Res
+use Rattle.nfs_results.specs.Results.{status_of_result}
+use Rattle.nfs_tree.specs.declared.object.Object.{Object}
+use Rattle.nfs_tree.specs.declared.row.Row.{Row}
+use Rattle.nfs_tree.specs.Files.{Files, object_at, is_entry, lookup as found, listing, listed}
+use Rattle.nfs_attrs.specs.Permissions.{execute}
+use Rattle.nfs_opens.specs.Steps.{◌>>=◌, ◌>>◌, in_order}
+use Rattle.nfs_names.specs.declared.context.Context.{Context}
+use Rattle.nfs_names.specs.declared.node.Node.{Node}
+use Rattle.nfs_names.specs.Context.{at_object}
+use Rattle.nfs_names.specs.State as store
+use Rattle.nfs_names.specs.Checks.{node_as, node_at, current, no_directory, denied, name_checks}
+use Rattle.nfs_names.specs.Lookup.{is_link, lookup}
+use Rattle.nfs_names.specs.Outcome.{Outcome, or_refusal}
+use Rattle.nfs_exec.specs.Ops.{RanOp}
+use Rattle.nfs_exec.proofs.OneRun.{IsRun, by_item}
+use Rattle.nfs_exec.proofs.OneWalk.{in_back}
+use Rattle.nfs_serve.specs.Step.{State, new_state}
+use Rattle.nfs_serve.specs.Promises.Points.{state_after, reached, before, asked_by}
+use Rattle.nfs_serve.specs.Promises.ChangeTells.{entries_in, RunsIn}
+use Rattle.nfs_serve.specs.Promises.ChangeNames.{LooksUp, NamesAreAlike}
+use Rattle.nfs_serve.proofs.Promises.ChangeTells.{change_tells, asked_run, later_run}
+use Rattle.nfs_serve.proofs.Promises.Points.{IsSound, whole_before, sound_next, sound_all, sound_new}
+
+-- The entries of a directory say where its names lead, and what is listed.
+
+found_in : (rows : List Row) (d : ℕ) (name : List ℕ) → find (is_entry d name) rows ≡ find (is_entry d name) (entries_in rows d)
+found_in rows d name = sym (find_past (is_entry d name) (λ (r : Row). r.directory == d) rows (λ r e. (and_parts (r.directory == d) (bytes_eq r.name name) e).0))
+
+names_same : (t u : Files) (n : ℕ) (name : List ℕ) → entries_in u.rows n ≡ entries_in t.rows n → found u n name ≡ found t n name
+names_same t u n name same =
+    ap (option_map (λ (r : Row). r.object)) (found_in u.rows n name ∙ (ap (find (is_entry n name)) same ∙ sym (found_in t.rows n name)))
+
+listed_in : (rows : List Row) (d cookie : ℕ)
+    → filter (λ (r : Row). (r.directory == d) && nat_lt cookie r.cookie) rows ≡ filter (λ (r : Row). (r.directory == d) && nat_lt cookie r.cookie) (entries_in rows d)
+listed_in rows d cookie =
+    sym (filter_past (λ (r : Row). (r.directory == d) && nat_lt cookie r.cookie) (λ (r : Row). r.directory == d) rows
+    (λ r there e. (and_parts (r.directory == d) (nat_lt cookie r.cookie) e).0))
+
+listing_same : (t u : Files) (n cookie : ℕ) → entries_in u.rows n ≡ entries_in t.rows n → listing u.rows n cookie ≡ listing t.rows n cookie
+listing_same t u n cookie same =
+    ap (map listed) (listed_in u.rows n cookie ∙ (ap (filter (λ (r : Row). (r.directory == n) && nat_lt cookie r.cookie)) same ∙ sym (listed_in t.rows n cookie)))
+
+-- What LOOKUP answers, by whether the name is there.
+
+-- neither NFS4_OK nor NFS4ERR_NOENT
+abbrev is_other : Status → Bool
+is_other f = not (eqb (status_number f) 0) && not (eqb (status_number f) 2)
+
+first_other : (checks : List (Bool × Status)) → list_all (λ check. is_other check.1) checks ≡ true → (f : Status) → first_fault checks ≡ Some f → is_other f ≡ true
+first_other [] all f e = absurd cc
+first_other (check ∷ checks) all f e =
+    let parts = and_parts (is_other check.1) (list_all (λ check. is_other check.1) checks) all in
+    by_test check.0 check.1 (first_fault checks) parts.0 (first_other checks parts.1 f) e
+  where
+    by_test : (b : Bool) (g : Status) (rest : Option Status) → is_other g ≡ true → (rest ≡ Some f → is_other f ≡ true) → cond b (Some g) rest ≡ Some f → is_other f ≡ true
+    by_test true g rest here more e = let same : g ≡ f = cc in subst (λ (f : Status). is_other f ≡ true) same here
+    by_test false g rest here more e = more e
+
+-- it is told by the status
+record Tells (there : Bool) (status : Status) : Type 0 where
+  pub found : status ≡ Nfs4Ok → there ≡ true
+  pub missed : status ≡ NoEnt → there ≡ false
+
+other_tells : (there : Bool) (f : Status) → is_other f ≡ true → Tells there f
+other_tells there f e = record {
+  found = λ is. absurd (false≢true (ap is_other (sym is) ∙ e));
+  missed = λ is. absurd (false≢true (ap is_other (sym is) ∙ e));
+}
+
+abbrev TellsIt : Bool → Outcome → Type 0
+TellsIt there o = Tells there (status_of_result o.result)
+
+named_tells : (s : store.State) (x : Context) (o : Option ℕ)
+    → TellsIt (is_some o) (or_refusal s x Num.Lookup (ok_or o NoEnt >>= λ n. Ok (record { result = Res.Lookup; state = s; context = at_object x n })))
+named_tells s x None = record { found = λ is. absurd cc; missed = λ is. refl }
+named_tells s x (Some n) = record { found = λ is. refl; missed = λ is. absurd cc }
+
+at_tells : (s : store.State) (x : Context) (checks : List (Bool × Status)) (o : Option ℕ) → list_all (λ check. is_other check.1) checks ≡ true
+    → TellsIt (is_some o) (or_refusal s x Num.Lookup (in_order checks >> (ok_or o NoEnt >>= λ n. Ok (record { result = Res.Lookup; state = s; context = at_object x n }))))
+at_tells s x checks o all = by_fault (first_fault checks) refl
+  where
+    by_fault : (v : Option Status) → first_fault checks ≡ v
+        → TellsIt (is_some o) (or_refusal s x Num.Lookup (judged v >> (ok_or o NoEnt >>= λ n. Ok (record { result = Res.Lookup; state = s; context = at_object x n }))))
+    by_fault None e = named_tells s x o
+    by_fault (Some f) e = other_tells (is_some o) f (first_other checks all f e)
+
+node_tells : (s : store.State) (x : Context) (name : List ℕ) (n : ℕ) (o : Option Object)
+    → TellsIt (is_some (found s.tree n name)) (or_refusal s x Num.Lookup (node_as n o >>= λ d.
+    in_order ((is_link d.object.kind, Symlink) ∷ no_directory d ∷ denied x d execute ∷ name_checks name)
+    >> (ok_or (found s.tree d.number name) NoEnt >>= λ n. Ok (record { result = Res.Lookup; state = s; context = at_object x n }))))
+node_tells s x name n None = other_tells (is_some (found s.tree n name)) Stale refl
+node_tells s x name n (Some o) =
+    let d : Node = record { number = n; object = o } in
+    at_tells s x ((is_link d.object.kind, Symlink) ∷ no_directory d ∷ denied x d execute ∷ name_checks name) (found s.tree n name) refl
+
+lookup_tells : (s : store.State) (x : Context) (name : List ℕ) (n : ℕ) → x.current ≡ Some n → TellsIt (is_some (found s.tree n name)) (lookup s x name)
+unfolding current lookup
+lookup_tells s x name n at =
+    subst (λ (k : Option ℕ). TellsIt (is_some (found s.tree n name)) (or_refusal s x Num.Lookup (node_at s k >>= λ d.
+    in_order ((is_link d.object.kind, Symlink) ∷ no_directory d ∷ denied x d execute ∷ name_checks name)
+    >> (ok_or (found s.tree d.number name) NoEnt >>= λ n. Ok (record { result = Res.Lookup; state = s; context = at_object x n }))))) (sym at)
+    (node_tells s x name n (object_at s.tree n))
+
+run_tells : (n : ℕ) (name : List ℕ) (status : Status) (d : RanOp) → IsRun d → LooksUp n name status d → Tells (is_some (found d.before.store.tree n name)) status
+run_tells n name status d r looks =
+    let there = is_some (found d.before.store.tree n name) in
+    subst (Tells there) looks.answers
+    (by_item (λ status text s. Tells there status) d r (Operation (Op.Lookup name)) looks.is (other_tells there RepTooBig refl)
+    (lookup_tells d.before.store d.context name n looks.at))
+
+found_missed : (n : ℕ) (name : List ℕ) (d e : RanOp) → IsRun d → IsRun e → found e.before.store.tree n name ≡ found d.before.store.tree n name
+    → LooksUp n name Nfs4Ok d → LooksUp n name NoEnt e → ⊥
+found_missed n name d e r q same finds misses =
+    false≢true (sym ((run_tells n name NoEnt e q misses).missed refl) ∙ (ap is_some same ∙ (run_tells n name Nfs4Ok d r finds).found refl))
+
+pub names_are_alike : NamesAreAlike
+names_are_alike mode instance lease earlier c front d back more e n same there here behind equal =
+    let t : Files = d.before.store.tree in
+    let u : Files = e.before.store.tree in
+    let entries : entries_in u.rows n ≡ entries_in t.rows n =
+    ((change_tells mode instance lease earlier c front d back more e n same there here behind).same equal).entries in
+    record {
+      names = λ name. names_same t u n name entries;
+      entries = λ cookie. listing_same t u n cookie entries;
+      found = λ name. found_missed n name d e run_d run_e (names_same t u n name entries);
+      missed = λ name misses finds. found_missed n name e d run_e run_d (sym (names_same t u n name entries)) finds misses;
+    }
+  where
+    s : State
+    s = reached mode instance lease earlier
+
+    sound : IsSound s
+    sound = sound_all (new_state mode instance lease) earlier (sound_new mode instance lease)
+
+    run_in : (b : RanOp) → In b (d ∷ back) → IsRun b
+    run_in b within = asked_run (before s c) (asked_by s c) (whole_before s c sound.whole) b (subst (In b) (sym same) (in_back b front (d ∷ back) within))
+
+    run_d : IsRun d
+    run_d = run_in d (inl refl)
+
+    by_place : In e back ⊎ RunsIn (state_after s c) more e → IsRun e
+    by_place (inl within) = run_in e (inr within)
+    by_place (inr late) = later_run (state_after s c) more (sound_next s c sound) e late
+
+    run_e : IsRun e
+    run_e = by_place there

@@ -1,0 +1,97 @@
+"""The contract of each public function of each crate, and which of these functions only tests call. `tests/gate/believed` stands on it.
+
+tests/gate/contracts.tsv has a line for each, which `tests/gate/believed --write` makes: the crate, the function, how many clauses ask for something and how
+many state something, and a sum of those clauses and of all that they lean on. So no contract changes without a line of it. tests/gate/uncalled.tsv
+names the functions that nothing but tests calls, each with the reason for which it is there."""
+
+import hashlib
+import re
+
+import rattle
+from edits import public
+from pinned import TESTS
+
+CALL = re.compile(r"(?:(\w+)(?:::<[^>]*>)?::|(\.)\s*|\b)(\w+)(?=\s*(?:::<|[(),;}]))")
+HEAD = "# The contract of each public function (tests/gate/believed --write): crate, function, clauses that ask, clauses that state, sum of what they lean on.\n"
+
+
+def crates(top):
+    return sorted(it.parent for it in top.glob("crates/*/src"))
+
+
+def page(top, promises):
+    """The lines of tests/gate/contracts.tsv."""
+    lines = []
+    for folder in crates(top):
+        for path, it in sorted(public(folder).items()):
+            asks = sum(clause.kind != "ensures" for clause in it.clauses)
+            lines.append(f"{folder.name}\t{path}\t{asks}\t{len(it.clauses) - asks}\t{sum_of(promises, folder, it)}\n")
+    return HEAD + "".join(lines)
+
+
+def sum_of(promises, folder, function):
+    """A sum of a contract and of what it leans on."""
+    place = next(folder / file for file, (source, _) in rattle.tree(folder).items() if function in source.functions)
+    needed, _, types = promises.behind({one for it in function.clauses for one in promises.all.cited_in(place, it)})
+    said = [f"{it.kind}: {' '.join(it.text.split())}" for it in function.clauses]
+    said += sorted(f"{it}: {line.rstrip()}" for it in needed for line in it.lines)
+    said += sorted(f"{it}: {promises.all.declared.get(it, '')}" for it in types)
+    return hashlib.sha256("\n".join([" ".join(function.takes.split()), *said]).encode()).hexdigest()[:10]
+
+
+def calls(top):
+    """What is called by code that is none of tests: by its name, who calls it, and the word in front of it."""
+    found = {}
+    for folder in crates(top):
+        for source, is_test in rattle.tree(folder).values() if folder.name not in TESTS else ():
+            for it in source.functions:
+                if it.opens >= 0 and not is_test and not it.is_test:
+                    for call in CALL.finditer(source.plain, it.opens, it.closes):
+                        found.setdefault(call[3], set()).add((it, call[1] or call[2] or ""))
+    return found
+
+
+def uncalled(top):
+    """The public functions that only tests call, as far as names tell."""
+    called = calls(top)
+    for folder in crates(top):
+        for path, it in public(folder).items() if (folder / "src/lib.rt").is_file() and folder.name not in TESTS else ():
+            owner = it.owner.name if it.owner else ""
+            is_method = re.search(r"\(\s*(?:&\s*)?(?:'\w+\s+)?(?:mut\s+)?self\b", it.takes)
+            fits = (".", owner, "Self") if is_method else (owner, "Self") if owner else ("", path.split("::")[-2] if "::" in path else "", folder.name)
+            if it.sees == "pub" and not path.startswith("laws::") and not any(who is not it and front in fits for who, front in called.get(it.name, ())):
+                yield f"{folder.name}\t{path}"
+
+
+def faults(top, promises, rows):
+    """Where the page is not what is there, and where a function that only tests call has no reason."""
+    path = top / "tests/gate/contracts.tsv"
+    was = path.read_text(encoding="utf-8").splitlines() if path.is_file() else []
+    now = page(top, promises).splitlines()
+    found = [f"tests/gate/contracts.tsv is not what tests/gate/believed --write makes: {it}" for it in sorted(set(was) ^ set(now))]
+    told, there = {"\t".join(it[:2]): it[2:] for it in rows}, {*uncalled(top)}
+    found += [f"{' '.join(it.split())}: only tests call it, and tests/gate/uncalled.tsv has no reason for it" for it in sorted(there - told.keys())]
+    found += [f"tests/gate/uncalled.tsv: {' '.join(it.split())}: it is called, or it is not there" for it in sorted(told.keys() - there)]
+    return found + [f"tests/gate/uncalled.tsv: it gives no reason for {it}" for it in told if len(" ".join(told[it]).split()) < 3], len(now) - 1
+
+
+def clauses_of(source):
+    """The clauses of each function of a source that is none of tests, by its block and its name."""
+    return {(it.owner.holder if it.owner else "", it.name): [(one.kind, "".join(one.text.split())) for one in it.clauses] for it in source.functions if not it.is_test}
+
+
+def proved(top):
+    """How many functions of the libraries that were built have in the toolchain's own words the contract that is read here, and which have not:
+    a library has its sources' heads and clauses as the checker took them, below out/rlib/NAME.rlib/lang/src."""
+    same, found = 0, []
+    for folder in crates(top) if (top / "crates.txt").is_file() else ():
+        built = folder / f"out/rlib/{folder.name}.rlib/lang"
+        if (folder / "src/lib.rt").is_file() and not built.is_dir():
+            found.append(f"{folder.name}: it was not built, so nothing tells what was proved of it")
+        for file, (source, is_test) in rattle.tree(folder).items() if built.is_dir() else ():
+            mine = {} if is_test else clauses_of(source)
+            told = clauses_of(rattle.read(built / file)) if (built / file).is_file() else {}
+            wrong = [it for it in mine if told.get(it) != mine[it]]
+            found += [f"{folder.name} {file}: {'::'.join(filter(None, it))}: the checker took {told.get(it, 'no such function')}, and not {mine[it]}" for it in wrong]
+            same += len(mine) - len(wrong)
+    return same, found

@@ -1,0 +1,112 @@
+"""What is pinned, so that it cannot vanish unseen: the names of the must-fail edits, how many tests and asserts each crate has, and how many cases
+of each part of ./test pass, and the lines at which a body makes want of memory up. Contracts allow that at any call which asks for memory, so a body
+could say so without need: tests/gate/wants.tsv has each such line. `tests/gate/believed` stands on it."""
+
+import os
+import re
+
+import rattle
+
+TESTS = ("nfs_testing", "nfs_tests")
+ASSERT = re.compile(r"\bassert\w*!\s*(?=[(\[{])")
+ADDED = re.compile(r"^ *add(?:_where_it_can)? (.+)$", re.M)
+PART = re.compile(r"^part (.+): (\d+) passed, 0 failed$", re.M)
+NUMBER = re.compile(r"\d+(?:-\d+)?")
+WANT = re.compile(r".*(?:\bAllocError\b|\b\w+::Memory\b|\bStatus::Delay\b).*")
+WANTS = "# Lines of bodies that make want of memory up, or pass it on by its name (tests/gate/believed --pin): crate, function, line.\n"
+
+
+def wrong_bodies(top):
+    """The must-fail edits of the repository, as crate/name."""
+    return sorted(f"{it.parent.parent.name}/{it.stem}" for it in top.glob("crates/*/must-fail/*.edit"))
+
+
+def tests_of(folder):
+    """How many tests a crate has, as the toolchain's runner counts them."""
+    return sum("test" in it.attributes for source, _ in rattle.tree(folder).values() for it in source.functions)
+
+
+def asserts_of(folder):
+    """What each assert of a crate asks."""
+    for source, _ in rattle.tree(folder).values():
+        for it in ASSERT.finditer(source.plain):
+            yield it[0].rstrip(), source.text[it.end() + 1 : source.end_of(it.end())]
+
+
+def asks_nothing(word, asked):
+    """Whether an assert compares a thing with itself, or asks for what is always so."""
+    sides = re.split(r" == |,", asked, maxsplit=1) if "_eq" in word else re.split(r" (?:==|>=|<=) ", asked)
+    return asked.strip() == "true" or len(sides) == 2 and "".join(sides[0].split()) == "".join(sides[1].split()).rstrip(",")
+
+
+def counts(top):
+    """How many tests and asserts the sources of each crate have that has any."""
+    found = {}
+    for folder in sorted(it.parent for it in top.glob("crates/*/src")):
+        if count := tests_of(folder):
+            found[f"tests of {folder.name}"] = count
+            found[f"asserts of {folder.name}"] = len([*asserts_of(folder)])
+    return found
+
+
+def wants(top):
+    """The lines at which code that is none of tests names want of memory, as tests/gate/wants.tsv has them."""
+    lines = []
+    for folder in sorted(it.parent for it in top.glob("crates/*/src") if it.parent.name not in TESTS):
+        for source, is_test in rattle.tree(folder).values():
+            for it in source.functions if not is_test else ():
+                if it.opens >= 0 and not it.is_test:
+                    lines += [f"{folder.name}\t{it}\t{line.strip()}\n" for line in WANT.findall(source.plain[it.opens : it.closes])]
+    return WANTS + "".join(lines)
+
+
+def faults(top, rows):
+    """What is not as it is pinned."""
+    path = top / "tests/gate/wants.tsv"
+    was, now = path.read_text(encoding="utf-8").splitlines() if path.is_file() else [WANTS.strip()], wants(top).splitlines()
+    fresh = [f"want of memory that tests/gate/wants.tsv does not list (tests/gate/believed --pin): {it}" for it in now if now.count(it) > was.count(it)]
+    return [*fresh, *(f"tests/gate/wants.tsv: no body has {it}" for it in was if was.count(it) > now.count(it)), *of_names(top, rows)]
+
+
+def of_names(top, rows):
+    """Where edits, tests, asserts and parts are not as they are pinned."""
+    path = top / "tests/gate/wrong_bodies.txt"
+    told = path.read_text(encoding="utf-8").split() if path.is_file() else []
+    there = wrong_bodies(top)
+    found = [f"must-fail edit {it}: tests/gate/wrong_bodies.txt names it, and it is not there" for it in told if it not in there]
+    found += [f"must-fail edit {it}: tests/gate/wrong_bodies.txt does not name it (tests/gate/believed --pin)" for it in there if it not in told]
+    found += ["tests/gate/wrong_bodies.txt: its lines are not in order, or one stands there twice"] * (told != sorted(set(told)))
+    due = {it[0]: it[1] for it in rows if len(it) > 1 and len(it) == 2 + ("-" in it[1]) and NUMBER.fullmatch(it[1])}
+    found += [f"tests/least.tsv: no line of a name and a number, or of a range and its reason: {' '.join(it)}" for it in rows if it[0] not in due]
+    counted = counts(top)
+    for name in sorted({it for it in due if " of " in it} | set(counted)):
+        if counted.get(name, 0) != int(due.get(name, "0")):
+            found.append(f"{name}: {counted.get(name, 0)}, and tests/least.tsv has {due.get(name, 'none')} (tests/gate/believed --pin)")
+    for folder in sorted(it.parent for it in top.glob("crates/*/src")):
+        found += [f"{folder.name}: {word}({asked.strip()}) asks nothing" for word, asked in asserts_of(folder) if asks_nothing(word, asked)]
+    return found + of_parts(top, due)
+
+
+def of_parts(top, due):
+    """Where ./test, tests/least.tsv and the scripts of tests/ do not name the same parts."""
+    path = top / "test"
+    added = ADDED.findall(path.read_text(encoding="utf-8")) if path.is_file() else []
+    told = [it for it in due if " of " not in it]
+    scripts = [str(it.relative_to(top)) for it in sorted(top.glob("tests/**/*")) if it.is_file() and not it.suffix and os.access(it, os.X_OK)]
+    found = [f"tests/least.tsv: it says nothing of {it}, which ./test runs" for it in added if it not in told]
+    found += [f"./test does not run {it}" for it in scripts if it not in [one.split()[0] for one in added]]
+    return found + [f"./test does not run {it}, of which tests/least.tsv tells" for it in told if it not in added]
+
+
+def write(top, log):
+    """Pins what is there and, where a log of ./test is given, how many cases of each of its parts passed; a range stays."""
+    (top / "tests/gate/wrong_bodies.txt").write_text("".join(f"{it}\n" for it in wrong_bodies(top)), encoding="utf-8")
+    (top / "tests/gate/wants.tsv").write_text(wants(top), encoding="utf-8")
+    path, passed = top / "tests/least.tsv", dict(PART.findall(log))
+    lines = path.read_text(encoding="utf-8").splitlines() if path.is_file() else []
+    kept = []
+    for it in (it for it in lines if not re.match(r"(?:tests|asserts) of \w+\t", it)):
+        name, _, number = it.partition("\t")
+        kept.append(f"{name}\t{passed[name]}" if name in passed and "-" not in number else it)
+    path.write_text("".join(f"{it}\n" for it in [*kept, *(f"{name}\t{count}" for name, count in counts(top).items())]), encoding="utf-8")
+    return 0

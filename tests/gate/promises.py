@@ -1,0 +1,405 @@
+"""What each promise of docs/PROMISES.md leans on. `tests/gate/believed` stands on it.
+
+The first promise is of the calls that the program makes: the contracts of all that the crates which it stands on show. Each further one is of
+the laws that a section of docs/PROMISES.md names in code, as `laws::exactly_once`, and of the calls that its paragraph "Where" names, as
+`Server::replay` or `nfs_names::name_op`. A law is that of the crate that is named with it, as `nfs_serve::laws::exactly_once`, or in code last
+before it in its section, as "`nfs_serve`: `laws::exactly_once`", if that has it; else there has to be one crate that has it. Laws that no section
+names come last, and then the worked examples of tests/gate/worked.tsv: they are told with the section that names them and count for none."""
+
+import hashlib
+import re
+
+import rattle
+from definitions import Definitions
+from edits import public
+from statements import Statements, bare, equations, groups, is_binder, parts_of_record, split, tokens_of
+
+CALLS = "The calls that the program makes"
+OTHERS = "Laws that no promise names"
+WORKED = "Worked examples"
+ALL = "All of these"
+
+HEADING = re.compile(r"^#{2,4} +(.*?)\s*$", re.M)
+CODE = re.compile(r"`([^`\n]+)`")
+LAW = re.compile(r"(?:(\w+)::)?laws::(\w+|\{[\w, ]+\})$")
+CALL = re.compile(r"(\w+)::(\w+)(?:\(\))?$")
+WHERE = re.compile(r"^- \*\*Where\.\*\*.*?(?=^- \*\*|\Z)", re.M | re.S)
+
+
+class Promise:
+    """A promise: its title, the laws or calls that state it, as (crate, name), and what their contracts name."""
+
+    def __init__(self, title):
+        self.title, self.stated, self.cited, self.needed, self.types = title, [], set(), set(), set()
+        self.texts = []  # (of the clauses that state it)
+
+    @property
+    def lines(self):
+        return sum(len(it.lines) for it in self.needed)
+
+    @property
+    def files(self):
+        return {it.file for it in self.needed}
+
+    def sum(self, definitions):
+        """A sum of all that the promise says: of its clauses, of what they lean on, and of the Rust types that these name."""
+        lines = sorted(f"{it}: {line.rstrip()}" for it in self.needed for line in it.lines)
+        types = sorted(f"{it}: {definitions.declared.get(it, '')}" for it in self.types)
+        return hashlib.sha256("\n".join([*sorted(self.texts), *lines, *types]).encode()).hexdigest()[:12]
+
+
+class Pin:
+    """A law that pins a definition: what it pins, and what counts in the definition's place."""
+
+    def __init__(self, row):
+        crate, name, law = row
+        self.crate, self.law = crate, law.removeprefix("laws::")
+        self.file, _, self.name = name.rpartition(".")
+        self.fields, self.cited = set(), set()
+
+    def __str__(self):
+        return f"{self.crate} {self.file}.{self.name}"
+
+
+def listed(top):
+    """The crates of crates.txt with what each stands on, in its order."""
+    lines = [it for it in (top / "crates.txt").read_text(encoding="utf-8").splitlines() if ":" in it and not it.startswith("#")]
+    return {name.strip(): rest.split() for name, _, rest in (it.partition(":") for it in lines)}
+
+
+def rows_of(path):
+    """The rows of a table of tabs, without comments."""
+    text = path.read_text(encoding="utf-8") if path.is_file() else ""
+    return [line.split("\t") for line in text.splitlines() if line.strip() and not line.startswith("#")]
+
+
+def read(top):
+    """The promises of a repository."""
+    text = (top / "docs/PROMISES.md").read_text(encoding="utf-8")
+    return Promises(Definitions(top), text, [it for it in rows_of(top / "tests/gate/pins.tsv") if len(it) == 3], rows_of(top / "tests/gate/worked.tsv"))
+
+
+def lines_by_crate(top):
+    """How many lines of meaning of each crate a repository's promises lean on."""
+    found = {}
+    for one in read(top).whole().needed:
+        found[one.file[0]] = found.get(one.file[0], 0) + len(one.lines)
+    return found
+
+
+class Promises:
+    """The promises of a repository, in the order of docs/PROMISES.md, and what each leans on."""
+
+    def __init__(self, definitions, text, pins, worked):
+        self.all, self.statements, self.faults, self.top = definitions, Statements(definitions), [], definitions.top
+        self.laws, self.pinned = {}, {}  # (sources of each crate's laws by their names; pins by their definitions)
+        self.order, self.judged = listed(self.top), 0  # (how many clauses were judged)
+        for crate in sorted({it.parent.name for it in self.top.glob("crates/*/src")}):
+            self.find_laws(crate)
+        self.faults += [f"{crate} laws::{name}: it states what laws::{other} does" for crate, name, other in self.copies()]
+        self.worked = [(crate, law.removeprefix("laws::")) for crate, law in worked]
+        self.faults += [f"tests/gate/worked.tsv: {crate} has no laws::{name}" for crate, name in self.worked if (crate, name) not in self.laws]
+        pins = [Pin(it) for it in pins]
+        for it in pins:
+            self.pin(it)
+        self.promises = [self.of_calls(), *self.of_sections(text)]
+        self.promises += [self.of_others(), self.of_worked()]
+        asked = [self.lean(it) for it in self.promises]
+        self.judge_pins(asked)
+
+    # Laws, and whether they state anything.
+
+    def find_laws(self, crate):
+        for path in self.all.sources(crate):
+            if rattle.module_of(str(path.relative_to(self.top / "crates" / crate)))[:1] == ["laws"]:
+                for it in rattle.read(path).functions:
+                    if it.sees == "pub" and not it.is_test:
+                        self.laws[crate, it.name] = path
+                        self.judge_law(path, it, f"{crate} laws::{it.name}")
+
+    def judge_law(self, path, law, what):
+        """A law takes nothing, asks for nothing and answers nothing, and each of its clauses states something."""
+        some = [it for it in law.clauses if it.kind == "ensures"]
+        self.faults += [f"{what}: it ensures nothing"] * (not some)
+        self.faults += [f"{what}: a law takes and answers nothing, and asks for nothing"] * ("".join(law.takes.split()) != "()" or some != law.clauses)
+        self.must_state(path, some, what)
+
+    def contract(self, crate, name):
+        """The clauses of a law, and its source."""
+        path = self.laws[crate, name]
+        return [it for it in self.all.read_source(path)[0] if it.name == name and not it.owner and it.kind == "ensures"], path
+
+    def copies(self):
+        """The laws that have the words of another one of their crate, with that."""
+        first = {}
+        for crate, name in self.laws:
+            said = crate, *sorted(" ".join(it.text.split()) for it in self.contract(crate, name)[0])
+            if first.setdefault(said, name) != name:
+                yield crate, name, first[said]
+
+    def must_state(self, path, clauses, what):
+        _, imports, std = self.all.read_source(path)
+        self.judged += len(clauses)
+        for it in clauses:
+            if not self.statements.states(it.text, imports, std):
+                self.faults.append(f"{what}: this states nothing: {' '.join(it.text.split())[:80]}")
+
+    # What states a promise.
+
+    def of_calls(self):
+        """The promise of the calls of the program: all that its own modules show and the crates on which it stands or, without one, all crates."""
+        made = Promise(CALLS)
+        programs = [it for it in self.order if self.is_program(it)]
+        crates = [it for program in programs for it in [*self.order[program], program]] or [*self.order]
+        for crate in [it for it in self.order if it in crates]:
+            shown = self.shown(crate)
+            types = set().union(*shown.values())
+            for path in self.all.sources(crate):
+                names = shown.get(path)
+                # (a type's block may stand in any source)
+                is_shown = lambda it: it.owner in types or names is not None and (not names or (it.owner or it.name) in names)
+                clauses = [it for it in self.all.read_source(path)[0] if it.is_public and is_shown(it)]
+                self.take(made, crate, path, clauses)
+                made.stated += [(crate, it) for it in dict.fromkeys(str(it) for it in clauses if it.kind != "ghost")]
+                for it in clauses:
+                    self.must_state(path, [it] * (it.kind == "ensures"), f"{crate} {it}")
+        self.take_held(made)
+        return made
+
+    def take_held(self, made):
+        """Has the views of types that are shown nowhere state the promise too, where a type that is shown holds them: its own view goes by
+        theirs. What only has to hold of them is proved, and states nothing here."""
+        held, ghosts, told = self.held(), self.ghosts(), {it.partition(" ghost: ")[0] for it in made.texts}
+        reached, due = set(), [it.owner for crate, _, it in ghosts if f"{crate} {it}" in told]
+        while due:
+            owner = due.pop()
+            if owner not in reached:
+                reached.add(owner)
+                due += held.get(owner, set()) & held.keys()
+        for crate, path, it in ghosts:
+            if it.owner in reached and it.name in ("Value", "view") and f"{crate} {it}" not in told:
+                self.take(made, crate, path, [it])
+
+    def held(self):
+        """The names in the declarations of the types that the crates' sources declare, by the types' names; of all types of one name."""
+        found = {}
+        for source in map(rattle.read, self.all_sources()):
+            for it in source.types:
+                found.setdefault(it.name, set()).update(re.findall(r"\w+", source.declaration(it)))
+        return found
+
+    def all_sources(self):
+        return [it for path in sorted(self.top.glob("crates/*/src")) for it in self.all.sources(path.parent.name)]
+
+    def ghosts(self):
+        """The ghosts of all sources, each with its crate and its source."""
+        return [(self.all.place(path).parts[0], path, it) for path in self.all_sources() for it in self.all.read_source(path)[0] if it.kind == "ghost"]
+
+    def is_program(self, crate):
+        return (self.top / "crates" / crate / "src/main.rt").is_file()
+
+    def shown(self, crate):
+        """The sources from which a crate shows something, but its laws, and the names that it shows of each; all of them where it shows the
+        module itself, as a program does to itself."""
+        src, found = self.top / "crates" / crate / "src", {}
+        lib = src / "lib.rt"
+        if self.is_program(crate):
+            return {it: set() for it in self.all.sources(crate) if it.stem != "main"}
+        read = rattle.read(lib) if lib.is_file() else None
+        for use in [use for sees, use, _ in read.uses if sees == "pub"] if read else ():
+            name, _, rest = re.sub(r"^(?:crate|self)::", "", use).partition("::")
+            if not (src / f"{name}.rt").is_file() or not re.fullmatch(r"[\w ]+|\{[\w ,\s]*\}", rest):
+                self.faults.append(f"{crate}: it cannot be seen what this shows: pub use {use}")
+                continue
+            names = [it.partition(" as ")[0].strip() for it in rest.strip("{}").split(",")]
+            found.setdefault(src / f"{name}.rt", set()).update(filter(None, names))
+        for name in [name for sees, name, *_ in read.modules if sees == "pub" and name != "laws"] if read else ():
+            found.update({it: set() for it in [src / f"{name}.rt", *sorted((src / name).glob("**/*.rt"))]})
+        for path in found:
+            said = [whole for sees, word, _, whole, owner, _ in rattle.read(path).others if (sees, word, owner) == ("pub", "type", None)]
+            self.faults += [f"{crate}: it cannot be seen what this shows: {it}" for it in said]
+        return {**found, lib: set()}
+
+    def of_sections(self, text):
+        """The promises of the sections that name laws."""
+        parts, seen = HEADING.split(text), {}
+        for title, body in zip(parts[1::2], parts[2::2]):
+            made, crate = seen.setdefault(title, Promise(title)), ""
+            for word in CODE.findall(body):
+                if (self.top / "crates" / word).is_dir():
+                    crate = word
+                elif law := LAW.match(word):
+                    for name in re.findall(r"\w+", law[2]):
+                        self.state_by(made, law[1], crate, name)
+            for word in (word for where in WHERE.findall(body) for word in CODE.findall(where)):
+                if (call := CALL.match(word)) and call[1] != "laws":
+                    self.take_call(made, *call.groups())
+        return [it for it in seen.values() if it.stated]
+
+    def take_call(self, made, owner, name):
+        """Has the contract of a call state the promise: of a type's, or of a crate's own."""
+        some = [(crate, path, it) for crate in self.order for path, it in public(self.top / "crates" / crate).items()
+                if it.name == name and it.sees == "pub" and owner == (it.owner.name if it.owner else crate)]
+        if len(some) != 1:
+            self.faults.append(f"docs/PROMISES.md: {owner}::{name}: {len(some)} crates show such a call")
+            return
+        crate, _, it = some[0]
+        if (crate, f"{owner}::{name}") not in made.stated:
+            place = next(path for path in self.all.sources(crate) if it in rattle.read(path).functions)
+            made.stated.append((crate, f"{owner}::{name}"))
+            self.take(made, crate, place, it.clauses)
+
+    def state_by(self, made, own, last, name):
+        """Has the law of this name state the promise: that of its own crate, where one is named with it, or of the one named last."""
+        some = [it for it, law in self.laws if law == name and own in (None, it)]
+        some = [last] if last in some else some
+        if len(some) != 1:
+            why = f"{', '.join(some)} have such a law: name the crate in front of it" if some else "no crate has such a law"
+            self.faults.append(f"docs/PROMISES.md: laws::{name}: {why}")
+        elif (some[0], name) not in made.stated:
+            self.take_law(made, some[0], name)
+
+    def take_law(self, made, crate, name):
+        made.stated.append((crate, name))
+        if made.title == WORKED or (crate, name) not in self.worked:
+            clauses, path = self.contract(crate, name)
+            self.take(made, crate, path, clauses)
+
+    def take(self, made, crate, path, clauses):
+        """Has these clauses state the promise."""
+        made.cited |= {one for it in clauses for one in self.all.cited_in(path, it)}
+        made.texts += [f"{crate} {it} {it.kind}: {' '.join(it.text.split())}" for it in clauses]
+
+    def whole(self):
+        """All that the promises say, as one."""
+        made = Promise(ALL)
+        for it in self.promises[:-1]:
+            made.texts += it.texts
+            made.needed |= it.needed
+            made.types |= it.types
+        return made
+
+    def unnamed(self, text):
+        """The laws that a text names and no promise does."""
+        told = {name for it in self.promises if it.title not in (OTHERS, WORKED) for _, name in it.stated}
+        found = [name for word in CODE.findall(text) if (law := LAW.match(word)) for name in re.findall(r"\w+", law[2])]
+        return [it for it in dict.fromkeys(found) if it not in told]
+
+    def of_others(self):
+        made, told = Promise(OTHERS), {it for promise in self.promises for it in promise.stated}
+        for crate, name in self.laws:
+            if (crate, name) not in told:
+                self.take_law(made, crate, name)
+        return made
+
+    def of_worked(self):
+        made = Promise(WORKED)
+        for crate, name in self.worked:
+            if (crate, name) in self.laws:
+                self.take_law(made, crate, name)
+        return made
+
+    def unmet(self):
+        """The premises of laws that no worked example speaks of, each with the laws that have it."""
+        met, found = self.promises[-1].needed, {}
+        for crate, name in self.laws.keys() - set(self.worked):
+            premises, (clauses, path) = set(), self.contract(crate, name)
+            imports = self.all.read_source(path)[1]
+            for it in clauses:
+                self.premises_in(tokens_of(it.text), lambda word: self.statements.found(imports, None, word), set(), premises)
+            for one in premises - met:
+                found.setdefault(str(one), []).append(f"{crate} laws::{name}")
+        return {it: sorted(found[it]) for it in sorted(found)}
+
+    def premises_in(self, tokens, named, seen, premises):
+        """Adds the definitions that the premises of a statement begin with, and those of the definitions that it states."""
+        *front, last = split(bare(tokens), "→")
+        heads = [groups(bare(it))[0] for it in front if it and not is_binder(it)]
+        premises.update(one for it in heads if len(it) == 1 and (one := named(it[0])))
+        for sign in "×⊎":
+            if len(parts := split(bare(last), sign)) > 1:
+                for it in parts:
+                    self.premises_in(it, named, seen, premises)
+                return
+        words = groups(bare(last))
+        one = named(words[0][0]) if words and len(words[0]) == 1 else None
+        if one and one not in seen and not one.is_data:
+            seen.add(one)
+            within = self.statements.scope(one.file)[0]
+            for it in parts_of_record(one)[1].values() if one.is_record else [right for _, right in equations(one)]:
+                self.premises_in(it, within, seen, premises)
+
+    # What is leaned on.
+
+    def lean(self, made):
+        """Finds what a promise leans on. A pin counts for it where it asks for no field that the pin's law leaves open; returns those that do not."""
+        asked = {}
+        while True:
+            made.needed, made.passed, made.types = self.behind(made.cited, asked)
+            new = {one: why for one in made.passed if (why := self.asked_of(one, made.needed))}
+            if not new:
+                return asked
+            asked.update(new)
+
+    def behind(self, cited, asked=()):
+        """These definitions and what they name in turn, with what a law names in place of those that it pins; the pinned ones; and the types."""
+        due, seen, passed, types = set(cited), set(), set(), set()
+        while due:
+            file, _ = cited = due.pop()
+            types |= {file} if file not in self.all.names else set()
+            one = self.all.at(cited)
+            if one in self.pinned and one not in asked:
+                due |= self.pinned[one].cited if one not in passed else set()
+                passed.add(one)
+            elif one and one not in seen:
+                seen.add(one)
+                due |= self.all.cited_by(cited)
+        return seen, passed, types
+
+    def pin(self, pin):
+        """Takes the words that a law has in a definition's place, if it pins it."""
+        one, path = self.all.at(((pin.crate, pin.file), pin.name)), self.laws.get((pin.crate, pin.law))
+        if not one or not path:
+            self.faults.append(f"{pin}: there is no such definition, or no public laws::{pin.law}")
+            return
+        imports = self.all.read_source(path)[1]
+        fields, beside, leant = set(), set(), set()
+        for clause in self.all.read_source(path)[0]:
+            if clause.name != pin.law or not clause.is_public or clause.kind != "ensures":
+                continue
+            pinned = self.statements.pinned_by(one, clause.text, imports)
+            if pinned:
+                fields.add(pinned.field)
+                beside |= {(it.file, it.name) for it in pinned.statements}
+                for text in pinned.words:
+                    leant |= self.all.named_in(pinned.home, text) if pinned.home else self.all.cited(text, imports, None, self.all.place(path))
+        if not fields:
+            self.faults.append(f"{pin}: laws::{pin.law} is no equation or equivalence of it with other words, for every argument")
+        elif one in {self.all.at(it) for it in leant} | self.behind(leant)[0]:
+            self.faults.append(f"{pin}: the words that laws::{pin.law} has in its place lean on it")
+        else:
+            pin.fields, pin.cited = fields, leant | beside
+            self.pinned[one] = pin
+
+    def judge_pins(self, asked):
+        """Each pin counts for a promise, and its law leans on no other that is pinned. `asked` has what each promise asks of pins that leave it open."""
+        passed = set().union(*(it.passed for it in self.promises if it.title not in (OTHERS, WORKED)))
+        for one, pin in self.pinned.items():
+            whys = [it[one] for it in asked if one in it]
+            self.faults += [f"{pin}: {whys[0] if whys else 'a law pins it, and no promise leans on it'}"] * (one not in passed)
+            others = {self.all.at(it) for it in pin.cited if self.all.at(it) in self.pinned} | self.behind(pin.cited)[1]
+            self.faults += [f"{pin}: its law leans on {it}, which is pinned too" for it in others - {one}]
+
+    def asked_of(self, one, needed):
+        """What of these definitions asks for a field that a pin's law leaves open, by naming the definition or the record that it gives, if any."""
+        pin = self.pinned[one]
+        if "" in pin.fields:
+            return None
+        kind = one.lines[0].split()[-1]
+        record = next((it for it in self.all.names[one.file].values() if it.name == kind and it.is_record), None)
+        ask = [it for it in needed if {one, record} & {self.all.at(cited) for cited in self.all.cited_by((it.file, it.name))}]
+        for field in sorted(set(parts_of_record(record)[1]) - pin.fields) if record else ["value"]:
+            asked = [it for it in ask if not record or re.search(rf"\.{re.escape(field)}\b", " ".join(it.lines))]
+            if asked:
+                return f"laws::{pin.law} says nothing of its {field}, which {asked[0]} may ask for"
+        return None

@@ -1,0 +1,97 @@
+"""Of which commit the measurements are: each file of bench/results names its commit, and one that is old is in the table of docs/PERFORMANCE.md
+that says so and why."""
+import re
+import subprocess
+from pathlib import Path
+
+TOP = Path(__file__).resolve().parents[2]
+RESULTS = TOP / "bench/results"
+# so many commits after it a measurement is old
+MOST = 50
+
+
+def commits_of(path):
+    """The commits of the runs that a file is of, in words: its line `# commit`, or its column `commit`."""
+    lines = path.read_text(encoding="utf-8").splitlines()
+    named = [line.removeprefix("# commit: ") for line in lines if line.startswith("# commit: ")]
+    heads, *rows = [line.split("\t") for line in lines if not line.startswith("#")]
+    if "commit" in heads:
+        named += [row[heads.index("commit")] for row in rows]
+    return sorted(set(filter(None, named)))
+
+
+def since(commit):
+    """How many commits came after one, or None if this history has no such commit."""
+    asked = subprocess.run(["git", "-C", str(TOP), "rev-list", "--count", f"{commit}..HEAD"], capture_output=True, text=True, check=False)
+    return int(asked.stdout) if asked.returncode == 0 else None
+
+
+def is_whole():
+    """Whether all of the history is here: a clone may have its last commits alone, and an archive has none."""
+    asked = subprocess.run(["git", "-C", str(TOP), "rev-parse", "--is-shallow-repository"], capture_output=True, text=True, check=False)
+    return asked.returncode == 0 and asked.stdout.strip() == "false"
+
+
+def fault_of(name, commits, is_listed, after=since):
+    """What is wrong with a file of results, or None; `is_listed` says whether the table has it with these commits."""
+    if not commits:
+        return f"{name} names no commit"
+    changed = [it for it in commits if it.endswith(" with changes")]
+    ages = {it: after(it.split()[0]) for it in commits}
+    if unknown := [it for it, age in ages.items() if age is None]:
+        return f"{name} is of {unknown[0]}, which this history has not"
+    old = [f"{it}, {age} commits back" for it, age in ages.items() if age > MOST or it in changed]
+    if old and not is_listed:
+        return f"{name} is of {'; '.join(old)}: measure again, or say so in docs/PERFORMANCE.md"
+    return f"{name} is not old: its line in docs/PERFORMANCE.md goes" if is_listed and not old else None
+
+
+def listed(lines):
+    """The files of a table of old results, each with the commits that its line names."""
+    found = {}
+    for line in lines[2:]:
+        cells = [it.strip() for it in line.strip().strip("|").split("|")]
+        words = re.findall(r"`([^`]+)`( with changes)?", cells[1]) if len(cells) == 4 and cells[3] else []
+        found[cells[0].strip("`")] = sorted("".join(it) for it in words)
+    return found
+
+
+def compared(lines):
+    """How many files of results are as the table of old ones says, what is wrong, and a line for each that is old. Without the whole history the ages
+    are not known, and a line says so."""
+    table, passed, faults, notes = listed(lines), 0, [], []
+    names = {path.name: commits_of(path) for path in sorted(RESULTS.glob("*.tsv"))}
+    if not is_whole():
+        return len(names), [], ["this history is cut, so no age of a file of bench/results was looked at"]
+    for name, commits in names.items():
+        is_listed = table.get(name) == commits
+        fault = fault_of(name, commits, is_listed)
+        passed += fault is None
+        faults += [f"bench/results/{fault}"] if fault else []
+        if is_listed and not fault:
+            notes.append(f"bench/results/{name} is of {', '.join(commits)}, as docs/PERFORMANCE.md says")
+    faults += [f"docs/PERFORMANCE.md: there is no bench/results/{name}" for name in table if name not in names]
+    return passed, faults, notes
+
+
+# What a file of some commits is judged, with how many commits came after each; and a word of what is said.
+TRIED = [
+    ((), {}, False, "names no commit"),
+    (("a",), {"a": None}, False, "this history has not"),
+    (("a",), {"a": 51}, False, "51 commits back"),
+    (("a with changes",), {"a": 1}, False, "a with changes, 1 commits back"),
+    (("a", "b"), {"a": 3, "b": 51}, False, "of b, 51 commits back"),
+    (("a",), {"a": 50}, True, "is not old"),
+    (("a",), {"a": 50}, False, None),
+    (("a",), {"a": 51}, True, None),
+]
+
+
+def try_itself():
+    """How many cases are judged as they are to be, and which are not."""
+    wrong = []
+    for commits, ages, is_listed, wanted in TRIED:
+        said = fault_of("it", list(commits), is_listed, ages.get)
+        if (said is None) != (wanted is None) or (wanted and wanted not in said):
+            wrong.append(f"tests/tools/measured.py: of {commits} with {ages} it says {said}, and not {wanted}")
+    return len(TRIED) - len(wrong), wrong
