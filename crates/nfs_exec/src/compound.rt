@@ -10,10 +10,10 @@ ghost use Rattle.nfs_lease.specs.Queue.{IsLatest};
 ghost use Rattle.nfs_sessions.specs.SessionTables.{IsGranted};
 ghost use Rattle.nfs_names.specs.StoreInvariants.{IsStore};
 ghost use Rattle.nfs_names.specs.Outcome.{is_delay};
-ghost use Rattle.nfs_exec.specs.Machine.{IsMachine, machine_of};
-ghost use Rattle.nfs_exec.specs.Sequence.{Runs, sequenced};
-ghost use Rattle.nfs_exec.specs.Compound.{compound, first_item, in_session};
-ghost use Rattle.nfs_exec.specs.View.{Does, AreTables, MayRun, RanIn, CanBear, IsOpened, HasReplyRoom, HasLoneRoom, Answers};
+ghost use Rattle.nfs_exec.specs.Step.Machine.{IsMachine, machine_of};
+ghost use Rattle.nfs_exec.specs.Step.Sequence.{Runs, sequenced};
+ghost use Rattle.nfs_exec.specs.Step.Compound.{compound, first_item, in_session};
+ghost use Rattle.nfs_exec.specs.Step.View.{Does, AreTables, MayRun, RanIn, CanBear, IsOpened, HasReplyRoom, HasLoneRoom, Answers};
 
 use crate::place::{place_fault, sequence_in};
 use crate::sequence::{Sequenced, accepted, ahead, behind, judge};

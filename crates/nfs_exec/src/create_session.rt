@@ -9,10 +9,10 @@ ghost use Rattle.nfs_results.specs.Results.{done_head};
 ghost use Rattle.nfs_lease.specs.Queue.{IsLatest};
 ghost use Rattle.nfs_sessions.specs.Sessions.{create};
 ghost use Rattle.nfs_names.specs.Outcome.{is_delay};
-ghost use Rattle.nfs_exec.specs.Machine.{Machine, or_delay, refuses, machine_of};
+ghost use Rattle.nfs_exec.specs.Step.Machine.{Machine, or_delay, refuses, machine_of};
 ghost use Rattle.nfs_names.specs.StoreInvariants.{IsStore};
-ghost use Rattle.nfs_exec.specs.CreateSession.{create_session, create_session_number, wish_of, session_made, made_body, channel_of, attrs_of, creates, kept_again, confirmed};
-ghost use Rattle.nfs_exec.specs.View.{without_left, Does, HasLoneRoom};
+ghost use Rattle.nfs_exec.specs.Step.CreateSession.{create_session, create_session_number, wish_of, session_made, made_body, channel_of, attrs_of, creates, kept_again, confirmed};
+ghost use Rattle.nfs_exec.specs.Step.View.{without_left, Does, HasLoneRoom};
 
 use crate::tables::Tables;
 use nfs_clients::{CreateResult, CreateVerdict, Resok};

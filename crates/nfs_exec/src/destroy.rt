@@ -1,9 +1,9 @@
 //! DESTROY_SESSION (RFC 8881 section 18.37) and DESTROY_CLIENTID (section 18.50).
 
 ghost use Rattle.std.specs.Prelude.{◌≡◌};
-ghost use Rattle.nfs_exec.specs.Machine.{with_result, machine_of};
-ghost use Rattle.nfs_exec.specs.Destroy.{destroy_session, destroy_client};
-ghost use Rattle.nfs_exec.specs.View.{IsSmall};
+ghost use Rattle.nfs_exec.specs.Step.Machine.{with_result, machine_of};
+ghost use Rattle.nfs_exec.specs.Step.Destroy.{destroy_session, destroy_client};
+ghost use Rattle.nfs_exec.specs.Step.View.{IsSmall};
 
 use crate::tables::Tables;
 use nfs_compound::OpNum;

@@ -11,9 +11,9 @@ ghost use Rattle.nfs_results.specs.MayAnswer.{MayAnswer};
 ghost use Rattle.nfs_results.specs.declared.res.Res.TheVariants as Res;
 ghost use Rattle.nfs_results.specs.Results.{status_of_result};
 ghost use Rattle.nfs_names.specs.Outcome.{is_delay};
-ghost use Rattle.nfs_exec.specs.Machine.{IsMachine, with_result, or_delay, machine_of};
-ghost use Rattle.nfs_exec.specs.ExchangeId.{exchange_id, exchange_id_number, granted};
-ghost use Rattle.nfs_exec.specs.View.{settled};
+ghost use Rattle.nfs_exec.specs.Step.Machine.{IsMachine, with_result, or_delay, machine_of};
+ghost use Rattle.nfs_exec.specs.Step.ExchangeId.{exchange_id, exchange_id_number, granted};
+ghost use Rattle.nfs_exec.specs.Step.View.{settled};
 
 use crate::tables::Tables;
 use nfs_clients::{CONFIRMED_R, ClientFault, Exchanged};

@@ -4,9 +4,9 @@ ghost use Rattle.std.specs.Prelude.{◌≡◌, ◌+◌, is_some, if◌then◌els
 ghost use Rattle.nfs_lease.specs.Renewals.{leases_of};
 ghost use Rattle.nfs_lease.specs.Queue.{standing};
 ghost use Rattle.nfs_names.specs.StoreInvariants.{IsStore};
-ghost use Rattle.nfs_exec.specs.Expiry.{expired};
-ghost use Rattle.nfs_exec.specs.View.{without_client};
-ghost use Rattle.nfs_exec.specs.Machine.{machine_of};
+ghost use Rattle.nfs_exec.specs.Step.Expiry.{expired};
+ghost use Rattle.nfs_exec.specs.Step.View.{without_client};
+ghost use Rattle.nfs_exec.specs.Step.Machine.{machine_of};
 
 use crate::tables::Tables;
 

@@ -1,15 +1,15 @@
 //! Laws of compounds and of expiry, over their definitions.
 
-ghost use Rattle.nfs_exec.specs.Laws.{RepeatsChangeNothing, RefusalsChangeNothing, NeverRunsAgain, ExpiresOnce, ExpiryFindsNothing};
-ghost use Rattle.nfs_exec.specs.Compared.{ComparesAllButHighest, DifferThereAlone};
-ghost use Rattle.nfs_exec.specs.Sequencing.{NextNumberRuns, FalseRetriesAreTrue};
-ghost use Rattle.nfs_exec.specs.Delayed.{DelayIsACut, NothingDelays};
-ghost use Rattle.nfs_exec.specs.DelayedOpen.{IsWorked};
-ghost use Rattle.nfs_exec.specs.Ended.{WhatRunsOutEnds};
-ghost use Rattle.nfs_exec.specs.Ops.{OpsAreRun, OpsAreRunIn, AnswersAreTheirs};
-ghost use Rattle.nfs_exec.specs.Runs.{NoneInRuns};
-ghost use Rattle.nfs_exec.specs.OneSession.{GivesOne};
-ghost use Rattle.nfs_exec.specs.WrittenRun.{StandsInRuns};
+ghost use Rattle.nfs_exec.specs.Step.Laws.{RepeatsChangeNothing, RefusalsChangeNothing, NeverRunsAgain, ExpiresOnce, ExpiryFindsNothing};
+ghost use Rattle.nfs_exec.specs.Step.Compared.{ComparesAllButHighest, DifferThereAlone};
+ghost use Rattle.nfs_exec.specs.Step.Sequencing.{NextNumberRuns, FalseRetriesAreTrue};
+ghost use Rattle.nfs_exec.specs.Step.Delayed.{DelayIsACut, NothingDelays};
+ghost use Rattle.nfs_exec.specs.Step.DelayedOpen.{IsWorked};
+ghost use Rattle.nfs_exec.specs.Runs.Ended.{WhatRunsOutEnds};
+ghost use Rattle.nfs_exec.specs.Runs.Ops.{OpsAreRun, OpsAreRunIn, AnswersAreTheirs};
+ghost use Rattle.nfs_exec.specs.Runs.NoClashes.{NoneInRuns};
+ghost use Rattle.nfs_exec.specs.Runs.OneSession.{GivesOne};
+ghost use Rattle.nfs_exec.specs.Runs.WrittenRun.{StandsInRuns};
 
 /// A request that is repeated is answered with the reply that was kept, byte for byte, and changes nothing.
 pub fn repeats_change_nothing()

@@ -5,7 +5,7 @@ ghost use Rattle.nfs_xdr.specs.declared.status.Status.TheVariants.{NotOnlyOp};
 ghost use Rattle.nfs_compound.specs.declared.op.Item.TheVariants.{Operation};
 ghost use Rattle.nfs_compound.specs.declared.op.Op.TheVariants as Op;
 ghost use Rattle.nfs_compound.specs.declared.session_args.Sequence as args;
-ghost use Rattle.nfs_exec.specs.Place.{place_fault};
+ghost use Rattle.nfs_exec.specs.Step.Place.{place_fault};
 
 use nfs_compound::{Item, Op, Sequence};
 use nfs_xdr::Status;

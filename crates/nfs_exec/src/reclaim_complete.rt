@@ -5,9 +5,9 @@ ghost use Rattle.nfs_compound.specs.declared.op_num.OpNum.TheVariants as Num;
 ghost use Rattle.nfs_compound.specs.OpNum.{op_number};
 ghost use Rattle.nfs_results.specs.Results.{spell_result, refusal};
 ghost use Rattle.nfs_results.specs.ResultCodec.{IsBounded};
-ghost use Rattle.nfs_exec.specs.Machine.{with_result, machine_of};
-ghost use Rattle.nfs_exec.specs.ReclaimComplete.{reclaim_complete};
-ghost use Rattle.nfs_exec.specs.Run.{reserve};
+ghost use Rattle.nfs_exec.specs.Step.Machine.{with_result, machine_of};
+ghost use Rattle.nfs_exec.specs.Step.ReclaimComplete.{reclaim_complete};
+ghost use Rattle.nfs_exec.specs.Step.Run.{reserve};
 
 use crate::tables::Tables;
 use nfs_compound::OpNum;

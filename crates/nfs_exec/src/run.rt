@@ -11,11 +11,11 @@ ghost use Rattle.nfs_results.specs.ResultCodec.{IsBounded};
 ghost use Rattle.nfs_names.specs.StoreInvariants.{IsStore};
 ghost use Rattle.nfs_sessions.specs.SessionSlots.{rpc_head};
 ghost use Rattle.nfs_names.specs.Outcome.{is_delay};
-ghost use Rattle.nfs_exec.specs.Machine.{with_result, machine_of, with_mark};
-ghost use Rattle.nfs_exec.specs.Place.{status_behind};
-ghost use Rattle.nfs_exec.specs.Behind.{step, moves_opens, otherwise};
-ghost use Rattle.nfs_exec.specs.Run.{run, in_room, reserve};
-ghost use Rattle.nfs_exec.specs.View.{RunsTo, Steps, CanBear};
+ghost use Rattle.nfs_exec.specs.Step.Machine.{with_result, machine_of, with_mark};
+ghost use Rattle.nfs_exec.specs.Step.Place.{status_behind};
+ghost use Rattle.nfs_exec.specs.Step.Behind.{step, moves_opens, otherwise};
+ghost use Rattle.nfs_exec.specs.Step.Run.{run, in_room, reserve};
+ghost use Rattle.nfs_exec.specs.Step.View.{RunsTo, Steps, CanBear};
 
 use crate::tables::Tables;
 use nfs_compound::{Compound, Item, Op};

@@ -8,8 +8,8 @@ ghost use Rattle.nfs_sessions.specs.Id.{id_of};
 ghost use Rattle.nfs_sessions.specs.SessionSlots.{rpc_head};
 ghost use Rattle.nfs_sessions.specs.Sessions.{session_at};
 ghost use Rattle.nfs_sessions.specs.declared.channel.Channel.{Channel as Granted};
-ghost use Rattle.nfs_exec.specs.Sequence.{Repeats, Runs, highest_at, by_session, slot_fault, fresh_fault, accepted};
-ghost use Rattle.nfs_exec.specs.View.{sequenced_of};
+ghost use Rattle.nfs_exec.specs.Step.Sequence.{Repeats, Runs, highest_at, by_session, slot_fault, fresh_fault, accepted};
+ghost use Rattle.nfs_exec.specs.Step.View.{sequenced_of};
 
 use nfs_compound::{Compound, Sequence};
 use nfs_results::SequenceOk;

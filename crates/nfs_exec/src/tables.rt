@@ -3,7 +3,7 @@
 ghost use Rattle.std.specs.Prelude.{◌≡◌, IfOk};
 ghost use Rattle.nfs_names.specs.State.{state_of};
 ghost use Rattle.nfs_names.specs.StoreInvariants.{IsStore};
-ghost use Rattle.nfs_exec.specs.Machine.{starts, machine_of};
+ghost use Rattle.nfs_exec.specs.Step.Machine.{starts, machine_of};
 
 use nfs_clients::Clients;
 use nfs_lease::Leases;

@@ -3,11 +3,11 @@
 ghost use Rattle.std.specs.Prelude.{◌≡◌, ◌≤◌, ◌<◌, ◌^◌, ℕ, Option, IfOk, length};
 ghost use Rattle.nfs_xdr.specs.Caller.{caller};
 ghost use Rattle.nfs_lease.specs.Queue.{IsLatest};
-ghost use Rattle.nfs_exec.specs.Machine.{starts, IsMachine, HasNoClashes, machine_of};
-ghost use Rattle.nfs_exec.specs.Compound.{compound};
-ghost use Rattle.nfs_exec.specs.View.{IsOpened, HasReplyRoom, Answers};
-ghost use Rattle.nfs_exec.specs.Expiry.{expired};
-ghost use Rattle.nfs_exec.specs.Held.{held};
+ghost use Rattle.nfs_exec.specs.Step.Machine.{starts, IsMachine, HasNoClashes, machine_of};
+ghost use Rattle.nfs_exec.specs.Step.Compound.{compound};
+ghost use Rattle.nfs_exec.specs.Step.View.{IsOpened, HasReplyRoom, Answers};
+ghost use Rattle.nfs_exec.specs.Step.Expiry.{expired};
+ghost use Rattle.nfs_exec.specs.Step.Held.{held};
 
 use crate::held::Held;
 use crate::tables::Tables;
@@ -24,8 +24,8 @@ pub struct World {
 }
 
 impl Model for World {
-    ghost use Rattle.nfs_exec.specs.View.{AreTables};
-    ghost use Rattle.nfs_exec.specs.Machine.{KeptTables};
+    ghost use Rattle.nfs_exec.specs.Step.View.{AreTables};
+    ghost use Rattle.nfs_exec.specs.Step.Machine.{KeptTables};
 
     ghost Value = { KeptTables };
 

@@ -13,8 +13,8 @@ use Rattle.nfs_rpc.specs.CallHead.{Call, Called, Accepted, call_of}
 use Rattle.nfs_rpc.proofs.HeadLaws.{call_taken}
 use Rattle.nfs_lease.specs.Renewals.{has_run_out}
 use Rattle.nfs_lease.specs.Queue.{IsLatest}
-use Rattle.nfs_exec.specs.Machine.{Machine}
-use Rattle.nfs_exec.specs.Expiry.{expired}
+use Rattle.nfs_exec.specs.Step.Machine.{Machine}
+use Rattle.nfs_exec.specs.Step.Expiry.{expired}
 use Rattle.nfs_serve.specs.Step.{State, Stepped, refused, reply_to, step}
 use Rattle.nfs_serve.specs.Server.{IsAnswer}
 use Rattle.nfs_serve.specs.Engine.{PutsReply, PutsAnswer, outcome_of}

@@ -9,8 +9,8 @@ use Rattle.nfs_serve.specs.declared.form.Form.{Form}
 use Rattle.nfs_serve.specs.declared.form.Flow.{Flow}
 use Rattle.nfs_serve.specs.declared.form.Outcome.{Outcome}
 use Rattle.nfs_serve.specs.declared.form.Outcome.TheVariants.{Reply, Silent}
-use Rattle.nfs_exec.specs.Machine as exec
-use Rattle.nfs_exec.specs.Machine.{machine_of}
+use Rattle.nfs_exec.specs.Step.Machine as exec
+use Rattle.nfs_exec.specs.Step.Machine.{machine_of}
 use Rattle.nfs_serve.specs.Script.{connection_count}
 use Rattle.nfs_serve.specs.Step.{State, new_state, step}
 use Rattle.nfs_serve.specs.Run.{Brings, Move, events, after, output, Breaks}

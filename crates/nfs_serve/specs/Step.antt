@@ -9,9 +9,9 @@ use Rattle.nfs_rpc.specs.CallHead.{Call, Called, Accepted, Refused, call_of}
 use Rattle.nfs_rpc.specs.Reply.{spell_head, spell_refusal}
 use Rattle.nfs_compound.specs.Request.{Request}
 use Rattle.nfs_compound.specs.ReadRequest.{request_at}
-use Rattle.nfs_exec.specs.Machine.{Machine, starts}
-use Rattle.nfs_exec.specs.Compound.{Answered, compound}
-use Rattle.nfs_exec.specs.Expiry.{expired}
+use Rattle.nfs_exec.specs.Step.Machine.{Machine, starts}
+use Rattle.nfs_exec.specs.Step.Compound.{Answered, compound}
+use Rattle.nfs_exec.specs.Step.Expiry.{expired}
 
 -- what lasts from one record to the next: the tables, and the moment that was taken last, in seconds
 pub record State : Type 0 where

@@ -4,9 +4,9 @@ ghost use Rattle.std.specs.Prelude.{◌≡◌, ◌≤◌, ◌+◌, ◌++◌, ℕ
 ghost use Rattle.nfs_xdr.specs.Spelling.{number};
 ghost use Rattle.nfs_rpc.specs.View as view;
 ghost use Rattle.nfs_compound.specs.ReadRequest.{request_at};
-ghost use Rattle.nfs_exec.specs.Expiry.{expired};
-ghost use Rattle.nfs_exec.specs.Held.{held};
-ghost use Rattle.nfs_exec.specs.Machine.{IsMachine, HasNoClashes, machine_of};
+ghost use Rattle.nfs_exec.specs.Step.Expiry.{expired};
+ghost use Rattle.nfs_exec.specs.Step.Held.{held};
+ghost use Rattle.nfs_exec.specs.Step.Machine.{IsMachine, HasNoClashes, machine_of};
 ghost use Rattle.nfs_rpc.specs.CallHead.{call_of};
 ghost use Rattle.nfs_serve.specs.Step.{State, step, new_state, reply_to, by_procedure, with_arguments};
 ghost use Rattle.nfs_serve.specs.Run.{one_fragment, spell_reply};
@@ -43,7 +43,7 @@ pub(crate) struct Engine {
 impl Model for Engine {
     ghost use Rattle.std.specs.Prelude.{◌≡◌, ◌≤◌, length, drop};
     ghost use Rattle.nfs_lease.specs.Queue.{IsLatest};
-    ghost use Rattle.nfs_exec.specs.Machine.{machine_of};
+    ghost use Rattle.nfs_exec.specs.Step.Machine.{machine_of};
     ghost use Rattle.nfs_serve.specs.Engine.{EngineModel};
     ghost use Rattle.nfs_serve.specs.Script.{last_moment};
 

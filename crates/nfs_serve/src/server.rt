@@ -1,8 +1,8 @@
 //! A server: records, connections and scripts over one state.
 
 ghost use Rattle.std.specs.Prelude.{◌≡◌, ◌≢◌, ◌≤◌, [], false, IfOk, OnErr, replicate};
-ghost use Rattle.nfs_exec.specs.Held.{held};
-ghost use Rattle.nfs_exec.specs.Machine.{IsMachine, HasNoClashes};
+ghost use Rattle.nfs_exec.specs.Step.Held.{held};
+ghost use Rattle.nfs_exec.specs.Step.Machine.{IsMachine, HasNoClashes};
 ghost use Rattle.nfs_serve.specs.Server.{fresh, held_on, IsWith, Steps, FeedsOr, Closes, IsNew, state_of};
 ghost use Rattle.nfs_serve.specs.Replay.{IsReplay};
 ghost use Rattle.nfs_serve.specs.Talk.{Talks, TalkReports};

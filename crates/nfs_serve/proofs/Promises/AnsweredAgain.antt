@@ -17,11 +17,11 @@ use Rattle.nfs_slots.specs.Slot.{SlotState, judge_slot, next_number}
 use Rattle.nfs_slots.specs.declared.slot.Verdict.TheVariants.{Again}
 use Rattle.nfs_sessions.specs.Id.{id_of}
 use Rattle.nfs_sessions.specs.Sessions.{Session, session_at}
-use Rattle.nfs_exec.specs.Executing.{first_sequence, sequence_of}
-use Rattle.nfs_exec.specs.Sequence as sequence
-use Rattle.nfs_exec.specs.Sequence.{compared, Repeats, by_session}
-use Rattle.nfs_exec.specs.Compound.{compound}
-use Rattle.nfs_exec.proofs.Repeating.{repeats}
+use Rattle.nfs_exec.specs.Step.Executing.{first_sequence, sequence_of}
+use Rattle.nfs_exec.specs.Step.Sequence as sequence
+use Rattle.nfs_exec.specs.Step.Sequence.{compared, Repeats, by_session}
+use Rattle.nfs_exec.specs.Step.Compound.{compound}
+use Rattle.nfs_exec.proofs.Step.Repeating.{repeats}
 use Rattle.nfs_serve.specs.Step.{asked_of, State, Stepped, answered, step}
 use Rattle.nfs_serve.specs.Promises.Endpoint.{Place, Compound, Heading, Answer, Server, Arrival, stepped, ran}
 use Rattle.nfs_serve.specs.Promises.Seen.{ReplyReader, slot_in, ticked, seen, server}

@@ -9,7 +9,7 @@ use Rattle.nfs_rpc.specs.CallHead.{Call, Called, Accepted, Refused, call_of}
 use Rattle.nfs_rpc.specs.Reply.{spell_head, spell_refusal}
 use Rattle.nfs_compound.specs.Request.{Request}
 use Rattle.nfs_compound.specs.ReadRequest.{request_at}
-use Rattle.nfs_exec.specs.Compound.{compound}
+use Rattle.nfs_exec.specs.Step.Compound.{compound}
 use Rattle.nfs_serve.specs.Step.{State, with_arguments, by_procedure, reply_to, step}
 use Rattle.nfs_serve.specs.Promises.Answering.{xid_of, IsUnder, EachIsAnswered}
 

@@ -26,9 +26,9 @@ use Rattle.nfs_names.specs.State as store
 use Rattle.nfs_names.specs.Checks.{node_as, node_at, current, no_directory, denied, name_checks}
 use Rattle.nfs_names.specs.Lookup.{is_link, lookup}
 use Rattle.nfs_names.specs.Outcome.{Outcome, or_refusal}
-use Rattle.nfs_exec.specs.Ops.{RanOp}
-use Rattle.nfs_exec.proofs.OneRun.{IsRun, by_item}
-use Rattle.nfs_exec.proofs.OneWalk.{in_back}
+use Rattle.nfs_exec.specs.Runs.Ops.{RanOp}
+use Rattle.nfs_exec.proofs.Runs.OneRun.{IsRun, by_item}
+use Rattle.nfs_exec.proofs.Runs.OneWalk.{in_back}
 use Rattle.nfs_serve.specs.Step.{State, new_state}
 use Rattle.nfs_serve.specs.Promises.Points.{state_after, reached, before, asked_by}
 use Rattle.nfs_serve.specs.Promises.ChangeTells.{entries_in, RunsIn}

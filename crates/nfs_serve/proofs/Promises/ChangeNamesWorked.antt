@@ -3,8 +3,8 @@ use Rattle.std.proofs.Common.{◌≡◌, inl, true, List, [], ◌∷◌, ◌++�
 use Rattle.nfs_xdr.specs.Tables.{In}
 use Rattle.nfs_xdr.specs.declared.status.Status.TheVariants.{Nfs4Ok}
 use Rattle.nfs_tree.specs.Files.{root, is_there, change_of, lookup}
-use Rattle.nfs_exec.specs.Ops.{RanOp}
-use Rattle.nfs_exec.proofs.OneWalk.{in_back}
+use Rattle.nfs_exec.specs.Runs.Ops.{RanOp}
+use Rattle.nfs_exec.proofs.Runs.OneWalk.{in_back}
 use Rattle.nfs_serve.specs.Promises.Points.{ops_of}
 use Rattle.nfs_serve.specs.Promises.WrittenWorked.{closed, reads}
 use Rattle.nfs_serve.specs.Promises.ChangeWorked.{reads_again, read_once}

@@ -21,9 +21,9 @@ use Rattle.nfs_names.specs.Operation as names
 use Rattle.nfs_names.specs.Outcome.{is_ok}
 use Rattle.nfs_names.specs.Rename.{renamed, rename}
 use Rattle.nfs_names.proofs.Ones.{by_delay}
-use Rattle.nfs_exec.specs.Ops.{RanOp}
-use Rattle.nfs_exec.proofs.OneRun.{IsRun, by_ok}
-use Rattle.nfs_exec.proofs.OneWalk.{in_back}
+use Rattle.nfs_exec.specs.Runs.Ops.{RanOp}
+use Rattle.nfs_exec.proofs.Runs.OneRun.{IsRun, by_ok}
+use Rattle.nfs_exec.proofs.Runs.OneWalk.{in_back}
 use Rattle.nfs_serve.specs.Step.{State, new_state}
 use Rattle.nfs_serve.specs.Promises.Points.{state_after, reached, before, asked_by}
 use Rattle.nfs_serve.specs.Promises.ChangeTells.{RunsIn}

@@ -48,14 +48,14 @@ use Rattle.nfs_files.proofs.Effects as files_effects
 use Rattle.nfs_files.proofs.Effects.{Names, Writes, Resizes, Changes, Closes}
 use Rattle.nfs_files.proofs.Effected as files_effected
 use Rattle.nfs_files.proofs.Outcomes as files
-use Rattle.nfs_exec.specs.Machine.{Machine}
-use Rattle.nfs_exec.specs.Laws.{MachineEvent, Expires, Asks, stepped}
-use Rattle.nfs_exec.specs.Ops.{RanOp, ops_by}
-use Rattle.nfs_exec.proofs.AttributesTold.{change_in}
-use Rattle.nfs_exec.proofs.WholeRun.{Is}
-use Rattle.nfs_exec.proofs.OneRun.{IsRun, by_item, by_run}
-use Rattle.nfs_exec.proofs.AnsweredRun.{event_run}
-use Rattle.nfs_exec.proofs.OneWalk.{IsKept, Throughout, throughout, throughout_from, none_at, in_back}
+use Rattle.nfs_exec.specs.Step.Machine.{Machine}
+use Rattle.nfs_exec.specs.Step.Laws.{MachineEvent, Expires, Asks, stepped}
+use Rattle.nfs_exec.specs.Runs.Ops.{RanOp, ops_by}
+use Rattle.nfs_exec.proofs.Runs.AttributesTold.{change_in}
+use Rattle.nfs_exec.proofs.Runs.KeptByRuns.{Is}
+use Rattle.nfs_exec.proofs.Runs.OneRun.{IsRun, by_item, by_run}
+use Rattle.nfs_exec.proofs.Runs.WhatWasDone.{event_run}
+use Rattle.nfs_exec.proofs.Runs.OneWalk.{IsKept, Throughout, throughout, throughout_from, none_at, in_back}
 use Rattle.nfs_serve.specs.Step.{State, new_state}
 use Rattle.nfs_serve.specs.Promises.Endpoint.{Arrival}
 use Rattle.nfs_serve.specs.Promises.Points.{state_after, reached, taken, before, asked_by, ops_of}

@@ -35,15 +35,15 @@ use Rattle.nfs_files.proofs.Passing.{if_passed_ok}
 use Rattle.nfs_files.proofs.ReadBytes.{readable_is, size_is}
 use Rattle.nfs_files.proofs.Seats.{readable_refuses}
 use Rattle.nfs_files.proofs.WrittenOps.{current_number}
-use Rattle.nfs_exec.specs.Machine.{Machine}
-use Rattle.nfs_exec.specs.Behind.{otherwise, stays}
-use Rattle.nfs_exec.specs.Laws.{MachineEvent, Expires, Asks, stepped}
-use Rattle.nfs_exec.specs.Ops.{RanOp, ops_by, left_by, AreChained}
-use Rattle.nfs_exec.proofs.AnsweredRun.{event_run}
-use Rattle.nfs_exec.proofs.OneRun.{IsRun, too_big, by_item, by_ok, by_run}
-use Rattle.nfs_exec.proofs.AttributesTold.{size_in}
-use Rattle.nfs_exec.proofs.OneWalk.{none_at, in_back}
-use Rattle.nfs_exec.proofs.WholeRun.{Is}
+use Rattle.nfs_exec.specs.Step.Machine.{Machine}
+use Rattle.nfs_exec.specs.Step.Behind.{otherwise, stays}
+use Rattle.nfs_exec.specs.Step.Laws.{MachineEvent, Expires, Asks, stepped}
+use Rattle.nfs_exec.specs.Runs.Ops.{RanOp, ops_by, left_by, AreChained}
+use Rattle.nfs_exec.proofs.Runs.WhatWasDone.{event_run}
+use Rattle.nfs_exec.proofs.Runs.OneRun.{IsRun, too_big, by_item, by_ok, by_run}
+use Rattle.nfs_exec.proofs.Runs.AttributesTold.{size_in}
+use Rattle.nfs_exec.proofs.Runs.OneWalk.{none_at, in_back}
+use Rattle.nfs_exec.proofs.Runs.KeptByRuns.{Is}
 use Rattle.nfs_serve.specs.Step.{State, new_state}
 use Rattle.nfs_serve.specs.Promises.Endpoint.{Arrival}
 use Rattle.nfs_serve.specs.Promises.Points.{state_after, reached, taken, before, asked_by, ops_of}

@@ -5,7 +5,7 @@ use Rattle.nfs_compound.specs.declared.file_args.Read.{Read}
 use Rattle.nfs_names.specs.Context.{anonymous}
 use Rattle.nfs_files.specs.FileImage.{bytes_read, read_answer}
 use Rattle.nfs_files.specs.SetAttr as of_set
-use Rattle.nfs_exec.specs.Ops.{RanOp}
+use Rattle.nfs_exec.specs.Runs.Ops.{RanOp}
 use Rattle.nfs_serve.specs.Promises.Points.{ops_of}
 use Rattle.nfs_serve.specs.Promises.Exchanges.{words}
 use Rattle.nfs_serve.specs.Promises.HeldLock.{start, last_of}

@@ -13,11 +13,11 @@ use Rattle.nfs_compound.specs.Request.{Request}
 use Rattle.nfs_slots.specs.Slot.{SlotState, next_number}
 use Rattle.nfs_sessions.specs.Id.{id_of}
 use Rattle.nfs_sessions.specs.Sessions.{Session, session_at}
-use Rattle.nfs_exec.specs.Executing.{executes, is_alone}
-use Rattle.nfs_exec.specs.Laws.{first_runs, if_runs}
-use Rattle.nfs_exec.specs.Machine.{Machine}
-use Rattle.nfs_exec.specs.Sequence as sequence
-use Rattle.nfs_exec.specs.Sequence.{Runs, by_session}
+use Rattle.nfs_exec.specs.Step.Executing.{executes, is_alone}
+use Rattle.nfs_exec.specs.Step.Laws.{first_runs, if_runs}
+use Rattle.nfs_exec.specs.Step.Machine.{Machine}
+use Rattle.nfs_exec.specs.Step.Sequence as sequence
+use Rattle.nfs_exec.specs.Step.Sequence.{Runs, by_session}
 use Rattle.nfs_rpc.specs.CallHead.{call_of}
 use Rattle.nfs_serve.specs.Step.{State}
 use Rattle.nfs_serve.specs.Promises.Endpoint.{Place, Heading, Arrival, stepped, ran}

@@ -16,17 +16,17 @@ use Rattle.nfs_compound.specs.declared.session_args.Sequence.{Sequence}
 use Rattle.nfs_results.specs.Items as results
 use Rattle.nfs_sessions.specs.declared.channel.Channel.{Channel}
 use Rattle.nfs_sessions.specs.Id.{id_of}
-use Rattle.nfs_exec.specs.Machine.{Machine}
-use Rattle.nfs_exec.specs.Sequence as sequence
-use Rattle.nfs_exec.specs.Sequence.{Sequenced, Refuses, Repeats, Runs, accepted}
-use Rattle.nfs_exec.specs.Run.{behind_here}
-use Rattle.nfs_exec.specs.Compound.{renewed, run_in, in_session, by_first, compound}
-use Rattle.nfs_exec.specs.Laws.{if_runs, first_runs}
-use Rattle.nfs_exec.specs.Executing.{first_sequence, sequence_of}
+use Rattle.nfs_exec.specs.Step.Machine.{Machine}
+use Rattle.nfs_exec.specs.Step.Sequence as sequence
+use Rattle.nfs_exec.specs.Step.Sequence.{Sequenced, Refuses, Repeats, Runs, accepted}
+use Rattle.nfs_exec.specs.Step.Run.{behind_here}
+use Rattle.nfs_exec.specs.Step.Compound.{renewed, run_in, in_session, by_first, compound}
+use Rattle.nfs_exec.specs.Step.Laws.{if_runs, first_runs}
+use Rattle.nfs_exec.specs.Step.Executing.{first_sequence, sequence_of}
 use Rattle.nfs_serve.specs.Promises.Seen.{Bears}
 use Rattle.nfs_serve.proofs.Promises.Reader.{sequence_front}
 use Rattle.nfs_serve.proofs.Promises.Replies.{bears_spelled}
-use Rattle.nfs_exec.proofs.Quiet.{ran_in}
+use Rattle.nfs_exec.proofs.Runs.SessionsBehind.{ran_in}
 
 nested_sequence : (id n slot more rest : List ℕ) → (id ++ (n ++ (slot ++ more))) ++ rest ≡ id ++ (n ++ (slot ++ (more ++ rest)))
 nested_sequence id n slot more rest =

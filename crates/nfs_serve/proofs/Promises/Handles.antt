@@ -5,15 +5,15 @@ use Rattle.nfs_xdr.specs.Tables.{In}
 use Rattle.nfs_attrs.specs.declared.handle.Handle.{Handle}
 use Rattle.nfs_attrs.specs.Handle.{handle_of}
 use Rattle.nfs_names.specs.GetFh.{get_fh}
-use Rattle.nfs_exec.specs.Handles.{Gives, Leads}
-use Rattle.nfs_exec.specs.Laws.{MachineEvent, Asks}
-use Rattle.nfs_exec.specs.Machine.{Machine}
-use Rattle.nfs_exec.specs.Ops.{RanOp, ops_by}
-use Rattle.nfs_exec.proofs.AnsweredRun.{event_run}
-use Rattle.nfs_exec.proofs.Handles.{given_in, handle_in, handle_read, event_leads}
-use Rattle.nfs_exec.proofs.Instances.{instance_kept}
-use Rattle.nfs_exec.proofs.OneWalk.{throughout}
-use Rattle.nfs_exec.proofs.WholeRun.{Is}
+use Rattle.nfs_exec.specs.Runs.Handles.{Gives, Leads}
+use Rattle.nfs_exec.specs.Step.Laws.{MachineEvent, Asks}
+use Rattle.nfs_exec.specs.Step.Machine.{Machine}
+use Rattle.nfs_exec.specs.Runs.Ops.{RanOp, ops_by}
+use Rattle.nfs_exec.proofs.Runs.WhatWasDone.{event_run}
+use Rattle.nfs_exec.proofs.Runs.Handles.{given_in, handle_in, handle_read, event_leads}
+use Rattle.nfs_exec.proofs.Step.Instances.{instance_kept}
+use Rattle.nfs_exec.proofs.Runs.OneWalk.{throughout}
+use Rattle.nfs_exec.proofs.Runs.KeptByRuns.{Is}
 use Rattle.nfs_serve.specs.Promises.Endpoint.{Arrival}
 use Rattle.nfs_serve.specs.Promises.Handles as worked
 use Rattle.nfs_serve.specs.Promises.Handles.{HandlesLead, HandlesTell, found, led_to, IsLedBack}

@@ -17,8 +17,8 @@ use Rattle.nfs_compound.specs.declared.lock_args.LockType.TheVariants as LockTyp
 use Rattle.nfs_names.specs.Context.{begins}
 use Rattle.nfs_files.specs.Ranges.{wished}
 use Rattle.nfs_files.specs.LockTold.{LockTold, Names}
-use Rattle.nfs_exec.specs.Ops.{RanOp}
-use Rattle.nfs_exec.specs.LockHeld.{LocksFor, Spares, AreSpared}
+use Rattle.nfs_exec.specs.Runs.Ops.{RanOp}
+use Rattle.nfs_exec.specs.Runs.LockHeld.{LocksFor, Spares, AreSpared}
 use Rattle.nfs_serve.specs.Step.{State}
 use Rattle.nfs_serve.specs.Promises.Endpoint.{Arrival}
 use Rattle.nfs_serve.specs.Promises.Points.{state_after, state_after_all, taken, before, ops_of}

@@ -7,8 +7,8 @@ use Rattle.nfs_compound.specs.declared.op.Item.TheVariants.{Operation}
 use Rattle.nfs_compound.specs.declared.op.Op.TheVariants as Op
 use Rattle.nfs_compound.specs.declared.open_args.Open.{Open}
 use Rattle.nfs_files.specs.OpenTold.{OpenTold, Bits}
-use Rattle.nfs_exec.specs.Ops.{RanOp}
-use Rattle.nfs_exec.specs.OpenHeld.{NoneCloses, bits_left}
+use Rattle.nfs_exec.specs.Runs.Ops.{RanOp}
+use Rattle.nfs_exec.specs.Runs.OpenHeld.{NoneCloses, bits_left}
 use Rattle.nfs_serve.specs.Step.{State}
 use Rattle.nfs_serve.specs.Promises.Endpoint.{Arrival}
 use Rattle.nfs_serve.specs.Promises.Points.{state_after, state_after_all, taken, ops_of}

@@ -40,19 +40,19 @@ use Rattle.nfs_sessions.specs.SessionSlots as slots
 use Rattle.nfs_sessions.specs.Sessions.{Session, SessionTable, session_at, keep}
 use Rattle.nfs_sessions.specs.SessionTables.{IsSessions}
 use Rattle.nfs_sessions.proofs.TableLemmas.{slots_changed, sessions_filtered}
-use Rattle.nfs_exec.specs.Machine.{Machine}
-use Rattle.nfs_exec.specs.Sequence as sequence
-use Rattle.nfs_exec.specs.Sequence.{compared, Sequenced, Refuses, Repeats, Runs as RunsIn, unless, by_session, by_verdict, fresh_fault, slot_fault}
-use Rattle.nfs_exec.specs.Compound.{in_session, by_first, compound}
-use Rattle.nfs_exec.specs.Laws.{if_runs, first_runs}
-use Rattle.nfs_exec.proofs.Numbering.{IsHeld}
+use Rattle.nfs_exec.specs.Step.Machine.{Machine}
+use Rattle.nfs_exec.specs.Step.Sequence as sequence
+use Rattle.nfs_exec.specs.Step.Sequence.{compared, Sequenced, Refuses, Repeats, Runs as RunsIn, unless, by_session, by_verdict, fresh_fault, slot_fault}
+use Rattle.nfs_exec.specs.Step.Compound.{in_session, by_first, compound}
+use Rattle.nfs_exec.specs.Step.Laws.{if_runs, first_runs}
+use Rattle.nfs_exec.proofs.Runs.SlotNumbers.{IsHeld}
 use Rattle.nfs_serve.specs.Promises.Endpoint.{Place, Heading, Answer}
 use Rattle.nfs_serve.proofs.Promises.ServerLaws.{Runs, Repeats as RepeatsOn, IsElsewhere, KeepsSlots}
-use Rattle.nfs_exec.specs.Executing.{first_sequence, sequence_of, is_alone, executes}
+use Rattle.nfs_exec.specs.Step.Executing.{first_sequence, sequence_of, is_alone, executes}
 use Rattle.nfs_serve.specs.Step.{asked_of, State, Stepped, refused, answered, with_arguments, by_procedure, reply_to, step}
 use Rattle.nfs_serve.specs.Promises.Seen.{ReplyReader, IsSequenced, Bears, slot_in, ticked, executes_by, heading_of, heading_in, heading_by, heading, seen, server}
 use Rattle.nfs_serve.proofs.Promises.Ticking.{step_is}
-use Rattle.nfs_exec.proofs.Quiet.{ran_in, quiet_compound, told_compound}
+use Rattle.nfs_exec.proofs.Runs.SessionsBehind.{ran_in, quiet_compound, told_compound}
 use Rattle.nfs_serve.proofs.Promises.SlotsLeft.{slot_at, IsGiven, IsLeft, Stays, stands_given, held_sessions, held_given, held_slot, kept_slot, fewer_leaves, keep_there}
 use Rattle.nfs_serve.proofs.Promises.Reader.{sequenced}
 use Rattle.nfs_serve.proofs.Promises.Spelled.{IsBad, front_spelled}

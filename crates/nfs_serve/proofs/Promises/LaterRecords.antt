@@ -5,13 +5,13 @@ use Rattle.nfs_xdr.specs.Tables.{In}
 use Rattle.nfs_lease.specs.Renewals.{has_run_out}
 use Rattle.nfs_names.specs.State as of_store
 use Rattle.std.specs.Prelude.{not}
-use Rattle.nfs_exec.specs.Laws.{MachineEvent, Asks}
-use Rattle.nfs_exec.specs.Machine.{Machine}
-use Rattle.nfs_exec.specs.Ops.{RanOp, ops_by}
-use Rattle.nfs_exec.proofs.AnsweredRun.{event_run}
-use Rattle.nfs_exec.proofs.OneRun.{IsRun}
-use Rattle.nfs_exec.proofs.OneWalk.{IsKept, Throughout, throughout, throughout_behind, none_at, in_back}
-use Rattle.nfs_exec.proofs.WholeRun.{Is, event_ops}
+use Rattle.nfs_exec.specs.Step.Laws.{MachineEvent, Asks}
+use Rattle.nfs_exec.specs.Step.Machine.{Machine}
+use Rattle.nfs_exec.specs.Runs.Ops.{RanOp, ops_by}
+use Rattle.nfs_exec.proofs.Runs.WhatWasDone.{event_run}
+use Rattle.nfs_exec.proofs.Runs.OneRun.{IsRun}
+use Rattle.nfs_exec.proofs.Runs.OneWalk.{IsKept, Throughout, throughout, throughout_behind, none_at, in_back}
+use Rattle.nfs_exec.proofs.Runs.KeptByRuns.{Is, event_ops}
 use Rattle.nfs_serve.specs.Step.{State}
 use Rattle.nfs_serve.specs.Promises.ChangeTells.{RunsIn}
 use Rattle.nfs_serve.specs.Promises.Endpoint.{Arrival}

@@ -13,12 +13,12 @@ use Rattle.nfs_attrs.specs.Attributes.{values}
 use Rattle.nfs_attrs.specs.Mask.{mask_of, has}
 use Rattle.nfs_names.specs.Outcome.{is_ok}
 use Rattle.nfs_names.specs.ReadDir.{entry_of, fitting, read_dir}
-use Rattle.nfs_exec.specs.AttributesTold.{EntriesTell}
-use Rattle.nfs_exec.specs.Laws.{MachineEvent}
-use Rattle.nfs_exec.specs.Machine.{Machine}
-use Rattle.nfs_exec.specs.Ops.{RanOp, ops_by}
-use Rattle.nfs_exec.proofs.Lasting.{Lasts, event_listed}
-use Rattle.nfs_exec.proofs.WholeRun.{Is}
+use Rattle.nfs_exec.specs.Runs.AttributesTold.{EntriesTell}
+use Rattle.nfs_exec.specs.Step.Laws.{MachineEvent}
+use Rattle.nfs_exec.specs.Step.Machine.{Machine}
+use Rattle.nfs_exec.specs.Runs.Ops.{RanOp, ops_by}
+use Rattle.nfs_exec.proofs.Runs.LeaseTold.{Lasts, event_listed}
+use Rattle.nfs_exec.proofs.Runs.KeptByRuns.{Is}
 use Rattle.nfs_serve.specs.Promises.HeldLock.{last_of, locked}
 use Rattle.nfs_serve.specs.Promises.LeaseListed.{LeaseIsListed, lists, IsListed}
 use Rattle.nfs_serve.specs.Promises.Points.{reached, before, asked_by, ops_of}

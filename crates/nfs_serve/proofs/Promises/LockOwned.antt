@@ -6,13 +6,13 @@ use Rattle.nfs_compound.specs.declared.lock_args.Locker.TheVariants.{OpenOwner}
 use Rattle.nfs_compound.specs.declared.lock_args.OpenToLockOwner.{OpenToLockOwner}
 use Rattle.nfs_opens.specs.declared.locking.Wish.{Wish}
 use Rattle.nfs_opens.specs.declared.records.LockState.{LockState}
-use Rattle.nfs_exec.specs.Laws.{MachineEvent}
-use Rattle.nfs_exec.specs.LockHeld.{LocksFor}
-use Rattle.nfs_exec.specs.Machine.{Machine}
-use Rattle.nfs_exec.specs.Ops.{RanOp, ops_by}
-use Rattle.nfs_exec.proofs.AnsweredRun.{event_run}
-use Rattle.nfs_exec.proofs.LockOwners.{owned_behind, owned_client}
-use Rattle.nfs_exec.proofs.WholeRun.{Is}
+use Rattle.nfs_exec.specs.Step.Laws.{MachineEvent}
+use Rattle.nfs_exec.specs.Runs.LockHeld.{LocksFor}
+use Rattle.nfs_exec.specs.Step.Machine.{Machine}
+use Rattle.nfs_exec.specs.Runs.Ops.{RanOp, ops_by}
+use Rattle.nfs_exec.proofs.Runs.WhatWasDone.{event_run}
+use Rattle.nfs_exec.proofs.Runs.LockOwners.{owned_behind, owned_client}
+use Rattle.nfs_exec.proofs.Runs.KeptByRuns.{Is}
 use Rattle.nfs_serve.specs.Step.{new_state}
 use Rattle.nfs_serve.specs.Promises.Points.{reached, before, asked_by}
 use Rattle.nfs_serve.specs.Promises.HeldLock as worked

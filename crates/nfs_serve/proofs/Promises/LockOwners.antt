@@ -3,12 +3,12 @@ use Rattle.std.proofs.Common.{◌≡◌, ◌≢◌, ℕ, ◌+◌, ◌≤◌, con
 use Rattle.nfs_xdr.specs.Tables.{In}
 use Rattle.nfs_compound.specs.declared.lock_args.Lock.{Lock}
 use Rattle.nfs_compound.specs.declared.lock_args.Locker.TheVariants.{OpenOwner}
-use Rattle.nfs_exec.specs.Ops.{RanOp}
-use Rattle.nfs_exec.specs.Kept.{Kept, after_all}
-use Rattle.nfs_exec.specs.LockHeld.{AreSpared, the_lock}
-use Rattle.nfs_exec.proofs.Descending.{Descends, descends_same, descends_kept}
-use Rattle.nfs_exec.proofs.OneOwner.{are_one}
-use Rattle.nfs_exec.proofs.OneWalk.{in_back}
+use Rattle.nfs_exec.specs.Runs.Ops.{RanOp}
+use Rattle.nfs_exec.specs.Runs.Kept.{Kept, after_all}
+use Rattle.nfs_exec.specs.Runs.LockHeld.{AreSpared, the_lock}
+use Rattle.nfs_exec.proofs.Runs.LockStates.{Descends, descends_same, descends_kept}
+use Rattle.nfs_exec.proofs.Runs.OneOwner.{are_one}
+use Rattle.nfs_exec.proofs.Runs.OneWalk.{in_back}
 use Rattle.nfs_serve.specs.Promises.ChangeTells.{RunsIn}
 use Rattle.nfs_serve.specs.Promises.Endpoint.{Arrival}
 use Rattle.nfs_serve.specs.Promises.Exchanges.{words}

@@ -32,16 +32,16 @@ use Rattle.nfs_sessions.specs.declared.sessions.SessionFault.{SessionFault}
 use Rattle.nfs_sessions.specs.Id.{id_of}
 use Rattle.nfs_sessions.specs.Sessions.{SessionTable, create, session_at, fault_status}
 use Rattle.nfs_names.specs.Outcome.{is_ok}
-use Rattle.nfs_exec.specs.Machine.{Machine, Outcome, or_delay}
-use Rattle.nfs_exec.specs.Place.{stands_alone, is_sequence}
-use Rattle.nfs_exec.specs.View.{CanBear, IsOpened}
-use Rattle.nfs_exec.specs.ExchangeId.{exchange_id, exchange_id_number, answered, ask_of}
-use Rattle.nfs_exec.specs.CreateSession.{create_session_number, by_verdict, by_created, wish_of}
-use Rattle.nfs_exec.specs.Destroy.{destroy_session, destroyed_unless, has_session}
-use Rattle.nfs_exec.specs.Run.{is_here}
-use Rattle.nfs_exec.specs.Compound.{carried_out, by_fault, first_item, by_first, compound}
-use Rattle.nfs_exec.proofs.Bearing.{opened_bears}
-use Rattle.nfs_exec.specs.Executing.{first_sequence, sequence_of}
+use Rattle.nfs_exec.specs.Step.Machine.{Machine, Outcome, or_delay}
+use Rattle.nfs_exec.specs.Step.Place.{stands_alone, is_sequence}
+use Rattle.nfs_exec.specs.Step.View.{CanBear, IsOpened}
+use Rattle.nfs_exec.specs.Step.ExchangeId.{exchange_id, exchange_id_number, answered, ask_of}
+use Rattle.nfs_exec.specs.Step.CreateSession.{create_session_number, by_verdict, by_created, wish_of}
+use Rattle.nfs_exec.specs.Step.Destroy.{destroy_session, destroyed_unless, has_session}
+use Rattle.nfs_exec.specs.Step.Run.{is_here}
+use Rattle.nfs_exec.specs.Step.Compound.{carried_out, by_fault, first_item, by_first, compound}
+use Rattle.nfs_exec.proofs.Step.RefusalsFit.{opened_bears}
+use Rattle.nfs_exec.specs.Step.Executing.{first_sequence, sequence_of}
 use Rattle.nfs_serve.proofs.Promises.Reader.{sequenced}
 use Rattle.nfs_serve.proofs.Promises.Spelled.{IsBad, IsMute, mute_spelled, bare_spelled}
 

@@ -76,13 +76,13 @@ use Rattle.nfs_files.proofs.Outcomes.{for_each}
 use Rattle.nfs_files.proofs.OpenRows.{OpensRows, Kept, Put, opened_rows}
 use Rattle.nfs_files.proofs.WrittenOps.{by_found, current_number, number_back}
 use Rattle.nfs_files.proofs.OpensMoved.{by_close, by_free, by_downgrade, by_lock, by_unlock}
-use Rattle.nfs_exec.specs.Machine.{Machine}
-use Rattle.nfs_exec.specs.Behind.{Step, step, on_store, moves_opens, marked_if}
-use Rattle.nfs_exec.specs.Run.{in_room}
-use Rattle.nfs_exec.specs.Ops.{RanOp}
-use Rattle.nfs_exec.proofs.Behind.{by_step}
-use Rattle.nfs_exec.proofs.WholeRun.{otherwise_store}
-use Rattle.nfs_exec.proofs.AnsweredRun.{in_room_is, IsRun}
+use Rattle.nfs_exec.specs.Step.Machine.{Machine}
+use Rattle.nfs_exec.specs.Step.Behind.{Step, step, on_store, moves_opens, marked_if}
+use Rattle.nfs_exec.specs.Step.Run.{in_room}
+use Rattle.nfs_exec.specs.Runs.Ops.{RanOp}
+use Rattle.nfs_exec.proofs.Step.Behind.{by_step}
+use Rattle.nfs_exec.proofs.Runs.KeptByRuns.{otherwise_store}
+use Rattle.nfs_exec.proofs.Runs.WhatWasDone.{in_room_is, IsRun}
 use Rattle.nfs_serve.specs.Promises.NameStays.{IsDone, Makes, ByCreate, ByOpen, ByLink, ByRename, Takes, Removed, MovedAway, MovedOver}
 
 -- The rows are the same, or one more is there, or those of a name are gone, or an entry moved.

@@ -55,11 +55,11 @@ use Rattle.nfs_files.specs.Open as of_open
 use Rattle.nfs_files.specs.OpenTold.{names_open, named_in, claimed}
 use Rattle.nfs_files.proofs.ToldOpens.{short_names_none, asked_leads}
 use Rattle.nfs_files.proofs.WrittenOps.{by_found, current_number, number_back}
-use Rattle.nfs_exec.specs.Machine.{Machine}
-use Rattle.nfs_exec.specs.Behind.{Step, step}
-use Rattle.nfs_exec.specs.Run.{in_room}
-use Rattle.nfs_exec.proofs.WholeRun.{Is}
-use Rattle.nfs_exec.proofs.AnsweredRun.{in_room_is}
+use Rattle.nfs_exec.specs.Step.Machine.{Machine}
+use Rattle.nfs_exec.specs.Step.Behind.{Step, step}
+use Rattle.nfs_exec.specs.Step.Run.{in_room}
+use Rattle.nfs_exec.proofs.Runs.KeptByRuns.{Is}
+use Rattle.nfs_exec.proofs.Runs.WhatWasDone.{in_room_is}
 use Rattle.nfs_serve.specs.Promises.NameStays.{Name, IsDone, finds_none, Denies, Removes, RenamesIt, Misses}
 use Rattle.nfs_serve.proofs.Promises.NameRows.{AreAt, both_at, unused_rows, replaced_rows}
 

@@ -21,20 +21,20 @@ use Rattle.nfs_names.specs.Context.{begins}
 use Rattle.nfs_names.specs.State as store
 use Rattle.nfs_names.specs.Outcome.{is_ok}
 use Rattle.nfs_files.specs.OpenTold.{names_open}
-use Rattle.nfs_exec.specs.Machine.{Machine}
-use Rattle.nfs_exec.specs.Behind.{Step}
-use Rattle.nfs_exec.specs.Run.{in_room, is_here, behind_here}
-use Rattle.nfs_exec.specs.CreateSession.{without_any_opens}
-use Rattle.nfs_exec.specs.Sequence as sequence
-use Rattle.nfs_exec.specs.Sequence.{Sequenced, sequenced}
-use Rattle.nfs_exec.specs.Compound.{first_item, renewed, begun, bare, in_session, by_first}
-use Rattle.nfs_exec.specs.Laws.{MachineEvent, Expires, Asks, stepped}
-use Rattle.nfs_exec.specs.Ops.{RanOp, done, ops, ops_in, ops_of as ops_first, ops_by, left_by, AreChained}
-use Rattle.nfs_exec.proofs.WholeRun.{Is, whole_room, whole_event}
-use Rattle.nfs_exec.proofs.OpsRun.{are_run}
-use Rattle.nfs_exec.proofs.Lone.{holds_whoever}
-use Rattle.nfs_exec.proofs.AnsweredRun.{IsRun}
-use Rattle.nfs_exec.proofs.OneWalk.{none_at}
+use Rattle.nfs_exec.specs.Step.Machine.{Machine}
+use Rattle.nfs_exec.specs.Step.Behind.{Step}
+use Rattle.nfs_exec.specs.Step.Run.{in_room, is_here, behind_here}
+use Rattle.nfs_exec.specs.Step.CreateSession.{without_any_opens}
+use Rattle.nfs_exec.specs.Step.Sequence as sequence
+use Rattle.nfs_exec.specs.Step.Sequence.{Sequenced, sequenced}
+use Rattle.nfs_exec.specs.Step.Compound.{first_item, renewed, begun, bare, in_session, by_first}
+use Rattle.nfs_exec.specs.Step.Laws.{MachineEvent, Expires, Asks, stepped}
+use Rattle.nfs_exec.specs.Runs.Ops.{RanOp, done, ops, ops_in, ops_of as ops_first, ops_by, left_by, AreChained}
+use Rattle.nfs_exec.proofs.Runs.KeptByRuns.{Is, whole_room, whole_event}
+use Rattle.nfs_exec.proofs.Runs.OpsRun.{are_run}
+use Rattle.nfs_exec.proofs.Step.AloneKeeps.{holds_whoever}
+use Rattle.nfs_exec.proofs.Runs.WhatWasDone.{IsRun}
+use Rattle.nfs_exec.proofs.Runs.OneWalk.{none_at}
 use Rattle.nfs_serve.specs.Step.{State, new_state}
 use Rattle.nfs_serve.specs.Promises.Endpoint.{Arrival}
 use Rattle.nfs_serve.specs.Promises.Points.{state_after, reached, taken, before, asked_by, ops_of}

@@ -14,7 +14,7 @@ use Rattle.nfs_names.specs.GetFh.{get_fh}
 use Rattle.nfs_names.specs.Remove.{remove}
 use Rattle.nfs_names.specs.Rename.{rename}
 use Rattle.nfs_names.specs.SaveFh.{save_fh}
-use Rattle.nfs_exec.specs.Ops.{RanOp}
+use Rattle.nfs_exec.specs.Runs.Ops.{RanOp}
 use Rattle.nfs_serve.specs.Promises.Points.{ops_of}
 use Rattle.nfs_serve.specs.Promises.Exchanges.{words}
 use Rattle.nfs_serve.specs.Promises.HeldLock.{last_of}

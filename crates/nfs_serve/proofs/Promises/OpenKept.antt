@@ -7,12 +7,12 @@ use Rattle.nfs_compound.specs.declared.op_num.OpNum.TheVariants as Num
 use Rattle.nfs_compound.specs.declared.op.Item.TheVariants.{Operation}
 use Rattle.nfs_compound.specs.declared.op.Op.TheVariants as Op
 use Rattle.nfs_files.specs.OpenTold.{names_open, OpenTold, Bits}
-use Rattle.nfs_exec.specs.Machine.{Machine}
-use Rattle.nfs_exec.specs.Laws.{MachineEvent}
-use Rattle.nfs_exec.specs.Ops.{RanOp, ops_by}
-use Rattle.nfs_exec.specs.OpenHeld.{the_open, bits_left, TellsOpen}
-use Rattle.nfs_exec.proofs.WholeRun.{Is}
-use Rattle.nfs_exec.proofs.OpenRun.{open_stays, told_open, each_tells}
+use Rattle.nfs_exec.specs.Step.Machine.{Machine}
+use Rattle.nfs_exec.specs.Step.Laws.{MachineEvent}
+use Rattle.nfs_exec.specs.Runs.Ops.{RanOp, ops_by}
+use Rattle.nfs_exec.specs.Runs.OpenHeld.{the_open, bits_left, TellsOpen}
+use Rattle.nfs_exec.proofs.Runs.KeptByRuns.{Is}
+use Rattle.nfs_exec.proofs.Runs.OpenHeld.{open_stays, told_open, each_tells}
 use Rattle.nfs_serve.specs.Step.{new_state}
 use Rattle.nfs_serve.specs.Promises.Points.{state_after, reached, taken, before, asked_by}
 use Rattle.nfs_serve.specs.Promises.OpenKept.{OpenKept, EachOpenIsTold}

@@ -10,23 +10,23 @@ use Rattle.nfs_lease.specs.Renewals.{Book}
 use Rattle.nfs_sessions.specs.Id.{id_of}
 use Rattle.nfs_sessions.specs.Sessions.{is_session, session_at}
 use Rattle.nfs_names.specs.Context.{begins}
-use Rattle.nfs_exec.specs.Compound.{renewed, begun, compound}
-use Rattle.nfs_exec.specs.Run.{behind_here}
-use Rattle.nfs_exec.proofs.Behind.{run_leases}
-use Rattle.nfs_exec.proofs.ByEvent.{by_compound}
-use Rattle.nfs_exec.proofs.Keeping.{runs_means}
+use Rattle.nfs_exec.specs.Step.Compound.{renewed, begun, compound}
+use Rattle.nfs_exec.specs.Step.Run.{behind_here}
+use Rattle.nfs_exec.proofs.Step.Behind.{run_leases}
+use Rattle.nfs_exec.proofs.Runs.ByEvent.{by_compound}
+use Rattle.nfs_exec.proofs.Step.RepliesKept.{runs_means}
 use Rattle.nfs_opens.specs.Table.{Table}
 use Rattle.nfs_clients.specs.Roster.{ClientRecord, client_at}
-use Rattle.nfs_exec.specs.Machine.{Machine, IsMachine, is_client, is_confirmed}
-use Rattle.nfs_exec.specs.Laws.{Asks}
-use Rattle.nfs_exec.specs.LockHeld.{replaces, is_of, renews}
+use Rattle.nfs_exec.specs.Step.Machine.{Machine, IsMachine, is_client, is_confirmed}
+use Rattle.nfs_exec.specs.Step.Laws.{Asks}
+use Rattle.nfs_exec.specs.Runs.LockHeld.{replaces, is_of, renews}
 use Rattle.nfs_files.specs.Own.{HasAsBefore}
-use Rattle.nfs_exec.specs.Own.{IsAsBefore, is_named_by}
-use Rattle.nfs_exec.proofs.Invariant.{of_start}
-use Rattle.nfs_exec.proofs.Strangers.{as_it_was, then_as, expired_strange, compound_strange}
+use Rattle.nfs_exec.specs.Runs.Own.{IsAsBefore, is_named_by}
+use Rattle.nfs_exec.proofs.Step.Invariant.{of_start}
+use Rattle.nfs_exec.proofs.Runs.NotNamed.{as_it_was, then_as, expired_strange, compound_strange}
 use Rattle.nfs_files.proofs.OthersTables.{same, both}
-use Rattle.nfs_exec.proofs.OthersRun.{event_apart}
-use Rattle.nfs_exec.proofs.Renewing.{AtLeast, in_time}
+use Rattle.nfs_exec.proofs.Runs.OthersByRuns.{event_apart}
+use Rattle.nfs_exec.proofs.Runs.Renewing.{AtLeast, in_time}
 use Rattle.nfs_serve.specs.Step.{State, new_state}
 use Rattle.nfs_serve.specs.Promises.Endpoint.{Arrival}
 use Rattle.nfs_serve.specs.Promises.Points.{state_after, state_after_all, reached, taken, before, asked_by}

@@ -11,13 +11,13 @@ use Rattle.nfs_lease.specs.Queue.{IsLatest}
 use Rattle.nfs_clients.specs.Roster.{Roster, ClientRecord, client_at}
 use Rattle.nfs_opens.specs.declared.records.OpenState.{OpenState}
 use Rattle.nfs_names.specs.Ending.{has_open}
-use Rattle.nfs_exec.specs.Machine.{IsMachine, is_client, is_confirmed}
-use Rattle.nfs_exec.specs.Expiry.{leases_kept}
-use Rattle.nfs_exec.specs.Laws.{Asks}
-use Rattle.nfs_exec.specs.Renewing.{renews_or_begins}
-use Rattle.nfs_exec.proofs.Invariant.{of_start, of_expired, of_compound}
-use Rattle.nfs_exec.proofs.Latest.{expired_all, latest_compound}
-use Rattle.nfs_exec.proofs.Outlasting.{IsStill, compound_still}
+use Rattle.nfs_exec.specs.Step.Machine.{IsMachine, is_client, is_confirmed}
+use Rattle.nfs_exec.specs.Step.Expiry.{leases_kept}
+use Rattle.nfs_exec.specs.Step.Laws.{Asks}
+use Rattle.nfs_exec.specs.Runs.Renewing.{renews_or_begins}
+use Rattle.nfs_exec.proofs.Step.Invariant.{of_start, of_expired, of_compound}
+use Rattle.nfs_exec.proofs.Step.LeaseMoments.{expired_all, latest_compound}
+use Rattle.nfs_exec.proofs.Runs.Outlasting.{IsStill, compound_still}
 use Rattle.nfs_serve.specs.Step.{State, new_state}
 use Rattle.nfs_serve.specs.Promises.Endpoint.{Arrival}
 use Rattle.nfs_serve.specs.Promises.Points.{state_after, state_after_all, reached, taken, before}

@@ -11,11 +11,11 @@ use Rattle.nfs_rpc.specs.declared.call.Procedure.{Procedure}
 use Rattle.nfs_compound.specs.Request.{Request}
 use Rattle.nfs_compound.specs.ReadRequest.{request_at}
 use Rattle.nfs_lease.specs.Queue.{IsLatest}
-use Rattle.nfs_exec.specs.Machine.{Machine}
-use Rattle.nfs_exec.specs.Laws.{MachineEvent, Expires, Asks, stepped}
-use Rattle.nfs_exec.specs.Ops.{RanOp, ops_by}
-use Rattle.nfs_exec.proofs.Latest.{latest_compound}
-use Rattle.nfs_exec.proofs.WholeRun.{Is, none_of, event_ops, whole_event, start_whole}
+use Rattle.nfs_exec.specs.Step.Machine.{Machine}
+use Rattle.nfs_exec.specs.Step.Laws.{MachineEvent, Expires, Asks, stepped}
+use Rattle.nfs_exec.specs.Runs.Ops.{RanOp, ops_by}
+use Rattle.nfs_exec.proofs.Step.LeaseMoments.{latest_compound}
+use Rattle.nfs_exec.proofs.Runs.KeptByRuns.{Is, none_of, event_ops, whole_event, start_whole}
 use Rattle.nfs_serve.specs.Step.{State, new_state, step, asked_of, with_arguments, by_procedure, reply_to}
 use Rattle.nfs_serve.specs.Promises.Endpoint.{Arrival}
 use Rattle.nfs_serve.specs.Promises.Points.{state_after, state_after_all, taken, before, asks, asked_by, NoClash}

@@ -9,11 +9,11 @@ use Rattle.nfs_names.specs.State.{State as Store}
 use Rattle.nfs_sessions.specs.declared.id.SessionId.{SessionId}
 use Rattle.nfs_sessions.specs.Id.{id_of}
 use Rattle.nfs_sessions.specs.Sessions.{Session}
-use Rattle.nfs_exec.specs.Laws.{MachineEvent, Asks, ran}
-use Rattle.nfs_exec.specs.LockHeld.{replaces, is_of, renews}
-use Rattle.nfs_exec.specs.SessionLasts.{ends_session}
-use Rattle.nfs_exec.proofs.Renewing.{in_time}
-use Rattle.nfs_exec.proofs.SessionLasts.{fewer_has, lasts, ran_has}
+use Rattle.nfs_exec.specs.Step.Laws.{MachineEvent, Asks, ran}
+use Rattle.nfs_exec.specs.Runs.LockHeld.{replaces, is_of, renews}
+use Rattle.nfs_exec.specs.Runs.SessionLasts.{ends_session}
+use Rattle.nfs_exec.proofs.Runs.Renewing.{in_time}
+use Rattle.nfs_exec.proofs.Runs.SessionLasts.{fewer_has, lasts, ran_has}
 use Rattle.nfs_serve.specs.Step.{State}
 use Rattle.nfs_serve.specs.Promises.Endpoint.{Arrival}
 use Rattle.nfs_serve.specs.Promises.Points.{state_after, reached, taken, before}

@@ -12,10 +12,10 @@ use Rattle.nfs_compound.specs.declared.op_num.OpNum.TheVariants as Num
 use Rattle.nfs_results.specs.Results.{done_head, spell_compound_head}
 use Rattle.nfs_sessions.specs.Sessions.{SessionTable}
 use Rattle.nfs_clients.specs.CreateSession.{following}
-use Rattle.nfs_exec.specs.Machine.{Machine}
-use Rattle.nfs_exec.specs.Compound.{compound}
-use Rattle.nfs_exec.specs.Laws.{MachineEvent, Expires, Asks}
-use Rattle.nfs_exec.specs.OneSession.{MakesOne}
+use Rattle.nfs_exec.specs.Step.Machine.{Machine}
+use Rattle.nfs_exec.specs.Step.Compound.{compound}
+use Rattle.nfs_exec.specs.Step.Laws.{MachineEvent, Expires, Asks}
+use Rattle.nfs_exec.specs.Runs.OneSession.{MakesOne}
 use Rattle.nfs_serve.specs.Step.{State}
 use Rattle.nfs_serve.specs.Promises.Endpoint.{Arrival}
 use Rattle.nfs_serve.specs.Promises.Points.{state_after, before, asked_by}

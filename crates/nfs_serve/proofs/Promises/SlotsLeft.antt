@@ -18,7 +18,7 @@ use Rattle.nfs_sessions.specs.SessionTables.{IsSessions}
 use Rattle.nfs_sessions.specs.Laws.{is_id}
 use Rattle.nfs_sessions.proofs.LawLemmas.{sessions_are_a_map}
 use Rattle.nfs_sessions.proofs.TableLemmas.{sessions_filtered, sessions_with, slots_changed, is_counter}
-use Rattle.nfs_exec.proofs.Numbering.{IsHeld}
+use Rattle.nfs_exec.proofs.Runs.SlotNumbers.{IsHeld}
 use Rattle.nfs_serve.specs.Promises.Seen.{slot_in}
 
 -- In a rising list, what is found of one number is found behind a filter too, or nothing is.

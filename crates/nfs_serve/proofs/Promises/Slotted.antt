@@ -16,8 +16,8 @@ use Rattle.nfs_sessions.specs.Sessions.{Session, SessionTable, is_session, sessi
 use Rattle.nfs_sessions.specs.SessionTables.{IsSessions}
 use Rattle.nfs_sessions.proofs.LawLemmas.{sessions_are_a_map}
 use Rattle.nfs_sessions.proofs.TableLemmas.{sessions_filtered, sessions_with, slots_changed, is_counter}
-use Rattle.nfs_exec.specs.Sequence.{compared}
-use Rattle.nfs_exec.proofs.Numbering.{IsHeld}
+use Rattle.nfs_exec.specs.Step.Sequence.{compared}
+use Rattle.nfs_exec.proofs.Runs.SlotNumbers.{IsHeld}
 use Rattle.nfs_serve.specs.Promises.Endpoint.{Arrival, ran}
 use Rattle.nfs_serve.specs.Promises.Seen.{ReplyReader, ticked, server}
 use Rattle.nfs_serve.specs.Step.{State, step}

@@ -14,18 +14,18 @@ use Rattle.nfs_compound.specs.declared.op.Op.TheVariants as Op
 use Rattle.nfs_compound.specs.Request.{Request, item_number}
 use Rattle.nfs_compound.specs.ReadRequest.{request_at}
 use Rattle.nfs_compound.specs.declared.session_args.Sequence.{Sequence}
-use Rattle.nfs_exec.specs.Machine.{Machine, Outcome}
-use Rattle.nfs_exec.specs.Place.{place_fault}
-use Rattle.nfs_exec.specs.Sequence as sequence
-use Rattle.nfs_exec.specs.Sequence.{Sequenced, sequenced}
-use Rattle.nfs_exec.specs.Run.{is_here}
-use Rattle.nfs_exec.specs.Compound.{carried_out, by_fault, first_item, in_session, by_first, compound}
-use Rattle.nfs_exec.specs.Expiry.{expired}
-use Rattle.nfs_exec.specs.Laws.{if_runs, first_runs}
-use Rattle.nfs_exec.proofs.Repeating.{expires}
+use Rattle.nfs_exec.specs.Step.Machine.{Machine, Outcome}
+use Rattle.nfs_exec.specs.Step.Place.{place_fault}
+use Rattle.nfs_exec.specs.Step.Sequence as sequence
+use Rattle.nfs_exec.specs.Step.Sequence.{Sequenced, sequenced}
+use Rattle.nfs_exec.specs.Step.Run.{is_here}
+use Rattle.nfs_exec.specs.Step.Compound.{carried_out, by_fault, first_item, in_session, by_first, compound}
+use Rattle.nfs_exec.specs.Step.Expiry.{expired}
+use Rattle.nfs_exec.specs.Step.Laws.{if_runs, first_runs}
+use Rattle.nfs_exec.proofs.Step.Repeating.{expires}
 use Rattle.nfs_serve.proofs.Promises.ServerLaws.{KeepsTime}
 use Rattle.nfs_serve.proofs.Promises.Settled.{IsSettled, settled_new, settled_step, ticks_nothing}
-use Rattle.nfs_exec.specs.Executing.{is_alone, executes}
+use Rattle.nfs_exec.specs.Step.Executing.{is_alone, executes}
 use Rattle.nfs_serve.specs.Promises.Endpoint.{Answer}
 use Rattle.nfs_serve.specs.Step.{asked_of, State, Stepped, with_arguments, by_procedure, reply_to, step}
 use Rattle.nfs_serve.specs.Promises.Seen.{ticked, executes_by, seen, server}

@@ -14,8 +14,8 @@ use Rattle.nfs_results.specs.Results.{done_head}
 use Rattle.nfs_names.specs.declared.context.Context.{Context}
 use Rattle.nfs_names.specs.Context.{anonymous}
 use Rattle.nfs_files.specs.Written.{Byte, WritesOver, Reads, bytes_in}
-use Rattle.nfs_exec.specs.Ops.{RanOp}
-use Rattle.nfs_exec.specs.WrittenRun.{WritesIt, SparesIt, AreSpared}
+use Rattle.nfs_exec.specs.Runs.Ops.{RanOp}
+use Rattle.nfs_exec.specs.Runs.WrittenRun.{WritesIt, SparesIt, AreSpared}
 use Rattle.nfs_serve.specs.Promises.Points.{ops_of}
 use Rattle.nfs_serve.specs.Promises.Exchanges.{words}
 use Rattle.nfs_serve.specs.Promises.HeldLock.{last_of}

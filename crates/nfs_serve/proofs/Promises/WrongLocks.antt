@@ -18,15 +18,15 @@ use Rattle.nfs_xdr.specs.Tables.{In}
 use Rattle.nfs_names.specs.declared.context.Context.{Context}
 use Rattle.nfs_files.specs.StateIds.{meant}
 use Rattle.nfs_files.specs.LockTold.{Stands}
-use Rattle.nfs_exec.specs.Machine.{Machine}
+use Rattle.nfs_exec.specs.Step.Machine.{Machine}
 use Rattle.nfs_xdr.specs.Caller.{Caller}
 use Rattle.nfs_compound.specs.Request.{Request}
 use Rattle.nfs_compound.specs.declared.session_args.Sequence.{Sequence}
-use Rattle.nfs_exec.specs.Compound.{Answered, compound}
-use Rattle.nfs_exec.specs.Laws.{MachineEvent, Expires, Asks, first_runs}
-use Rattle.nfs_exec.specs.Delayed.{IsDelayed, kept_by, with_ok}
-use Rattle.nfs_exec.specs.Ops.{RanOp}
-use Rattle.nfs_exec.specs.LockHeld.{Spares, AreSpared}
+use Rattle.nfs_exec.specs.Step.Compound.{Answered, compound}
+use Rattle.nfs_exec.specs.Step.Laws.{MachineEvent, Expires, Asks, first_runs}
+use Rattle.nfs_exec.specs.Step.Delayed.{IsDelayed, kept_by, with_ok}
+use Rattle.nfs_exec.specs.Runs.Ops.{RanOp}
+use Rattle.nfs_exec.specs.Runs.LockHeld.{Spares, AreSpared}
 use Rattle.nfs_serve.specs.Promises.Exchanges.{words}
 use Rattle.nfs_serve.specs.Promises.LockKept.{StaysHeld, replaces_by}
 use Rattle.nfs_opens.specs.declared.records.LockState.{LockState}

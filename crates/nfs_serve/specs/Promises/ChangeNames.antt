@@ -7,7 +7,7 @@ use Rattle.nfs_xdr.specs.declared.status.Status.TheVariants.{Nfs4Ok, NoEnt}
 use Rattle.nfs_compound.specs.declared.op.Item.TheVariants.{Operation}
 use Rattle.nfs_compound.specs.declared.op.Op.TheVariants as Op
 use Rattle.nfs_tree.specs.Files.{is_there, change_of, lookup, listing}
-use Rattle.nfs_exec.specs.Ops.{RanOp}
+use Rattle.nfs_exec.specs.Runs.Ops.{RanOp}
 use Rattle.nfs_serve.specs.Promises.Endpoint.{Arrival}
 use Rattle.nfs_serve.specs.Promises.Points.{state_after, reached, ops_of}
 use Rattle.nfs_serve.specs.Promises.ChangeTells.{RunsIn}

@@ -3,7 +3,7 @@
 use Rattle.std.specs.Prelude.{◌≡◌, ℕ, true, List, [], ◌∷◌, ◌++◌, take, Some}
 use Rattle.nfs_xdr.specs.declared.status.Status.TheVariants.{Nfs4Ok, NoEnt}
 use Rattle.nfs_tree.specs.Files.{root, is_there, change_of, lookup}
-use Rattle.nfs_exec.specs.Ops.{RanOp}
+use Rattle.nfs_exec.specs.Runs.Ops.{RanOp}
 use Rattle.nfs_serve.specs.Promises.Points.{ops_of}
 use Rattle.nfs_serve.specs.Promises.HeldLock.{last_of}
 use Rattle.nfs_serve.specs.Promises.WrittenWorked.{closed, reads}

@@ -22,7 +22,7 @@ use Rattle.nfs_names.specs.Create.{attributes_in}
 use Rattle.nfs_names.specs.Outcome.{is_ok}
 use Rattle.nfs_files.specs.FileImage.{claimed, is_number, asks_empty}
 use Rattle.nfs_files.specs.SetAttr.{gives_some}
-use Rattle.nfs_exec.specs.Ops.{RanOp}
+use Rattle.nfs_exec.specs.Runs.Ops.{RanOp}
 use Rattle.nfs_serve.specs.Promises.Endpoint.{Arrival}
 use Rattle.nfs_serve.specs.Promises.Points.{state_after, reached, ops_of}
 use Rattle.nfs_serve.specs.Promises.ChangeTells.{RunsIn}

@@ -9,9 +9,9 @@ use Rattle.nfs_compound.specs.declared.op.Op.TheVariants as Op
 use Rattle.nfs_tree.specs.Files.{is_there}
 use Rattle.nfs_attrs.specs.Mask.{mask_of, has}
 use Rattle.nfs_names.specs.Outcome.{is_ok}
-use Rattle.nfs_exec.specs.AttributesTold.{TellsValue}
+use Rattle.nfs_exec.specs.Runs.AttributesTold.{TellsValue}
 use Rattle.nfs_files.specs.FileImage.{Image, unwritten, new_size, left_of, read_answer}
-use Rattle.nfs_exec.specs.Ops.{RanOp}
+use Rattle.nfs_exec.specs.Runs.Ops.{RanOp}
 use Rattle.nfs_serve.specs.Step.{State}
 use Rattle.nfs_serve.specs.Promises.Endpoint.{Arrival}
 use Rattle.nfs_serve.specs.Promises.Points.{state_after, reached, ops_of}

@@ -2,7 +2,7 @@
 -- is made, four bytes are written, and two more behind a gap; it is closed and read. Then it is cut to two bytes, grows to six, and is read once more.
 use Rattle.std.specs.Prelude.{◌≡◌, ℕ, List, [], ◌∷◌, ◌++◌}
 use Rattle.nfs_files.specs.FileImage.{Image, unwritten, bytes_read, read_answer}
-use Rattle.nfs_exec.specs.Ops.{RanOp}
+use Rattle.nfs_exec.specs.Runs.Ops.{RanOp}
 use Rattle.nfs_serve.specs.Step.{State}
 use Rattle.nfs_serve.specs.Promises.Endpoint.{Arrival}
 use Rattle.nfs_serve.specs.Promises.Points.{state_after, ops_of}

@@ -6,8 +6,8 @@ use Rattle.std.specs.Prelude.{◌≡◌, ℕ, ◌+◌, ◌*◌, ◌^◌, true, f
 use Rattle.nfs_xdr.specs.declared.status.Status.TheVariants.{Nfs4Ok, ShareDenied}
 use Rattle.nfs_opens.specs.Share.{neither}
 use Rattle.nfs_files.specs.OpenTold.{OpenTold, Bits}
-use Rattle.nfs_exec.specs.Ops.{RanOp}
-use Rattle.nfs_exec.specs.OpenHeld.{TellsOpen}
+use Rattle.nfs_exec.specs.Runs.Ops.{RanOp}
+use Rattle.nfs_exec.specs.Runs.OpenHeld.{TellsOpen}
 use Rattle.nfs_serve.specs.Step.{State}
 use Rattle.nfs_serve.specs.Promises.Endpoint.{Arrival}
 use Rattle.nfs_serve.specs.Promises.Points.{state_after, state_after_all, ops_of}

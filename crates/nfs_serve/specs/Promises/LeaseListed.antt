@@ -10,8 +10,8 @@ use Rattle.nfs_results.specs.declared.res.Fattr.{Fattr}
 use Rattle.nfs_results.specs.Results.{done_head}
 use Rattle.nfs_attrs.specs.Mask.{mask_of, has}
 use Rattle.nfs_names.specs.Outcome.{is_ok}
-use Rattle.nfs_exec.specs.AttributesTold.{HasValue, EntriesTell}
-use Rattle.nfs_exec.specs.Ops.{RanOp}
+use Rattle.nfs_exec.specs.Runs.AttributesTold.{HasValue, EntriesTell}
+use Rattle.nfs_exec.specs.Runs.Ops.{RanOp}
 use Rattle.nfs_serve.specs.Promises.Endpoint.{Arrival}
 use Rattle.nfs_serve.specs.Promises.Exchanges.{words}
 use Rattle.nfs_serve.specs.Promises.HeldLock.{came, in_session, locked}

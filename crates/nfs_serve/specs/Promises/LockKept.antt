@@ -8,13 +8,13 @@ use Rattle.nfs_compound.specs.declared.op.Item.TheVariants.{Operation}
 use Rattle.nfs_compound.specs.declared.op.Op.TheVariants as Op
 use Rattle.nfs_attrs.specs.Mask.{mask_of, has}
 use Rattle.nfs_names.specs.Outcome.{is_ok}
-use Rattle.nfs_exec.specs.AttributesTold.{TellsValue}
-use Rattle.nfs_exec.specs.Ops.{RanOp}
+use Rattle.nfs_exec.specs.Runs.AttributesTold.{TellsValue}
+use Rattle.nfs_exec.specs.Runs.Ops.{RanOp}
 use Rattle.nfs_opens.specs.declared.locking.Wish.{Wish}
 use Rattle.nfs_files.specs.LockTold.{LockTold, Clashes}
-use Rattle.nfs_exec.specs.Kept as kept
-use Rattle.nfs_exec.specs.Kept.{Kept, While, after_all}
-use Rattle.nfs_exec.specs.LockHeld.{LocksFor, the_lock, AreSpared, StandsWhile, Tells, replaces, renews}
+use Rattle.nfs_exec.specs.Runs.Kept as kept
+use Rattle.nfs_exec.specs.Runs.Kept.{Kept, While, after_all}
+use Rattle.nfs_exec.specs.Runs.LockHeld.{LocksFor, the_lock, AreSpared, StandsWhile, Tells, replaces, renews}
 use Rattle.nfs_serve.specs.Step.{State}
 use Rattle.nfs_serve.specs.Promises.Endpoint.{Arrival}
 use Rattle.nfs_serve.specs.Promises.Points.{state_after, reached, taken, before, asked_by, ops_of}

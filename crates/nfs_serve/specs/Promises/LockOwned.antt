@@ -6,8 +6,8 @@ use Rattle.nfs_compound.specs.declared.lock_args.Locker.TheVariants.{OpenOwner}
 use Rattle.nfs_compound.specs.declared.lock_args.OpenToLockOwner.{OpenToLockOwner}
 use Rattle.nfs_opens.specs.declared.locking.Wish.{Wish}
 use Rattle.nfs_opens.specs.declared.records.LockState.{LockState}
-use Rattle.nfs_exec.specs.LockHeld.{LocksFor}
-use Rattle.nfs_exec.specs.Ops.{RanOp}
+use Rattle.nfs_exec.specs.Runs.LockHeld.{LocksFor}
+use Rattle.nfs_exec.specs.Runs.Ops.{RanOp}
 use Rattle.nfs_serve.specs.Promises.Endpoint.{Arrival}
 use Rattle.nfs_serve.specs.Promises.Points.{reached, ops_of}
 use Rattle.nfs_serve.specs.Promises.HeldLock.{start, locks, last_of}

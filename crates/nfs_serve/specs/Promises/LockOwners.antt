@@ -8,9 +8,9 @@ use Rattle.nfs_compound.specs.declared.op_num.OpNum.TheVariants as Num
 use Rattle.nfs_results.specs.Results.{done_head}
 use Rattle.nfs_opens.specs.declared.locking.Wish.{Wish}
 use Rattle.nfs_files.specs.LockTold.{LockTold}
-use Rattle.nfs_exec.specs.LockHeld.{LocksFor, AreSpared, Tells}
-use Rattle.nfs_exec.specs.LockOwners.{AreOne, AreTwo, Meets}
-use Rattle.nfs_exec.specs.Ops.{RanOp}
+use Rattle.nfs_exec.specs.Runs.LockHeld.{LocksFor, AreSpared, Tells}
+use Rattle.nfs_exec.specs.Runs.LockOwners.{AreOne, AreTwo, Meets}
+use Rattle.nfs_exec.specs.Runs.Ops.{RanOp}
 use Rattle.nfs_serve.specs.Promises.ChangeTells.{RunsIn}
 use Rattle.nfs_serve.specs.Promises.Endpoint.{Arrival}
 use Rattle.nfs_serve.specs.Promises.Exchanges.{words}

@@ -5,7 +5,7 @@ use Rattle.std.specs.Option.{option_map_or}
 use Rattle.nfs_ranges.specs.declared.Kind.TheVariants.{Write}
 use Rattle.nfs_opens.specs.Closing.{without_lock, without_open}
 use Rattle.nfs_files.specs.Own.{HasAsBefore}
-use Rattle.nfs_exec.specs.Own.{IsAsBefore, is_named_by}
+use Rattle.nfs_exec.specs.Runs.Own.{IsAsBefore, is_named_by}
 use Rattle.nfs_serve.specs.Step.{State}
 use Rattle.nfs_serve.specs.Promises.Endpoint.{Arrival}
 use Rattle.nfs_serve.specs.Promises.Points.{state_after, state_after_all, reached, taken, before, asked_by}

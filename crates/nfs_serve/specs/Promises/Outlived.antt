@@ -5,7 +5,7 @@ use Rattle.nfs_xdr.specs.Tables.{In}
 use Rattle.nfs_ranges.specs.declared.Kind.{Kind}
 use Rattle.nfs_opens.specs.declared.records.LockState.{LockState}
 use Rattle.nfs_opens.specs.Table.{Table}
-use Rattle.nfs_exec.specs.Renewing.{renews_or_begins}
+use Rattle.nfs_exec.specs.Runs.Renewing.{renews_or_begins}
 use Rattle.nfs_serve.specs.Step.{State, new_state}
 use Rattle.nfs_serve.specs.Promises.Endpoint.{Arrival}
 use Rattle.nfs_serve.specs.Promises.Points.{state_after, reached, taken, before, asked_by}

@@ -5,10 +5,10 @@ use Rattle.std.specs.Prelude.{ℕ, max, List, [], ◌∷◌, length, Option, Non
 use Rattle.std.specs.Option.{option_map_or}
 use Rattle.nfs_xdr.specs.Tables.{In}
 use Rattle.nfs_rpc.specs.CallHead.{Called, Accepted, Refused, call_of}
-use Rattle.nfs_exec.specs.Machine.{Machine, HasNoClashes}
-use Rattle.nfs_exec.specs.Expiry.{expired}
-use Rattle.nfs_exec.specs.Laws.{MachineEvent, Asks}
-use Rattle.nfs_exec.specs.Ops.{RanOp, ops_by}
+use Rattle.nfs_exec.specs.Step.Machine.{Machine, HasNoClashes}
+use Rattle.nfs_exec.specs.Step.Expiry.{expired}
+use Rattle.nfs_exec.specs.Step.Laws.{MachineEvent, Asks}
+use Rattle.nfs_exec.specs.Runs.Ops.{RanOp, ops_by}
 use Rattle.nfs_serve.specs.Promises.Endpoint.{Arrival}
 use Rattle.nfs_serve.specs.Step.{State, new_state, step, asked_of}
 

@@ -15,9 +15,9 @@ use Rattle.nfs_results.specs.Wire.{text_of, ends}
 use Rattle.nfs_slots.specs.Slot.{SlotState}
 use Rattle.nfs_sessions.specs.Id.{id_of}
 use Rattle.nfs_sessions.specs.Sessions.{Session, session_at}
-use Rattle.nfs_exec.specs.Executing as requests
-use Rattle.nfs_exec.specs.Sequence.{compared}
-use Rattle.nfs_exec.specs.Expiry.{expired}
+use Rattle.nfs_exec.specs.Step.Executing as requests
+use Rattle.nfs_exec.specs.Step.Sequence.{compared}
+use Rattle.nfs_exec.specs.Step.Expiry.{expired}
 use Rattle.nfs_serve.specs.Promises.Endpoint.{Heading, Answer, SlotNumber, Stepped as Seen, Server}
 use Rattle.nfs_serve.specs.Step.{State, Stepped, new_state, step, asked_of}
 

@@ -2,8 +2,8 @@
 use Rattle.std.specs.Prelude.{◌≡◌, ◌⊎◌, ℕ, ◌+◌, ◌*◌, ◌-◌, ◌<◌, ◌^◌, Bool, false, List, [], ◌∷◌, ◌++◌, Some, if◌then◌else◌}
 use Rattle.std.specs.Option.{option_map_or}
 use Rattle.nfs_clients.specs.CreateSession.{following}
-use Rattle.nfs_exec.specs.Laws.{MachineEvent}
-use Rattle.nfs_exec.specs.OneSession.{asks_session, Gives, MakesOne}
+use Rattle.nfs_exec.specs.Step.Laws.{MachineEvent}
+use Rattle.nfs_exec.specs.Runs.OneSession.{asks_session, Gives, MakesOne}
 use Rattle.nfs_serve.specs.Step.{State, new_state}
 use Rattle.nfs_serve.specs.Promises.Endpoint.{Arrival}
 use Rattle.nfs_serve.specs.Promises.Points.{state_after, state_after_all, reached, before, asked_by}

@@ -1,8 +1,8 @@
 -- Bytes written stay until they are changed: what becomes, over any list of records, of a byte that a WRITE told (RFC 8881 sections 18.22 and 18.32).
 use Rattle.std.specs.Prelude.{◌≡◌, ℕ, List, [], ◌∷◌, ◌++◌}
 use Rattle.nfs_files.specs.Written.{Byte}
-use Rattle.nfs_exec.specs.Ops.{RanOp}
-use Rattle.nfs_exec.specs.WrittenRun.{WritesIt, AreSpared, StandsWhile}
+use Rattle.nfs_exec.specs.Runs.Ops.{RanOp}
+use Rattle.nfs_exec.specs.Runs.WrittenRun.{WritesIt, AreSpared, StandsWhile}
 use Rattle.nfs_serve.specs.Step.{State}
 use Rattle.nfs_serve.specs.Promises.Endpoint.{Arrival}
 use Rattle.nfs_serve.specs.Promises.Points.{state_after, reached, ops_of}

@@ -9,13 +9,13 @@ use Rattle.nfs_results.specs.Results.{done_head}
 use Rattle.nfs_ranges.specs.declared.Kind.TheVariants.{Write}
 use Rattle.nfs_opens.specs.Closing.{without_open}
 use Rattle.nfs_names.specs.Ending.{with_opens}
-use Rattle.nfs_exec.specs.Machine.{Machine}
-use Rattle.nfs_exec.specs.CreateSession.{without_any_opens}
-use Rattle.nfs_exec.specs.Laws.{MachineEvent, Asks}
-use Rattle.nfs_exec.specs.Delayed.{IsDelayed}
-use Rattle.nfs_exec.specs.Ended.{HasNothing}
-use Rattle.nfs_exec.specs.Ops.{RanOp}
-use Rattle.nfs_exec.specs.LockHeld.{StandsBefore, StandsWhile}
+use Rattle.nfs_exec.specs.Step.Machine.{Machine}
+use Rattle.nfs_exec.specs.Step.CreateSession.{without_any_opens}
+use Rattle.nfs_exec.specs.Step.Laws.{MachineEvent, Asks}
+use Rattle.nfs_exec.specs.Step.Delayed.{IsDelayed}
+use Rattle.nfs_exec.specs.Runs.Ended.{HasNothing}
+use Rattle.nfs_exec.specs.Runs.Ops.{RanOp}
+use Rattle.nfs_exec.specs.Runs.LockHeld.{StandsBefore, StandsWhile}
 use Rattle.nfs_serve.specs.Step.{State, new_state}
 use Rattle.nfs_serve.specs.Promises.Points.{state_after, reached, before, asked_by, ops_of}
 use Rattle.nfs_serve.specs.Promises.LockKept.{replaces_by, StaysHeld}

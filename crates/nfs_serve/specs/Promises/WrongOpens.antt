@@ -14,8 +14,8 @@ use Rattle.nfs_opens.specs.Share.{neither}
 use Rattle.nfs_opens.specs.Table.{with_open}
 use Rattle.nfs_names.specs.Ending.{with_opens}
 use Rattle.nfs_files.specs.Open.{no_attributes}
-use Rattle.nfs_exec.specs.Ops.{RanOp}
-use Rattle.nfs_exec.specs.OpenHeld.{IsOpenBefore, OpenWhile}
+use Rattle.nfs_exec.specs.Runs.Ops.{RanOp}
+use Rattle.nfs_exec.specs.Runs.OpenHeld.{IsOpenBefore, OpenWhile}
 use Rattle.nfs_serve.specs.Promises.Points.{ops_of}
 use Rattle.nfs_serve.specs.Promises.Exchanges.{words}
 use Rattle.nfs_serve.specs.Promises.HeldLock.{last_of}

@@ -2,7 +2,7 @@ use Rattle.std.proofs.Common.{ℕ, ◌-◌, ◌≤◌, List, length, take, drop,
 use Rattle.nfs_results.specs.declared.res.Res.TheVariants as Res
 use Rattle.nfs_results.specs.declared.res.CreateSessionOk.{CreateSessionOk}
 use Rattle.nfs_results.specs.Parts.{parts}
-use Rattle.nfs_exec.proofs.Creating.{made_fits, put_whole, behind_head, longer, body_within}
+use Rattle.nfs_exec.proofs.Step.Creating.{made_fits, put_whole, behind_head, longer, body_within}
 use Rattle.nfs_exec.proofs.create_session.put_made.Goals as goal
 
 pub write-requires-clause-room : goal.write-requires-clause-room

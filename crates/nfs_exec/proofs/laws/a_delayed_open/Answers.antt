@@ -1,4 +1,4 @@
-use Rattle.nfs_exec.proofs.DelayedOpen.{is_worked}
+use Rattle.nfs_exec.proofs.Step.DelayedOpen.{is_worked}
 use Rattle.nfs_exec.proofs.laws.a_delayed_open.Goals as goal
 
 pub returns : goal.returns

@@ -1,4 +1,4 @@
-use Rattle.nfs_exec.proofs.Compared.{compares, differ_there}
+use Rattle.nfs_exec.proofs.Step.Compared.{compares, differ_there}
 use Rattle.nfs_exec.proofs.laws.compares_all_but_highest.Goals as goal
 
 pub returns-clause-cut : goal.returns-clause-cut

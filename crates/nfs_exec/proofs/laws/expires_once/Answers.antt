@@ -1,4 +1,4 @@
-use Rattle.nfs_exec.proofs.Repeating.{expires}
+use Rattle.nfs_exec.proofs.Step.Repeating.{expires}
 use Rattle.nfs_exec.proofs.laws.expires_once.Goals as goal
 
 pub returns : goal.returns

@@ -1,4 +1,4 @@
-use Rattle.nfs_exec.proofs.WholeRun.{none_in_runs}
+use Rattle.nfs_exec.proofs.Runs.KeptByRuns.{none_in_runs}
 use Rattle.nfs_exec.proofs.laws.none_in_runs.Goals as goal
 
 pub returns : goal.returns

@@ -1,4 +1,4 @@
-use Rattle.nfs_exec.proofs.PromptRun.{nothing_delays}
+use Rattle.nfs_exec.proofs.Runs.NoDelays.{nothing_delays}
 use Rattle.nfs_exec.proofs.laws.nothing_delays.Goals as goal
 
 pub returns : goal.returns

@@ -1,4 +1,4 @@
-use Rattle.nfs_exec.proofs.Sequencing.{next_runs, false_retries_are_true}
+use Rattle.nfs_exec.proofs.Step.Sequencing.{next_runs, false_retries_are_true}
 use Rattle.nfs_exec.proofs.laws.numbers_are_judged_truly.Goals as goal
 
 pub returns-clause-next : goal.returns-clause-next

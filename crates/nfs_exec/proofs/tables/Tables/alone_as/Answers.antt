@@ -8,10 +8,10 @@ use Rattle.nfs_results.specs.ResultCodec.{IsBounded}
 use Rattle.nfs_compound.specs.declared.op.Item.TheVariants.{Operation}
 use Rattle.nfs_compound.specs.declared.op.Op.TheVariants as Op
 use Rattle.nfs_names.specs.Outcome.{is_delay}
-use Rattle.nfs_exec.specs.Machine.{Machine, with_result, machine_of}
-use Rattle.nfs_exec.specs.View.{IsSmall}
-use Rattle.nfs_exec.proofs.Bearing.{place_small, rest_small, exchanged_small}
-use Rattle.nfs_exec.proofs.Standing.{small_fits, put_does, misplaced, branch_done, not_carried}
+use Rattle.nfs_exec.specs.Step.Machine.{Machine, with_result, machine_of}
+use Rattle.nfs_exec.specs.Step.View.{IsSmall}
+use Rattle.nfs_exec.proofs.Step.RefusalsFit.{place_small, rest_small, exchanged_small}
+use Rattle.nfs_exec.proofs.Step.AloneResults.{small_fits, put_does, misplaced, branch_done, not_carried}
 use Rattle.nfs_exec.proofs.tables.Tables.alone_as.Goals as goal
 use Rattle.nfs_exec.proofs.tables.Tables.alone_as.Goals.{in-Some, in-None+in-ExchangeId, in-None+in-DestroySession, in-None+in-DestroyClientId, in-None+in_default}
 

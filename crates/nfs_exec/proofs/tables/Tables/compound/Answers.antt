@@ -6,11 +6,11 @@ use Rattle.nfs_compound.specs.declared.op.Item.{Item}
 use Rattle.nfs_compound.specs.Request.{Request}
 use Rattle.nfs_names.specs.StoreInvariants.{IsStore}
 use Rattle.nfs_names.specs.Outcome.{is_delay}
-use Rattle.nfs_exec.specs.Machine.{Machine, machine_of}
-use Rattle.nfs_exec.proofs.Latest.{first_stores}
-use Rattle.nfs_exec.proofs.Bearing.{opened_all, opened_bears, opened_few}
-use Rattle.nfs_exec.proofs.Keeping.{any_head_fits, head_fits, alone_fits, has_one}
-use Rattle.nfs_exec.proofs.Whole.{for_sequence, for_other}
+use Rattle.nfs_exec.specs.Step.Machine.{Machine, machine_of}
+use Rattle.nfs_exec.proofs.Step.LeaseMoments.{first_stores}
+use Rattle.nfs_exec.proofs.Step.RefusalsFit.{opened_all, opened_bears, opened_few}
+use Rattle.nfs_exec.proofs.Step.RepliesKept.{any_head_fits, head_fits, alone_fits, has_one}
+use Rattle.nfs_exec.proofs.Step.CompoundCases.{for_sequence, for_other}
 use Rattle.nfs_exec.proofs.tables.Tables.compound.Goals as goal
 
 pub write_compound_head-requires-clause-room : goal.write_compound_head-requires-clause-room

@@ -1,7 +1,7 @@
 use Rattle.std.proofs.Common.{sym, ap, ◌∙◌, subst}
 use Rattle.nfs_results.specs.Results.{refusal}
-use Rattle.nfs_exec.specs.View.{IsSmall}
-use Rattle.nfs_exec.proofs.Bearing.{done_small, destroy_client_small}
+use Rattle.nfs_exec.specs.Step.View.{IsSmall}
+use Rattle.nfs_exec.proofs.Step.RefusalsFit.{done_small, destroy_client_small}
 use Rattle.nfs_exec.proofs.tables.Tables.destroy_client.Goals as goal
 
 pub returns-in-Ok-clause-size : goal.returns-in-Ok-clause-size

@@ -1,9 +1,9 @@
 use Rattle.std.proofs.Common.{sym, ap, ◌∙◌, subst}
 use Rattle.nfs_results.specs.Results.{refusal}
-use Rattle.nfs_exec.specs.View.{IsSmall}
-use Rattle.nfs_exec.specs.Machine.{machine_of}
-use Rattle.nfs_exec.proofs.Bearing.{session_done_small, destroy_session_small}
-use Rattle.nfs_exec.proofs.Destroying.{no_session}
+use Rattle.nfs_exec.specs.Step.View.{IsSmall}
+use Rattle.nfs_exec.specs.Step.Machine.{machine_of}
+use Rattle.nfs_exec.proofs.Step.RefusalsFit.{session_done_small, destroy_session_small}
+use Rattle.nfs_exec.proofs.Step.Destroying.{no_session}
 use Rattle.nfs_exec.proofs.tables.Tables.destroy_session.Goals as goal
 
 pub returns-then-destroy-clause-size : goal.returns-then-destroy-clause-size

@@ -9,10 +9,10 @@ use Rattle.nfs_results.specs.declared.res.Res.{Res}
 use Rattle.nfs_results.specs.declared.res.ExchangeIdOk.{ExchangeIdOk}
 use Rattle.nfs_results.specs.Results.{status_of_result}
 use Rattle.nfs_names.specs.Outcome.{is_delay}
-use Rattle.nfs_exec.specs.Machine.{with_result, or_delay, machine_of}
-use Rattle.nfs_exec.specs.ExchangeId.{exchange_id, exchange_id_number, ask_of}
-use Rattle.nfs_exec.specs.View.{settled}
-use Rattle.nfs_exec.proofs.Exchanging.{answered_ok, refused_first, refused_last}
+use Rattle.nfs_exec.specs.Step.Machine.{with_result, or_delay, machine_of}
+use Rattle.nfs_exec.specs.Step.ExchangeId.{exchange_id, exchange_id_number, ask_of}
+use Rattle.nfs_exec.specs.Step.View.{settled}
+use Rattle.nfs_exec.proofs.Step.Exchanging.{answered_ok, refused_first, refused_last}
 use Rattle.nfs_exec.proofs.tables.Tables.exchange_id.Goals as goal
 
 -- what is asked for the owner of these bytes

@@ -1,6 +1,6 @@
 use Rattle.nfs_lease.specs.Queue.{standing}
-use Rattle.nfs_exec.specs.Machine.{machine_of}
-use Rattle.nfs_exec.proofs.Expiring.{Expires}
+use Rattle.nfs_exec.specs.Step.Machine.{machine_of}
+use Rattle.nfs_exec.proofs.Step.Expiring.{Expires}
 use Rattle.nfs_exec.proofs.tables.Tables.expire.Given as goal
 
 abbrev pub invariant-loop-client : goal.invariant-loop-client

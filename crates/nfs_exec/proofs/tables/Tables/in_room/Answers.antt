@@ -3,7 +3,7 @@ use Rattle.std.proofs.lemmas.List.{length-append}
 use Rattle.nfs_results.specs.declared.res.Res.{Res}
 use Rattle.nfs_results.specs.Results.{spell_result}
 use Rattle.nfs_xdr.specs.declared.status.Status.TheVariants.{RepTooBig}
-use Rattle.nfs_exec.proofs.Bearing.{refusal_short}
+use Rattle.nfs_exec.proofs.Step.RefusalsFit.{refusal_short}
 use Rattle.nfs_exec.proofs.tables.Tables.in_room.Goals as goal
 
 pub write-requires-clause-room : goal.write-requires-clause-room

@@ -1,5 +1,5 @@
 use Rattle.std.proofs.Common.{sym}
-use Rattle.nfs_exec.proofs.Keeping.{any_head_fits, refusal_fits}
+use Rattle.nfs_exec.proofs.Step.RepliesKept.{any_head_fits, refusal_fits}
 use Rattle.nfs_exec.proofs.tables.Tables.in_session.Goals as goal
 
 pub write_compound_head-requires-clause-room : goal.write_compound_head-requires-clause-room

@@ -4,10 +4,10 @@ use Rattle.nfs_sessions.specs.declared.channel.Wish.{Wish}
 use Rattle.nfs_sessions.specs.Sessions.{create}
 use Rattle.nfs_sessions.specs.SessionTables.{CreatesOrWants}
 use Rattle.nfs_names.specs.Outcome.{is_delay}
-use Rattle.nfs_exec.specs.Machine.{or_delay, refuses, machine_of}
-use Rattle.nfs_exec.specs.CreateSession.{create_session_number, wish_of, channel_of, creates}
-use Rattle.nfs_exec.specs.View.{Does}
-use Rattle.nfs_exec.proofs.Creating.{made, refused_session}
+use Rattle.nfs_exec.specs.Step.Machine.{or_delay, refuses, machine_of}
+use Rattle.nfs_exec.specs.Step.CreateSession.{create_session_number, wish_of, channel_of, creates}
+use Rattle.nfs_exec.specs.Step.View.{Does}
+use Rattle.nfs_exec.proofs.Step.Creating.{made, refused_session}
 use Rattle.nfs_exec.proofs.tables.Tables.make_session.Goals as goal
 
 pub returns-in-Ok : goal.returns-in-Ok

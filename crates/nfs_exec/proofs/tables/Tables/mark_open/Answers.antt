@@ -1,8 +1,8 @@
 use Rattle.std.proofs.Common.{sym, ◌∙◌}
 use Rattle.nfs_compound.specs.declared.op.Item.TheVariants.{Operation}
-use Rattle.nfs_exec.specs.Machine.{machine_of}
-use Rattle.nfs_exec.specs.Behind.{moves_opens}
-use Rattle.nfs_exec.proofs.Behind.{marks_moved, marks_nothing}
+use Rattle.nfs_exec.specs.Step.Machine.{machine_of}
+use Rattle.nfs_exec.specs.Step.Behind.{moves_opens}
+use Rattle.nfs_exec.proofs.Step.Behind.{marks_moved, marks_nothing}
 use Rattle.nfs_exec.proofs.tables.Tables.mark_open.Goals as goal
 
 pub returns-then-moves_opens-clause-marked : goal.returns-then-moves_opens-clause-marked

@@ -1,8 +1,8 @@
 use Rattle.std.proofs.Common.{refl}
 use Rattle.nfs_compound.specs.declared.op.Item.TheVariants.{Operation}
 use Rattle.nfs_names.specs.State.{state_of}
-use Rattle.nfs_exec.specs.Machine.{machine_of}
-use Rattle.nfs_exec.proofs.Behind.{none_named, named_steps, file_steps, other_steps}
+use Rattle.nfs_exec.specs.Step.Machine.{machine_of}
+use Rattle.nfs_exec.proofs.Step.Behind.{none_named, named_steps, file_steps, other_steps}
 use Rattle.nfs_exec.proofs.tables.Tables.operation.Goals as goal
 
 pub returns-in-Some-clause-steps : goal.returns-in-Some-clause-steps

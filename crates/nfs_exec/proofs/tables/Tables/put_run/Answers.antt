@@ -11,13 +11,13 @@ use Rattle.nfs_names.specs.declared.context.Context.{Context}
 use Rattle.nfs_sessions.specs.declared.id.SessionId.{SessionId}
 use Rattle.nfs_sessions.specs.Id.{id_of}
 use Rattle.nfs_names.specs.Context.{begins}
-use Rattle.nfs_exec.specs.Sequence as Sequence
-use Rattle.nfs_exec.specs.Run.{run, behind_here}
-use Rattle.nfs_exec.specs.Compound.{begun, run_in}
-use Rattle.nfs_exec.specs.View.{RunsTo}
-use Rattle.nfs_exec.specs.Machine.{machine_of}
-use Rattle.nfs_exec.proofs.Running.{later, later_behind}
-use Rattle.nfs_exec.proofs.Keeping.{accepted_long, head_fits, second_fits, run_fits, has_head, within_64, begun_is, put_closed, last_fits}
+use Rattle.nfs_exec.specs.Step.Sequence as Sequence
+use Rattle.nfs_exec.specs.Step.Run.{run, behind_here}
+use Rattle.nfs_exec.specs.Step.Compound.{begun, run_in}
+use Rattle.nfs_exec.specs.Step.View.{RunsTo}
+use Rattle.nfs_exec.specs.Step.Machine.{machine_of}
+use Rattle.nfs_exec.proofs.Step.Running.{later, later_behind}
+use Rattle.nfs_exec.proofs.Step.RepliesKept.{accepted_long, head_fits, second_fits, run_fits, has_head, within_64, begun_is, put_closed, last_fits}
 use Rattle.nfs_exec.proofs.tables.Tables.put_run.Goals as goal
 
 pub put-head-requires-clause-room : goal.put-head-requires-clause-room

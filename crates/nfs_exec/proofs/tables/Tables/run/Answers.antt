@@ -5,10 +5,10 @@ use Rattle.nfs_names.specs.declared.context.Context.{Context}
 use Rattle.nfs_xdr.specs.SheetState.{SheetState}
 use Rattle.nfs_exec.specs.declared.tables.Tables.{Tables}
 use Rattle.nfs_names.specs.Outcome.{is_delay}
-use Rattle.nfs_exec.specs.Machine.{machine_of}
-use Rattle.nfs_exec.specs.Run.{in_room}
-use Rattle.nfs_exec.specs.View.{Steps}
-use Rattle.nfs_exec.proofs.Running.{Stand, Going, Stepped, so_far, begins, goes_on, ends, ends_with, ends_within, not_ok, counted}
+use Rattle.nfs_exec.specs.Step.Machine.{machine_of}
+use Rattle.nfs_exec.specs.Step.Run.{in_room}
+use Rattle.nfs_exec.specs.Step.View.{Steps}
+use Rattle.nfs_exec.proofs.Step.Running.{Stand, Going, Stepped, so_far, begins, goes_on, ends, ends_with, ends_within, not_ok, counted}
 use Rattle.nfs_exec.proofs.tables.Tables.run.Goals as goal
 use Rattle.nfs_exec.proofs.tables.Tables.run.Goals.{After-in_room-status}
 

@@ -1,6 +1,6 @@
 use Rattle.std.proofs.Common.{length}
-use Rattle.nfs_exec.specs.Machine.{machine_of}
-use Rattle.nfs_exec.proofs.Running.{Loop}
+use Rattle.nfs_exec.specs.Step.Machine.{machine_of}
+use Rattle.nfs_exec.proofs.Step.Running.{Loop}
 use Rattle.nfs_exec.proofs.tables.Tables.run.Given as goal
 
 abbrev pub invariant-loop-item : goal.invariant-loop-item

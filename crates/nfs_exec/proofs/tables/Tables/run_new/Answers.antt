@@ -2,16 +2,16 @@ use Rattle.std.proofs.Common.{ℕ, ◌≡◌, ◌-◌, ◌≤◌, List, ◌++◌
 use Rattle.nfs_xdr.specs.Caller.{caller}
 use Rattle.nfs_compound.specs.Request.{Request}
 use Rattle.nfs_lease.specs.Renewals.{leases_of}
-use Rattle.nfs_exec.specs.Machine.{Machine, machine_of}
+use Rattle.nfs_exec.specs.Step.Machine.{Machine, machine_of}
 use Rattle.nfs_names.specs.Context.{begins}
 use Rattle.nfs_sessions.specs.Id.{id_of}
-use Rattle.nfs_exec.specs.Run.{behind_here}
-use Rattle.nfs_exec.specs.Sequence.{compared}
-use Rattle.nfs_exec.specs.Compound.{answers, begun, renewed, runs_behind}
-use Rattle.nfs_exec.specs.View.{Answers}
-use Rattle.nfs_exec.proofs.Behind.{run_sessions}
-use Rattle.nfs_exec.proofs.Judging.{joined}
-use Rattle.nfs_exec.proofs.Keeping.{starts_within, text_of, renewed_machine, kept_machine, may_keep}
+use Rattle.nfs_exec.specs.Step.Run.{behind_here}
+use Rattle.nfs_exec.specs.Step.Sequence.{compared}
+use Rattle.nfs_exec.specs.Step.Compound.{answers, begun, renewed, runs_behind}
+use Rattle.nfs_exec.specs.Step.View.{Answers}
+use Rattle.nfs_exec.proofs.Step.Behind.{run_sessions}
+use Rattle.nfs_exec.proofs.Step.Judging.{joined}
+use Rattle.nfs_exec.proofs.Step.RepliesKept.{starts_within, text_of, renewed_machine, kept_machine, may_keep}
 use Rattle.nfs_exec.proofs.tables.Tables.run_new.Goals as goal
 
 pub slice_bounds-reply-count : goal.slice_bounds-reply-count

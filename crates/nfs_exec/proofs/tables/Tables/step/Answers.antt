@@ -3,7 +3,7 @@ use Rattle.std.proofs.lemmas.List.{length-append}
 use Rattle.nfs_results.specs.declared.res.Res.{Res}
 use Rattle.nfs_results.specs.Largest.{largest}
 use Rattle.nfs_results.specs.Results.{spell_result}
-use Rattle.nfs_exec.proofs.Bearing.{refusal_short}
+use Rattle.nfs_exec.proofs.Step.RefusalsFit.{refusal_short}
 use Rattle.nfs_exec.proofs.tables.Tables.step.Goals as goal
 
 -- what a fault answers has 12 bytes at most

@@ -1,6 +1,6 @@
 use Rattle.std.proofs.Common.{sym, subst}
-use Rattle.nfs_exec.specs.Machine.{IsMachine, machine_of}
-use Rattle.nfs_exec.proofs.Invariant.{of_expired}
+use Rattle.nfs_exec.specs.Step.Machine.{IsMachine, machine_of}
+use Rattle.nfs_exec.proofs.Step.Invariant.{of_expired}
 use Rattle.nfs_exec.proofs.world.World.expire.Goals as goal
 
 pub invariant_of-self : goal.invariant_of-self

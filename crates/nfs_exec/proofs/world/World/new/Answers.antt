@@ -1,6 +1,6 @@
 use Rattle.std.proofs.Common.{sym, subst}
-use Rattle.nfs_exec.specs.Machine.{IsMachine}
-use Rattle.nfs_exec.proofs.Invariant.{of_start}
+use Rattle.nfs_exec.specs.Step.Machine.{IsMachine}
+use Rattle.nfs_exec.proofs.Step.Invariant.{of_start}
 use Rattle.nfs_exec.proofs.world.World.new.Goals as goal
 
 pub invariant_of-result : goal.invariant_of-result

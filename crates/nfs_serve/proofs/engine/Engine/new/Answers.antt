@@ -1,5 +1,5 @@
 use Rattle.std.proofs.Common.{refl, ap}
-use Rattle.nfs_exec.specs.Machine.{Machine}
+use Rattle.nfs_exec.specs.Step.Machine.{Machine}
 use Rattle.nfs_serve.specs.Step.{State}
 use Rattle.nfs_serve.proofs.Framing.{behind_front}
 use Rattle.nfs_serve.proofs.engine.Engine.new.Goals as goal

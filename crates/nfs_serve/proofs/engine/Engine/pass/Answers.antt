@@ -1,5 +1,5 @@
 use Rattle.std.proofs.Common.{arith}
-use Rattle.nfs_exec.specs.Machine.{machine_of}
+use Rattle.nfs_exec.specs.Step.Machine.{machine_of}
 use Rattle.nfs_serve.proofs.Stepping.{latest_expired}
 use Rattle.nfs_serve.proofs.engine.Engine.pass.Goals as goal
 

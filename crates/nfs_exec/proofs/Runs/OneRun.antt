@@ -1,0 +1,75 @@
+-- What an operation that was run came to, by whose operation it is.
+use Rattle.std.proofs.Common.{◌≡◌, ℕ, ◌+◌, Bool, true, false, ltb, List, None, refl, sym, ◌∙◌, ap, subst, inl, inr}
+use Rattle.std.specs.Option.{ForSome}
+use Rattle.std.proofs.lemmas.Bool.{cases_Bool}
+use Rattle.nfs_xdr.specs.declared.status.Status.{Status}
+use Rattle.nfs_xdr.specs.declared.status.Status.TheVariants.{RepTooBig}
+use Rattle.nfs_compound.specs.declared.op.Item.{Item}
+use Rattle.nfs_compound.specs.Request.{item_number}
+use Rattle.nfs_results.specs.Largest.{largest}
+use Rattle.nfs_results.specs.Results.{spell_result, status_of_result}
+use Rattle.nfs_names.specs.declared.context.Context.{Context}
+use Rattle.nfs_names.specs.Operation as names
+use Rattle.nfs_names.specs.Outcome.{is_ok}
+use Rattle.nfs_names.specs.State.{State, moment}
+use Rattle.nfs_files.specs.Operation as table
+use Rattle.nfs_files.proofs.Outcomes.{comes_to, for_each}
+use Rattle.nfs_exec.specs.Step.Machine.{Machine}
+use Rattle.nfs_exec.specs.Step.Behind.{Step, step, stays, on_store, moves_opens, marked_if, otherwise}
+use Rattle.nfs_exec.specs.Step.Run.{in_room, reserve}
+use Rattle.nfs_exec.specs.Runs.Ops.{RanOp, done}
+use Rattle.nfs_exec.proofs.Step.Behind.{by_step}
+use Rattle.nfs_exec.proofs.Step.RefusalsFit.{refused_status}
+use Rattle.nfs_exec.proofs.Runs.KeptByRuns.{Is, otherwise_store}
+
+-- an operation is refused for want of room, or is what it is
+pub in_room_is : (P : Step → Type 0) (limit sofar now : ℕ) (refused : Bool) (m : Machine) (x : Context) (i : Item) → P (stays m x i RepTooBig)
+    → P (step m x now refused i) → P (in_room limit sofar now refused m x i)
+in_room_is P limit sofar now refused m x i big fits = elim (cases_Bool (ltb limit (sofar + largest i + reserve))) [ inl is ↦ rw is big | inr is ↦ rw is fits ]
+
+pub too_big : (m : Machine) (x : Context) (i : Item) → is_ok (stays m x i RepTooBig).outcome.status ≡ true → ⊥
+too_big m x i ok = let bad : is_ok RepTooBig ≡ true = sym (ap is_ok (refused_status (item_number i) RepTooBig)) ∙ ok in absurd cc
+
+-- it was run
+pub record IsRun (d : RanOp) : Type 0 where
+  pub limit : ℕ
+  pub sofar : ℕ
+  pub now : ℕ
+  pub refused : Bool
+  pub whole : Is d.before
+  pub is : d ≡ done d.before d.context d.item (in_room limit sofar now refused d.before d.context d.item)
+
+-- What holds of its status, its result and the store behind it: of what is refused for want of room, and of the step that its item is.
+pub by_item : (P : Status → List ℕ → State → Type 0) (d : RanOp) (r : IsRun d) (i : Item) → d.item ≡ i
+    → (let o = (stays d.before d.context i RepTooBig).outcome in P o.status o.result d.before.store)
+    → (let o = (step d.before d.context r.now r.refused i).outcome in P o.status o.result o.machine.store) → P d.status d.result d.behind.store
+by_item P d r i same big fits =
+    subst (λ (c : RanOp). P c.status c.result c.behind.store)
+    (sym (r.is ∙ ap (λ j. done d.before d.context j (in_room r.limit r.sofar r.now r.refused d.before d.context j)) same))
+    (in_room_is (λ s. P s.outcome.status s.outcome.result s.outcome.machine.store) r.limit r.sofar r.now r.refused d.before d.context i big fits)
+
+-- of one that answers NFS4_OK there is room
+pub by_ok : (P : List ℕ → State → Type 0) (d : RanOp) (r : IsRun d) (i : Item) → d.item ≡ i → is_ok d.status ≡ true
+    → (let o = (step d.before d.context r.now r.refused i).outcome in is_ok o.status ≡ true → P o.result o.machine.store) → P d.result d.behind.store
+by_ok P d r i same ok fits =
+    by_item (λ status text s. is_ok status ≡ true → P text s) d r i same (λ ok. absurd (too_big d.before d.context i ok)) fits ok
+
+-- Or of an operation on names, of one on open files, and of what is on neither, which leaves the store.
+pub by_run : (P : Status → List ℕ → State → Type 0) (d : RanOp) (r : IsRun d)
+    → (let o = (stays d.before d.context d.item RepTooBig).outcome in P o.status o.result d.before.store)
+    → ForSome (names.comes_to r.refused d.before.store d.context (moment r.now) d.item) (λ o. P (status_of_result o.result) (spell_result o.result) o.state)
+    → (let o = comes_to r.refused d.before.store d.context (moment r.now) d.item in P (status_of_result o.result) (spell_result o.result) o.state)
+    → (table.comes_to r.refused d.before.store d.context (moment r.now) d.item ≡ None
+    → (let o = (otherwise d.before d.context d.item).outcome in P o.status o.result d.before.store))
+    → P d.status d.result d.behind.store
+by_run P d r big named filed other = by_item P d r d.item refl big
+    (by_step (λ s. P s.outcome.status s.outcome.result s.outcome.machine.store) d.before d.context r.now r.refused d.item named
+    (for_each (λ o. (let s = marked_if (moves_opens d.item) d.context.client (on_store d.before o) in P s.outcome.status s.outcome.result s.outcome.machine.store))
+    r.refused d.before.store d.context (moment r.now) d.item (by_mark (moves_opens d.item)))
+    (λ none off. (let o = (otherwise d.before d.context d.item).outcome in
+    subst (P o.status o.result) (sym (otherwise_store d.before d.context d.item)) (other off))))
+  where
+    by_mark : (moves : Bool) → (let s = marked_if moves d.context.client (on_store d.before (comes_to r.refused d.before.store d.context (moment r.now) d.item)) in
+        P s.outcome.status s.outcome.result s.outcome.machine.store)
+    by_mark true = filed
+    by_mark false = filed

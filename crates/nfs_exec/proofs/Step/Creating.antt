@@ -1,0 +1,160 @@
+-- CREATE_SESSION: the bytes of its result, and what the code's steps come to.
+use Rattle.std.proofs.Common.{◌≡◌, ℕ, ◌+◌, ◌-◌, ◌≤◌, Bool, true, false, List, ◌++◌, length, take, drop, Option, Some, None, Result, Ok, Err, refl, sym, ◌∙◌, ap}
+use Rattle.std.proofs.Common.{subst, arith}
+use Rattle.std.specs.Prelude.{IsOk}
+use Rattle.std.proofs.lemmas.List.{length-append, length-drop, take_all}
+use Rattle.std.proofs.Math.Seq.{drop-append_seam}
+use Rattle.nfs_xdr.specs.SheetState.{SheetState, HasRoom, Puts}
+use Rattle.nfs_xdr.specs.declared.status.Status.{Status}
+use Rattle.nfs_xdr.specs.declared.status.Status.TheVariants.{Nfs4Ok, Delay}
+use Rattle.nfs_xdr.specs.Spelling.{hyper}
+use Rattle.nfs_xdr.proofs.Putting.{length_hyper}
+use Rattle.nfs_compound.specs.declared.session_args.CreateSession.{CreateSession}
+use Rattle.nfs_compound.specs.declared.op.Item.TheVariants.{Operation}
+use Rattle.nfs_compound.specs.declared.op.Op.TheVariants as Op
+use Rattle.nfs_results.specs.declared.res.Res.{Res}
+use Rattle.nfs_results.specs.Results.{spell_result, head, operation_of, status_of_result, done_head}
+use Rattle.nfs_results.specs.Parts.{parts}
+use Rattle.nfs_compound.specs.declared.op_num.OpNum.TheVariants as Num
+use Rattle.nfs_results.proofs.Lengths.{length_result, length_head}
+use Rattle.nfs_clients.specs.Roster.{Roster}
+use Rattle.nfs_clients.specs.declared.created.CreateResult.TheVariants.{Refused}
+use Rattle.nfs_clients.specs.CreateSession.{Verdict, with_kept}
+use Rattle.nfs_clients.proofs.Members.{not_kept}
+use Rattle.nfs_sessions.specs.declared.id.SessionId.{SessionId}
+use Rattle.nfs_sessions.specs.declared.channel.Wish.{Wish}
+use Rattle.nfs_sessions.specs.declared.sessions.SessionFault.{SessionFault}
+use Rattle.nfs_sessions.specs.declared.sessions.SessionFault.TheVariants.{TooSmall, NoSpc, ServerFault, Memory}
+use Rattle.nfs_sessions.specs.Id.{id_bytes}
+use Rattle.nfs_sessions.specs.Sessions.{SessionTable, Created, create, create_unless, create_fault, fault_status}
+use Rattle.nfs_sessions.specs.SessionTables.{CreatesOrWants}
+use Rattle.nfs_names.specs.Outcome.{is_delay}
+use Rattle.nfs_exec.specs.Step.Machine.{Machine, Outcome, or_delay, refuses}
+use Rattle.nfs_exec.specs.Step.CreateSession.{create_session_number, session_made, made_body, by_verdict, by_created, creates, confirmed}
+use Rattle.nfs_exec.specs.Step.View.{Does}
+
+pub length_id : (id : SessionId) → length (id_bytes id) ≡ 16
+length_id id = length-append (hyper id.client) (hyper id.counter) ∙ omega (arith, length_hyper id.client, length_hyper id.counter)
+
+pub made_long : (c : CreateSession) (id : SessionId) → length (spell_result (Res.CreateSession (session_made c id))) ≤ 92
+made_long c id = length_result (Operation (Op.CreateSession c)) (Res.CreateSession (session_made c id)) (length_id id) (refl, tt, refl)
+
+pub made_fits : (sheet : SheetState) (c : CreateSession) (id : SessionId) (r : Res)
+    → length sheet.bytes + 92 ≤ sheet.room → r ≡ Res.CreateSession (session_made c id) → HasRoom sheet (spell_result r)
+made_fits sheet c id r room is =
+    let long : length (spell_result r) ≤ 92 = subst (λ (r : Res). length (spell_result r) ≤ 92) (sym is) (made_long c id) in
+    omega (arith, room, long)
+
+pub the_rest : (n : ℕ) (bytes : List ℕ) → take (length bytes - n) (drop n bytes) ≡ drop n bytes
+the_rest n bytes = take_all (length bytes - n) (drop n bytes) (omega (arith, length-drop n bytes))
+
+-- what was put, and what stands behind its head
+
+pub put_whole : (old new : SheetState) (r : Res) (begin : ℕ) → Puts old new (spell_result r)
+    → begin ≡ length old.bytes → take (length new.bytes - begin) (drop begin new.bytes) ≡ spell_result r
+put_whole old new r begin put at =
+    the_rest begin new.bytes ∙ ap (λ n. drop n new.bytes) at ∙ ap (drop (length old.bytes)) put.bytes ∙ drop-append_seam old.bytes (spell_result r)
+
+pub behind_head : (r : Res) (text : List ℕ) → text ≡ spell_result r → take (length text - 8) (drop 8 text) ≡ (parts r).behind
+behind_head r text is =
+    let front = head (operation_of r) (status_of_result r) in
+    the_rest 8 text ∙ ap (drop 8) is ∙ ap (λ n. drop n (front ++ (parts r).behind)) (sym (length_head (operation_of r) (status_of_result r)))
+    ∙ drop-append_seam front (parts r).behind
+
+pub longer : (r : Res) → 8 ≤ length (spell_result r)
+longer r =
+    let long = length-append (head (operation_of r) (status_of_result r)) (parts r).behind in
+    let front = length_head (operation_of r) (status_of_result r) in
+    omega (arith, long, front)
+
+pub body_within : (c : CreateSession) (id : SessionId) → length (made_body c id) ≤ 84
+body_within c id =
+    let whole = made_long c id in
+    let parts_long = length-append (head 43 Nfs4Ok) (made_body c id) in
+    let front = length_head 43 Nfs4Ok in
+    omega (arith, whole, parts_long, front)
+
+-- A session was made.
+
+pub made : (m : Machine) (now : ℕ) (c : CreateSession) (id : SessionId) (did : Created) (after : SessionTable)
+    (left : Machine) (body : List ℕ) (old new : SheetState) →
+    Ok id ≡ did.answer → after ≡ did.after → left ≡ confirmed (record m { sessions = after }) now c.clientid body →
+    body ≡ made_body c id → Puts old new (done_head Num.CreateSession ++ made_body c id) →
+    Does (creates m now c did) Nfs4Ok left old new
+made m now c id did after left body old new ok is kept whole put =
+    subst (λ answer. Does (by_created m now c did.after answer) Nfs4Ok left old new) ok (record {
+      status = refl;
+      machine = kept ∙ ap (λ (t : SessionTable). confirmed (record m { sessions = t }) now c.clientid body) is
+          ∙ ap (λ b. confirmed (record m { sessions = did.after }) now c.clientid b) whole;
+      put = put;
+    })
+
+-- A session was refused.
+
+no_memory : (m : Machine) (now : ℕ) (c : CreateSession) (did : Created) → IsOk did.answer
+    → or_delay true m create_session_number (creates m now c did) ≡ refuses m create_session_number Delay
+no_memory m now c did ok = go did.answer ok
+  where
+    go : (answer : Result SessionId SessionFault) → IsOk answer
+        → or_delay true m create_session_number (by_created m now c did.after answer) ≡ refuses m create_session_number Delay
+    go (Ok id) ok = refl
+    go (Err fault) ok = absurd cc
+
+told : (m : Machine) (now : ℕ) (c : CreateSession) (clients : Roster) (after : SessionTable) (fault : SessionFault) (s : Status)
+    (old new : SheetState) (wish : Wish) (o : Option SessionFault) →
+    Err fault ≡ (create_unless m.sessions c.clientid wish o).answer → after ≡ (create_unless m.sessions c.clientid wish o).after →
+    clients ≡ with_kept m.clients c.clientid (Refused s) → s ≡ fault_status fault → is_delay s ≡ false →
+    ((n : Machine) → Does (refuses n create_session_number s) s n old new) →
+    Does (or_delay (is_delay s) m create_session_number (creates m now c (create_unless m.sessions c.clientid wish o))) s
+    (record m { clients = clients; sessions = after }) old new
+told m now c clients after fault s old new wish None answer left kept status plain does = absurd cc
+told m now c clients after fault s old new wish (Some f) answer left kept status plain does =
+    let same : fault ≡ f = cc in
+    let is : s ≡ fault_status f = status ∙ ap fault_status same in
+    let n = record m { clients = clients; sessions = after } in
+    let to : n ≡ record m { clients = with_kept m.clients c.clientid (Refused (fault_status f)) } =
+    ap (λ (t : Roster). record m { clients = t; sessions = after }) (kept ∙ ap (λ (u : Status). with_kept m.clients c.clientid (Refused u)) is)
+    ∙ ap (λ (t : SessionTable). record m { clients = with_kept m.clients c.clientid (Refused (fault_status f)); sessions = t }) left in
+    subst (λ b. Does (or_delay b m create_session_number (refuses (record m { clients = with_kept m.clients c.clientid (Refused (fault_status f)) })
+    create_session_number (fault_status f))) s n old new) (sym plain)
+    (subst (λ (k : Machine). Does (refuses k create_session_number (fault_status f)) s n old new) to
+    (subst (λ (u : Status). Does (refuses n create_session_number u) s n old new) is (does n)))
+
+wanted : (m : Machine) (now : ℕ) (c : CreateSession) (clients : Roster) (after : SessionTable) (s : Status) (old new : SheetState) (did : Created) →
+    IsOk did.answer → after ≡ m.sessions → clients ≡ with_kept m.clients c.clientid (Refused s) → s ≡ Delay →
+    ((n : Machine) → Does (refuses n create_session_number s) s n old new) →
+    Does (or_delay (is_delay s) m create_session_number (creates m now c did)) s (record m { clients = clients; sessions = after }) old new
+wanted m now c clients after s old new did ok left kept status does =
+    let same : clients ≡ m.clients = kept ∙ ap (λ (u : Status). with_kept m.clients c.clientid (Refused u)) status
+    ∙ sym (not_kept m.clients c.clientid (Refused Delay) refl) in
+    let n = record m { clients = clients; sessions = after } in
+    let to : n ≡ m = ap (λ (t : Roster). record m { clients = t; sessions = after }) same ∙ ap (λ (t : SessionTable). record m { sessions = t }) left in
+    subst (λ (o : Outcome). Does o s n old new)
+    (sym (ap (λ (u : Status). or_delay (is_delay u) m create_session_number (creates m now c did)) status ∙ no_memory m now c did ok))
+    (subst (λ (k : Machine). Does (refuses k create_session_number Delay) s n old new) to
+    (subst (λ (u : Status). Does (refuses n create_session_number u) s n old new) status (does n)))
+
+pub refused_session : (m : Machine) (now : ℕ) (c : CreateSession) (wish : Wish) (clients : Roster) (after : SessionTable)
+    (fault : SessionFault) (s : Status) (old new : SheetState) →
+    CreatesOrWants m.sessions (create m.sessions c.clientid wish) (Err fault) after →
+    clients ≡ with_kept m.clients c.clientid (Refused s) → s ≡ fault_status fault →
+    ((n : Machine) → Does (refuses n create_session_number s) s n old new) →
+    Does (or_delay (is_delay s) m create_session_number (creates m now c (create m.sessions c.clientid wish))) s
+    (record m { clients = clients; sessions = after }) old new
+refused_session m now c wish clients after TooSmall s old new did kept status does =
+    told m now c clients after TooSmall s old new wish (create_fault m.sessions wish) did.0 did.1 kept status (ap is_delay status) does
+refused_session m now c wish clients after NoSpc s old new did kept status does =
+    told m now c clients after NoSpc s old new wish (create_fault m.sessions wish) did.0 did.1 kept status (ap is_delay status) does
+refused_session m now c wish clients after ServerFault s old new did kept status does =
+    told m now c clients after ServerFault s old new wish (create_fault m.sessions wish) did.0 did.1 kept status (ap is_delay status) does
+refused_session m now c wish clients after Memory s old new did kept status does =
+    wanted m now c clients after s old new (create m.sessions c.clientid wish) did.0 did.1 kept status does
+
+-- the call was refused by its number or its caller
+pub refused_call : (m : Machine) (now : ℕ) (refused : Bool) (c : CreateSession) (v w : Verdict) (s t r : Status) (left : Machine) (old new : SheetState) →
+    w ≡ v → by_verdict m now refused c w ≡ refuses m create_session_number t → s ≡ t → left ≡ m →
+    ((n : Machine) → Does (refuses n create_session_number s) r n old new) → Does (by_verdict m now refused c v) r left old new
+refused_call m now refused c v w s t r left old new is told status same does =
+    subst (λ (o : Outcome). Does o r left old new) (sym told ∙ ap (by_verdict m now refused c) is)
+    (subst (λ (k : Machine). Does (refuses m create_session_number t) r k old new) (sym same)
+    (subst (λ (u : Status). Does (refuses m create_session_number u) r m old new) status (does m)))

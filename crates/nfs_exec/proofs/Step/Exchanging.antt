@@ -1,0 +1,94 @@
+-- EXCHANGE_ID: what the code's steps come to.
+use Rattle.std.proofs.Common.{◌≡◌, ℕ, ◌<◌, Bool, true, false, None, Ok, Err, refl, ◌∙◌}
+use Rattle.std.specs.Prelude.{◌||◌, nat_lt, is_some, length}
+use Rattle.std.proofs.lemmas.Bool.{and_parts, ltb-true}
+use Rattle.nfs_clients.specs.declared.exchange_id.Exchanged.{Exchanged}
+use Rattle.nfs_clients.specs.declared.exchange_id.ClientFault.{ClientFault}
+use Rattle.nfs_clients.specs.declared.exchange_id.ClientFault.TheVariants.{Inval, NoEnt, NotSame, Perm, ClidInUse, ServerFault, Memory}
+use Rattle.nfs_clients.specs.Roster.{Roster, client_at, confirmed_of, next_id, last_counter, most_records, unconfirmed_of}
+use Rattle.nfs_clients.specs.ExchangeId.{Ask, Case, Refuses, Stays, Adds, has_room, if_room, case_by, case_of, does}
+use Rattle.nfs_clients.specs.Calls.{exchange_fault, refusal_of, ExchangesOrWants}
+use Rattle.nfs_clients.specs.ExchangeId.{fault_status, answer_standing, answer_added}
+use Rattle.nfs_xdr.specs.Checks.{judged}
+use Rattle.nfs_xdr.specs.Caller.{Caller}
+use Rattle.nfs_compound.specs.declared.session_args.ExchangeId.{ExchangeId}
+use Rattle.nfs_lease.specs.Renewals.{Book, with_lease, without_lease}
+use Rattle.nfs_results.specs.declared.res.Res.TheVariants as Res
+use Rattle.nfs_names.specs.Outcome.{is_delay}
+use Rattle.nfs_exec.specs.Step.Machine.{Machine, IsMachine, with_result, or_delay}
+use Rattle.nfs_exec.specs.Step.ExchangeId.{exchange_id, exchange_id_number, granted, ask_of, exchanged}
+use Rattle.nfs_exec.specs.Step.View.{settled}
+use Rattle.nfs_exec.proofs.Step.LeaseTakenBack.{unleased, taken_back}
+
+no_room : (case : Case) → if_room false case ≡ Adds → ⊥
+no_room (Refuses fault) e = absurd cc
+no_room (Stays c) e = absurd cc
+no_room Adds e = absurd cc
+
+pub room_of : (room : Bool) (case : Case) → if_room room case ≡ Adds → room ≡ true
+room_of true case e = refl
+room_of false case e = absurd (no_room case e)
+
+-- a record is added only where an id is left
+adds_below : (t : Roster) (a : Ask) → case_of t a ≡ Adds → t.last < last_counter
+adds_below t a e =
+    let parts = and_parts (nat_lt t.last last_counter) (is_some (unconfirmed_of t a.owner) || nat_lt (length t.records) most_records)
+    (room_of (has_room t a.owner) (case_by a (confirmed_of t a.owner)) e) in
+    ltb-true t.last last_counter parts.0
+
+-- the call was answered: the record's lease stands, or the one that was made first is taken back
+pub answered_ok : (m : Machine) (who : Caller) (now : ℕ) (e : ExchangeId) (next : ℕ) (x : Exchanged) (after : Roster) (b : Book) (case : Case) →
+    IsMachine m → client_at m.clients next ≡ None → (m.clients.last < last_counter → next ≡ next_id m.clients) → case_of m.clients (ask_of who e) ≡ case →
+    Ok x ≡ (does m.clients (ask_of who e) case).answer →
+    after ≡ (does m.clients (ask_of who e) case).after → b ≡ settled (with_lease m.leases next now) next x →
+    with_result (record m { clients = after; leases = b }) (Res.ExchangeId (granted x)) ≡ exchanged m now (does m.clients (ask_of who e) case)
+answered_ok m who now e next x after b (Refuses fault) is none value at answer left book = absurd cc
+answered_ok m who now e next x after b (Stays c) is none value at answer left book =
+    let same : x ≡ answer_standing c = cc in
+    let back : b ≡ m.leases = rw same at book ∙ taken_back m.leases next now (unleased m next is none) in
+    rw (same, left, back) refl
+answered_ok m who now e next x after b Adds is none value at answer left book =
+    let same : x ≡ answer_added m.clients (ask_of who e).owner = cc in
+    let id : next ≡ next_id m.clients = value (adds_below m.clients (ask_of who e) at) in
+    let made : b ≡ settled (with_lease m.leases (next_id m.clients) now) next (answer_added m.clients (ask_of who e).owner) = rw (id, same) at book in
+    rw (same, left, made) refl
+
+-- the call was refused before anything was made
+pub refused_first : (m : Machine) (who : Caller) (now : ℕ) (e : ExchangeId) (fault : ClientFault) (case : Case) → Err fault ≡ judged (refusal_of case) →
+    with_result m (Res.Refused exchange_id_number (fault_status fault))
+    ≡ or_delay (is_delay (fault_status fault)) m exchange_id_number (exchanged m now (does m.clients (ask_of who e) case))
+refused_first m who now e fault (Stays c) is = absurd cc
+refused_first m who now e fault Adds is = absurd cc
+refused_first m who now e Inval (Refuses f) is = let same : f ≡ Inval = cc in rw same refl
+refused_first m who now e NoEnt (Refuses f) is = let same : f ≡ NoEnt = cc in rw same refl
+refused_first m who now e NotSame (Refuses f) is = let same : f ≡ NotSame = cc in rw same refl
+refused_first m who now e Perm (Refuses f) is = let same : f ≡ Perm = cc in rw same refl
+refused_first m who now e ClidInUse (Refuses f) is = let same : f ≡ ClidInUse = cc in rw same refl
+refused_first m who now e ServerFault (Refuses f) is = let same : f ≡ ServerFault = cc in rw same refl
+refused_first m who now e Memory (Refuses f) is = let same : f ≡ Memory = cc in rw same refl
+
+-- memory was refused where the call would have been answered
+pub wanted : (m : Machine) (who : Caller) (now : ℕ) (e : ExchangeId) (case : Case) → judged (refusal_of case) ≡ Ok tt →
+    with_result m (Res.Refused exchange_id_number (fault_status Memory)) ≡ or_delay true m exchange_id_number (exchanged m now (does m.clients (ask_of who e) case))
+wanted m who now e (Refuses f) is = absurd cc
+wanted m who now e (Stays c) is = refl
+wanted m who now e Adds is = refl
+
+told_fault : (m : Machine) (who : Caller) (now : ℕ) (e : ExchangeId) (fault : ClientFault) (after : Roster) (case : Case) → judged (refusal_of case) ≡ Ok tt →
+    Err fault ≡ (does m.clients (ask_of who e) case).answer → ⊥
+told_fault m who now e fault after (Refuses f) is answer = absurd cc
+told_fault m who now e fault after (Stays c) is answer = absurd cc
+told_fault m who now e fault after Adds is answer = absurd cc
+
+-- the call was refused behind its lease, which was taken back
+pub refused_last : (m : Machine) (who : Caller) (now : ℕ) (e : ExchangeId) (next : ℕ) (fault : ClientFault) (after : Roster) (b : Book) →
+    IsMachine m → client_at m.clients next ≡ None → judged (exchange_fault m.clients (ask_of who e)) ≡ Ok tt →
+    ExchangesOrWants m.clients (ask_of who e) (Err fault) after →
+    b ≡ without_lease (with_lease m.leases next now) next →
+    with_result (record m { clients = after; leases = b }) (Res.Refused exchange_id_number (fault_status fault))
+    ≡ or_delay (is_delay (fault_status fault)) m exchange_id_number (exchange_id m who now e)
+refused_last m who now e next Memory after b is none judged did book =
+    let back : b ≡ m.leases = book ∙ taken_back m.leases next now (unleased m next is none) in
+    rw (did.1, back) (wanted m who now e (case_of m.clients (ask_of who e)) judged)
+refused_last m who now e next fault after b is none judged did book =
+    absurd (told_fault m who now e fault after (case_of m.clients (ask_of who e)) judged did.0)

@@ -1,0 +1,122 @@
+-- What holds of leases and of the store behind a compound.
+use Rattle.std.proofs.Common.{◌≡◌, ℕ, ◌-◌, Bool, false, arith, eqb, Option, Some, None, Result, Ok, Err, refl, sym, subst, inl, inr}
+use Rattle.std.proofs.lemmas.Bool.{cases_Bool, le-ltb}
+use Rattle.std.specs.Prelude.{◌==◌, not, option_map}
+use Rattle.nfs_xdr.specs.Caller.{Caller}
+use Rattle.nfs_compound.specs.declared.op.Item.{Item}
+use Rattle.nfs_compound.specs.Request.{Request}
+use Rattle.nfs_compound.specs.declared.session_args.CreateSession.{CreateSession}
+use Rattle.nfs_clients.specs.declared.exchange_id.Exchanged.{Exchanged}
+use Rattle.nfs_clients.specs.declared.exchange_id.ClientFault.{ClientFault}
+use Rattle.nfs_clients.specs.CreateSession as clients
+use Rattle.nfs_clients.specs.ExchangeId.{exchange}
+use Rattle.nfs_sessions.specs.declared.id.SessionId.{SessionId}
+use Rattle.nfs_sessions.specs.declared.sessions.SessionFault.{SessionFault}
+use Rattle.nfs_sessions.specs.Id.{id_of}
+use Rattle.nfs_sessions.specs.Sessions.{SessionTable, create}
+use Rattle.nfs_lease.specs.Renewals.{Book, is_out, has_run_out, with_lease, with_renewal, without_lease}
+use Rattle.nfs_lease.specs.Queue.{IsLatest}
+use Rattle.nfs_lease.proofs.Latest.{latest_lease, latest_renewal, latest_without}
+use Rattle.nfs_exec.specs.Step.Machine.{Machine}
+use Rattle.nfs_exec.specs.Step.Expiry.{expired, leases_kept}
+use Rattle.nfs_exec.specs.Step.Laws.{ExpiryFindsNothing}
+use Rattle.nfs_exec.specs.Step.ExchangeId.{leases_behind, without_any_lease, ask_of}
+use Rattle.nfs_exec.specs.Step.CreateSession.{by_created, wish_of, without_any_opens}
+use Rattle.nfs_names.specs.Context.{begins}
+use Rattle.nfs_names.specs.State.{State}
+use Rattle.nfs_names.specs.StoreInvariants.{IsStore}
+use Rattle.nfs_names.proofs.Staying.{store_staying}
+use Rattle.nfs_exec.specs.Step.Run.{is_here, behind_here}
+use Rattle.nfs_exec.proofs.Step.Behind.{run_leases}
+use Rattle.nfs_exec.proofs.Runs.ByEvent.{by_compound, by_alone}
+use Rattle.nfs_exec.proofs.Step.AloneKeeps.{holds_whoever}
+use Rattle.nfs_exec.specs.Step.Compound.{first_item, renewed, begun, compound}
+
+-- What holds of leases whatever lease begins or is renewed now, and whatever lease ends.
+pub record IsHeld (P : Book → Type 0) (now : ℕ) : Type 0 where
+  pub lease : (b : Book) (client : ℕ) → P b → P (with_lease b client now)
+  pub renewal : (b : Book) (client : ℕ) → P b → P (with_renewal b client now)
+  pub end : (b : Book) (client : ℕ) → P b → P (without_lease b client)
+
+without_any : (P : Book → Type 0) (now : ℕ) → IsHeld P now → (b : Book) (o : Option ℕ) → P b → P (without_any_lease b o)
+without_any P now held b None is = is
+without_any P now held b (Some client) is = held.end b client is
+
+behind : (P : Book → Type 0) (now : ℕ) → IsHeld P now → (b : Book) (answer : Result Exchanged ClientFault) → P b → P (leases_behind b now answer)
+behind P now held b (Err fault) is = is
+behind P now held b (Ok x) is = elim (cases_Bool x.added) [
+  | inl added ↦ rw added (without_any P now held (with_lease b x.id now) x.replaced (held.lease b x.id is))
+  | inr told ↦ rw told is
+]
+
+made : (P : Book → Type 0) (now : ℕ) → IsHeld P now → (m : Machine) (c : CreateSession) (t : SessionTable) (answer : Result SessionId SessionFault)
+    → P m.leases → P (by_created m now c t answer).machine.leases
+made P now held m c t (Ok id) is =
+    held.renewal (without_any_lease m.leases (clients.leaving m.clients c.clientid)) c.clientid
+    (without_any P now held m.leases (clients.leaving m.clients c.clientid) is)
+made P now held m c t (Err fault) is = is
+
+first : (P : Book → Type 0) (now : ℕ) → IsHeld P now → (m : Machine) (declared : ℕ) (who : Caller) (refused : Bool) (i : Item)
+    → P m.leases → P (first_item m declared who now refused i).machine.leases
+first P now held m declared who refused i is = by_alone (λ o. P o.machine.leases) m declared who now refused i (λ status result. is)
+    (λ e at. behind P now held m.leases (exchange m.clients (ask_of who e)).answer is)
+    (λ c at runs. (let did = create m.sessions c.clientid (wish_of m c) in made P now held m c did.after did.answer is))
+    (λ sessionid at stood. is) (λ client at none. held.end m.leases client is)
+
+pub compound_held : (P : Book → Type 0) (now : ℕ) → IsHeld P now → (m : Machine) (r : Request) (who : Caller) (size : ℕ) (choice : Option ℕ)
+    → P m.leases → P (compound m r who size now choice).machine.leases
+compound_held P now held m r who size choice is = by_compound (λ left ds run. P left.leases) m r who size now choice is
+    (λ item. first P now held m r.declared who (is_here choice) item is) (λ s more c same.
+    subst P (sym (run_leases c.response (begun r s c) now (behind_here choice) (renewed m now s) (begins (id_of s.sessionid).client who) more))
+    (held.renewal m.leases (id_of s.sessionid).client is))
+
+-- No lease is renewed later than now, behind a compound at that moment.
+
+is_latest : (now : ℕ) → IsHeld (λ b. IsLatest b now) now
+is_latest now = record {
+  lease = λ b client is. latest_lease b (with_lease b client now) client now refl is;
+  renewal = λ b client is. latest_renewal b (with_renewal b client now) client now refl is;
+  end = λ b client is. latest_without b (without_lease b client) client now refl is;
+}
+
+pub latest_left : (b : Book) (o : Option ℕ) (now : ℕ) → IsLatest b now → IsLatest (without_any_lease b o) now
+latest_left b o now is = without_any (λ b. IsLatest b now) now (is_latest now) b o is
+
+pub latest_compound : (m : Machine) (r : Request) (who : Caller) (size now : ℕ) (choice : Option ℕ)
+    → IsLatest m.leases now → IsLatest (compound m r who size now choice).machine.leases now
+latest_compound m r who size now choice is = compound_held (λ b. IsLatest b now) now (is_latest now) m r who size choice is
+
+-- Nor has any lease run out at that moment, where none had before.
+
+abbrev pub NoneOut : ℕ → Book → Type 0
+NoneOut now b = (client : ℕ) → has_run_out b now client ≡ false
+
+just_now : (lease now : ℕ) → is_out lease now (Some now) ≡ false
+just_now lease now = le-ltb lease (now - now) (omega arith)
+
+renewed_none : (lease now : ℕ) (o : Option ℕ) → is_out lease now (option_map (λ (moment : ℕ). now) o) ≡ false
+renewed_none lease now None = refl
+renewed_none lease now (Some moment) = just_now lease now
+
+none_out : (now : ℕ) → IsHeld (NoneOut now) now
+none_out now = record {
+  lease = λ b client is c. elim (cases_Bool (eqb c client)) [ inl here ↦ rw here (just_now b.lease now) | inr other ↦ rw other (is c) ];
+  renewal = λ b client is c. elim (cases_Bool (eqb c client)) [ inl here ↦ rw here (renewed_none b.lease now (b.renewed c)) | inr other ↦ rw other (is c) ];
+  end = λ b client is c. elim (cases_Bool (eqb c client)) [ inl here ↦ rw here refl | inr other ↦ rw other (is c) ];
+}
+
+pub expired_all : (b : Book) (now : ℕ) → NoneOut now (leases_kept b now)
+expired_all b now c = elim (cases_Bool (has_run_out b now c)) [ inl out ↦ rw out refl | inr stays ↦ rw stays stays ]
+
+pub finds_nothing : ExpiryFindsNothing
+finds_nothing = λ m r who size now choice. compound_held (NoneOut now) now (none_out now) (expired now m) r who size choice (expired_all m.leases now)
+
+-- The operations that stand alone keep what holds of every store.
+
+of_left : (s : State) (o : Option ℕ) → IsStore s → IsStore (without_any_opens s o)
+of_left s None is = is
+of_left s (Some client) is = store_staying (λ c. not (c == client)) s is
+
+pub first_stores : (m : Machine) (declared : ℕ) (who : Caller) (now : ℕ) (refused : Bool) (i : Item)
+    → IsStore m.store → IsStore (first_item m declared who now refused i).machine.store
+first_stores m declared who now refused i is = holds_whoever IsStore of_left m declared who now refused i is

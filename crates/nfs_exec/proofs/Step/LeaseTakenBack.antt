@@ -1,0 +1,24 @@
+-- What changes of leases come to when one is taken back.
+use Rattle.std.proofs.Common.{◌≡◌, ℕ, false, Option, Some, None, refl, sym, ◌∙◌, ap}
+use Rattle.std.specs.Prelude.{is_some}
+use Rattle.std.proofs.Math.Path.{fun_ext}
+use Rattle.std.proofs.lemmas.Bool.{cases_eq, ne_eqb, eq-eqb}
+use Rattle.std.proofs.Common.{inl, inr}
+use Rattle.nfs_clients.specs.Roster.{client_at}
+use Rattle.nfs_lease.specs.Renewals.{Book, with_lease, without_lease}
+use Rattle.nfs_exec.specs.Step.Machine.{Machine, IsMachine}
+
+pub none_of : {X : Type 0} (o : Option X) → is_some o ≡ false → o ≡ None
+none_of None e = refl
+none_of (Some x) e = absurd cc
+
+-- who has no record has no lease
+pub unleased : (m : Machine) (client : ℕ) → IsMachine m → client_at m.clients client ≡ None → m.leases.renewed client ≡ None
+unleased m client is none = none_of (m.leases.renewed client) (is.leased client ∙ ap is_some none)
+
+-- a lease that is taken back at once
+pub taken_back : (b : Book) (client now : ℕ) → b.renewed client ≡ None → without_lease (with_lease b client now) client ≡ b
+taken_back b client now none = ap (λ f. record { renewed = f; lease = b.lease }) (fun_ext (λ c. elim (cases_eq c client) [
+  | inl here ↦ rw (eq-eqb c client here) (sym none ∙ ap b.renewed (sym here))
+  | inr other ↦ rw (ne_eqb c client other) refl
+]))

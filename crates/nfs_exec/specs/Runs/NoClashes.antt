@@ -1,0 +1,16 @@
+-- A law of locks and opens in whole runs (RFC 8881 sections 9.1 and 9.7): in every machine that events reach, and before and behind
+-- each operation that a compound runs.
+use Rattle.std.specs.Prelude.{ℕ, List}
+use Rattle.nfs_xdr.specs.Tables.{In}
+use Rattle.nfs_exec.specs.Step.Machine.{Machine, starts, HasNoClashes}
+use Rattle.nfs_exec.specs.Step.Laws.{MachineEvent, all_stepped}
+use Rattle.nfs_exec.specs.Runs.Ops.{RanOp, ops_by}
+
+-- No byte has a writer beside another holder, and no two opens of different owners clash.
+pub record HasNone (m : Machine) (e : MachineEvent) : Type 0 where
+  pub here : HasNoClashes m
+  pub within : (d : RanOp) → In d (ops_by m e) → HasNoClashes d.before
+  pub behind : (d : RanOp) → In d (ops_by m e) → HasNoClashes d.behind
+
+abbrev pub NoneInRuns : Type 0
+NoneInRuns = (mode instance lease : ℕ) (events : List MachineEvent) (e : MachineEvent) → HasNone (all_stepped (starts mode instance lease) events) e

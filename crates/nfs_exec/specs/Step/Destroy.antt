@@ -1,0 +1,33 @@
+-- DESTROY_SESSION (RFC 8881 section 18.37) and DESTROY_CLIENTID (section 18.50).
+use Rattle.std.specs.Prelude.{ℕ, Bool, ◌==◌, List, Option, Some, None, is_some, if◌then◌else◌}
+use Rattle.std.specs.List.{list_any}
+use Rattle.nfs_xdr.specs.declared.status.Status.TheVariants.{BadSession}
+use Rattle.nfs_compound.specs.declared.op_num.OpNum.TheVariants as Num
+use Rattle.nfs_compound.specs.OpNum.{op_number}
+use Rattle.nfs_results.specs.declared.res.Res.TheVariants as Res
+use Rattle.nfs_sessions.specs.Id.{id_of}
+use Rattle.nfs_sessions.specs.Sessions.{SessionTable, session_at}
+use Rattle.nfs_sessions.specs.Sessions as sessions
+use Rattle.nfs_clients.specs.declared.destroy.DestroyFault.{DestroyFault}
+use Rattle.nfs_clients.specs.Roster.{without}
+use Rattle.nfs_clients.specs.DestroyClientId.{destroy_fault, destroy_status}
+use Rattle.nfs_lease.specs.Renewals.{without_lease}
+use Rattle.nfs_exec.specs.Step.Machine.{Machine, Outcome, with_result, refuses}
+
+-- a session goes with its slots
+abbrev pub destroy_session : Machine → List ℕ → Outcome
+destroy_session m sessionid =
+    if is_some (session_at m.sessions (id_of sessionid))
+    then with_result (record m { sessions = sessions.destroyed m.sessions (id_of sessionid) }) Res.DestroySession
+    else refuses m (op_number Num.DestroySession) BadSession
+
+abbrev pub has_session : SessionTable → ℕ → Bool
+has_session t client = list_any (λ s. s.client == client) t.sessions
+
+-- a client goes with its lease, where it has neither a session nor an open
+abbrev pub destroyed_unless : Machine → ℕ → Option DestroyFault → Outcome
+destroyed_unless m client None = with_result (record m { clients = without m.clients client; leases = without_lease m.leases client }) Res.DestroyClientId
+destroyed_unless m client (Some fault) = refuses m (op_number Num.DestroyClientId) (destroy_status fault)
+
+abbrev pub destroy_client : Machine → ℕ → Outcome
+destroy_client m client = destroyed_unless m client (destroy_fault m.clients client (has_session m.sessions client))
