@@ -13,24 +13,24 @@
 
 #define HOST "/host"
 
-/* The host's root, with what a process wants to write beside it: its own /tmp, /proc and /dev, and the server's mount at /mnt. */
+/* The host's root, with what a process wants to write beside it: its own folder for files that pass, /proc and /dev, and the server's mount at /mnt. */
 static int host_is_here(void) {
     char text[65536];
     mkdir(HOST, 0755);
     if (mount("host", HOST, "9p", MS_RDONLY, "trans=virtio,version=9p2000.L,msize=262144,cache=loose")) return 0;
-    if (mount("tmpfs", HOST "/tmp", "tmpfs", 0, "") || mount("proc", HOST "/proc", "proc", 0, "")) return 0;
+    if (mount("tmpfs", HOST P_tmpdir, "tmpfs", 0, "") || mount("proc", HOST "/proc", "proc", 0, "")) return 0;
     if (mount("devtmpfs", HOST "/dev", "devtmpfs", 0, "") || mount("/mnt", HOST "/mnt", NULL, MS_BIND, NULL)) return 0;
     mkdir(HOST "/dev/shm", 01777);
     if (mount("tmpfs", HOST "/dev/shm", "tmpfs", 0, "")) return 0;
     int from = open("/life.sh", O_RDONLY);
     ssize_t size = read(from, text, sizeof text);
     close(from);
-    return size > 0 && put(HOST "/tmp/life.sh", O_CREAT, text, size) == size;
+    return size > 0 && put(HOST P_tmpdir "/life.sh", O_CREAT, text, size) == size;
 }
 
 /* One part of tests/client/life.sh: its lines are told on, and its steps are counted as this program's are. */
 void life(char *what) {
-    char *const words[] = {"/bin/bash", "/tmp/life.sh", what, NULL};
+    char *const words[] = {"/bin/bash", P_tmpdir "/life.sh", what, NULL};
     char line[1024];
     int from[2];
     if (!host_is_here() || pipe(from)) {

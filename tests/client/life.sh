@@ -1,9 +1,11 @@
 # What tests/client/linux --life has the guest do over the mount, with the commands of the host: `bash life.sh PART`, in a folder of the mount. Each step
 # is a line on standard output, as those of tests/client/client.c are. No file passes 1 MiB, which is the server's most.
 set -u
-export HOME=/tmp LC_ALL=C PATH=/usr/local/sbin:/usr/local/bin:/usr/sbin:/usr/bin:/sbin:/bin
+# what it writes beside the mount
+there=$(mktemp -d)
+export HOME=$there LC_ALL=C PATH=/usr/local/sbin:/usr/local/bin:/usr/sbin:/usr/bin:/sbin:/bin
 export GIT_CONFIG_NOSYSTEM=1 GIT_AUTHOR_NAME=a GIT_AUTHOR_EMAIL=a@b GIT_COMMITTER_NAME=a GIT_COMMITTER_EMAIL=a@b
-log=/tmp/log
+log=$there/log
 
 # well NAME COMMAND..: the command ends with status 0.
 well() {
@@ -62,19 +64,19 @@ in_git() {
 }
 
 in_rsync() {
-    tree /tmp/from
-    ln -s a/0-a /tmp/from/link
-    chmod 640 /tmp/from/a/1-a
-    well "a tree is copied" rsync -a /tmp/from/ to/
+    tree "$there"/from
+    ln -s a/0-a "$there"/from/link
+    chmod 640 "$there"/from/a/1-a
+    well "a tree is copied" rsync -a "$there"/from/ to/
     forget
-    says "nothing differs by its checksums" "" rsync -a --checksum --dry-run --itemize-changes --delete /tmp/from/ to/
-    rm /tmp/from/b/3-b
-    echo changed > /tmp/from/c/4-c
-    well "a change and a removal are copied" rsync -a --checksum --delete --delay-updates /tmp/from/ to/
+    says "nothing differs by its checksums" "" rsync -a --checksum --dry-run --itemize-changes --delete "$there"/from/ to/
+    rm "$there"/from/b/3-b
+    echo changed > "$there"/from/c/4-c
+    well "a change and a removal are copied" rsync -a --checksum --delete --delay-updates "$there"/from/ to/
     forget
-    says "and nothing differs" "" rsync -a --checksum --dry-run --itemize-changes --delete /tmp/from/ to/
-    well "the tree is copied back" rsync -a --checksum to/ /tmp/back/
-    well "and is the same" diff -r /tmp/from /tmp/back
+    says "and nothing differs" "" rsync -a --checksum --dry-run --itemize-changes --delete "$there"/from/ to/
+    well "the tree is copied back" rsync -a --checksum to/ "$there"/back/
+    well "and is the same" diff -r "$there"/from "$there"/back
 }
 
 in_make() {
@@ -109,9 +111,9 @@ one_start() {
 in_stress() {
     local pair did
     well "stress-ng ends, and finds nothing wrong" one_start 60
-    cp "$log" /tmp/said
+    cp "$log" "$there"/said
     for pair in $STRESSORS; do
-        did=$(awk -v name="${pair%=*}" '$2 == "metrc:" && $4 == name { print $5; exit }' /tmp/said)
+        did=$(awk -v name="${pair%=*}" '$2 == "metrc:" && $4 == name { print $5; exit }' "$there"/said)
         echo "note: ${pair%=*}: ${did:-0} of ${pair#*=} operations"
         well "operations of ${pair%=*} among them" [ "${did:-0}" -gt 0 ]
     done
