@@ -174,20 +174,6 @@ throughout P kept m e is here =
     let all = event_walked (always P) (λ m e. Unit {0}) (always_stays P kept) m e is tt here in
     record { within = each_before P tt (ops_by m e) all.0; behind = all.1 (λ d there. tt) tt }
 
--- and from one of its operations on
-pub throughout_from : (P : State → Type 0) → IsKept P → (m : Machine) (e : MachineEvent) (front : List RanOp) (d : RanOp) (back : List RanOp) → Is m
-    → ops_by m e ≡ front ++ d ∷ back → P d.before.store → Throughout P (d ∷ back) (stepped m e)
-throughout_from P kept m e front d back is same here =
-    let run : IsRun d = (event_run m e is d (subst (In d) (sym same) (in_back d front (d ∷ back) (inl refl)))).0 in
-    let all = back_walked (always P) (λ m e. Unit {0}) (always_stays P kept) m e front d back is same tt (kept.run d run here) in
-    record {
-      within = λ e there. elim there [
-        | inl same ↦ subst (λ (e : RanOp). P e.before.store) (sym same) here
-        | inr later ↦ each_before P tt back all.0 e later
-      ];
-      behind = all.1 (λ d there. tt);
-    }
-
 -- and behind one of its operations
 pub throughout_behind : (P : State → Type 0) → IsKept P → (m : Machine) (e : MachineEvent) (front : List RanOp) (d : RanOp) (back : List RanOp) → Is m
     → ops_by m e ≡ front ++ d ∷ back → P d.behind.store → Throughout P back (stepped m e)

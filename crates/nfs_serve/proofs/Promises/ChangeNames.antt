@@ -28,13 +28,13 @@ use Rattle.nfs_names.specs.Lookup.{is_link, lookup}
 use Rattle.nfs_names.specs.Outcome.{Outcome, or_refusal}
 use Rattle.nfs_exec.specs.Runs.Ops.{RanOp}
 use Rattle.nfs_exec.proofs.Runs.OneRun.{IsRun, by_item}
-use Rattle.nfs_exec.proofs.Runs.OneWalk.{in_back}
 use Rattle.nfs_serve.specs.Step.{State, new_state}
-use Rattle.nfs_serve.specs.Promises.Points.{state_after, reached, before, asked_by}
-use Rattle.nfs_serve.specs.Promises.ChangeTells.{entries_in, RunsIn}
+use Rattle.nfs_serve.specs.Promises.Points.{reached}
+use Rattle.nfs_serve.specs.Promises.ChangeTells.{entries_in}
 use Rattle.nfs_serve.specs.Promises.ChangeNames.{LooksUp, NamesAreAlike}
-use Rattle.nfs_serve.proofs.Promises.ChangeTells.{change_tells, asked_run, later_run}
-use Rattle.nfs_serve.proofs.Promises.Points.{IsSound, whole_before, sound_next, sound_all, sound_new}
+use Rattle.nfs_serve.proofs.Promises.ChangeTells.{change_tells}
+use Rattle.nfs_serve.proofs.Promises.LaterRecords.{op_done, first_there, later_done}
+use Rattle.nfs_serve.proofs.Promises.Points.{IsSound, sound_all, sound_new}
 
 -- The entries of a directory say where its names lead, and what is listed.
 
@@ -147,15 +147,8 @@ names_are_alike mode instance lease earlier c front d back more e n same there h
     sound : IsSound s
     sound = sound_all (new_state mode instance lease) earlier (sound_new mode instance lease)
 
-    run_in : (b : RanOp) → In b (d ∷ back) → IsRun b
-    run_in b within = asked_run (before s c) (asked_by s c) (whole_before s c sound.whole) b (subst (In b) (sym same) (in_back b front (d ∷ back) within))
-
     run_d : IsRun d
-    run_d = run_in d (inl refl)
-
-    by_place : In e back ⊎ RunsIn (state_after s c) more e → IsRun e
-    by_place (inl within) = run_in e (inr within)
-    by_place (inr late) = later_run (state_after s c) more (sound_next s c sound) e late
+    run_d = (op_done s c sound d (first_there s c front d back same)).run
 
     run_e : IsRun e
-    run_e = by_place there
+    run_e = (later_done s c front d back more sound same e there).run

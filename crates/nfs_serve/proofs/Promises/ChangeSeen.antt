@@ -25,11 +25,12 @@ use Rattle.nfs_exec.specs.Runs.Ops.{RanOp}
 use Rattle.nfs_exec.proofs.Runs.OneRun.{IsRun, by_ok}
 use Rattle.nfs_exec.proofs.Runs.OneWalk.{in_back}
 use Rattle.nfs_serve.specs.Step.{State, new_state}
-use Rattle.nfs_serve.specs.Promises.Points.{state_after, reached, before, asked_by}
+use Rattle.nfs_serve.specs.Promises.Points.{state_after, reached}
 use Rattle.nfs_serve.specs.Promises.ChangeTells.{RunsIn}
 use Rattle.nfs_serve.specs.Promises.ChangeSeen.{IsTheirs, ReportsOf, ReportsAreTrue, Changes, Writes, Sets, Empties, Creates, Links, Removes, ChangesAreNew}
-use Rattle.nfs_serve.proofs.Promises.ChangeTells.{change_tells, asked_run, later_run}
-use Rattle.nfs_serve.proofs.Promises.Points.{IsSound, whole_before, sound_next, sound_all, sound_new}
+use Rattle.nfs_serve.proofs.Promises.ChangeTells.{change_tells}
+use Rattle.nfs_serve.proofs.Promises.LaterRecords.{op_done, later_done}
+use Rattle.nfs_serve.proofs.Promises.Points.{IsSound, sound_all, sound_new}
 use Rattle.nfs_files.proofs.ChangesTold.{Theirs, Done, CreateTells, LinkTells, RenameTells, Raises, create_tells, remove_tells, link_tells, rename_tells, open_tells, write_raises, set_attr_raises, open_raises}
 
 -- An operation that was run, and answered NFS4_OK.
@@ -69,7 +70,7 @@ pub reports_are_true : ReportsAreTrue
 reports_are_true mode instance lease records c d n there ok at =
     let s = reached mode instance lease records in
     let sound : IsSound s = sound_all (new_state mode instance lease) records (sound_new mode instance lease) in
-    reports n d (asked_run (before s c) (asked_by s c) (whole_before s c sound.whole) d there) ok at
+    reports n d (op_done s c sound d there).run ok at
 
 by_report : (n : ℕ) (d : RanOp) (info : ChangeInfo) → IsTheirs n d info → info.before < info.after → Raises n d.before.store.tree d.behind.store.tree
 by_report n d info is less = subst (λ (k : ℕ). k < change_of d.behind.store.tree n) is.before (subst (λ (k : ℕ). info.before < k) is.after less)
@@ -96,7 +97,7 @@ changes_are_new mode instance lease earlier c front e back more d n same when he
     sound = sound_all (new_state mode instance lease) earlier (sound_new mode instance lease)
 
     run_here : (b : RanOp) → In b (e ∷ back) → IsRun b
-    run_here b within = asked_run (before s c) (asked_by s c) (whole_before s c sound.whole) b (subst (In b) (sym same) (in_back b front (e ∷ back) within))
+    run_here b within = (op_done s c sound b (subst (In b) (sym same) (in_back b front (e ∷ back) within))).run
 
     later : In d back ⊎ RunsIn (state_after s c) more d → change_of e.before.store.tree n ≤ change_of d.before.store.tree n
     later behind = (change_tells mode instance lease earlier c front e back more d n same behind here there).rises
@@ -110,5 +111,5 @@ changes_are_new mode instance lease earlier c front e back more d n same when he
         omega arith)
     by_place (inr late) =
         (let rises = later (inr late) in
-        let more = changes_raise n d (later_run (state_after s c) more (sound_next s c sound) d late) there ok changes in
+        let more = changes_raise n d (later_done s c front e back more sound same d (inr late)).run there ok changes in
         omega arith)

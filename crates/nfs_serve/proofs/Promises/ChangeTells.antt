@@ -49,18 +49,16 @@ use Rattle.nfs_files.proofs.Effects.{Names, Writes, Resizes, Changes, Closes}
 use Rattle.nfs_files.proofs.Effected as files_effected
 use Rattle.nfs_files.proofs.Outcomes as files
 use Rattle.nfs_exec.specs.Step.Machine.{Machine}
-use Rattle.nfs_exec.specs.Step.Laws.{MachineEvent, Expires, Asks, stepped}
-use Rattle.nfs_exec.specs.Runs.Ops.{RanOp, ops_by}
+use Rattle.nfs_exec.specs.Runs.Ops.{RanOp}
 use Rattle.nfs_exec.proofs.Runs.AttributesTold.{change_in}
 use Rattle.nfs_exec.proofs.Runs.KeptByRuns.{Is}
 use Rattle.nfs_exec.proofs.Runs.OneRun.{IsRun, by_item, by_run}
-use Rattle.nfs_exec.proofs.Runs.WhatWasDone.{event_run}
-use Rattle.nfs_exec.proofs.Runs.OneWalk.{IsKept, Throughout, throughout, throughout_from, none_at, in_back}
-use Rattle.nfs_serve.specs.Step.{State, new_state}
-use Rattle.nfs_serve.specs.Promises.Endpoint.{Arrival}
-use Rattle.nfs_serve.specs.Promises.Points.{state_after, reached, taken, before, asked_by, ops_of}
-use Rattle.nfs_serve.specs.Promises.ChangeTells.{entries_in, Tells, RunsIn, ChangeTells, ReadsOf, ReadsAreAlike, ChangeIsTold}
-use Rattle.nfs_serve.proofs.Promises.Points.{left, for_asked, next_is, IsSound, whole_before, sound_next, sound_all, sound_new}
+use Rattle.nfs_exec.proofs.Runs.OneWalk.{IsKept}
+use Rattle.nfs_serve.specs.Step.{new_state}
+use Rattle.nfs_serve.specs.Promises.Points.{reached}
+use Rattle.nfs_serve.specs.Promises.ChangeTells.{entries_in, Tells, ChangeTells, ReadsOf, ReadsAreAlike, ChangeIsTold}
+use Rattle.nfs_serve.proofs.Promises.Points.{IsSound, sound_all, sound_new}
+use Rattle.nfs_serve.proofs.Promises.LaterRecords.{op_done, first_there, later_keeps, later_done}
 
 -- Entries of another directory.
 
@@ -291,52 +289,15 @@ run_follows : (n : ℕ) (t : Files) (d : RanOp) → IsRun d → Follows n t d.be
 run_follows n t d r is = by_run (λ status text s. Follows n t s.tree) d r is (names_item n t r.refused d.before.store d.context (moment r.now) d.item is)
     (file_item n t r.refused d.before.store d.context (moment r.now) d.item is) (λ other. is)
 
--- The operations of an event: before each of them, and behind all.
-
-abbrev Runs : ℕ → Files → List RanOp → Machine → Type 0
-Runs n t ds left = Throughout (λ s. Follows n t s.tree) ds left
+-- Records.
 
 follows_kept : (n : ℕ) (t : Files) → IsKept (λ s. Follows n t s.tree)
 follows_kept n t = record { run = λ d r is. run_follows n t d r is; end = λ stays s is. staying_follows n t stays s is }
-
-event_runs : (n : ℕ) (t : Files) (m : Machine) (e : MachineEvent) → Is m → Follows n t m.store.tree → Runs n t (ops_by m e) (stepped m e)
-event_runs n t m e is follows = throughout (λ s. Follows n t s.tree) (follows_kept n t) m e is follows
 
 low_there : (n : ℕ) (m : Machine) → Is m → is_there m.store.tree n ≡ true → n ≤ m.store.tree.last_object
 low_there n m is there =
     let within = stored_within root (m.store.tree.last_object + 1) m.store.tree.objects n is.tree.objects there in
     let below = within.1 in omega arith
-
--- and from one of its operations on
-event_behind : (n : ℕ) (m : Machine) (e : MachineEvent) (front : List RanOp) (d : RanOp) (back : List RanOp) → Is m → ops_by m e ≡ front ++ d ∷ back
-    → is_there d.before.store.tree n ≡ true → Runs n d.before.store.tree (d ∷ back) (stepped m e)
-event_behind n m e front d back is same there =
-    let t = d.before.store.tree in
-    let run : IsRun d = (event_run m e is d (subst (In d) (sym same) (in_back d front (d ∷ back) (inl refl)))).0 in
-    throughout_from (λ s. Follows n t s.tree) (follows_kept n t) m e front d back is same (follows_itself n t (low_there n d.before run.whole there))
-
--- Records.
-
-asked_behind : (n : ℕ) (m : Machine) (o : Option MachineEvent) (front : List RanOp) (d : RanOp) (back : List RanOp) → Is m
-    → option_map_or (ops_by m) o [] ≡ front ++ d ∷ back → is_there d.before.store.tree n ≡ true → Runs n d.before.store.tree (d ∷ back) (left m o)
-asked_behind n m None front d back is same there = absurd (none_at front d back same)
-asked_behind n m (Some e) front d back is same there = event_behind n m e front d back is same there
-
-record_runs : (n : ℕ) (t : Files) (s : State) (c : Arrival) → IsSound s → Follows n t s.machine.store.tree → Runs n t (ops_of s c) (state_after s c).machine
-record_runs n t s c sound is =
-    let m = before s c in
-    let whole : Is m = whole_before s c sound.whole in
-    let here : Follows n t m.store.tree = (event_runs n t s.machine (Expires (taken s c)) sound.whole is).behind in
-    let did : Runs n t (option_map_or (ops_by m) (asked_by s c) []) (left m (asked_by s c)) =
-    for_asked (λ o. Runs n t (option_map_or (ops_by m) o []) (left m o)) s c (record { within = λ d there. absurd there; behind = here })
-    (λ r who. event_runs n t m (Asks r who (length c.bytes) (taken s c) c.choice) whole here) in
-    record { within = did.within; behind = subst (λ (s : State). Follows n t s.machine.store.tree) (sym (next_is s c)) did.behind }
-
-later : (n : ℕ) (t : Files) (s : State) (more : List Arrival) → IsSound s → Follows n t s.machine.store.tree → (e : RanOp) → RunsIn s more e
-    → Follows n t e.before.store.tree
-later n t s [] sound is e there = absurd there
-later n t s (c ∷ more) sound is e (inl here) = (record_runs n t s c sound is).within e here
-later n t s (c ∷ more) sound is e (inr more_late) = later n t (state_after s c) more (sound_next s c sound) (record_runs n t s c sound is).behind e more_late
 
 abbrev change : Option Stored → ℕ
 change o = option_map_or (λ (s : Stored). s.object.change) o 0
@@ -362,17 +323,10 @@ pub change_tells : ChangeTells
 change_tells mode instance lease earlier c front d back more e n same there here behind =
     let s = reached mode instance lease earlier in
     let sound : IsSound s = sound_all (new_state mode instance lease) earlier (sound_new mode instance lease) in
-    let runs = asked_behind n (before s c) (asked_by s c) front d back (whole_before s c sound.whole) same here in
-    told n d.before.store.tree e.before.store.tree (by_place runs there) behind
-  where
-    by_place : Runs n d.before.store.tree (d ∷ back) (left (before (reached mode instance lease earlier) c) (asked_by (reached mode instance lease earlier) c))
-        → In e back ⊎ RunsIn (state_after (reached mode instance lease earlier) c) more e → Follows n d.before.store.tree e.before.store.tree
-    by_place runs (inl within) = runs.within e (inr within)
-    by_place runs (inr late) =
-        let s = reached mode instance lease earlier in
-        let sound : IsSound s = sound_all (new_state mode instance lease) earlier (sound_new mode instance lease) in
-        later n d.before.store.tree (state_after s c) more (sound_next s c sound)
-        (subst (λ (s : State). Follows n d.before.store.tree s.machine.store.tree) (sym (next_is s c)) runs.behind) e late
+    let t = d.before.store.tree in
+    let run : IsRun d = (op_done s c sound d (first_there s c front d back same)).run in
+    let follows : Follows n t d.behind.store.tree = run_follows n t d run (follows_itself n t (low_there n d.before run.whole here)) in
+    told n t e.before.store.tree (later_keeps (λ s. Follows n t s.tree) (follows_kept n t) s c front d back more sound same follows e there) behind
 
 -- READs.
 
@@ -429,37 +383,18 @@ there_stored t n there = go (stored_in t.objects n) refl there
     go None e none = absurd (false≢true none)
     go (Some st) e some = (st, e)
 
-pub asked_run : (m : Machine) (o : Option MachineEvent) → Is m → (d : RanOp) → In d (option_map_or (ops_by m) o []) → IsRun d
-asked_run m None is d there = absurd there
-asked_run m (Some e) is d there = (event_run m e is d there).0
-
-pub later_run : (s : State) (more : List Arrival) → IsSound s → (e : RanOp) → RunsIn s more e → IsRun e
-later_run s [] sound e there = absurd there
-later_run s (c ∷ more) sound e (inl here) = asked_run (before s c) (asked_by s c) (whole_before s c sound.whole) e here
-later_run s (c ∷ more) sound e (inr late) = later_run (state_after s c) more (sound_next s c sound) e late
-
 pub reads_are_alike : ReadsAreAlike
 reads_are_alike mode instance lease earlier c front d back more e n offset count same there here behind equal reads also =
     let s = reached mode instance lease earlier in
     let sound : IsSound s = sound_all (new_state mode instance lease) earlier (sound_new mode instance lease) in
-    let whole = whole_before s c sound.whole in
     let alike = (change_tells mode instance lease earlier c front d back more e n same there here behind).same equal in
     let stored = there_stored d.before.store.tree n here in
-    let run_d = asked_run (before s c) (asked_by s c) whole d (subst (In d) (sym same) (in_back d front (d ∷ back) (inl refl))) in
-    read_run e (by_place there) n offset count stored.0 (alike.stored ∙ stored.1) also ∙ sym (read_run d run_d n offset count stored.0 stored.1 reads)
-  where
-    by_place : In e back ⊎ RunsIn (state_after (reached mode instance lease earlier) c) more e → IsRun e
-    by_place (inl within) =
-        let s = reached mode instance lease earlier in
-        let sound : IsSound s = sound_all (new_state mode instance lease) earlier (sound_new mode instance lease) in
-        asked_run (before s c) (asked_by s c) (whole_before s c sound.whole) e (subst (In e) (sym same) (in_back e front (d ∷ back) (inr within)))
-    by_place (inr late) =
-        let s = reached mode instance lease earlier in
-        let sound : IsSound s = sound_all (new_state mode instance lease) earlier (sound_new mode instance lease) in
-        later_run (state_after s c) more (sound_next s c sound) e late
+    let first = op_done s c sound d (first_there s c front d back same) in
+    let second = later_done s c front d back more sound same e there in
+    read_run e second.run n offset count stored.0 (alike.stored ∙ stored.1) also ∙ sym (read_run d first.run n offset count stored.0 stored.1 reads)
 
 pub change_is_told : ChangeIsTold
 change_is_told mode instance lease records c d words n there item asks ok at =
     let s = reached mode instance lease records in
     let sound : IsSound s = sound_all (new_state mode instance lease) records (sound_new mode instance lease) in
-    change_in d (asked_run (before s c) (asked_by s c) (whole_before s c sound.whole) d there) words n item asks ok at
+    change_in d (op_done s c sound d there).run words n item asks ok at
