@@ -101,8 +101,9 @@ store_kept s client (Narrows n access deny) fits tree is =
 store_kept s client (Closes n file) fits tree is = store_without (with_opens s (without_open s.opens n)) file (but_closed s client n file fits is)
 store_kept s client e fits tree is = store_opens s (table_behind s.opens e) (λ m. refl) is
 
+pub sound_kept : (s : State) (client : ℕ) (e : Effect) → Fits s client e → IsSound s → IsSound (behind s e)
+sound_kept s client e fits is = record { tree = tree_kept s client e fits is.tree is.store; store = store_kept s client e fits is.tree is.store }
+
 pub sound_item : (b : Bool) (s : State) (x : Context) (now : Time) (i : Item) → IsTree s.tree → IsTable s.opens → IsStore s → IsSound (comes_to b s x now i).state
-sound_item b s x now i tree table is = kept_item IsSound b s x now i (λ u e fits sound. record {
-  tree = tree_kept u x.client e (fits table) sound.tree sound.store;
-  store = store_kept u x.client e (fits table) sound.tree sound.store;
-}) (record { tree = tree; store = is })
+sound_item b s x now i tree table is =
+    kept_item IsSound b s x now i (λ u e fits sound. sound_kept u x.client e (fits table) sound) (record { tree = tree; store = is })
