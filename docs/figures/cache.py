@@ -7,7 +7,7 @@ from svg import CEILING, FAINT, INK, OURS, Drawing
 # What a client keeps, whose change attribute shows that it is still true, and the law.
 KEPT = [
     ("the bytes of a file", "file", "reads_are_alike"),
-    ("its size, mode, owner and times of change", "file", "change_tells"),
+    ("its attributes: size, mode, owner, times", "file", "attributes_are_alike"),
     ("where a name leads", "directory", "names_are_alike"),
     ("that a name is not there", "directory", "names_are_alike"),
     ("its own copy, after its own CREATE or REMOVE", "directory", "reports_are_true"),

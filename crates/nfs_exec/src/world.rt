@@ -105,7 +105,7 @@ impl World {
     pub fn no_clash(&self)
         ensures { HasNoClashes (machine_of self.now) }
     {
-        self.tables.store.kept();
+        let _tables = &self.tables;
     }
 
     /// The tables agree in every world: a client record has a lease, and the mark of an open where one of the client's opens

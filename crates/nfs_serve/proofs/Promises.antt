@@ -44,7 +44,9 @@ pub mod Others
 pub mod OthersWorked
 pub mod WrittenStays
 pub mod WrittenWorked
+pub mod SameRows
 pub mod ChangeTells
+pub mod ChangeAttributes
 pub mod ChangeWorked
 pub mod Chained
 pub mod FileRead

@@ -13,8 +13,8 @@ ghost use Rattle.nfs_serve.specs.Promises.ChangeNames.{NamesAreAlike};
 ghost use Rattle.nfs_serve.specs.Promises.ChangeNamesWorked.{IsFoundAgain, FindingsAreRefused};
 ghost use Rattle.nfs_serve.specs.Promises.ChangeSeen.{ReportsAreTrue, ChangesAreNew};
 ghost use Rattle.nfs_serve.specs.Promises.ChangeSeenWorked as change_seen;
-ghost use Rattle.nfs_serve.specs.Promises.ChangeTells.{ChangeTells, ReadsAreAlike, ChangeIsTold};
-ghost use Rattle.nfs_serve.specs.Promises.ChangeWorked.{ToldByChange, ChangesAreRefused};
+ghost use Rattle.nfs_serve.specs.Promises.ChangeTells.{ChangeTells, ReadsAreAlike, AttributesAreAlike, ChangeIsTold};
+ghost use Rattle.nfs_serve.specs.Promises.ChangeWorked.{ToldByChange, ToldByAttributes, ChangesAreRefused};
 ghost use Rattle.nfs_serve.specs.Promises.Exchanges.{RunsTo, null_script, null_output, exchange_script, exchange_output};
 ghost use Rattle.nfs_serve.specs.Promises.FileRead.{ReadsAreWhole};
 ghost use Rattle.nfs_serve.specs.Promises.FileReadWorked.{IsReadWhole, ReadsAreRefused};
@@ -380,7 +380,7 @@ pub fn wrong_bytes_are_refused()
     ensures { BytesRefused }
 {}
 
-/// While an object's change is the same, so are its bytes, its attributes but for the number of its names, and its entries; and its change does not fall.
+/// While an object's change is the same, so are its bytes, its attributes, the number of its names, and its entries; and its change does not fall.
 pub fn change_tells()
     ensures { ChangeTells }
 {}
@@ -388,6 +388,11 @@ pub fn change_tells()
 /// While a file's change is the same, two READs of the same bytes that are answered NFS4_OK are answered the same, whoever asks for them.
 pub fn reads_are_alike()
     ensures { ReadsAreAlike }
+{}
+
+/// While an object's change is the same, two GETATTRs of the same attributes that are answered NFS4_OK are answered the same.
+pub fn attributes_are_alike()
+    ensures { AttributesAreAlike }
 {}
 
 /// In every run a GETATTR of attribute 3, whatever else it asks for, that answers NFS4_OK gives the object's change.
@@ -434,13 +439,14 @@ pub fn wrong_reports_are_refused()
     ensures { change_seen.ReportsAreRefused }
 {}
 
-/// The definitions compute: a file is written, and its change rises; then it is read twice, and its change is the same, and so is the answer. That run meets the
-/// premises of `change_tells` and `reads_are_alike`.
+/// The definitions compute: a file is written, and its change rises; then it is read twice, and its change is the same, and so is the answer. Then its attributes are
+/// asked for twice. That run meets the premises of `change_tells`, `reads_are_alike` and `attributes_are_alike`.
 pub fn a_change_tells()
-    ensures { ToldByChange }
+    ensures bytes { ToldByChange }
+    ensures attributes { ToldByAttributes }
 {}
 
-/// The definitions compute: `change_tells` refuses a WRITE that keeps the change, a SETATTR that sets it back and a REMOVE that keeps the directory's; and
+/// The definitions compute: `change_tells` refuses a WRITE that keeps the change, a SETATTR that sets it back, a LINK that keeps it and a REMOVE that keeps the directory's; and
 /// `reads_are_alike` refuses a second READ that is answered zeros.
 pub fn wrong_changes_are_refused()
     ensures { ChangesAreRefused }

@@ -100,7 +100,7 @@ change_found s x n d at there = by (stored_in s.tree.objects n) refl (sym (ap (n
         ap (λ (d : Node). d.object.change) (sym one) ∙ ap (λ (o : Option Stored). option_map_or (λ (k : Stored). k.object.change) o 0) (sym e)
 
 -- what GETATTR answers, where it answers NFS4_OK
-told : (P : List ℕ → Type 0) (d : RanOp) → IsRun d → (words : List ℕ) → d.item ≡ Operation (Op.GetAttr words) → is_ok d.status ≡ true
+pub told : (P : List ℕ → Type 0) (d : RanOp) → IsRun d → (words : List ℕ) → d.item ≡ Operation (Op.GetAttr words) → is_ok d.status ≡ true
     → ((k : Node) → current d.before.store d.context ≡ Ok k
     → P (spell_result (Res.GetAttr (record { attrmask = trimmed_words (common (mask_of words) readable); attr_vals = values (mask_of words) (about d.before.store k) k.object }))))
     → P d.result

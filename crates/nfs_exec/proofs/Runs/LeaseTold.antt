@@ -15,7 +15,7 @@ use Rattle.nfs_exec.specs.Runs.AttributesTold.{TellsValue, EntriesTell}
 use Rattle.nfs_exec.specs.Runs.Ops.{RanOp, ops_by}
 use Rattle.nfs_exec.proofs.Runs.KeptByRuns.{Is}
 use Rattle.nfs_exec.proofs.Runs.OneRun.{IsRun, by_run}
-use Rattle.nfs_exec.proofs.Runs.OneWalk.{Throughout, throughout}
+use Rattle.nfs_exec.proofs.Runs.OneWalk.{IsKept, Throughout, throughout}
 use Rattle.nfs_exec.proofs.Runs.WhatWasDone.{event_run}
 use Rattle.nfs_exec.proofs.Runs.AttributesListed.{lease_listed}
 use Rattle.nfs_exec.proofs.Runs.AttributesTold.{lease_in}
@@ -28,8 +28,11 @@ run_lasts lease d r is = by_run (λ status text s. s.lease ≡ lease) d r is
     (λ o e. lease_names r.refused d.before.store d.context (moment r.now) d.item o e ∙ is)
     (lease_files r.refused d.before.store d.context (moment r.now) d.item ∙ is) (λ other. is)
 
+pub lease_kept : (lease : ℕ) → IsKept (λ s. s.lease ≡ lease)
+lease_kept lease = record { run = run_lasts lease; end = λ stays s here. here }
+
 event_lasts : (m : Machine) (e : MachineEvent) (lease : ℕ) → Is m → Lasts lease m → Throughout (λ s. s.lease ≡ lease) (ops_by m e) (stepped m e)
-event_lasts m e lease is lasts = throughout (λ s. s.lease ≡ lease) (record { run = run_lasts lease; end = λ stays s here. here }) m e is lasts
+event_lasts m e lease is lasts = throughout (λ s. s.lease ≡ lease) (lease_kept lease) m e is lasts
 
 pub stepped_lasts : (m : Machine) (e : MachineEvent) (lease : ℕ) → Is m → Lasts lease m → Lasts lease (stepped m e)
 stepped_lasts m e lease is lasts = (event_lasts m e lease is lasts).behind

@@ -27,11 +27,16 @@ use Rattle.nfs_tree.specs.declared.row.Row.{Row}
 use Rattle.nfs_tree.specs.declared.sets.Sets.{Sets}
 use Rattle.nfs_tree.specs.declared.stored.Stored.{Stored}
 use Rattle.nfs_tree.specs.Object.{modified, no_sets}
-use Rattle.nfs_tree.specs.Files.{Files, root, stored_in, is_there, change_of, is_entry, change_at, with_changed, with_entries_changed, with_links_changed, without_entry, lookup, named}
+use Rattle.nfs_tree.specs.Files.{Files, root, stored_in, is_there, change_of, change_at, with_changed, with_entries_changed, with_links_changed, without_entry, lookup, named}
 use Rattle.nfs_tree.specs.Create.{New, with_new, new_object, data_of}
-use Rattle.nfs_tree.specs.Names.{with_link, without_name, forget, Move, moved_object, replaced_object, with_both_changed, with_moved}
+use Rattle.nfs_tree.specs.Names.{with_link, without_name, forget, Move, moves, replaced_object, with_both_changed, with_moved}
+use Rattle.nfs_tree.specs.Calls.{rename_fault}
 use Rattle.nfs_tree.specs.Bytes.{written, resized, with_bytes, with_written, with_resized}
 use Rattle.nfs_tree.proofs.Objects.{keeps_changed, stored_map, stored_within}
+use Rattle.nfs_tree.specs.TreeInvariants.{IsTree}
+use Rattle.nfs_tree.proofs.Moved.{move_granted}
+use Rattle.nfs_tree.proofs.Trees.{entry_names}
+use Rattle.nfs_opens.specs.TableInvariants.{IsTable}
 use Rattle.nfs_opens.specs.Closing.{without_open}
 use Rattle.nfs_names.specs.declared.context.Context.{Context}
 use Rattle.nfs_names.specs.State as store
@@ -41,12 +46,14 @@ use Rattle.nfs_names.specs.Rename.{without_replaced}
 use Rattle.nfs_names.specs.Outcome.{checked}
 use Rattle.nfs_names.specs.Operation as names
 use Rattle.nfs_names.proofs.Ones.{each_of}
+use Rattle.nfs_names.proofs.Sound as names_sound
 use Rattle.nfs_names.proofs.Effects as names_effects
 use Rattle.nfs_names.proofs.Effects.{Makes, Links, Removes, Moves}
 use Rattle.nfs_names.proofs.Effected as names_effected
 use Rattle.nfs_files.proofs.Effects as files_effects
 use Rattle.nfs_files.proofs.Effects.{Names, Writes, Resizes, Changes, Closes}
 use Rattle.nfs_files.proofs.Effected as files_effected
+use Rattle.nfs_files.proofs.Sound as files_sound
 use Rattle.nfs_files.proofs.Outcomes as files
 use Rattle.nfs_exec.specs.Step.Machine.{Machine}
 use Rattle.nfs_exec.specs.Runs.Ops.{RanOp}
@@ -56,21 +63,10 @@ use Rattle.nfs_exec.proofs.Runs.OneRun.{IsRun, by_item, by_run}
 use Rattle.nfs_exec.proofs.Runs.OneWalk.{IsKept}
 use Rattle.nfs_serve.specs.Step.{new_state}
 use Rattle.nfs_serve.specs.Promises.Points.{reached}
-use Rattle.nfs_serve.specs.Promises.ChangeTells.{entries_in, Tells, ChangeTells, ReadsOf, ReadsAreAlike, ChangeIsTold}
+use Rattle.nfs_serve.specs.Promises.ChangeTells.{Tells, ChangeTells, ReadsOf, ReadsAreAlike, ChangeIsTold}
 use Rattle.nfs_serve.proofs.Promises.Points.{IsSound, sound_all, sound_new}
+use Rattle.nfs_serve.proofs.Promises.SameRows.{SameRows, rows_are, rows_on, rows_push, rows_without, rows_moved}
 use Rattle.nfs_serve.proofs.Promises.LaterRecords.{op_done, first_there, later_keeps, later_done}
-
--- Entries of another directory.
-
-entries_push : (rows : List Row) (r : Row) (n : ℕ) → r.directory ≢ n → entries_in (rows ++ r ∷ []) n ≡ entries_in rows n
-entries_push [] r n other = rw (ne_eqb r.directory n other) refl
-entries_push (x ∷ xs) r n other = ap (λ (ys : List Row). cond (x.directory == n) (x ∷ ys) ys) (entries_push xs r n other)
-
-entries_without : (d : ℕ) (name : List ℕ) (rows : List Row) (n : ℕ) → d ≢ n → entries_in (without_entry d name rows) n ≡ entries_in rows n
-entries_without d name rows n other =
-    filter_past (λ (r : Row). r.directory == n) (λ r. not (is_entry d name r)) rows (λ x there here.
-    (let is : x.directory ≡ n = eqb-true x.directory n here in
-    rw (ne_eqb x.directory d (λ same. other (sym same ∙ is))) refl))
 
 -- What is there under a number was there, and has a greater change, or is the same, and then this holds.
 
@@ -118,12 +114,12 @@ at_changed : (n m : ℕ) (now : Time) (sets : Sets) (xs : List Stored) (Same : T
     → stored_in (with_changed m now sets xs) n ≡ Some k → Was n xs k Same
 at_changed n m now sets xs Same other k e = by_map n (change_at m now sets) xs Same (keeps_changed m now sets []).number (changed_or m n now sets Same other) k e
 
-both_changed : (n d m : ℕ) (now : Time) (xs : List Stored) (Same : Type 0) → (d ≢ n → Same) → (k : Stored)
+both_changed : (n d m : ℕ) (now : Time) (xs : List Stored) (Same : Type 0) → (d ≢ n → m ≢ n → Same) → (k : Stored)
     → stored_in (with_links_changed m now (with_entries_changed d now xs)) n ≡ Some k → Was n xs k Same
-both_changed n d m now xs Same other k e =
-    was_after n xs (with_entries_changed d now xs) k Same (Unit {0}) Same (λ s u. s)
-    (at_changed n m now no_sets (with_entries_changed d now xs) (Unit {0}) (λ apart. tt) k e)
-    (λ s there. at_changed n d now (modified now no_sets) xs Same other s there)
+both_changed n d m now xs Same make k e =
+    was_after n xs (with_entries_changed d now xs) k (d ≢ n) (m ≢ n) Same make
+    (at_changed n m now no_sets (with_entries_changed d now xs) (m ≢ n) (λ apart. apart) k e)
+    (λ s there. at_changed n d now (modified now no_sets) xs (d ≢ n) (λ apart. apart) s there)
 
 two_changed : (n a b : ℕ) (now : Time) (xs : List Stored) (Same : Type 0) → (a ≢ n → b ≢ n → Same) → (k : Stored)
     → stored_in (with_both_changed a b now xs) n ≡ Some k → Was n xs k Same
@@ -165,18 +161,18 @@ at_bytes n m now sets bytes xs Same same k e =
 
 record Follows (n : ℕ) (t u : Files) : Type 0 where
   pub given : n ≤ u.last_object
-  pub came : (now : Stored) → stored_in u.objects n ≡ Some now → Was n t.objects now (entries_in u.rows n ≡ entries_in t.rows n)
+  pub came : (now : Stored) → stored_in u.objects n ≡ Some now → Was n t.objects now (SameRows n t.rows u.rows)
 
 follows_itself : (n : ℕ) (t : Files) → n ≤ t.last_object → Follows n t t
-follows_itself n t low = record { given = low; came = λ k e. record { was = k; there = e; either = inr (refl, refl) } }
+follows_itself n t low = record { given = low; came = λ k e. record { was = k; there = e; either = inr (refl, rows_are n t.rows) } }
 
 follows_on : (n : ℕ) (t u v : Files) → Follows n t u → (n ≤ u.last_object → Follows n u v) → Follows n t v
 follows_on n t u v first step =
     let second = step first.given in
     record {
       given = second.given;
-      came = λ k e. was_after n t.objects u.objects k (entries_in u.rows n ≡ entries_in t.rows n) (entries_in v.rows n ≡ entries_in u.rows n)
-          (entries_in v.rows n ≡ entries_in t.rows n) (λ s t. t ∙ s) (second.came k e) first.came;
+      came = λ k e. was_after n t.objects u.objects k (SameRows n t.rows u.rows) (SameRows n u.rows v.rows) (SameRows n t.rows v.rows)
+          (λ early late. rows_on n t.rows u.rows v.rows late early) (second.came k e) first.came;
     }
 
 new_follows : (n : ℕ) (t : Files) (d : ℕ) (name : List ℕ) (new : New) (sets : Sets) (now : Time) → n ≤ t.last_object → Follows n t (with_new t d name new sets now)
@@ -186,7 +182,7 @@ new_follows n t d name new sets now low =
     let other : t.last_object + 1 ≢ n = λ same. omega arith in
     record {
       given = omega arith;
-      came = λ k e. at_changed n d now (modified now no_sets) t.objects (entries_in (t.rows ++ row ∷ []) n ≡ entries_in t.rows n) (λ apart. entries_push t.rows row n apart) k
+      came = λ k e. at_changed n d now (modified now no_sets) t.objects (SameRows n t.rows (t.rows ++ row ∷ [])) (λ apart. rows_push t.rows row n apart other) k
           (sym (find_push_other (λ (s : Stored). s.number == n) (with_entries_changed d now t.objects) made (ne_eqb (t.last_object + 1) n other)) ∙ e);
     }
 
@@ -195,46 +191,44 @@ link_follows n t m d name now low =
     let row : Row = record { directory = d; name = name; object = m; cookie = t.last_cookie + 1 } in
     record {
       given = low;
-      came = λ k e. both_changed n d m now t.objects (entries_in (t.rows ++ row ∷ []) n ≡ entries_in t.rows n) (λ apart. entries_push t.rows row n apart) k e;
+      came = λ k e. both_changed n d m now t.objects (SameRows n t.rows (t.rows ++ row ∷ [])) (λ apart other. rows_push t.rows row n apart other) k e;
     }
 
-without_follows : (n : ℕ) (t : Files) (d : ℕ) (name : List ℕ) (now : Time) → n ≤ t.last_object → Follows n t (without_name t d name now)
-without_follows n t d name now low = record {
+without_follows : (n : ℕ) (t : Files) (d : ℕ) (name : List ℕ) (now : Time) → IsTree t → n ≤ t.last_object → Follows n t (without_name t d name now)
+without_follows n t d name now is low = record {
   given = low;
-  came = λ k e. both_changed n d (named t d name) now t.objects (entries_in (without_entry d name t.rows) n ≡ entries_in t.rows n)
-      (λ apart. entries_without d name t.rows n apart) k e;
+  came = λ k e. both_changed n d (named t d name) now t.objects (SameRows n t.rows (without_entry d name t.rows))
+      (λ apart other. rows_without d name t.rows (named t d name) n (entry_names t d name is) apart other) k e;
 }
 
-moved_follows : (n : ℕ) (t : Files) (m : Move) (now : Time) → n ≤ t.last_object → Follows n t (with_moved t m now)
-moved_follows n t m now low =
-    let row : Row = record { directory = m.target; name = m.name; object = moved_object t m; cookie = t.last_cookie + 1 } in
-    let without = without_entry m.target m.name t.rows in
-    let Same : Type 0 = entries_in (without_entry m.source m.old without ++ row ∷ []) n ≡ entries_in t.rows n in
+moved_follows : (n : ℕ) (t : Files) (m : Move) (now : Time) → IsTree t → rename_fault t m ≡ None → moves t m ≡ true → n ≤ t.last_object → Follows n t (with_moved t m now)
+moved_follows n t m now is fits moves low =
+    let k : ℕ = replaced_object t m in
+    let Same : Type 0 = SameRows n t.rows (with_moved t m now).rows in
     record {
       given = low;
-      came = λ k e. was_after n t.objects (with_links_changed (replaced_object t m) now t.objects) k (Unit {0}) Same Same (λ u s. s)
-          (two_changed n m.source m.target now (with_links_changed (replaced_object t m) now t.objects) Same
-          (λ source target. entries_push (without_entry m.source m.old without) row n target
-          ∙ (entries_without m.source m.old without n source ∙ entries_without m.target m.name t.rows n target)) k e)
-          (λ s there. at_changed n (replaced_object t m) now no_sets t.objects (Unit {0}) (λ apart. tt) s there);
+      came = λ s e. was_after n t.objects (with_links_changed k now t.objects) s (k ≢ n) (k ≢ n → Same) Same (λ other make. make other)
+          (two_changed n m.source m.target now (with_links_changed k now t.objects) (k ≢ n → Same)
+          (λ source target other. rows_moved n t m (t.last_cookie + 1) is moves (move_granted t m fits moves).old source target other) s e)
+          (λ s there. at_changed n k now no_sets t.objects (k ≢ n) (λ other. other) s there);
     }
 
 rest_follows : (n : ℕ) (t : Files) (p : ℕ → Bool) → n ≤ t.last_object → Follows n t (record t { objects = filter (λ (s : Stored). p s.number) t.objects })
-rest_follows n t p low = record { given = low; came = λ k e. by_rest n p t.objects (entries_in t.rows n ≡ entries_in t.rows n) refl k e }
+rest_follows n t p low = record { given = low; came = λ k e. by_rest n p t.objects (SameRows n t.rows t.rows) (rows_are n t.rows) k e }
 
 changed_follows : (n : ℕ) (t : Files) (m : ℕ) (sets : Sets) (now : Time) → n ≤ t.last_object → Follows n t (record t { objects = with_changed m now sets t.objects })
-changed_follows n t m sets now low = record { given = low; came = λ k e. at_changed n m now sets t.objects (entries_in t.rows n ≡ entries_in t.rows n) (λ apart. refl) k e }
+changed_follows n t m sets now low = record { given = low; came = λ k e. at_changed n m now sets t.objects (SameRows n t.rows t.rows) (λ apart. rows_are n t.rows) k e }
 
 written_follows : (n : ℕ) (t : Files) (m offset : ℕ) (text : List ℕ) (now : Time) → n ≤ t.last_object → Follows n t (with_written t m offset text now)
 written_follows n t m offset text now low = record {
   given = low;
-  came = λ k e. at_bytes n m now no_sets (λ s. written s.bytes offset text) t.objects (entries_in t.rows n ≡ entries_in t.rows n) refl k e;
+  came = λ k e. at_bytes n m now no_sets (λ s. written s.bytes offset text) t.objects (SameRows n t.rows t.rows) (rows_are n t.rows) k e;
 }
 
 resized_follows : (n : ℕ) (t : Files) (m size : ℕ) (sets : Sets) (now : Time) → n ≤ t.last_object → Follows n t (with_resized t m size sets now)
 resized_follows n t m size sets now low = record {
   given = low;
-  came = λ k e. at_bytes n m now sets (λ s. resized s.bytes size) t.objects (entries_in t.rows n ≡ entries_in t.rows n) refl k e;
+  came = λ k e. at_bytes n m now sets (λ s. resized s.bytes size) t.objects (SameRows n t.rows t.rows) (rows_are n t.rows) k e;
 }
 
 -- Effects.
@@ -253,41 +247,54 @@ staying_follows : (n : ℕ) (t : Files) (stays : ℕ → Bool) (s : store.State)
 staying_follows n t stays s is =
     follows_on n t s.tree (staying stays s).tree is (rest_follows n s.tree (is_used (with_opens s (table_staying stays s.opens))))
 
-names_behind : (n : ℕ) (t : Files) (s : store.State) (e : names_effects.Effect) → Follows n t s.tree → Follows n t (names_effects.behind s e).tree
-names_behind n t s (Makes d name new sets now) is = follows_on n t s.tree (with_new s.tree d name new sets now) is (new_follows n s.tree d name new sets now)
-names_behind n t s (Links m d name now) is = follows_on n t s.tree (with_link s.tree m d name now) is (link_follows n s.tree m d name now)
-names_behind n t s (Removes d name now) is =
+names_behind : (n : ℕ) (t : Files) (s : store.State) (e : names_effects.Effect) → names_effects.Fits s e → IsTree s.tree → Follows n t s.tree
+    → Follows n t (names_effects.behind s e).tree
+names_behind n t s (Makes d name new sets now) fits tree is = follows_on n t s.tree (with_new s.tree d name new sets now) is (new_follows n s.tree d name new sets now)
+names_behind n t s (Links m d name now) fits tree is = follows_on n t s.tree (with_link s.tree m d name now) is (link_follows n s.tree m d name now)
+names_behind n t s (Removes d name now) fits tree is =
     unused_follows n t (with_tree s (without_name s.tree d name now)) (named s.tree d name)
-    (follows_on n t s.tree (without_name s.tree d name now) is (without_follows n s.tree d name now))
-names_behind n t s (Moves m now) is =
+    (follows_on n t s.tree (without_name s.tree d name now) is (without_follows n s.tree d name now tree))
+names_behind n t s (Moves m now) fits tree is =
     replaced_follows n t (with_tree s (with_moved s.tree m now)) (lookup s.tree m.target m.name)
-    (follows_on n t s.tree (with_moved s.tree m now) is (moved_follows n s.tree m now))
+    (follows_on n t s.tree (with_moved s.tree m now) is (moved_follows n s.tree m now tree fits.0 fits.1))
 
-files_behind : (n : ℕ) (t : Files) (s : store.State) (e : files_effects.Effect) → Follows n t s.tree → Follows n t (files_effects.behind s e).tree
-files_behind n t s (Names e) is = names_behind n t s e is
-files_behind n t s (Writes m offset text now) is = follows_on n t s.tree (with_written s.tree m offset text now) is (written_follows n s.tree m offset text now)
-files_behind n t s (Resizes m size sets now) is = follows_on n t s.tree (with_resized s.tree m size sets now) is (resized_follows n s.tree m size sets now)
-files_behind n t s (Changes m sets now) is =
+files_behind : (n : ℕ) (t : Files) (s : store.State) (client : ℕ) (e : files_effects.Effect) → files_effects.Fits s client e → IsTree s.tree → Follows n t s.tree
+    → Follows n t (files_effects.behind s e).tree
+files_behind n t s client (Names e) fits tree is = names_behind n t s e fits tree is
+files_behind n t s client (Writes m offset text now) fits tree is =
+    follows_on n t s.tree (with_written s.tree m offset text now) is (written_follows n s.tree m offset text now)
+files_behind n t s client (Resizes m size sets now) fits tree is =
+    follows_on n t s.tree (with_resized s.tree m size sets now) is (resized_follows n s.tree m size sets now)
+files_behind n t s client (Changes m sets now) fits tree is =
     follows_on n t s.tree (record s.tree { objects = with_changed m now sets s.tree.objects }) is (changed_follows n s.tree m sets now)
-files_behind n t s (Closes m file) is = unused_follows n t (with_opens s (without_open s.opens m)) file is
-files_behind n t s e is = is
+files_behind n t s client (Closes m file) fits tree is = unused_follows n t (with_opens s (without_open s.opens m)) file is
+files_behind n t s client e fits tree is = is
 
--- Operations.
+-- Operations: of each of their effects the tree and the store are ones.
 
-names_item : (n : ℕ) (t : Files) (refused : Bool) (s : store.State) (x : Context) (now : Time) (i : Item) → Follows n t s.tree
+record FollowsOn (n : ℕ) (t : Files) (s : store.State) : Type 0 where
+  pub sound : names_sound.IsSound s
+  pub follows : Follows n t s.tree
+
+names_item : (n : ℕ) (t : Files) (refused : Bool) (s : store.State) (x : Context) (now : Time) (i : Item) → FollowsOn n t s
     → ForSome (names.comes_to refused s x now i) (λ o. Follows n t o.state.tree)
-names_item n t refused s x now i is =
-    each_of (λ o. Follows n t o.state.tree) (names.comes_to refused s x now i)
-    (names_effected.kept_item (λ s x. Follows n t s.tree)
-    (names_effects.of_states (λ s. Follows n t s.tree) (λ s e fits is. names_behind n t s e is)) refused s x now i is)
+names_item n t refused s x now i is o same =
+    (each_of (λ o. FollowsOn n t o.state) (names.comes_to refused s x now i)
+    (names_effected.kept_item (λ s x. FollowsOn n t s) (names_effects.of_states (FollowsOn n t) (λ s e fits is.
+    record { sound = names_sound.sound_kept s e fits is.sound; follows = names_behind n t s e fits is.sound.tree is.follows })) refused s x now i is) o same).follows
 
-file_item : (n : ℕ) (t : Files) (refused : Bool) (s : store.State) (x : Context) (now : Time) (i : Item) → Follows n t s.tree
+file_item : (n : ℕ) (t : Files) (refused : Bool) (s : store.State) (x : Context) (now : Time) (i : Item) → IsTable s.opens → FollowsOn n t s
     → Follows n t (files.comes_to refused s x now i).state.tree
-file_item n t refused s x now i is = files_effected.kept_item (λ s. Follows n t s.tree) refused s x now i (λ s e fits is. files_behind n t s e is) is
+file_item n t refused s x now i table is = (files_effected.kept_item (FollowsOn n t) refused s x now i (λ u e fits is. record {
+  sound = files_sound.sound_kept u x.client e (fits table) is.sound;
+  follows = files_behind n t u x.client e (fits table) is.sound.tree is.follows;
+}) is).follows
 
 run_follows : (n : ℕ) (t : Files) (d : RanOp) → IsRun d → Follows n t d.before.store.tree → Follows n t d.behind.store.tree
-run_follows n t d r is = by_run (λ status text s. Follows n t s.tree) d r is (names_item n t r.refused d.before.store d.context (moment r.now) d.item is)
-    (file_item n t r.refused d.before.store d.context (moment r.now) d.item is) (λ other. is)
+run_follows n t d r is =
+    let here : FollowsOn n t d.before.store = record { sound = record { tree = r.whole.tree; store = r.whole.store }; follows = is } in
+    by_run (λ status text s. Follows n t s.tree) d r is (names_item n t r.refused d.before.store d.context (moment r.now) d.item here)
+    (file_item n t r.refused d.before.store d.context (moment r.now) d.item r.whole.table here) (λ other. is)
 
 -- Records.
 
@@ -315,7 +322,7 @@ told n t u follows there = go (stored_in u.objects n) refl there
           | inl rose ↦ record { rises = omega arith; same = λ is. absurd (omega arith) }
           | inr alike ↦ (let equal : k.object.change ≡ w.was.object.change = ap (λ (s : Stored). s.object.change) alike.0 in record {
             rises = omega arith;
-            same = λ is. record { stored = e ∙ (ap (λ (s : Stored). Some s) alike.0 ∙ sym w.there); entries = alike.1 };
+            same = λ is. record { stored = e ∙ (ap (λ (s : Stored). Some s) alike.0 ∙ sym w.there); names = alike.1.names; entries = alike.1.entries };
           })
         ]
 

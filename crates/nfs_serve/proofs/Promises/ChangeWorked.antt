@@ -1,24 +1,28 @@
 -- The run of a change that tells, and the wrong steps, computed.
 use Rattle.std.proofs.Common.{◌≡◌, inl, ℕ, ◌<◌, true, List, [], ◌∷◌, ◌++◌, length, get_or, take, Option, Some, refl, sym, ◌∙◌, ap, subst, arith}
+use Rattle.std.specs.Prelude.{◌==◌}
 use Rattle.std.specs.Option.{option_map_or}
 use Rattle.nfs_compound.specs.declared.file_args.Read.{Read}
 use Rattle.nfs_compound.specs.declared.op.Item.TheVariants.{Operation}
 use Rattle.nfs_compound.specs.declared.op.Op.TheVariants as Op
 use Rattle.nfs_compound.specs.declared.op_num.OpNum.TheVariants as Num
 use Rattle.nfs_names.specs.Context.{anonymous}
+use Rattle.nfs_results.specs.Items as results
 use Rattle.nfs_results.specs.Results.{done_head}
+use Rattle.nfs_attrs.specs.Attributes.{values}
+use Rattle.nfs_names.specs.GetAttr.{get_attr}
 use Rattle.nfs_tree.specs.declared.row.Row.{Row}
 use Rattle.nfs_tree.specs.declared.stored.Stored.{Stored}
-use Rattle.nfs_tree.specs.Files.{is_there, change_of}
+use Rattle.nfs_tree.specs.Files.{Files, root, is_there, change_of}
 use Rattle.nfs_xdr.specs.Tables.{In}
-use Rattle.nfs_xdr.proofs.Lists.{last_in}
+use Rattle.nfs_xdr.proofs.Lists.{last_in, count_push}
 use Rattle.nfs_exec.specs.Runs.Ops.{RanOp}
 use Rattle.nfs_serve.specs.Promises.Points.{ops_of}
 use Rattle.nfs_serve.specs.Promises.Exchanges.{words}
 use Rattle.nfs_serve.specs.Promises.HeldLock.{last_of}
 use Rattle.nfs_serve.specs.Promises.WrittenWorked.{made, writes, closed, reads}
-use Rattle.nfs_serve.specs.Promises.ChangeTells.{ReadsOf}
-use Rattle.nfs_serve.specs.Promises.ChangeWorked.{reads_again, read_once, ToldByChange, ChangesAreRefused}
+use Rattle.nfs_serve.specs.Promises.ChangeTells.{Tells, ReadsOf, GetsOf}
+use Rattle.nfs_serve.specs.Promises.ChangeWorked.{reads_again, read_once, gets, got_once, ToldByAttributes, ToldByChange, with_second_name, as_read, ChangesAreRefused}
 use Rattle.nfs_serve.proofs.Promises.HeldLock.{nothing, three}
 use Rattle.nfs_serve.proofs.Promises.Computing.{computing}
 
@@ -106,6 +110,58 @@ told_by_change = record {
   told = answers.1;
 }
 
+-- GETATTR, twice.
+
+abbrev got : RanOp
+got = last_of nothing (ops_of read_once (gets 107 8 6))
+
+abbrev got_again : RanOp
+got_again = last_of nothing (ops_of got_once (gets 108 9 7))
+
+got_ops : ops_of read_once (gets 107 8 6) ≡ take 2 (ops_of read_once (gets 107 8 6)) ++ got ∷ []
+unfolding computing get_attr values results.fattr
+got_ops = three nothing (ops_of read_once (gets 107 8 6)) refl
+
+got_again_ops : ops_of got_once (gets 108 9 7) ≡ take 2 (ops_of got_once (gets 108 9 7)) ++ got_again ∷ []
+unfolding computing get_attr values results.fattr
+got_again_ops = three nothing (ops_of got_once (gets 108 9 7)) refl
+
+unchanged : change_of got_again.before.store.tree 2 ≡ change_of got.before.store.tree 2
+unfolding computing get_attr values results.fattr
+unchanged = refl
+
+got_it : GetsOf 2 (0x18 ∷ 0xa ∷ []) got
+unfolding computing get_attr values results.fattr
+got_it = record { is = refl; at = refl; ok = refl }
+
+got_it_again : GetsOf 2 (0x18 ∷ 0xa ∷ []) got_again
+unfolding computing get_attr values results.fattr
+got_it_again = record { is = refl; at = refl; ok = refl }
+
+got_answers : (got.result ≡ done_head Num.GetAttr ++ words (2 ∷ 0x18 ∷ 0xa ∷ 24 ∷ 0 ∷ 3 ∷ 0 ∷ 8 ∷ 420 ∷ 1 ∷ [])) × (got_again.result ≡ got.result)
+unfolding computing get_attr values results.fattr
+got_answers = (refl, refl)
+
+pub told_by_attributes : ToldByAttributes
+told_by_attributes = record {
+  front = take 2 (ops_of read_once (gets 107 8 6));
+  asked = got;
+  ops = got_ops;
+  again = got_again;
+  late = inl (subst (In got_again) (sym got_again_ops) (last_in (take 2 (ops_of got_once (gets 108 9 7))) got_again));
+  same = unchanged;
+  first = got_it;
+  second = got_it_again;
+  told = got_answers.0;
+  alike = got_answers.1;
+}
+
+second_name_refused : (t : Files) → Tells 2 t (with_second_name t) → ⊥
+second_name_refused t tells =
+    let same = (tells.same refl).names in
+    let more = count_push (λ (r : Row). r.object == 2) t.rows (record { directory = root; name = 0x67 ∷ []; object = 2; cookie = 9 }) in
+    omega arith
+
 pub changes_are_refused : ChangesAreRefused
 unfolding computing
 changes_are_refused = record {
@@ -114,5 +170,6 @@ changes_are_refused = record {
       omega arith;
   back = λ d tells. let up = tells.rises in omega arith;
   unlisted = λ d tells. let fewer : 0 ≡ 1 = ap (λ (rows : List Row). length rows) (tells.same refl).entries in omega arith;
+  linked = λ d tells. second_name_refused (as_read d) tells;
   zeros = λ d is. let byte : 0 ≡ 0x73 = ap (λ (text : List ℕ). get_or text 16 0) is in omega arith;
 }

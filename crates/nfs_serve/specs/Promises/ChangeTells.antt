@@ -8,7 +8,7 @@ use Rattle.nfs_results.specs.Results.{done_head}
 use Rattle.nfs_xdr.specs.Spelling.{hyper}
 use Rattle.nfs_xdr.specs.Tables.{In}
 use Rattle.nfs_tree.specs.declared.row.Row.{Row}
-use Rattle.nfs_tree.specs.Files.{Files, stored_in, is_there, change_of}
+use Rattle.nfs_tree.specs.Files.{Files, stored_in, is_there, change_of, links_in}
 use Rattle.nfs_attrs.specs.Mask.{mask_of, has}
 use Rattle.nfs_names.specs.Outcome.{is_ok}
 use Rattle.nfs_exec.specs.Runs.AttributesTold.{TellsValue}
@@ -21,9 +21,10 @@ use Rattle.nfs_serve.specs.Promises.Points.{state_after, reached, ops_of}
 abbrev pub entries_in : List Row → ℕ → List Row
 entries_in rows d = filter (λ r. r.directory == d) rows
 
--- an object has the same bytes and attributes in both trees, but for the number of its names, and the same entries
+-- an object has the same bytes and attributes in both trees, the same number of names, and the same entries
 pub record IsAlike (n : ℕ) (before behind : Files) : Type 0 where
   pub stored : stored_in behind.objects n ≡ stored_in before.objects n
+  pub names : links_in behind.rows n ≡ links_in before.rows n
   pub entries : entries_in behind.rows n ≡ entries_in before.rows n
 
 -- its change does not fall, and where it is the same, so is the object
@@ -65,6 +66,20 @@ ReadsAreAlike = (mode instance lease : ℕ) (earlier : List Arrival) (c : Arriva
     ops_of s c ≡ front ++ d ∷ back → In e back ⊎ RunsIn (state_after s c) more e
     → is_there d.before.store.tree n ≡ true → is_there e.before.store.tree n ≡ true
     → change_of e.before.store.tree n ≡ change_of d.before.store.tree n → ReadsOf n offset count d → ReadsOf n offset count e → e.result ≡ d.result)
+
+-- a GETATTR of the object, of these attributes, that was answered NFS4_OK
+pub record GetsOf (n : ℕ) (words : List ℕ) (d : RanOp) : Type 0 where
+  pub is : d.item ≡ Operation (Op.GetAttr words)
+  pub at : d.context.current ≡ Some n
+  pub ok : is_ok d.status ≡ true
+
+-- And two GETATTRs of the same attributes are answered the same: all of them, also the number of names.
+abbrev pub AttributesAreAlike : Type 0
+AttributesAreAlike = (mode instance lease : ℕ) (earlier : List Arrival) (c : Arrival) (front : List RanOp) (d : RanOp) (back : List RanOp) (more : List Arrival) (e : RanOp)
+    (n : ℕ) (words : List ℕ)
+    → (let s = reached mode instance lease earlier in
+    ops_of s c ≡ front ++ d ∷ back → In e back ⊎ RunsIn (state_after s c) more e
+    → change_of e.before.store.tree n ≡ change_of d.before.store.tree n → GetsOf n words d → GetsOf n words e → e.result ≡ d.result)
 
 -- The change is told: a GETATTR of attribute 3 that is answered NFS4_OK gives that of the object, whatever else it asks for. So who is told the same change twice has
 -- what the promises above say.

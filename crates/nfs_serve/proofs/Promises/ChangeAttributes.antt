@@ -1,0 +1,97 @@
+-- Two GETATTRs of an object are answered the same while its change is the same.
+use Rattle.std.proofs.Common.{◌≡◌, ℕ, true, List, Option, Some, None, refl, sym, ◌∙◌, ap}
+use Rattle.std.specs.Prelude.{option_map, is_some, if◌then◌else◌, Ok}
+use Rattle.nfs_results.specs.declared.res.Res.TheVariants as Res
+use Rattle.nfs_results.specs.Results.{spell_result}
+use Rattle.nfs_tree.specs.declared.object.Object.{Object}
+use Rattle.nfs_tree.specs.declared.stored.Stored.{Stored}
+use Rattle.nfs_tree.specs.Object.{is_directory}
+use Rattle.nfs_tree.specs.Files.{Files, stored_in, is_there, links_in}
+use Rattle.nfs_attrs.specs.Mask.{mask_of, common, trimmed_words}
+use Rattle.nfs_attrs.specs.Attributes.{readable, values}
+use Rattle.nfs_names.specs.declared.context.Context.{Context}
+use Rattle.nfs_names.specs.declared.node.Node.{Node}
+use Rattle.nfs_names.specs.State as store
+use Rattle.nfs_names.specs.Attributes.{about}
+use Rattle.nfs_names.specs.Checks.{node_as, node_at, current}
+use Rattle.nfs_exec.specs.Runs.Ops.{RanOp}
+use Rattle.nfs_exec.proofs.Step.Instances.{instance_kept}
+use Rattle.nfs_exec.proofs.Runs.AttributesTold.{told}
+use Rattle.nfs_exec.proofs.Runs.LeaseTold.{lease_kept}
+use Rattle.nfs_exec.proofs.Runs.OneRun.{IsRun}
+use Rattle.nfs_serve.specs.Step.{new_state}
+use Rattle.nfs_serve.specs.Promises.Points.{reached}
+use Rattle.nfs_serve.specs.Promises.ChangeTells.{GetsOf, AttributesAreAlike}
+use Rattle.nfs_serve.proofs.Promises.Points.{IsSound, sound_all, sound_new}
+use Rattle.nfs_serve.proofs.Promises.LaterRecords.{op_done, first_there, later_keeps, later_done}
+use Rattle.nfs_serve.proofs.Promises.ChangeTells.{change_tells}
+
+attributes_text : (words : List ℕ) (n links instance lease : ℕ) (o : Object) → List ℕ
+attributes_text words n links instance lease o =
+    spell_result (Res.GetAttr (record {
+      attrmask = trimmed_words (common (mask_of words) readable);
+      attr_vals = values (mask_of words) (record { number = n; links = if is_directory o.kind then 1 else links; instance = instance; lease = lease }) o;
+    }))
+
+-- what a GETATTR of an object answers, if it answers NFS4_OK
+record Attributes (n : ℕ) (words : List ℕ) (s : store.State) (text : List ℕ) : Type 0 where
+  pub kept : Stored
+  pub there : stored_in s.tree.objects n ≡ Some kept
+  pub answers : text ≡ attributes_text words n (links_in s.tree.rows n) s.instance s.lease kept.object
+
+node_stored : (s : store.State) (x : Context) (n : ℕ) (d : Node) → x.current ≡ Some n → current s x ≡ Ok d
+    → (st : Stored) × (stored_in s.tree.objects n ≡ Some st) × (d ≡ record { number = n; object = st.object })
+unfolding current
+node_stored s x n d at found = go (stored_in s.tree.objects n) refl (sym (ap (node_at s) at) ∙ found)
+  where
+    go : (o : Option Stored) → stored_in s.tree.objects n ≡ o → node_as n (option_map (λ (k : Stored). k.object) o) ≡ Ok d
+        → (st : Stored) × (stored_in s.tree.objects n ≡ Some st) × (d ≡ record { number = n; object = st.object })
+    go None e bad = absurd cc
+    go (Some st) e same = (st, e, (let one : record { number = n; object = st.object } ≡ d = cc in sym one))
+
+gets_run : (n : ℕ) (words : List ℕ) (d : RanOp) → IsRun d → GetsOf n words d → Attributes n words d.before.store d.result
+unfolding attributes_text
+gets_run n words d r gets =
+    told (Attributes n words d.before.store) d r words gets.is gets.ok (λ k found.
+    (let it = node_stored d.before.store d.context n k gets.at found in
+    record {
+      kept = it.0;
+      there = it.1;
+      answers = ap (λ (k : Node). spell_result (Res.GetAttr (record {
+        attrmask = trimmed_words (common (mask_of words) readable);
+        attr_vals = values (mask_of words) (about d.before.store k) k.object;
+      }))) it.2;
+    }))
+
+text_same : (words : List ℕ) (n : ℕ) (s t : store.State) (text also : List ℕ) → t.instance ≡ s.instance → t.lease ≡ s.lease
+    → stored_in t.tree.objects n ≡ stored_in s.tree.objects n → links_in t.tree.rows n ≡ links_in s.tree.rows n
+    → Attributes n words s text → Attributes n words t also → also ≡ text
+text_same words n s t text also instance lease stored links first second =
+    let one : Some first.kept ≡ Some second.kept = sym first.there ∙ (sym stored ∙ second.there) in
+    let kept : second.kept ≡ first.kept = cc in
+    second.answers
+    ∙ (ap (attributes_text words n (links_in t.tree.rows n) t.instance t.lease) (ap (λ (k : Stored). k.object) kept)
+    ∙ (ap (λ (l : ℕ). attributes_text words n (links_in t.tree.rows n) t.instance l first.kept.object) lease
+    ∙ (ap (λ (i : ℕ). attributes_text words n (links_in t.tree.rows n) i s.lease first.kept.object) instance
+    ∙ (ap (λ (l : ℕ). attributes_text words n l s.instance s.lease first.kept.object) links
+    ∙ sym first.answers))))
+
+stored_there : (t : Files) (n : ℕ) (k : Stored) → stored_in t.objects n ≡ Some k → is_there t n ≡ true
+stored_there t n k e = ap is_some e
+
+pub attributes_are_alike : AttributesAreAlike
+attributes_are_alike mode instance lease earlier c front d back more e n words same there equal gets also =
+    let s = reached mode instance lease earlier in
+    let sound : IsSound s = sound_all (new_state mode instance lease) earlier (sound_new mode instance lease) in
+    let run : IsRun d = (op_done s c sound d (first_there s c front d back same)).run in
+    let first = gets_run n words d run gets in
+    let second = gets_run n words e (later_done s c front d back more sound same e there).run also in
+    let alike = (change_tells mode instance lease earlier c front d back more e n same there (stored_there d.before.store.tree n first.kept first.there)
+    (stored_there e.before.store.tree n second.kept second.there)).same equal in
+    let b = d.before.store in
+    let instances = instance_kept b.instance in
+    let leases = lease_kept b.lease in
+    text_same words n b e.before.store d.result e.result
+    (later_keeps (λ t. t.instance ≡ b.instance) instances s c front d back more sound same (instances.run d run refl) e there)
+    (later_keeps (λ t. t.lease ≡ b.lease) leases s c front d back more sound same (leases.run d run refl) e there)
+    alike.stored alike.names first second
