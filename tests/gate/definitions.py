@@ -1,23 +1,31 @@
 """Reads the definitions of a repository's crates (`crates/*/specs/**/*.antt`), what each of them names, and the contracts of its sources
 (`crates/*/src/**/*.rt`). `tests/gate/believed` stands on it.
 
-What cannot be followed by the text is refused, as a fault: an import that resolves to nothing, or whose path does not begin with
-`Rattle.`; one that passes names on (`pub use`), brings all of a module (`M.*`) or has another name for `Unit`; a module with a name in a file
-of definitions; in a source a module that is written into it, a macro, text of another file, a `pub use` where it is not the crate's root, or a
-body that a trait gives a function."""
+A name that a file passes on (`pub use`) is that of the file that defines it, through however many. A folder's list of files may pass on names
+too, all those of a file of the folder with `pub use FILE.*`.
 
+What cannot be followed by the text is refused, as a fault: an import that resolves to nothing or to itself, or whose path does not begin with
+`Rattle.`; one that passes a module on, brings all of a module into a file of definitions, or has another name for `Unit`; a module with a name
+in a file of definitions; in a source a module that is written into it, a macro, text of another file, a `pub use` where it is not the crate's
+root, or a body that a trait gives a function."""
+
+import contextlib
 import re
 
+import imports
 import rattle
+from imports import IN_FULL
 from rattle import without_comments
 
-ANTT_IMPORT = re.compile(r"^(?:(?:pub|unfoldable)\s+)*use\s+([^\n]*(?:\n[ \t}][^\n]*)*)", re.M)
-PASSED_ON = re.compile(r"^(?:unfoldable\s+)*pub\s+(?:unfoldable\s+)*use\s.*|^(?:pub )?mod .*", re.M)
-IN_FULL = re.compile(r"(?<![\w.])Rattle\.\w+\.[^\s(){},;\[\]⟦⟧]+")
+MODULE = re.compile(r"^(?:pub )?mod .*", re.M)
 HEAD = re.compile(r"((?:(?:pub|abbrev|unfoldable|opaque|data|record)\s+)+)([^\s(){}:]+)|()([^\s(){}:]+)\s*:(?=\s|$)")
 SECTION = re.compile(r"( *)module (\S+)(?: .*)? where$")
 FIELD = re.compile(r"^[ \t]+pub [^:\n]*:", re.M)
 WORD = re.compile(r"[^\s(){},;\[\]⟦⟧«»]+")
+
+
+class Lost(Exception):
+    """A name that leads to no definition."""
 
 
 class Definition:
@@ -44,36 +52,57 @@ class Definitions:
     def __init__(self, top):
         self.top, self.faults = top, []
         self.files, self.names, self.imports, self.std = {}, {}, {}, {}
+        self.passed = {}  # (what each file passes on, by its names; all names of a file below it by `*`)
         self.clauses, self.declared, self.known_by = {}, {}, {}  # (of each source that was read; the text of each Rust type that is named; what each definition names)
+        lists = {}
         for path in sorted(top.glob("crates/*/specs/**/*.antt")):
             crate, _, *inside = path.relative_to(top / "crates").with_suffix("").parts
             if path.name == "Lib.antt" or path.with_suffix("").is_dir():
-                self.read_lib(path)
+                lists[crate, ".".join(inside).removesuffix("Lib").rstrip(".")] = path
             else:
                 self.files[crate, ".".join(inside)] = path
+        for file, path in lists.items():
+            self.read_list(file, path)
         for file, path in self.files.items():
             self.read(file, path)
         for file, path in self.files.items():
-            said = ANTT_IMPORT.findall(without_comments(path.read_text(encoding="utf-8")))
-            self.imports[file], self.std[file] = self.imports_of(path, said)
+            self.imports[file], self.std[file] = self.imports_of(path, imports.of_file(path))
+        for file, path in lists.items():
+            self.imports_of(path, [it for it in imports.of_file(path) if not it.is_all])
+            for below in self.passed.get(file, {}).get("*", ()):
+                self.faults += [f"{self.place(path)}: there is no file {below[1]} to pass on"] * (below not in self.names)
 
     def place(self, path):
         return path.relative_to(self.top / "crates")
 
     # Files of definitions.
 
-    def read_lib(self, path):
-        for line in without_comments(path.read_text(encoding="utf-8")).splitlines():
+    def read_list(self, file, path):
+        """Reads a folder's list of files, which may pass names on."""
+        text = without_comments(path.read_text(encoding="utf-8"))
+        for line in imports.IMPORT.sub(lambda it: "" if "pub" in it[1].split() else it[0], text).splitlines():
             if line.strip() and not re.fullmatch(r"pub mod \w+\s*", line):
                 self.faults.append(f"{path.relative_to(self.top)}: more than a list of files: {line.strip()}")
+        if some := imports.read(text):
+            self.names[file] = {}
+            self.pass_on(file, some)
+
+    def pass_on(self, file, some):
+        for it in some:
+            if it.is_passed and it.is_all:
+                below = file[0], f"{file[1]}.{it.path}".strip(".")
+                self.passed.setdefault(file, {}).setdefault("*", []).append(below)
+            elif it.is_passed and it.name:
+                self.passed.setdefault(file, {})[it.other] = it
 
     def read(self, file, path):
         """Reads the definitions of a file: a line that begins one, those that go on with it, and its equations."""
         names = self.names[file] = {}
         now, depth = None, 0
         text = without_comments(path.read_text(encoding="utf-8"))
-        self.faults += [f"{self.place(path)}: names that are passed on, or a module: {it.strip()}" for it in PASSED_ON.findall(text)]
-        text = PASSED_ON.sub("", ANTT_IMPORT.sub("", text))
+        self.pass_on(file, imports.read(text))
+        self.faults += [f"{self.place(path)}: a module below a file of definitions: {it.strip()}" for it in MODULE.findall(text)]
+        text = MODULE.sub("", imports.IMPORT.sub("", text))
         for line in text.splitlines():
             if not line.strip() or re.match(r" *infix[lr]? ", line):
                 continue
@@ -107,34 +136,62 @@ class Definitions:
             return now
         return names.get(first[0]) if first else None
 
-    def imports_of(self, path, said):
+    def imports_of(self, path, some):
         """What the names that a file imports so stand for: a definition, as (file, name), or a file, as (file, None); and the names of std."""
         found, std, place = {}, set(), self.place(path)
-        for whole in said:
-            whole = " ".join(whole.split())
-            path_of, _, names = whole.partition("{")
-            path_of, _, alias = path_of.strip().partition(" as ")
-            listed = [it.strip() for it in names.strip(" }").split(",") if it.strip()] if names else []
-            if not path_of.startswith("Rattle.") or path_of.endswith("*") or "*" in listed:
-                self.faults.append(f"{place}: it cannot be seen what this brings: use {whole}")
+        for it in some:
+            if not it.path.startswith("Rattle.") or it.is_all or it.is_passed and not it.name:
+                self.faults.append(f"{place}: it cannot be seen what this brings: use {it}")
                 continue
-            if not (self.top / "crates" / path_of.split(".")[1]).is_dir():
-                self.faults += [f"{place}: another name for a type that everything has: {it}" for it in listed if re.match(r"(Unit|⊤|ℕ) as ", it)]
-                std |= {it.rpartition(" as ")[2] for it in listed} | {part for it in listed for part in it.split("◌") if part}
-                continue
-            home, rest = self.home_of(path_of.strip("."), place)
-            for one in listed if home else []:
-                name, _, other = one.partition(" as ")
-                found.setdefault(other or name, set()).add((home, self.known(home, rest or name, place)))
-            if not names and home:
-                last = alias or path_of.split(".")[-1]
-                found.setdefault(last, set()).add((home, self.known(home, rest, place) if rest else None))
+            is_own = self.is_own(it.path)
+            if not is_own and it.name in ("Unit", "⊤", "ℕ") and it.other != it.name:
+                self.faults.append(f"{place}: another name for a type that everything has: {it.name} as {it.other}")
+            cited = self.led(it, place) if is_own else None
+            if cited:
+                found.setdefault(it.other, set()).add(cited)
+            elif it.name:
+                std |= {it.other} | {part for part in it.name.split("◌") if part}
         return found, std
 
+    def is_own(self, path):
+        return path.startswith("Rattle.") and (self.top / "crates" / path.split(".")[1]).is_dir()
+
+    def led(self, it, place):
+        """Where an import leads, as (file, name) or (file, None); none if to std or, with a fault, to nothing."""
+        home, rest = self.home_of(it.path, place)
+        if home and (rest or it.name):
+            return self.known(home, rest or it.name, place)
+        return (home, None) if home else None
+
     def known(self, home, name, place):
-        if home in self.names and name not in self.names[home]:
-            self.faults.append(f"{place}: {home[0]} specs.{home[1]} defines no {name}")
-        return name
+        """What a name of a file leads to, as (file, name); none if to std."""
+        try:
+            return self.found(home, name)
+        except Lost as why:
+            self.faults.append(f"{place}: {why}")
+            return home, name
+
+    def found(self, home, name, above=()):
+        """The same, where a name that a file passes on leads to what it stands for there."""
+        if home not in self.names or name in self.names[home]:
+            return home, name
+        if (home, name) in above:
+            raise Lost(f"{home[0]} specs.{home[1]} passes {name} on to itself")
+        passed, above = self.passed.get(home, {}), (*above, (home, name))
+        if name in passed and name != "*":
+            it = passed[name]
+            there, rest = self.home_of(it.path, None) if self.is_own(it.path) else (None, None)
+            return self.found(there, rest or it.name, above) if there else None
+        for below in passed.get("*", ()):
+            with contextlib.suppress(Lost):
+                return self.found(below, name, above)
+        raise Lost(f"{home[0]} specs.{home[1]} defines no {name}")
+
+    def reached(self, home, name):
+        """The same, or none where it leads to nothing."""
+        with contextlib.suppress(Lost):
+            return self.found(home, name)
+        return None
 
     def home_of(self, path, place):
         """The file of specs/ that a path in full leads to, and the name behind it, if any; or a Rust type, as (crate, (path,))."""
@@ -142,10 +199,10 @@ class Definitions:
         # what a clause on a loan says of a type's row it says of the type
         if part == "specs" and rest[:1] in (["declared"], ["contracts"]):
             return self.type_of(crate, rest[1:], place), None
-        for length in range(len(rest), 0, -1) if part == "specs" else []:
-            if (crate, ".".join(rest[:length])) in self.files:
+        for length in range(len(rest), -1, -1) if part == "specs" else []:
+            if (crate, ".".join(rest[:length])) in self.names:
                 return (crate, ".".join(rest[:length])), (rest[length:] or [None])[0]
-        self.faults.append(f"{place}: there is no file for {path}")
+        self.faults += [f"{place}: there is no file for {path}"] * bool(place)
         return None, None
 
     def type_of(self, crate, path, place):
@@ -157,11 +214,12 @@ class Definitions:
                     found = crate, (".".join(path[: length + 1]),)
                     self.declared[found] = read.declaration(block)
                     return found
-        self.faults.append(f"{place}: there is no Rust type for {crate} specs: {'.'.join(path)}")
+        self.faults += [f"{place}: there is no Rust type for {crate} specs: {'.'.join(path)}"] * bool(place)
         return None
 
     def at(self, cited):
-        return self.names.get(cited[0], {}).get(cited[1])
+        home, name = cited[0] in self.names and self.reached(*cited) or (None, None)
+        return self.names.get(home, {}).get(name)
 
     # What a text names.
 
@@ -169,10 +227,10 @@ class Definitions:
         """The definitions that a text names, and the Rust types."""
         found = set()
         for word in IN_FULL.findall(text):
-            if (self.top / "crates" / word.split(".")[1]).is_dir():
+            if self.is_own(word):
                 home, name = self.home_of(word.rstrip("."), place)
-                if home and name:
-                    found.add((home, self.known(home, name, place)))
+                if home and name and (cited := self.known(home, name, place)):
+                    found.add(cited)
         parts = {part: name for name in imports if "◌" in name for part in name.split("◌") if part}
         words = WORD.findall(IN_FULL.sub("", text))
         for word in words + [">>="] * ("←" in words):
@@ -182,8 +240,8 @@ class Definitions:
             for home, name in imports.get(parts.get(first, first), ()):
                 if name or home not in self.names:
                     found.add((home, name))
-                elif more and more[0] in self.names.get(home, ()):
-                    found.add((home, more[0]))
+                elif more and (cited := self.reached(home, more[0])):
+                    found.add(cited)
         return found
 
     def cited_by(self, cited):
@@ -204,7 +262,7 @@ class Definitions:
         if path not in self.clauses:
             source, place = rattle.read(path), self.place(path)
             self.faults += [f"{place}: {it}" for it in rattle.hidden(source, path.name == "lib.rt")]
-            self.clauses[path] = source.clauses, *self.imports_of(path, source.ghost_uses)
+            self.clauses[path] = source.clauses, *self.imports_of(path, [it for said in source.ghost_uses for it in imports.brought(said)])
         return self.clauses[path]
 
     def sources(self, crate):

@@ -188,7 +188,8 @@ class Page:
         return UNMET + "\n" + "\n".join(lines) + "\n" if found else ""
 
     def rest(self):
-        files = self.in_order(set(self.all.files) - self.believed)
+        # (a file that only passes names on says nothing)
+        files = self.in_order({it for it in self.all.files if self.all.names[it]} - self.believed)
         lines = []
         for crate in dict.fromkeys(it[0] for it in files):
             lines.append(wrapped(f"- `{crate}`: " + ", ".join(f"`{it[1]}` {self.whole[it]}" for it in files if it[0] == crate), "  "))

@@ -133,6 +133,7 @@ def in_words(old, new):
 
 
 BY_NAME = in_laws(HALVES, "Halves")
+LINES = "ghost use Rattle.tried.specs.Half.{half};\nghost use Rattle.tried.specs.Words.{quotient, Halves};\n"
 
 
 def named(new, old=SAID):
@@ -286,9 +287,37 @@ class Plants:
         for what, line, why in (
             ("all names of a module below", "use Below.*\n", UNSEEN),
             ("names of a module below", "use Below.{half as third}\n", UNSEEN),
-            ("names that a file of definitions passes on", "pub ", "names that are passed on"),
+            ("a module that a file passes on", "pub use Rattle.tried.specs.Half\n", UNSEEN),
+            ("a name that nobody takes of the file that passes it on", "pub ", "it passes half on, and no file takes that"),
         ):
             self.is_red(what, in_words("use Rattle.tried", f"{line}use Rattle.tried"), why)
+        self.is_right("an import of many modules", in_laws(LINES, "ghost use Rattle.tried.specs.{Half.half, Words.{quotient, Halves}};\n"))
+        self.is_red("one of which has no such name", in_laws(LINES, "ghost use Rattle.tried.specs.{Half.half, Words.{third}};\n"), "defines no third")
+        self.passed_on()
+
+    def passed_on(self):
+        """Names that a file passes on."""
+        passes = in_words("use Rattle.tried", "pub use Rattle.tried")
+        second = {"crates/tried/specs/More.antt": "pub use Rattle.tried.specs.Words.{half as halved}\n"}
+        by = lambda path: self.in_lib("Half.{half}", path)
+        self.is_right("a name that a file passes on", {**passes, **by("Words.{half}")}, 2)
+        self.is_right("a name that two files pass on", {**passes, **second, **by("More.{halved as half}")}, 2)
+        self.is_right("a name behind a file that passes it on", {**passes, **by("Words as words"), LIB: by("Words as words")[LIB].replace("result ≡ half", "result ≡ words.half")}, 2)
+        std = in_words("use Rattle.std.specs.Prelude.{", "pub use Rattle.std.specs.Prelude.{ℕ}\nuse Rattle.std.specs.Prelude.{◌∸◌, ").copy()
+        self.is_right("a name of std that a file passes on", {**std, HALF: self.definition.replace("std.specs.Prelude.{ℕ, ", "tried.specs.Words.{ℕ}\nuse Rattle.std.specs.Prelude.{")}, 2)
+        lists = {"crates/tried/specs/Lib.antt": "pub mod Half\npub mod Words\npub use Half.*\n"}
+        self.is_right("the names of all files of a list", {**lists, **by("{half}")}, 2)
+        self.is_stale("a definition that says something else, behind what passes it on", {**passes, **by("Words.{half}"), HALF: self.definition.replace("/ 2", "/ 3")})
+        trivial = in_words(f"{HEAD}{SAID}", "pub use Rattle.tried.specs.More.{Halves}\n")
+        trivial["crates/tried/specs/More.antt"] = f"use Rattle.tried.specs.Half.{{half}}\n\n{HEAD}Halves = (n : ℕ) → half n ≡ half n\n"
+        self.is_red("a law whose statement is passed on and states nothing", {**BY_NAME, **trivial}, STATED)
+        for what, changes, why in (
+            ("a name that is not passed on", by("Words.{half}"), "specs.Words defines no half"),
+            ("a name that is passed on and defined nowhere", {**in_words("use Rattle.tried.specs.Half.{half}", "pub use Rattle.tried.specs.Half.{half, third}"), **by("Words.{half, third}")}, "specs.Half defines no third"),
+            ("a name that two files pass on to each other", {**second, **in_words("use Rattle.tried.specs.Half.{half}", "pub use Rattle.tried.specs.More.{halved as half}"), **by("Words.{half}")}, "to itself"),
+            ("all names of a file that is not in the list's folder", {"crates/tried/specs/Lib.antt": "pub mod Half\npub use Third.*\n"}, "there is no file Third"),
+        ):
+            self.is_red(what, changes, why)
 
     def hidden(self):
         leans = named(SAID.replace("half (n + n)", "half (less n n + n)"))
@@ -299,7 +328,7 @@ class Plants:
         quotient, shown = "abbrev pub quotient", "pub mod laws;\n"
         for what, changes, why in (
             ("a module with a name", in_words(quotient, module + quotient), "a module with a name"),
-            ("a module below a file", in_words(quotient, "pub mod Below\n\n" + quotient), "names that are passed on, or a module"),
+            ("a module below a file", in_words(quotient, "pub mod Below\n\n" + quotient), "a module below a file of definitions"),
             ("a definition in the list of files", {"crates/tried/specs/Lib.antt": "abbrev pub other : ℕ\nother = 1\n"}, "more than a list of files"),
             ("all names of a module shown", self.in_lib(shown, f"{shown}pub use more::*;\n"), "passed on unseen"),
             ("names that a second module passes on", {MORE: "pub use crate::laws::halves;\n"}, "names that are passed on"),

@@ -9,7 +9,7 @@ use Rattle.nfs_tree.specs.declared.object.Object.{Object}
 use Rattle.nfs_tree.specs.declared.stored.Stored.{Stored}
 use Rattle.nfs_tree.specs.Object.{is_directory}
 use Rattle.nfs_tree.specs.Files.{Files, most_name, is_name, stored_in, object_at, is_there, is_directory_at}
-pub use Rattle.nfs_opens.proofs.CallLaws.{Came, came, ok_is}
+pub use Rattle.nfs_opens.proofs.CallLaws.{came, ok_is}
 use Rattle.nfs_names.specs.declared.context.Context.{Context}
 use Rattle.nfs_names.specs.declared.node.Node.{Node}
 use Rattle.nfs_names.specs.State.{State}

@@ -39,7 +39,8 @@ use Rattle.nfs_exec.specs.Runs.Ops.{RanOp, ops, ops_by}
 use Rattle.nfs_exec.specs.Runs.LockHeld.{LocksFor, UnlocksFor, ClosesOf, Spares, Tells, is_of, renews}
 use Rattle.nfs_exec.proofs.Step.Behind.{by_step}
 use Rattle.nfs_exec.proofs.Runs.ByEvent.{by_compound}
-pub use Rattle.nfs_exec.proofs.Runs.OneRun.{IsRun, in_room_is, too_big, by_item, by_ok}
+pub use Rattle.nfs_exec.proofs.Runs.OneRun.{IsRun, in_room_is, by_ok}
+use Rattle.nfs_exec.proofs.Runs.OneRun.{by_item}
 use Rattle.nfs_exec.proofs.Runs.KeptByRuns.{Is, whole_room, in_more, event_ops}
 
 -- One LOCK, LOCKU or CLOSE.
