@@ -6,14 +6,16 @@ use Rattle.std.proofs.lemmas.Bool.Decides.{nat_tests}
 use Rattle.std.proofs.lemmas.Slice.Eq.{bytes_eq-Decides}
 use Rattle.nfs_xdr.specs.Text.{IsBytes}
 use Rattle.nfs_xdr.specs.Tables.{IsRising, In, record_at, without_record}
-use Rattle.nfs_xdr.proofs.Lists.{in_filter, in_push, find_in, none_in, find_none, find_kept, find_past, find_out, find_push, find_push_other, filter_in, filter_all, some_or_none}
+use Rattle.nfs_xdr.proofs.Lists.{in_filter, in_push, find_in, none_in, find_none, find_kept, find_past, find_out, find_push, find_push_some, find_push_other, filter_in, filter_all, some_or_none}
 use Rattle.nfs_xdr.proofs.Tables.{IsRising-push, IsRising-filter, in_bounds, in_once, at_of_in}
+use Rattle.nfs_tree.specs.declared.row.Found.{Found}
 use Rattle.nfs_tree.specs.declared.row.Row.{Row}
+use Rattle.nfs_tree.specs.Finding.{found_of, found_at}
 use Rattle.nfs_tree.specs.Files.{most_name, is_entry, entry, without_entry, listed, listing}
 use Rattle.nfs_tree.specs.ByName.{NamesAnew}
 use Rattle.nfs_tree.specs.Maps.{AreNamed, ArePairs}
 use Rattle.nfs_tree.proofs.PairLemmas.{row_pair}
-use Rattle.nfs_tree.proofs.RowsKept.{entry_parts, found_put, either}
+use Rattle.nfs_tree.proofs.RowsKept.{entry_parts, entry_self, found_put, either}
 
 abbrev pub cookie : Row → ℕ
 cookie r = r.cookie
@@ -287,23 +289,38 @@ pub listing_next : (rows : List Row) (at : ℕ → List ℕ → Option ℕ) (has
     → In x rows → x.directory ≡ d → k + 1 ≤ x.cookie → ((c : ℕ) → k + 1 ≤ c → has (d, c) ≡ true → x.cookie ≤ c) → listing rows d k ≡ listed x ∷ listing rows d x.cookie
 listing_next rows at has d k x named are there stands up least = ap (map listed) (behind_next (λ (r : Row). r.directory) rows at has d k x named are there stands up least)
 
--- ---- the place of an entry
-abbrev pub place : Row → ℕ × ℕ
-place r = (r.object, r.cookie)
+-- ---- what is found under a name
+pub some_found : (o : Option Row) (f : Found) → Some f ≡ option_map found_of o → (x : Row) × (o ≡ Some x) × (x.object ≡ f.object) × (x.cookie ≡ f.cookie)
+some_found (Some x) f e = let both : f ≡ found_of x = cc in (x, refl, ap (λ (f : Found). f.object) (sym both), ap (λ (f : Found). f.cookie) (sym both))
+some_found None f e = absurd cc
 
-pub some_place : (o : Option Row) (n c : ℕ) → option_map place o ≡ Some (n, c) → (x : Row) × (o ≡ Some x) × (x.object ≡ n) × (x.cookie ≡ c)
-some_place (Some x) n c e = let both : place x ≡ (n, c) = cc in (x, refl, ap (λ (p : ℕ × ℕ). p.0) both, ap (λ (p : ℕ × ℕ). p.1) both)
-some_place None n c e = absurd cc
+pub none_found : (o : Option Row) → None ≡ option_map found_of o → o ≡ None
+none_found (Some x) e = absurd cc
+none_found None e = refl
 
-pub none_place : (o : Option Row) → option_map place o ≡ None → o ≡ None
-none_place (Some x) e = absurd cc
-none_place None e = refl
+-- what a look-up says of it
+pub found_object : (o : Option Row) → option_map (λ (f : Found). f.object) (option_map found_of o) ≡ option_map (λ (r : Row). r.object) o
+found_object None = refl
+found_object (Some x) = refl
 
--- what a look-up says of the place of an entry
-pub place_object : (o : Option Row) → option_map (λ (p : ℕ × ℕ). p.0) (option_map place o) ≡ option_map (λ (r : Row). r.object) o
-place_object None = refl
-place_object (Some x) = refl
+pub found_there : (o : Option Row) → is_some (option_map found_of o) ≡ is_some o
+found_there None = refl
+found_there (Some x) = refl
 
-pub place_there : (o : Option Row) → is_some (option_map place o) ≡ is_some o
-place_there None = refl
-place_there (Some x) = refl
+-- the entry of one name stays where that of another goes, and a row of that other comes
+pub entry_stays : (rows : List Row) (d : ℕ) (name : List ℕ) (to x : Row) → is_entry d name to ≡ false
+    → entry rows d name ≡ Some x → entry (without_entry to.directory to.name rows ++ to ∷ []) d name ≡ Some x
+entry_stays rows d name to x other found =
+    let parts = entry_parts d name x (find_in (is_entry d name) rows x found).1 in
+    let apart : is_entry to.directory to.name x ≡ false = elim (cases_Bool (is_entry to.directory to.name x)) [
+      | inl is ↦ (let same = entry_parts to.directory to.name x is in
+          absurd (false≢true (sym other ∙ ap (λ e. is_entry e name to) (sym parts.0 ∙ same.0) ∙ ap (λ n. is_entry to.directory n to) (sym parts.1 ∙ same.1) ∙ entry_self to)))
+      | inr off ↦ off
+    ] in
+    find_push_some (is_entry d name) (without_entry to.directory to.name rows) to x (find_kept (is_entry d name) (λ r. not (is_entry to.directory to.name r)) rows x found (ap not apart))
+
+pub found_stays : (rows : List Row) (d : ℕ) (name : List ℕ) (to : Row) (f : Found) → is_entry d name to ≡ false
+    → Some f ≡ found_at rows d name → Some f ≡ found_at (without_entry to.directory to.name rows ++ to ∷ []) d name
+found_stays rows d name to f other found =
+    let x = some_found (entry rows d name) f found in
+    found ∙ ap (option_map found_of) (x.1 ∙ sym (entry_stays rows d name to x.0 other x.1))

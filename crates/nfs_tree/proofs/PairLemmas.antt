@@ -168,8 +168,3 @@ is_none (Some x) e = absurd cc
 pub not_there : {X : Type 0} (o : Option X) → o ≡ None → is_some o ≡ false
 not_there None e = refl
 not_there (Some x) e = absurd cc
-
--- a pair that came and went
-pub pair_back_again : {X : Type 0} (o l m n : Option X) (b : Bool) → (b ≡ true → l ≡ None) → m ≡ cond b o l → n ≡ cond b None m → n ≡ l
-pair_back_again o l m n true none put gone = gone ∙ sym (none refl)
-pair_back_again o l m n false none put gone = gone ∙ put

@@ -4,6 +4,7 @@ ghost use Rattle.std.specs.Prelude.{◌≡◌, ℕ, ◌+◌, ◌≤◌, ◌++◌
 ghost use Rattle.std.specs.BTreeMap.{insert_entry, get, is_at};
 ghost use Rattle.nfs_xdr.specs.Tables.{IsRising, without_record};
 ghost use Rattle.nfs_tree.specs.Files.{entry, parent_in, links_in, has_row, has_entries, listing, without_entry, most_name};
+ghost use Rattle.nfs_tree.specs.Finding.{found_at};
 ghost use Rattle.nfs_tree.specs.ByName.{cookies, NamesAnew};
 ghost use Rattle.nfs_tree.specs.Maps.{pair_cmp, HasOneRow};
 ghost use Rattle.nfs_tree.specs.Names.{with_row};
@@ -13,7 +14,7 @@ use crate::by_name::ByName;
 use crate::counts::Counts;
 use crate::list::Listing;
 use crate::name::Name;
-use crate::row::{Naming, Row};
+use crate::row::{Found, Naming, Row};
 use crate::tree::Tree;
 use std::alloc::{AllocError, Global};
 use std::collections::BTreeMap;
@@ -69,9 +70,9 @@ impl Rows {
         self.rows.len()
     }
 
-    /// The object and the cookie of an entry.
-    pub(crate) fn place_of(&self, directory: u64, name: &[u8]) -> Option<(u64, u64)>
-        ensures { result ≡ option_map (λ r. (r.object, r.cookie)) (entry self.now directory name.now) }
+    /// The entry of a name in a directory.
+    pub(crate) fn find(&self, directory: u64, name: &[u8]) -> Option<Found>
+        ensures { result ≡ found_at self.now directory name.now }
     {
         let names = &self.names;
         if name.len() > Tree::MAX_NAME {
@@ -81,7 +82,10 @@ impl Rows {
             None => None,
             Some(cookie) => match self.rows.row(cookie) {
                 None => None,
-                Some(row) => Some((row.object, cookie)),
+                Some(row) => Some(Found {
+                    object: row.object,
+                    cookie,
+                }),
             },
         }
     }
@@ -161,7 +165,7 @@ impl Rows {
         }
     }
 
-    /// Puts an entry behind all rows; one that has the name goes.
+    /// Puts an entry behind all rows; the one that was found under the name goes.
     pub(crate) fn put(
         &mut self,
         alloc: Global,
@@ -169,13 +173,14 @@ impl Rows {
         name: &[u8],
         object: u64,
         cookie: u64,
+        replaced: Option<Found>,
     ) -> Result<(), AllocError>
         requires short { length name.now ≤ most_name }
         requires last { IsRising (λ r. r.cookie) 3 self.old cookie }
+        requires replaced { replaced ≡ found_at self.old directory name.now }
         ensures ok { OnOk result (self.new ≡ with_row (without_entry directory name.now self.old) directory name.now object cookie) }
         ensures err { OnErr result (self.new ≡ self.old) }
     {
-        let replaced = self.place_of(directory, name);
         let kept = Name::of(alloc, name)?;
         let row = Row {
             directory,
@@ -185,7 +190,7 @@ impl Rows {
         };
         let named = self.has_row(object);
         self.counts.add(object, named)?;
-        let added = add_owned(
+        let added = add(
             &mut self.rows,
             &mut self.names,
             &mut self.listed,
@@ -198,10 +203,10 @@ impl Rows {
             self.counts.take(object);
             return Err(fault);
         }
-        if let Some((loser, old)) = replaced {
-            take(&mut self.rows, &mut self.listed, directory, old);
-            take_pair(&mut self.owned, loser, old);
-            self.counts.take(loser);
+        if let Some(loser) = replaced {
+            take(&mut self.rows, &mut self.listed, directory, loser.cookie);
+            take_pair(&mut self.owned, loser.object, loser.cookie);
+            self.counts.take(loser.object);
         }
         Ok(())
     }
@@ -221,19 +226,18 @@ impl Rows {
         ensures ok { OnOk result (self.new ≡ with_row self.old directory name.now object cookie) }
         ensures err { OnErr result (self.new ≡ self.old) }
     {
-        self.put(alloc, directory, name, object, cookie)
+        self.put(alloc, directory, name, object, cookie, None)
     }
 
-    /// Drops an entry.
-    pub(crate) fn drop_entry(&mut self, directory: u64, name: &[u8])
+    /// Drops the entry that was found under the name.
+    pub(crate) fn drop_entry(&mut self, directory: u64, name: &[u8], gone: Found)
+        requires { Some gone ≡ found_at self.old directory name.now }
         ensures { self.new ≡ without_entry directory name.now self.old }
     {
-        if let Some((owner, gone)) = self.place_of(directory, name) {
-            self.names.remove(directory, name);
-            take(&mut self.rows, &mut self.listed, directory, gone);
-            take_pair(&mut self.owned, owner, gone);
-            self.counts.take(owner);
-        }
+        self.names.remove(directory, name);
+        take(&mut self.rows, &mut self.listed, directory, gone.cookie);
+        take_pair(&mut self.owned, gone.object, gone.cookie);
+        self.counts.take(gone.object);
     }
 }
 
@@ -281,33 +285,6 @@ fn add(
     rows: &mut ByCookie,
     names: &mut ByName,
     listed: &mut BTreeMap<(u64, u64), (), Global>,
-    alloc: Global,
-    name: &[u8],
-    row: Row,
-) -> Result<(), AllocError>
-    requires rising { IsRising (λ r. r.cookie) 3 rows.old row.cookie }
-    requires short { length name.now ≤ most_name }
-    requires new_pair { get pair_cmp listed.old (row.directory, row.cookie) ≡ None }
-    ensures rows { OnOk result (rows.new ≡ rows.old ++ row ∷ []) }
-    ensures names { OnOk result (NamesAnew (cookies names.old) (cookies names.new) row.directory name.now (Some row.cookie)) }
-    ensures listed { OnOk result (listed.new.entries ≡ insert_entry pair_cmp listed.old.entries (row.directory, row.cookie) tt) }
-    ensures err_rows { OnErr result (rows.new ≡ rows.old) }
-    ensures err_names { OnErr result (cookies names.new ≡ cookies names.old) }
-    ensures err_listed { OnErr result (listed.new.entries ≡ listed.old.entries) }
-{
-    let Entry::Vacant(place) = listed.entry((row.directory, row.cookie))? else {
-        return Ok(());
-    };
-    put_named(rows, names, alloc, name, row)?;
-    place.insert(());
-    Ok(())
-}
-
-/// Puts a row into the maps, that of objects among them, or into none.
-fn add_owned(
-    rows: &mut ByCookie,
-    names: &mut ByName,
-    listed: &mut BTreeMap<(u64, u64), (), Global>,
     owned: &mut BTreeMap<(u64, u64), (), Global>,
     alloc: Global,
     name: &[u8],
@@ -324,15 +301,17 @@ fn add_owned(
     ensures err_rows { OnErr result (rows.new ≡ rows.old) }
     ensures err_names { OnErr result (cookies names.new ≡ cookies names.old) }
     ensures err_listed { OnErr result (listed.new.entries ≡ listed.old.entries) }
-    ensures err_owned { OnErr result ((q : ℕ × ℕ) → get pair_cmp owned.new q ≡ get pair_cmp owned.old q) }
+    ensures err_owned { OnErr result (owned.new.entries ≡ owned.old.entries) }
 {
-    let owner = row.object;
-    let cookie = row.cookie;
-    owned.insert((owner, cookie), ())?;
-    if let Err(fault) = add(rows, names, listed, alloc, name, row) {
-        take_pair(owned, owner, cookie);
-        return Err(fault);
-    }
+    let Entry::Vacant(listing) = listed.entry((row.directory, row.cookie))? else {
+        return Ok(());
+    };
+    let Entry::Vacant(owning) = owned.entry((row.object, row.cookie))? else {
+        return Ok(());
+    };
+    put_named(rows, names, alloc, name, row)?;
+    listing.insert(());
+    owning.insert(());
     Ok(())
 }
 

@@ -1,9 +1,18 @@
-use Rattle.std.proofs.Common.{◌∙◌, ap}
+use Rattle.std.proofs.Common.{sym, ◌∙◌, ap}
+use Rattle.std.specs.Prelude.{option_map}
+use Rattle.nfs_xdr.proofs.Lists.{find_push_none}
 use Rattle.nfs_tree.specs.declared.row.Row.{Row}
-use Rattle.nfs_tree.specs.Files.{without_entry}
+use Rattle.nfs_tree.specs.Files.{is_entry, entry, without_entry}
+use Rattle.nfs_tree.specs.Finding.{found_of}
 use Rattle.nfs_tree.proofs.RowsKept.{entry_self}
 use Rattle.nfs_tree.proofs.MapLemmas.{put_back}
 use Rattle.nfs_tree.proofs.create.put_both.Goals as goal
+
+pub drop_entry-requires : goal.drop_entry-requires
+drop_entry-requires c =
+    let row : Row = record { directory = c.args.directory; name = c.args.name.now; object = c.args.stored.number; cookie = c.args.cookie } in
+    sym (ap (option_map found_of) (ap (λ rows. entry rows c.args.directory c.args.name.now) c.in_ok-put_new.ensures.ok
+    ∙ find_push_none (is_entry c.args.directory c.args.name.now) c.args.rows.now row c.requires.vacant (entry_self row)))
 
 pub returns-in-Err-clause-err_rows : goal.returns-in-Err-clause-err_rows
 returns-in-Err-clause-err_rows c =

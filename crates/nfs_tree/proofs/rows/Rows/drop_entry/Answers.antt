@@ -5,36 +5,33 @@ use Rattle.nfs_tree.specs.Files.{entry, without_entry}
 use Rattle.nfs_tree.specs.ByName.{cookies}
 use Rattle.nfs_tree.specs.Counts.{further, CountsAnew}
 use Rattle.nfs_tree.specs.Maps.{pair_cmp}
-use Rattle.nfs_tree.proofs.MapLemmas.{cookie, some_place, none_place, none_gone, short_name}
+use Rattle.nfs_tree.proofs.MapLemmas.{cookie, some_found, short_name}
 use Rattle.nfs_tree.proofs.Mapped.{Done, done_gone}
 use Rattle.nfs_tree.proofs.rows.Rows.drop_entry.Goals as goal
 
 pub remove-requires : goal.remove-requires
 remove-requires c =
-    let x = some_place (entry c.args.self.now c.args.directory c.args.name.now) c.in-Some.owner c.in-Some.gone (sym c.in-Some.ensures) in
+    let x = some_found (entry c.args.self.now c.args.directory c.args.name.now) c.args.gone c.requires in
     let found : entry c.self.inside.rows c.args.directory c.args.name.now ≡ Some x.0 =
     ap (λ rows. entry rows c.args.directory c.args.name.now) c.self.view_is ∙ x.1 in
     short_name _ _ c.self.invariant.named c.args.directory c.args.name.now x.0 found
 
-done : (c : goal.After-take-in-Some) → Done c.take.new.rows (cookies c.remove.new.self) c.take.new.listed.entries c.take_pair.new.pairs.entries (further c.take-in-Some.new.self)
+done : (c : goal.After-take-2) → Done c.take.new.rows (cookies c.remove.new.self) c.take.new.listed.entries c.take_pair.new.pairs.entries (further c.take-2.new.self)
     (without_entry c.args.directory c.args.name.now c.self.inside.rows)
 done c =
-    let x = some_place (entry c.args.self.now c.args.directory c.args.name.now) c.in-Some.owner c.in-Some.gone (sym c.in-Some.ensures) in
+    let x = some_found (entry c.args.self.now c.args.directory c.args.name.now) c.args.gone c.requires in
     let found : entry c.self.inside.rows c.args.directory c.args.name.now ≡ Some x.0 =
     ap (λ rows. entry rows c.args.directory c.args.name.now) c.self.view_is ∙ x.1 in
     done_gone c.self.inside.rows c.take.new.rows (cookies c.self.inside.names) (cookies c.remove.new.self) c.self.inside.listed.entries c.take.new.listed.entries c.self.inside.owned.entries c.take_pair.new.pairs.entries
-    (further c.self.inside.counts) (further c.take-in-Some.new.self) c.args.directory c.args.name.now x.0 c.self.invariant found
+    (further c.self.inside.counts) (further c.take-2.new.self) c.args.directory c.args.name.now x.0 c.self.invariant found
     (c.take.ensures.rows ∙ ap (λ k. without_record cookie c.self.inside.rows k) (sym x.3)) c.remove.ensures
     (λ q. c.take.ensures.listed q ∙ ap (λ k. cond (is_at (pair_cmp (c.args.directory, k)) q) None (get pair_cmp c.self.inside.listed q)) (sym x.3))
-    (λ q. c.take_pair.ensures q ∙ ap (λ n. cond (is_at (pair_cmp (n, c.in-Some.gone)) q) None (get pair_cmp c.self.inside.owned q)) (sym x.2)
+    (λ q. c.take_pair.ensures q ∙ ap (λ n. cond (is_at (pair_cmp (n, c.args.gone.cookie)) q) None (get pair_cmp c.self.inside.owned q)) (sym x.2)
     ∙ ap (λ k. cond (is_at (pair_cmp (x.0.object, k)) q) None (get pair_cmp c.self.inside.owned q)) (sym x.3))
-    (subst (λ n. CountsAnew (further c.self.inside.counts) (further c.take-in-Some.new.self) n (further c.self.inside.counts n - 1)) (sym x.2) c.take-in-Some.ensures)
+    (subst (λ n. CountsAnew (further c.self.inside.counts) (further c.take-2.new.self) n (further c.self.inside.counts n - 1)) (sym x.2) c.take-2.ensures)
 
 pub invariant_of-self : goal.invariant_of-self
 invariant_of-self c = (done c).is
 
-pub returns-in-Some : goal.returns-in-Some
-returns-in-Some c = rw (← c.self.view_is) (done c).view
-
-pub returns-in_default : goal.returns-in_default
-returns-in_default c = sym (none_gone c.args.self.now c.args.directory c.args.name.now (none_place _ (sym c.in_default.ensures)))
+pub returns : goal.returns
+returns c = rw (← c.self.view_is) (done c).view

@@ -1,8 +1,13 @@
-use Rattle.std.proofs.Common.{◌∙◌, ap}
+use Rattle.std.proofs.Common.{sym, ◌∙◌, ap}
+use Rattle.std.specs.Prelude.{option_map}
 use Rattle.std.proofs.lemmas.Result.{on_ok_weaker}
+use Rattle.nfs_tree.specs.Finding.{found_of}
 use Rattle.nfs_tree.specs.Names.{with_row}
 use Rattle.nfs_tree.proofs.MapLemmas.{none_gone}
 use Rattle.nfs_tree.proofs.rows.Rows.put_new.Goals as goal
+
+pub put-requires-clause-replaced : goal.put-requires-clause-replaced
+put-requires-clause-replaced c = sym (ap (option_map found_of) c.requires.vacant)
 
 pub returns-clause-ok : goal.returns-clause-ok
 returns-clause-ok c = on_ok_weaker c.put.result

@@ -1,4 +1,5 @@
-use Rattle.std.proofs.Common.{◌≡◌, ◌≢◌, ◌+◌, ◌<◌, ap, sym, arith, subst}
+use Rattle.std.proofs.Common.{◌≡◌, ◌≢◌, ◌+◌, ◌<◌, ℕ, Option, ◌∙◌, ap, sym, arith, subst}
+use Rattle.std.specs.Prelude.{unwrap_or}
 use Rattle.std.proofs.lemmas.Grind.{common_steps}
 use Rattle.nfs_tree.specs.Files.{Files, root, last_count}
 use Rattle.nfs_tree.specs.Calls.{CanChange, move_of}
@@ -27,7 +28,9 @@ replace_row-requires c =
     record {
       short = short_of m.name (move_granted t m c.requires.granted c.requires.moves).short;
       last = rw (rows, last) is.cookies;
-      apart = moved_apart t m c.moved_object-object.result (c.self.inside.last_cookie + 1) c.requires.moves;
+      moved = rw rows c.requires.ends.moved;
+      replaced = rw rows c.requires.ends.replaced;
+      apart = moved_apart t m c.args.ends.now.moved.object (c.self.inside.last_cookie + 1) c.requires.moves;
     }
 
 pub change_moved-requires : goal.change_moved-requires
@@ -37,7 +40,8 @@ change_moved-requires c =
     let is : IsTree t = subst IsTree c.self.view_is c.self.invariant in
     let items : c.self.inside.objects ≡ t.objects = ap (λ (t : Files). t.objects) c.self.view_is in
     let can = move_granted t m c.requires.granted c.requires.moves in
-    let x = c.replaced_object-replaced.ensures in
+    let x : c.unwrap_or-replaced.result ≡ replaced_object t m = c.unwrap_or-replaced.ensures
+    ∙ ap (λ (o : Option ℕ). unwrap_or o 0) (c.object_of.ensures ∙ c.requires.ends.over) in
     record {
       apart_source = subst (λ n. n ≢ m.source) (sym x) (replaced_source t m is can);
       apart_target = subst (λ n. n ≢ m.target) (sym x) (replaced_target t m is can);

@@ -17,11 +17,16 @@ change_entry-requires c =
     let items : c.self.inside.objects ≡ t.objects = ap (λ (t : Files). t.objects) c.self.view_is in
     let granted = remove_granted t d c.args.name.now c.requires.granted in
     record {
-      apart = subst (λ k. k ≢ d) (sym c.requires.number) (apart t d n (has_one t d c.args.name.now granted.0) granted.1);
+      apart = subst (λ k. k ≢ d) (sym c.requires.object) (apart t d n (has_one t d c.args.name.now granted.0) granted.1);
       directory = subst (λ xs. CanChange xs d) (sym items) (can_change_all t.objects root (t.last_object + 1) d is.objects granted.2);
-      number = subst (λ k. CanChange c.self.inside.objects k) (sym c.requires.number)
+      number = subst (λ k. CanChange c.self.inside.objects k) (sym c.requires.object)
           (subst (λ xs. CanChange xs n) (sym items) (can_change_all t.objects root (t.last_object + 1) n is.objects granted.3));
     }
+
+pub drop_entry-requires : goal.drop_entry-requires
+drop_entry-requires c =
+    let rows : c.self.inside.rows ≡ c.args.self.now.rows = ap (λ (t : Files). t.rows) c.self.view_is in
+    rw rows c.requires.found
 
 pub invariant_of-self : goal.invariant_of-self
 invariant_of-self c =
