@@ -38,6 +38,14 @@ pub mod LeaseListed
 pub mod Handles
 pub mod LaterRecords
 pub mod LockOwners
+pub mod HeldBefore
+pub mod HeldSpared
+pub mod HeldTraced
+pub mod HeldReplaced
+pub mod StatesBegun
+pub mod DenialsCaused
+pub mod NoIsTrue
+pub mod WrongDenials
 pub mod AskedAgain
 pub mod WrongLocks
 pub mod Others

@@ -27,6 +27,9 @@ pub mod LockOwned
 pub mod LeaseListed
 pub mod Handles
 pub mod LockOwners
+pub mod Denials
+pub mod NoIsTrue
+pub mod WrongDenials
 pub mod AskedAgain
 pub mod SessionStays
 pub mod WrongLocks

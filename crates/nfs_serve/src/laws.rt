@@ -33,6 +33,7 @@ ghost use Rattle.nfs_serve.specs.Promises.LostReply.{IsAccepted, IsOverAWire};
 ghost use Rattle.nfs_serve.specs.Promises.NameStays.{NameStays, GoneStays};
 ghost use Rattle.nfs_serve.specs.Promises.NameWorked.{LeadsTo, NamesAreRefused};
 ghost use Rattle.nfs_serve.specs.Promises.Network.{ExactlyOnce, AnswersExecuted};
+ghost use Rattle.nfs_serve.specs.Promises.NoIsTrue.{NoIsTrue};
 ghost use Rattle.nfs_serve.specs.Promises.Numbered.{AnswersNumbered, ExactlyOnceByNumber, XidsSuffice};
 ghost use Rattle.nfs_serve.specs.Promises.OpenKept.{OpenKept, EachOpenIsTold};
 ghost use Rattle.nfs_serve.specs.Promises.Others.{OthersLeaveAll, StrangersChangeNothing, ComeInTime};
@@ -45,6 +46,7 @@ ghost use Rattle.nfs_serve.specs.Promises.SessionsOnce.{EachMakesOne, EachWasMad
 ghost use Rattle.nfs_serve.specs.Promises.SeenWrite.{IsSeen};
 ghost use Rattle.nfs_serve.specs.Promises.SessionStays.{SessionsStay, StaysToLast};
 ghost use Rattle.nfs_serve.specs.Promises.WrongAnswers.{AnswersAreRefused};
+ghost use Rattle.nfs_serve.specs.Promises.WrongDenials.{IsDeniedTruly, DenialsRefused};
 ghost use Rattle.nfs_serve.specs.Promises.WrongLocks.{AreRefused};
 ghost use Rattle.nfs_serve.specs.Promises.WrittenStays.{BytesStay};
 ghost use Rattle.nfs_serve.specs.Promises.WrittenWorked.{StaysTo, BytesRefused};
@@ -319,6 +321,23 @@ pub fn lock_states_have_one_owner()
 /// both owners one lock state.
 pub fn owners_share_no_lock()
     ensures { OneOwnerEach }
+{}
+
+/// A no is true: in every run a LOCK or a LOCKT that is answered NFS4ERR_DENIED reports a lock that clashes with it, each byte of which was granted by a LOCK
+/// that was answered NFS4_OK to that owner of that client, and that nothing has ended since.
+pub fn denials_are_true()
+    ensures { NoIsTrue }
+{}
+
+/// The definitions compute: a client asks for a byte that another one locked, and is denied. That run meets the premises of `denials_are_true`.
+pub fn a_denial_is_true()
+    ensures { IsDeniedTruly }
+{}
+
+/// The definitions compute: `denials_are_true` refuses a LOCK that is denied where nobody locked, one that is denied for a lock whose client's lease has run out, and one
+/// that reports another client.
+pub fn wrong_denials_are_refused()
+    ensures { DenialsRefused }
 {}
 
 /// In every run a byte is held only by a lock state of a client that renewed its lease, by the records, at most a lease before.

@@ -21,7 +21,7 @@ use Rattle.nfs_exec.specs.Runs.Ops.{RanOp}
 use Rattle.nfs_exec.specs.Runs.LockHeld.{LocksFor, Spares, AreSpared}
 use Rattle.nfs_serve.specs.Step.{State}
 use Rattle.nfs_serve.specs.Promises.Endpoint.{Arrival}
-use Rattle.nfs_serve.specs.Promises.Points.{state_after, state_after_all, taken, before, ops_of}
+use Rattle.nfs_serve.specs.Promises.Points.{state_after, state_after_all, taken, ops_of}
 use Rattle.nfs_serve.specs.Promises.LockKept.{renews_by, replaces_by, AreInTime}
 use Rattle.nfs_serve.specs.Promises.HeldLock as worked
 use Rattle.nfs_serve.specs.Promises.HeldLock.{start, locks, last_of, IsHeldTo, AreBothTold}
@@ -36,7 +36,7 @@ ends (Operation (Op.Close a)) = true
 ends i = false
 
 -- the status in the bytes of a result is NFS4_OK
-abbrev says_ok : List ℕ → Bool
+abbrev pub says_ok : List ℕ → Bool
 says_ok result = bytes_eq (take 4 (drop 4 result)) (0 ∷ 0 ∷ 0 ∷ 0 ∷ [])
 
 abbrev spares : RanOp → Bool

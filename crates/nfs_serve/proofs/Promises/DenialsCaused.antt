@@ -1,0 +1,284 @@
+-- A LOCK or a LOCKT that is answered NFS4ERR_DENIED found a lock that is in its way, and reports it.
+use Rattle.std.proofs.Common.{◌≡◌, ℕ, Bool, true, false, cond, not, List, Option, Some, None, refl, sym, ◌∙◌, ap, subst}
+use Rattle.std.specs.Prelude.{◌==◌, ◌&&◌, ◌||◌, Result, Ok, Err, ok_or}
+use Rattle.std.proofs.lemmas.Bool.{false≢true}
+use Rattle.nfs_xdr.specs.Checks.{first_fault}
+use Rattle.nfs_xdr.specs.Status.{status_number}
+use Rattle.nfs_xdr.specs.declared.time.Time.{Time}
+use Rattle.nfs_xdr.specs.declared.status.Status.{Status}
+use Rattle.nfs_xdr.specs.declared.status.Status.TheVariants as S
+use Rattle.nfs_compound.specs.OpNum.{op_number}
+use Rattle.nfs_compound.specs.declared.lock_args.Lock.{Lock}
+use Rattle.nfs_compound.specs.declared.lock_args.LockT.{LockT}
+use Rattle.nfs_compound.specs.declared.lock_args.LockType.{LockType}
+use Rattle.nfs_compound.specs.declared.lock_args.Locker.{Locker}
+use Rattle.nfs_compound.specs.declared.lock_args.Locker.TheVariants.{LockOwner, OpenOwner}
+use Rattle.nfs_compound.specs.declared.op_num.OpNum.TheVariants as Num
+use Rattle.nfs_compound.specs.declared.op.Op.TheVariants as Op
+use Rattle.nfs_compound.specs.declared.stateid.Stateid.{Stateid}
+use Rattle.nfs_results.specs.declared.res.Denied as result
+use Rattle.nfs_results.specs.declared.res.Res.{Res}
+use Rattle.nfs_results.specs.Results.{status_of_result, refusal}
+use Rattle.nfs_ranges.specs.declared.Held.{Held}
+use Rattle.nfs_opens.specs.declared.judging.Seat.{Seat}
+use Rattle.nfs_opens.specs.declared.judging.Sort.{Sort}
+use Rattle.nfs_opens.specs.declared.judging.Seat.TheVariants.{Anonymous, ReadBypass}
+use Rattle.nfs_opens.specs.declared.judging.Sort.TheVariants.{OpenOnly, LockOnly, Either}
+use Rattle.nfs_opens.specs.declared.locking.Wish.{Wish}
+use Rattle.nfs_opens.specs.declared.locking.OpenFault.{OpenFault}
+use Rattle.nfs_opens.specs.declared.locking.OpenFault.TheVariants as F
+use Rattle.nfs_opens.specs.declared.records.LockState.{LockState}
+use Rattle.nfs_opens.specs.declared.share.Share.{Share}
+use Rattle.nfs_opens.specs.declared.stateid.CurrentSeqid.{CurrentSeqid}
+use Rattle.nfs_opens.specs.declared.stateid.CurrentSeqid.TheVariants.{Any}
+use Rattle.nfs_opens.specs.declared.stateid.StateId.{StateId}
+use Rattle.nfs_opens.specs.Judging.{judge_checks, judge_named, special, judge, named, seated}
+use Rattle.nfs_opens.specs.Locking as locking
+use Rattle.nfs_opens.specs.StateId.{last_number, is_anonymous, is_bypass, is_current, has_zeros, has_ones, with_seqid}
+use Rattle.nfs_opens.specs.Steps.{◌>>=◌, require, map_err}
+use Rattle.nfs_opens.specs.Table.{Table, lock_at}
+use Rattle.nfs_names.specs.declared.context.Context.{Context}
+use Rattle.nfs_names.specs.Checks.{node_as, node_at, current}
+use Rattle.nfs_names.specs.Outcome.{Outcome, passed, checked, mapped, answers}
+use Rattle.nfs_names.specs.State.{State}
+use Rattle.nfs_names.proofs.Faulted.{status_of_refusal}
+use Rattle.nfs_names.proofs.Ones.{by_delay}
+use Rattle.nfs_tree.specs.declared.object.Object.{Object}
+use Rattle.nfs_tree.specs.Files.{object_at}
+use Rattle.nfs_files.specs.Bytes.{file_checks}
+use Rattle.nfs_files.specs.Denied.{denied, status_of}
+use Rattle.nfs_files.specs.Lock as of_lock
+use Rattle.nfs_files.specs.LockT.{tested, lock_t}
+use Rattle.nfs_files.specs.Operation.{grows}
+use Rattle.nfs_files.specs.Ranges.{last_of, range, range_checks, wish, wished}
+use Rattle.nfs_files.specs.StateIds.{state_id, meant}
+use Rattle.nfs_files.specs.Target.{the_file}
+use Rattle.nfs_files.proofs.Outcomes.{one_or_delay}
+use Rattle.nfs_files.proofs.Prompt.{all_pass, first_passes, not_true}
+use Rattle.nfs_files.proofs.Wishes.{lock_wish}
+
+-- What is checked first answers other statuses.
+
+abbrev pub is_denied : Status → Bool
+is_denied status = status_number status == status_number S.Denied
+
+abbrev IsClear : {A : Type 0} → Result A Status → Type 0
+IsClear v = (status : Status) → v ≡ Err status → is_denied status ≡ false
+
+err_clear : {A : Type 0} (fault : Status) → is_denied fault ≡ false → IsClear {A = A} (Err fault)
+err_clear fault fails status e = let same : fault ≡ status = cc in ap is_denied (sym same) ∙ fails
+
+ok_clear : {A : Type 0} (a : A) → IsClear (Ok a)
+ok_clear a status e = absurd cc
+
+abbrev calm : List (Bool × Status) → Bool
+calm checks = all_pass (λ s. not (is_denied s)) checks
+
+first_clear : (checks : List (Bool × Status)) → calm checks ≡ true → (status : Status) → first_fault checks ≡ Some status → is_denied status ≡ false
+first_clear checks all status e = not_true (is_denied status) (first_passes (λ s. not (is_denied s)) checks all status e)
+
+passed_clear : {A : Type 0} (a : A) (o : Option Status) → ((status : Status) → o ≡ Some status → is_denied status ≡ false) → IsClear (passed a o)
+passed_clear a None each = ok_clear a
+passed_clear a (Some fault) each = err_clear fault (each fault refl)
+
+checked_clear : {A : Type 0} (v : Result A Status) (checks : A → List (Bool × Status)) → IsClear v → ((a : A) → calm (checks a) ≡ true) → IsClear (checked v checks)
+checked_clear (Err fault) checks is all = err_clear fault (is fault refl)
+checked_clear (Ok a) checks is all = passed_clear a (first_fault (checks a)) (first_clear (checks a) (all a))
+
+mapped_clear : {A B : Type 0} (f : A → B) (v : Result A Status) → IsClear v → IsClear (mapped f v)
+mapped_clear f (Err fault) is = err_clear fault (is fault refl)
+mapped_clear f (Ok a) is = ok_clear (f a)
+
+next_clear : {A B : Type 0} (v : Result A Status) (next : A → Result B Status) → IsClear v → ((a : A) → IsClear (next a)) → IsClear (v >>= next)
+next_clear (Err fault) next is more = err_clear fault (is fault refl)
+next_clear (Ok a) next is more = more a
+
+node_clear : (n : ℕ) (o : Option Object) → IsClear (node_as n o)
+node_clear n None = err_clear S.Stale refl
+node_clear n (Some o) = ok_clear _
+
+at_clear : (s : State) (o : Option ℕ) → IsClear (node_at s o)
+at_clear s None = err_clear S.NoFileHandle refl
+at_clear s (Some n) = node_clear n (object_at s.tree n)
+
+file_clear : (s : State) (x : Context) → IsClear (the_file s x)
+unfolding the_file current
+file_clear s x = checked_clear (node_at s x.current) file_checks (at_clear s x.current) (λ d. refl)
+
+range_clear : (offset size : ℕ) → IsClear (range offset size)
+unfolding range
+range_clear offset size = passed_clear (last_of offset size) (first_fault (range_checks offset size)) (first_clear (range_checks offset size) refl)
+
+wished_clear : (s : State) (x : Context) (how : LockType) (offset size : ℕ) → IsClear (wished s x how offset size)
+unfolding wished
+wished_clear s x how offset size =
+    next_clear (the_file s x) _ (file_clear s x) (λ d. mapped_clear (λ last. wish x how offset last d.number) (range offset size) (range_clear offset size))
+
+meant_clear : (x : Context) (form : CurrentSeqid) (given : Stateid) → IsClear (meant x form given)
+meant_clear x form given = go (is_current (state_id given)) (has_zeros (state_id x.stateid) || has_ones (state_id x.stateid))
+  where
+    go : (is special : Bool) → IsClear (cond is (cond special (Err S.BadStateId) (Ok (with_seqid form (state_id x.stateid)))) (Ok (state_id given)))
+    go true true = err_clear S.BadStateId refl
+    go true false = ok_clear _
+    go false special = ok_clear _
+
+locking_clear : (s : State) (x : Context) (a : Lock) → IsClear (of_lock.locking s x a)
+locking_clear s x a =
+    next_clear (checked (wished s x a.locktype a.offset a.length) (of_lock.reclaim_checks a)) _
+    (checked_clear (wished s x a.locktype a.offset a.length) (of_lock.reclaim_checks a) (wished_clear s x a.locktype a.offset a.length) (λ w. refl))
+    (λ w. mapped_clear _ (meant x Any (of_lock.stateid_in a.locker)) (meant_clear x Any (of_lock.stateid_in a.locker)))
+
+special_clear : (sort : Sort) (seat : Seat) → IsClear (special sort seat)
+special_clear Either seat = ok_clear seat
+special_clear OpenOnly seat = err_clear S.BadStateId refl
+special_clear LockOnly seat = err_clear S.BadStateId refl
+
+seated_clear : (seat : Seat) (o : Option Status) → ((status : Status) → o ≡ Some status → is_denied status ≡ false) → IsClear (seated seat o)
+seated_clear seat None each = ok_clear seat
+seated_clear seat (Some fault) each = err_clear fault (each fault refl)
+
+named_clear : (client : ℕ) (file : Option ℕ) (sort : Sort) (seqid : ℕ) (o : _) → IsClear (judge_named client file sort seqid o)
+named_clear client file sort seqid None = err_clear S.BadStateId refl
+named_clear client file sort seqid (Some n) =
+    seated_clear n.seat (first_fault (judge_checks client file sort seqid n)) (first_clear (judge_checks client file sort seqid n) refl)
+
+judge_clear : (t : Table) (id : StateId) (client : ℕ) (file : Option ℕ) (sort : Sort) → IsClear (judge t id client file sort)
+judge_clear t id client file sort = go (is_anonymous id) (is_bypass id)
+  where
+    go : (a b : Bool) → IsClear (cond a (special sort Anonymous) (cond b (special sort ReadBypass) (judge_named client file sort id.seqid (named t id))))
+    go true b = special_clear sort Anonymous
+    go false true = special_clear sort ReadBypass
+    go false false = named_clear client file sort id.seqid (named t id)
+
+-- What the table of opens denies.
+
+-- a fault that is answered NFS4ERR_DENIED is a clash
+record IsClash (t : Table) (w : Wish) (fault : OpenFault) : Type 0 where
+  pub held : Held
+  pub is : fault ≡ F.Denied held
+  pub number : ℕ
+  pub clash : locking.clash t number w ≡ Some held
+
+abbrev IsFair : {A : Type 0} → Table → Wish → Result A OpenFault → Type 0
+IsFair t w v = (fault : OpenFault) → v ≡ Err fault → is_denied (status_of fault) ≡ true → IsClash t w fault
+
+ok_fair : {A : Type 0} (t : Table) (w : Wish) (a : A) → IsFair t w (Ok a)
+ok_fair t w a fault e is = absurd cc
+
+refused_fair : {A : Type 0} (t : Table) (w : Wish) (status : Status) → is_denied status ≡ false → IsFair {A = A} t w (Err (F.Refused status))
+refused_fair t w status other fault e is =
+    let same : F.Refused status ≡ fault = cc in
+    absurd (false≢true (sym other ∙ subst (λ f. is_denied (status_of f) ≡ true) (sym same) is))
+
+next_fair : {A B : Type 0} (t : Table) (w : Wish) (v : Result A OpenFault) (next : A → Result B OpenFault) → IsFair t w v → ((a : A) → IsFair t w (next a)) → IsFair t w (v >>= next)
+next_fair t w (Err fault) next is more = λ f e denied. let same : fault ≡ f = cc in is f (ap Err same) denied
+next_fair t w (Ok a) next is more = more a
+
+there_fair : {A : Type 0} (t : Table) (w : Wish) (o : Option A) → IsFair t w (ok_or o (F.Refused S.BadStateId))
+there_fair t w None = refused_fair t w S.BadStateId refl
+there_fair t w (Some a) = ok_fair t w a
+
+room_fair : (t : Table) (w : Wish) (b : Bool) → IsFair t w (require b (F.Refused S.ServerFault))
+room_fair t w true = ok_fair t w tt
+room_fair t w false = refused_fair t w S.ServerFault refl
+
+seat_fair : (t : Table) (w : Wish) (v : Result Seat Status) → IsClear v → IsFair t w (map_err F.Refused v)
+seat_fair t w (Err status) is = refused_fair t w status (is status refl)
+seat_fair t w (Ok seat) is = ok_fair t w seat
+
+told_fair : (t : Table) (w : Wish) (n : ℕ) (o : Option Held) → locking.clash t n w ≡ o → IsFair t w (locking.unless_told o)
+told_fair t w n None e = ok_fair t w tt
+told_fair t w n (Some h) e = λ fault same is. record { held = h; is = (let one : F.Denied h ≡ fault = cc in sym one); number = n; clash = e }
+
+judged_fair : (t : Table) (w : Wish) (n : ℕ) (access : Share) → IsFair t w (locking.lock_judged t n access w)
+judged_fair t w n access = go (locking.permits access w.kind)
+  where
+    go : (b : Bool) → IsFair t w (cond b (locking.unless_told (locking.clash t n w)) (Err (F.Refused S.OpenMode)))
+    go true = told_fair t w n (locking.clash t n w) refl
+    go false = refused_fair t w S.OpenMode refl
+
+as_fair : (t : Table) (w : Wish) (n : ℕ) (access : Share) → IsFair t w (locking.lock_as t w n access)
+as_fair t w n access =
+    next_fair t w (locking.lock_judged t n access w) _ (judged_fair t w n access) (λ u.
+    next_fair t w (ok_or (lock_at t n) (F.Refused S.BadStateId)) _ (there_fair t w (lock_at t n)) (λ l. ok_fair t w _))
+
+owner_fair : (t : Table) (w : Wish) (opened : ℕ) (owner : List ℕ) (access : Share) (o : Option LockState) → IsFair t w (locking.lock_by_owner t w opened owner access o)
+owner_fair t w opened owner access (Some l) = as_fair t w l.number access
+owner_fair t w opened owner access None =
+    next_fair t w (locking.lock_judged t 0 access w) _ (judged_fair t w 0 access) (λ u.
+    next_fair t w (require (not (t.last == last_number)) (F.Refused S.ServerFault)) _ (room_fair t w _) (λ u. ok_fair t w _))
+
+locks_fair : (t : Table) (who : Locker) (id : StateId) (w : Wish) → IsFair t w (of_lock.locks_as t who id w)
+locks_fair t (OpenOwner o) id w =
+    next_fair t w (map_err F.Refused (judge t id w.client (Some w.file) OpenOnly)) _
+    (seat_fair t w (judge t id w.client (Some w.file) OpenOnly) (judge_clear t id w.client (Some w.file) OpenOnly))
+    (λ seat. owner_fair t w id.number o.lock_owner.owner (locking.access_in seat) (locking.state_of t w.client o.lock_owner.owner w.file))
+locks_fair t (LockOwner o) id w =
+    next_fair t w (map_err F.Refused (judge t id w.client (Some w.file) LockOnly)) _
+    (seat_fair t w (judge t id w.client (Some w.file) LockOnly) (judge_clear t id w.client (Some w.file) LockOnly))
+    (λ seat. as_fair t w id.number (locking.access_in seat))
+
+-- One operation.
+
+pub record WasDenied (s : State) (x : Context) (how : LockType) (offset size : ℕ) (r : Res) (reports : result.Denied → Res) : Type 0 where
+  pub wish : Wish
+  pub asks : wished s x how offset size ≡ Ok wish
+  pub held : Held
+  pub number : ℕ
+  pub clash : locking.clash s.opens number wish ≡ Some held
+  pub answers : r ≡ reports (denied s.opens held)
+
+refused_not : {A : Type 0} (v : Result A Status) (status : Status) (n : ℕ) → IsClear v → v ≡ Err status → is_denied (status_of_result (refusal n status)) ≡ true → ⊥
+refused_not v status n clear e is = false≢true (sym (clear status e) ∙ (ap is_denied (sym (status_of_refusal n status)) ∙ is))
+
+module _ (s : State) (x : Context) where
+  abbrev IsDenied : Lock → Outcome → Type 0
+  IsDenied a o = is_denied (status_of_result o.result) ≡ true → WasDenied s x a.locktype a.offset a.length o.result Res.LockDenied
+
+  by_fault : (a : Lock) (m : _) → of_lock.locking s x a ≡ Ok m → (v : Result (StateId × Table) OpenFault) → of_lock.locks_as s.opens a.locker m.id m.wish ≡ v
+      → IsDenied a (of_lock.locked s x v)
+  by_fault a m judged (Ok did) e is = absurd (false≢true is)
+  by_fault a m judged (Err (F.Refused status)) e is = absurd (
+      let same : is_denied status ≡ true = ap is_denied (sym (status_of_refusal 12 status)) ∙ is in
+      let one : F.Refused status ≡ F.Denied _ = (locks_fair s.opens a.locker m.id m.wish (F.Refused status) e same).is in cc)
+  by_fault a m judged (Err (F.Denied h)) e is =
+      let c = locks_fair s.opens a.locker m.id m.wish (F.Denied h) e refl in
+      let one : F.Denied h ≡ F.Denied c.held = c.is in
+      let same : h ≡ c.held = cc in
+      record {
+        wish = m.wish;
+        asks = lock_wish s x a m judged;
+        held = c.held;
+        number = c.number;
+        clash = c.clash;
+        answers = ap (λ h. Res.LockDenied (denied s.opens h)) same;
+      }
+  by_fault a m judged (Err F.Memory) e is = absurd (false≢true is)
+
+  by_wished : (a : Lock) (v : _) → of_lock.locking s x a ≡ v → IsDenied a (answers s x Num.Lock v (of_lock.locks s x a.locker))
+  by_wished a (Err status) e is = absurd (refused_not (of_lock.locking s x a) status (op_number Num.Lock) (locking_clear s x a) e is)
+  by_wished a (Ok m) e is = by_fault a m e (of_lock.locks_as s.opens a.locker m.id m.wish) refl is
+
+  pub lock_denied : (now : Time) (refused : Bool) (a : Lock) → IsDenied a (one_or_delay refused s x now (Op.Lock a))
+  unfolding of_lock.lock
+  lock_denied now refused a = by_delay (IsDenied a) (grows s x (Op.Lock a) && refused) s x Num.Lock (of_lock.lock s x a) (λ is. absurd (false≢true is))
+      (by_wished a (of_lock.locking s x a) refl)
+
+  abbrev IsTestDenied : LockT → Outcome → Type 0
+  IsTestDenied a o = is_denied (status_of_result o.result) ≡ true → WasDenied s x a.locktype a.offset a.length o.result Res.LockTDenied
+
+  by_test : (a : LockT) (w : Wish) (n : ℕ) → wished s x a.locktype a.offset a.length ≡ Ok w → (o : Option Held) → locking.clash s.opens n w ≡ o → IsTestDenied a (tested s x o)
+  by_test a w n asks None e is = absurd (false≢true is)
+  by_test a w n asks (Some h) e is = record { wish = w; asks = asks; held = h; number = n; clash = e; answers = refl }
+
+  by_wish : (a : LockT) (v : Result Wish Status) → wished s x a.locktype a.offset a.length ≡ v
+      → IsTestDenied a (answers s x Num.LockT v (λ w. tested s x (locking.test_lock s.opens a.owner.owner w)))
+  by_wish a (Err status) e is =
+      absurd (refused_not (wished s x a.locktype a.offset a.length) status (op_number Num.LockT) (wished_clear s x a.locktype a.offset a.length) e is)
+  by_wish a (Ok w) e is =
+      by_test a w (locking.number_of (locking.state_of s.opens w.client a.owner.owner w.file)) e (locking.test_lock s.opens a.owner.owner w) refl is
+
+  pub test_denied : (now : Time) (refused : Bool) (a : LockT) → IsTestDenied a (one_or_delay refused s x now (Op.LockT a))
+  unfolding lock_t
+  test_denied now refused a = by_delay (IsTestDenied a) (grows s x (Op.LockT a) && refused) s x Num.LockT (lock_t s x a) (λ is. absurd (false≢true is))
+      (by_wish a (wished s x a.locktype a.offset a.length) refl)

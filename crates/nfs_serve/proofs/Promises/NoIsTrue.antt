@@ -1,0 +1,356 @@
+-- A no is true: what a LOCK or a LOCKT that is denied reports was granted before, and has not ended.
+use Rattle.std.proofs.Common.{◌≡◌, ◌⊎◌, ℕ, suc, ◌-◌, ◌<◌, ◌≤◌, true, false, List, [], ◌∷◌, ◌++◌, length, take, Option, Some, None, refl, sym, ◌∙◌, ap, subst, arith, inl, inr}
+use Rattle.std.proofs.Common.{append_assoc, append-nil}
+use Rattle.std.specs.Prelude.{◌^◌}
+use Rattle.std.specs.Option.{option_map_or}
+use Rattle.std.proofs.lemmas.Bool.{cases_Bool, and_parts, false≢true}
+use Rattle.nfs_xdr.specs.Limits.{opaque_limit}
+use Rattle.nfs_xdr.specs.Tables.{In}
+use Rattle.nfs_xdr.specs.declared.status.Status.TheVariants.{Denied, RepTooBig}
+use Rattle.nfs_xdr.proofs.Lists.{in_filter}
+use Rattle.nfs_xdr.proofs.Tables.{in_once}
+use Rattle.nfs_compound.specs.declared.lock_args.Lock as lock_args
+use Rattle.nfs_compound.specs.declared.lock_args.LockT as test_args
+use Rattle.nfs_compound.specs.declared.op.Item.{Item}
+use Rattle.nfs_compound.specs.declared.op.Item.TheVariants.{Operation}
+use Rattle.nfs_compound.specs.declared.op.Op.TheVariants as Op
+use Rattle.nfs_results.specs.declared.res.Denied as result
+use Rattle.nfs_results.specs.declared.res.Res.{Res}
+use Rattle.nfs_results.specs.Results.{spell_result}
+use Rattle.nfs_ranges.specs.declared.Held.{Held}
+use Rattle.nfs_ranges.specs.Told.{meets, told}
+use Rattle.nfs_opens.specs.declared.locking.Wish.{Wish}
+use Rattle.nfs_opens.specs.declared.records.LockState.{LockState}
+use Rattle.nfs_opens.specs.Locking.{clash}
+use Rattle.nfs_opens.specs.Table.{Table, lock_at}
+use Rattle.nfs_opens.proofs.LockLemmas.{clash_tells}
+use Rattle.nfs_names.specs.State as of_store
+use Rattle.nfs_names.specs.State.{moment}
+use Rattle.nfs_names.specs.declared.context.Context.{Context}
+use Rattle.nfs_compound.specs.declared.lock_args.LockType.{LockType}
+use Rattle.nfs_files.specs.Denied.{denied, type_of, size_of}
+use Rattle.nfs_files.specs.LockTold.{LockTold}
+use Rattle.nfs_files.proofs.Wishes.{IsRange, wish_range}
+use Rattle.nfs_exec.specs.Step.Laws.{MachineEvent}
+use Rattle.nfs_exec.specs.Step.Machine.{Machine, IsMachine}
+use Rattle.nfs_exec.specs.Runs.LockHeld.{replaces}
+use Rattle.nfs_exec.specs.Runs.Ops.{RanOp, ops_by}
+use Rattle.nfs_exec.proofs.Step.Invariant.{of_start}
+use Rattle.nfs_exec.proofs.Runs.KeptByRuns.{Is}
+use Rattle.nfs_exec.proofs.Runs.LockStates.{as_itself}
+use Rattle.nfs_exec.proofs.Runs.OneRun.{IsRun, by_item}
+use Rattle.nfs_exec.proofs.Runs.OneWalk.{none_at}
+use Rattle.nfs_serve.specs.Step.{State, new_state}
+use Rattle.nfs_serve.specs.Promises.Endpoint.{Arrival}
+use Rattle.nfs_serve.specs.Promises.Denials.{IsRefusedFor, ByLock, ByTest, IsBegunBy, asks_for_lock}
+use Rattle.nfs_serve.specs.Promises.ChangeTells.{RunsIn}
+use Rattle.nfs_serve.specs.Promises.NoIsTrue.{IsInLease, Passes, AllPass, IsGrantedIn, IsGranted, Before, Within, NoIsTrue}
+use Rattle.nfs_serve.specs.Promises.LockKept.{replaces_by}
+use Rattle.nfs_serve.specs.Promises.Outlived.{last_renewal}
+use Rattle.nfs_serve.specs.Promises.Points.{state_after, state_after_all, reached, taken, before, asked_by, ops_of}
+use Rattle.nfs_serve.proofs.Promises.DenialsCaused.{WasDenied, is_denied, lock_denied, test_denied}
+use Rattle.nfs_serve.proofs.Promises.HeldBefore.{Holds, found_at}
+use Rattle.nfs_serve.proofs.Promises.HeldReplaced.{replaced_same}
+use Rattle.nfs_serve.proofs.Promises.HeldTraced.{Traced, Stood, Given, event_traced, event_until, held_staying}
+use Rattle.nfs_serve.proofs.Promises.LaterRecords.{op_done, first_there}
+use Rattle.nfs_serve.proofs.Promises.StatesBegun.{WasThere, IsBegunIn, event_states, until_states}
+use Rattle.nfs_serve.proofs.Promises.Outlived.{machine_before, machine_all, none_outlives}
+use Rattle.nfs_serve.proofs.Promises.Points.{left, for_asked, next_is, IsSound, whole_before, sound_all, sound_new}
+
+-- Records.
+
+-- what a record's compound did
+asked_traced : (k : LockTold) (owner : List ℕ) → k.last ≡ k.first → (m : Machine) (o : Option MachineEvent) → Is m → Holds k owner (left m o).store.opens
+    → Traced k owner m (option_map_or (ops_by m) o [])
+asked_traced k owner one m None is holds = Stood holds (λ d there. absurd there)
+asked_traced k owner one m (Some e) is holds = event_traced k owner one m e is holds
+
+asked_until : (k : LockTold) (owner : List ℕ) → k.last ≡ k.first → (m : Machine) (o : Option MachineEvent) (until : List RanOp) (d : RanOp) (back : List RanOp) → Is m
+    → option_map_or (ops_by m) o [] ≡ until ++ d ∷ back → Holds k owner d.before.store.opens → Traced k owner m until
+asked_until k owner one m None until d back is same holds = absurd (none_at until d back same)
+asked_until k owner one m (Some e) until d back is same holds = event_until k owner one m e until d back is same holds
+
+reached_more : (s : State) (records : List Arrival) (c : Arrival) → state_after_all s (records ++ c ∷ []) ≡ state_after (state_after_all s records) c
+reached_more s [] c = refl
+reached_more s (r ∷ more) c = reached_more (state_after s r) more c
+
+whole_at : (mode instance lease : ℕ) (records : List Arrival) (c : Arrival) → Is (before (reached mode instance lease records) c)
+whole_at mode instance lease records c =
+    let sound : IsSound (reached mode instance lease records) = sound_all (new_state mode instance lease) records (sound_new mode instance lease) in
+    whole_before (reached mode instance lease records) c sound.whole
+
+module _ (mode instance lease : ℕ) (small : instance < 2 ^ 32) where
+  -- while it is held, its client's lease lasts
+  in_lease : (k : LockTold) (owner : List ℕ) (records : List Arrival) (c : Arrival) → Holds k owner (before (reached mode instance lease records) c).store.opens
+      → IsInLease mode instance lease k.client records c
+  in_lease k owner records c is =
+      let t = (before (reached mode instance lease records) c).store.opens in
+      let time = none_outlives mode instance lease records c k.file k.state k.first k.kind small is.held in
+      let one : time.lock ≡ is.lock = in_once (λ (l : LockState). l.number) 1 (suc t.last) t.locks time.lock is.lock (whole_at mode instance lease records c).table.locks time.there is.there
+      (time.number ∙ sym is.number) in (
+        time.last,
+        subst (λ client. last_renewal client None (new_state mode instance lease) records ≡ Some time.last) (ap (λ (l : LockState). l.client) one ∙ is.client) time.renewed,
+        time.within,
+      )
+
+  machine_at : (records : List Arrival) (c : Arrival) → IsMachine (before (reached mode instance lease records) c)
+  machine_at records c =
+      machine_before (reached mode instance lease records) c (machine_all (new_state mode instance lease) records (of_start mode instance lease small))
+
+  -- and nobody took its client's place
+  is_alone : (k : LockTold) (owner : List ℕ) → k.last ≡ k.first → (records : List Arrival) (c : Arrival)
+      → (let s = reached mode instance lease records in
+      Holds k owner (left (before s c) (asked_by s c)).store.opens → (replaces_by k.client s c ≡ false) ⊎ ((state_after s c).machine ≡ before s c))
+  is_alone k owner one records c holds =
+      let s = reached mode instance lease records in
+      let m = before s c in
+      elim (cases_Bool (replaces_by k.client s c)) [
+        | inr leaves ↦ inl leaves
+        | inl takes ↦ inr (ap (λ (s : State). s.machine) (next_is s c)
+            ∙ for_asked (λ o. option_map_or (replaces k.client m) o false ≡ true → Holds k owner (left m o).store.opens → left m o ≡ m) s c (λ e holds. refl)
+            (λ r who. replaced_same k owner one m (machine_at records c) r who (length c.bytes) (taken s c) c.choice) takes holds)
+      ]
+
+  pass_more : (k : LockTold) (records between : List Arrival) (c : Arrival) → AllPass mode instance lease k records between
+      → Passes mode instance lease k (records ++ between) c → AllPass mode instance lease k records (between ++ c ∷ [])
+  pass_more k records [] c all passes = (subst (λ rs. Passes mode instance lease k rs c) (append-nil records) passes, tt)
+  pass_more k records (b ∷ between) c all passes = (
+    all.0,
+    pass_more k (records ++ b ∷ []) between c all.1 (subst (λ rs. Passes mode instance lease k rs c) (sym (append_assoc records (b ∷ []) between)) passes),
+  )
+
+  one_more : (k : LockTold) (owner : List ℕ) (records : List Arrival) (c : Arrival) → IsGrantedIn mode instance lease k owner records
+      → Passes mode instance lease k records c → IsGrantedIn mode instance lease k owner (records ++ c ∷ [])
+  one_more k owner records c g passes = record {
+    earlier = g.earlier;
+    arrival = g.arrival;
+    between = g.between ++ c ∷ [];
+    all = ap (λ rs. rs ++ c ∷ []) g.all ∙ append_assoc g.earlier (g.arrival ∷ g.between) (c ∷ []);
+    front = g.front;
+    lock = g.lock;
+    back = g.back;
+    ops = g.ops;
+    grants = g.grants;
+    spared = g.spared;
+    passed = pass_more k (g.earlier ++ g.arrival ∷ []) g.between c g.passed
+        (subst (λ rs. Passes mode instance lease k rs c) (g.all ∙ sym (append_assoc g.earlier (g.arrival ∷ []) g.between)) passes);
+  }
+
+  -- each byte that is held behind records was granted in one of them
+  abbrev Known : List Arrival → Type 0
+  Known records = (k : LockTold) (owner : List ℕ) → k.last ≡ k.first → Holds k owner (reached mode instance lease records).machine.store.opens
+      → IsGrantedIn mode instance lease k owner records
+
+  unexpired : (k : LockTold) (owner : List ℕ) → k.last ≡ k.first → (s : State) (c : Arrival) → Holds k owner (before s c).store.opens → Holds k owner s.machine.store.opens
+  unexpired k owner one s c is = held_staying k owner one s.machine.store.opens _ is
+
+  known_next : (records : List Arrival) (c : Arrival) → Known records → Known (records ++ c ∷ [])
+  known_next records c known k owner one is =
+      let s = reached mode instance lease records in
+      let here : Holds k owner (left (before s c) (asked_by s c)).store.opens =
+      subst (λ (s : State). Holds k owner s.machine.store.opens) (reached_more (new_state mode instance lease) records c ∙ next_is s c) is in
+      elim (asked_traced k owner one (before s c) (asked_by s c) (whole_at mode instance lease records c) here) [
+        | Given front lock back same grants spared ↦ record {
+          earlier = records;
+          arrival = c;
+          between = [];
+          all = refl;
+          front = front;
+          lock = lock;
+          back = back;
+          ops = same;
+          grants = grants;
+          spared = spared;
+          passed = tt;
+        }
+        | Stood holds spared ↦ one_more k owner records c (known k owner one (unexpired k owner one s c holds))
+            (record { lasts = in_lease k owner records c holds; spared = spared; alone = is_alone k owner one records c here })
+      ]
+
+  known_all : (done more : List Arrival) → Known done → Known (done ++ more)
+  known_all done [] known = subst Known (sym (append-nil done)) known
+  known_all done (c ∷ more) known = subst Known (append_assoc done (c ∷ []) more) (known_all (done ++ c ∷ []) more (known_next done c known))
+
+  known_new : Known []
+  known_new k owner one is = absurd is.there
+
+  -- and so was each that is held before an operation
+  granted : (k : LockTold) (owner : List ℕ) → k.last ≡ k.first → (records : List Arrival) (c : Arrival) (until : List RanOp) (d : RanOp) (behind : List RanOp)
+      → ops_of (reached mode instance lease records) c ≡ until ++ d ∷ behind → Holds k owner d.before.store.opens → IsGranted mode instance lease k owner records c until
+  granted k owner one records c until d behind same is =
+      let s = reached mode instance lease records in
+      elim (asked_until k owner one (before s c) (asked_by s c) until d behind (whole_at mode instance lease records c) same is) [
+        | Given front lock back at grants spared ↦ Within front lock back at grants spared
+        | Stood holds spared ↦ Before (known_all [] records known_new k owner one (unexpired k owner one s c holds)) (in_lease k owner records c holds) spared
+      ]
+
+-- Who began a lock state.
+
+asked_states : (m : Machine) (o : Option MachineEvent) → Is m → (l : LockState) → In l (left m o).store.opens.locks
+    → IsBegunIn (option_map_or (ops_by m) o []) l ⊎ WasThere m.store.opens l
+asked_states m None is l there = inr (l, there, as_itself l)
+asked_states m (Some e) is l there = event_states m e is l there
+
+asked_states_until : (m : Machine) (o : Option MachineEvent) (until : List RanOp) (d : RanOp) (back : List RanOp) → Is m
+    → option_map_or (ops_by m) o [] ≡ until ++ d ∷ back → (l : LockState) → In l d.before.store.opens.locks → IsBegunIn until l ⊎ WasThere m.store.opens l
+asked_states_until m None until d back is same l there = absurd (none_at until d back same)
+asked_states_until m (Some e) until d back is same l there = until_states m e until d back is same l there
+
+runs_before : (s : State) (records more : List Arrival) (d : RanOp) → RunsIn s records d → RunsIn s (records ++ more) d
+runs_before s [] more d there = absurd there
+runs_before s (c ∷ records) more d (inl here) = inl here
+runs_before s (c ∷ records) more d (inr later) = inr (runs_before (state_after s c) records more d later)
+
+runs_last : (s : State) (records : List Arrival) (c : Arrival) (d : RanOp) → In d (ops_of (state_after_all s records) c) → RunsIn s (records ++ c ∷ []) d
+runs_last s [] c d there = inl there
+runs_last s (b ∷ records) c d there = inr (runs_last (state_after s b) records c d there)
+
+module _ (mode instance lease : ℕ) where
+  abbrev IsBegun : List Arrival → LockState → Type 0
+  IsBegun records l = (first : RanOp) × RunsIn (new_state mode instance lease) records first × IsBegunBy first l.number l.client l.owner
+
+  abbrev AreBegun : List Arrival → Type 0
+  AreBegun records = (l : LockState) → In l (reached mode instance lease records).machine.store.opens.locks → IsBegun records l
+
+  -- what was there when a record's compound began
+  was_begun : (records : List Arrival) (c : Arrival) → AreBegun records → (l : LockState) → WasThere (before (reached mode instance lease records) c).store.opens l → IsBegun records l
+  was_begun records c begun l was =
+      let s = reached mode instance lease records in
+      let there = (in_filter _ s.machine.store.opens.locks was.0 was.1).0 in
+      let b = begun was.0 there in
+      let later = was.2 in (
+        b.0,
+        b.1,
+        subst (λ n. IsBegunBy b.0 n l.client l.owner) later.number
+            (subst (λ c. IsBegunBy b.0 was.0.number c l.owner) later.client (subst (IsBegunBy b.0 was.0.number was.0.client) later.owner b.2)),
+      )
+
+  begun_next : (records : List Arrival) (c : Arrival) → AreBegun records → AreBegun (records ++ c ∷ [])
+  begun_next records c begun l there =
+      let s = reached mode instance lease records in
+      let here : In l (left (before s c) (asked_by s c)).store.opens.locks =
+      subst (λ (s : State). In l s.machine.store.opens.locks) (reached_more (new_state mode instance lease) records c ∙ next_is s c) there in
+      elim (asked_states (before s c) (asked_by s c) (whole_at mode instance lease records c) l here) [
+        | inl b ↦ (b.first, runs_last (new_state mode instance lease) records c b.first b.there, b.begun)
+        | inr was ↦ (let b = was_begun records c begun l was in (b.0, runs_before (new_state mode instance lease) records (c ∷ []) b.0 b.1, b.2))
+      ]
+
+  begun_all : (done more : List Arrival) → AreBegun done → AreBegun (done ++ more)
+  begun_all done [] begun = subst AreBegun (sym (append-nil done)) begun
+  begun_all done (c ∷ more) begun = subst AreBegun (append_assoc done (c ∷ []) more) (begun_all (done ++ c ∷ []) more (begun_next done c begun))
+
+  begun_new : AreBegun []
+  begun_new l there = absurd there
+
+  begun_by : (records : List Arrival) (c : Arrival) (until : List RanOp) (d : RanOp) (behind : List RanOp) → ops_of (reached mode instance lease records) c ≡ until ++ d ∷ behind
+      → (l : LockState) → In l d.before.store.opens.locks
+      → (first : RanOp) × (RunsIn (new_state mode instance lease) records first ⊎ In first until) × IsBegunBy first l.number l.client l.owner
+  begun_by records c until d behind same l there =
+      let s = reached mode instance lease records in
+      elim (asked_states_until (before s c) (asked_by s c) until d behind (whole_at mode instance lease records c) same l there) [
+        | inl b ↦ (b.first, inr b.there, b.begun)
+        | inr was ↦ (let b = was_begun records c (begun_all [] records begun_new) l was in (b.0, inl b.1, b.2))
+      ]
+
+-- What was told of the clash.
+
+none_told : (t : Table) (n : ℕ) (w : Wish) (h : Held) → suc w.last - w.first ≡ 0 → clash t n w ≡ Some h → ⊥
+unfolding told
+none_told t n w h empty e = let bad : None ≡ Some h = rw empty at e in absurd cc
+
+abbrev report : Held → LockState → result.Denied
+report h l = record {
+  offset = h.first;
+  length = size_of h;
+  locktype = type_of h.kind;
+  owner = record { clientid = l.client; owner = take opaque_limit l.owner };
+}
+
+report_of : (t : Table) (h : Held) (l : LockState) → lock_at t h.owner ≡ Some l → denied t h ≡ report h l
+unfolding denied
+report_of t h l found = rw found refl
+
+-- what a LOCK or a LOCKT that was denied found
+record Found (d : RanOp) : Type 0 where
+  pub wish : Wish
+  pub held : Held
+  pub number : ℕ
+  pub met : clash d.before.store.opens number wish ≡ Some held
+  pub range : (wish.first ≤ wish.last) × (wish.last < 2 ^ 64)
+  pub refused : IsRefusedFor d wish (denied d.before.store.opens held)
+
+-- a wish that meets a lock has a byte
+has_byte : (t : Table) (n : ℕ) (w : Wish) (h : Held) → IsRange w.first w.last → clash t n w ≡ Some h → (w.first ≤ w.last) × (w.last < 2 ^ 64)
+has_byte t n w h (inl some) e = some
+has_byte t n w h (inr empty) e = absurd (none_told t n w h (let below = empty.0 in omega (arith, below)) e)
+
+record Reported (s : of_store.State) (x : Context) (how : LockType) (offset size : ℕ) (text : List ℕ) (reports : result.Denied → Res) : Type 0 where
+  pub was : (r : Res) × (text ≡ spell_result r) × WasDenied s x how offset size r reports
+
+lock_found : (d : RanOp) → IsRun d → (a : lock_args.Lock) → d.item ≡ Operation (Op.Lock a) → d.status ≡ Denied → Found d
+lock_found d r a is status =
+    let s = d.before.store in
+    let x = d.context in
+    let (answer, text, did) = (by_item (λ status text u. status ≡ Denied → Reported s x a.locktype a.offset a.length text Res.LockDenied) d r (Operation (Op.Lock a)) is
+    (λ e. let bad : RepTooBig ≡ Denied = e in absurd cc)
+    (λ e. record { was = (_, refl, lock_denied s x (moment r.now) r.refused a (ap is_denied e)) }) status).was in
+    record {
+      wish = did.wish;
+      held = did.held;
+      number = did.number;
+      met = did.clash;
+      range = has_byte s.opens did.number did.wish did.held (wish_range s x a.locktype a.offset a.length did.wish did.asks) did.clash;
+      refused = ByLock a is did.asks (text ∙ ap spell_result did.answers);
+    }
+
+test_found : (d : RanOp) → IsRun d → (a : test_args.LockT) → d.item ≡ Operation (Op.LockT a) → d.status ≡ Denied → Found d
+test_found d r a is status =
+    let s = d.before.store in
+    let x = d.context in
+    let (answer, text, did) = (by_item (λ status text u. status ≡ Denied → Reported s x a.locktype a.offset a.length text Res.LockTDenied) d r (Operation (Op.LockT a)) is
+    (λ e. let bad : RepTooBig ≡ Denied = e in absurd cc)
+    (λ e. record { was = (_, refl, test_denied s x (moment r.now) r.refused a (ap is_denied e)) }) status).was in
+    record {
+      wish = did.wish;
+      held = did.held;
+      number = did.number;
+      met = did.clash;
+      range = has_byte s.opens did.number did.wish did.held (wish_range s x a.locktype a.offset a.length did.wish did.asks) did.clash;
+      refused = ByTest a is did.asks (text ∙ ap spell_result did.answers);
+    }
+
+found_by : (d : RanOp) → IsRun d → (i : Item) → d.item ≡ i → asks_for_lock i ≡ true → d.status ≡ Denied → Found d
+found_by d r (Operation (Op.Lock a)) is asks status = lock_found d r a is status
+found_by d r (Operation (Op.LockT a)) is asks status = test_found d r a is status
+found_by d r i is asks status = absurd (false≢true asks)
+
+pub no_is_true : NoIsTrue
+no_is_true mode instance lease records c until d behind small same asks status =
+    let s = reached mode instance lease records in
+    let sound : IsSound s = sound_all (new_state mode instance lease) records (sound_new mode instance lease) in
+    let r = (op_done s c sound d (first_there s c until d behind same)).run in
+    let f = found_by d r d.item refl asks status in
+    let t = d.before.store.opens in
+    let w = f.wish in
+    let h = f.held in
+    let (b, told) = clash_tells t w.file f.number w.kind w.first w.last (Some h) r.whole.table f.range.0 f.range.1 f.met in
+    let held : t.held w.file h.owner b ≡ Some h.kind = told.held b told.round.0 told.round.1 in
+    let (l, here) = r.whole.table.holders w.file h.owner b (λ none. let bad : Some h.kind ≡ None = sym held ∙ none in cc) in
+    record {
+      wish = w;
+      held = record { state = h.owner; client = l.client; opened = l.opened; file = w.file; kind = h.kind; first = h.first; last = h.last };
+      owner = l.owner;
+      refused = subst (IsRefusedFor d w) (report_of t h l (found_at t l h.owner r.whole.table here.stands here.number)) f.refused;
+      file = refl;
+      begun = (let b = begun_by mode instance lease records c until d behind same l here.stands in
+          (b.0, b.1, subst (λ n. IsBegunBy b.0 n l.client l.owner) here.number b.2));
+      clash = (
+        (let within = told.within in let round = told.round in omega (arith, within.0, round.1)),
+        (let within = told.within in let round = told.round in omega (arith, within.1, round.0)),
+        (let round = told.round in omega (arith, round.0, round.1)),
+      );
+      kinds = ap (meets w.kind) (sym held) ∙ (and_parts _ _ told.clash).1;
+      granted = λ byte lo hi. granted mode instance lease small
+          (record { state = h.owner; client = l.client; opened = l.opened; file = w.file; kind = h.kind; first = byte; last = byte }) l.owner refl records c until d behind same
+          (record { lock = l; there = here.stands; number = here.number; client = refl; opened = refl; owner = refl; held = told.held byte lo hi });
+    }

@@ -1,0 +1,157 @@
+-- The run of a denial that is true, and the denials that are refused, computed.
+use Rattle.std.proofs.Common.{◌≡◌, ℕ, ◌+◌, ◌*◌, ◌≤◌, Bool, true, false, List, [], ◌∷◌, ◌++◌, length, take, get_or, Some, None, refl, sym, ◌∙◌, ap, subst, arith, inl, inr}
+use Rattle.std.specs.Prelude.{◌^◌, ◌&&◌, filter}
+use Rattle.nfs_xdr.specs.Tables.{In}
+use Rattle.nfs_xdr.specs.Spelling.{number, hyper}
+use Rattle.nfs_xdr.proofs.Lists.{stays_in}
+use Rattle.nfs_compound.specs.declared.op.Item.{Item}
+use Rattle.nfs_compound.specs.declared.op.Item.TheVariants.{Operation}
+use Rattle.nfs_compound.specs.declared.op.Op.TheVariants as Op
+use Rattle.nfs_compound.specs.declared.op_num.OpNum.TheVariants as Num
+use Rattle.nfs_results.specs.declared.res.Denied as result
+use Rattle.nfs_results.specs.declared.res.Res.TheVariants as Res
+use Rattle.nfs_results.specs.Results.{spell_result, done_head}
+use Rattle.nfs_files.specs.LockTold.{LockTold}
+use Rattle.nfs_exec.specs.Runs.Ops.{RanOp}
+use Rattle.nfs_exec.proofs.Runs.OneWalk.{in_back}
+use Rattle.nfs_serve.specs.Step.{State, new_state}
+use Rattle.nfs_serve.specs.Promises.Endpoint.{Arrival}
+use Rattle.nfs_serve.specs.Promises.HeldLock.{earlier, locks, clashes, start, asked, last_of}
+use Rattle.nfs_serve.specs.Promises.Denials.{IsRefusedFor, ByLock, ByTest, byte_of, Grants}
+use Rattle.nfs_serve.specs.Promises.NoIsTrue.{IsInLease, IsGrantedIn, IsGranted, Before, Within, IsTrue}
+use Rattle.nfs_serve.specs.Promises.Outlived.{last_renewal}
+use Rattle.nfs_serve.specs.Promises.Points.{state_after, state_after_all, reached, taken, ops_of}
+use Rattle.nfs_serve.specs.Promises.WrongDenials.{before_clash, IsDeniedTruly, denies, blames_another, silence, asks_late, DenialsRefused}
+use Rattle.nfs_serve.proofs.Promises.Computing.{computing}
+use Rattle.nfs_serve.proofs.Promises.HeldLock.{nothing, three, says_ok}
+
+-- A LOCK that granted something says NFS4_OK, and is among the operations of the records or of the compound.
+
+abbrev is_lock : Item → Bool
+is_lock (Operation (Op.Lock a)) = true
+is_lock item = false
+
+abbrev grants : RanOp → Bool
+grants d = is_lock d.item && says_ok d.result
+
+abbrev all_ops : State → List Arrival → List RanOp
+all_ops s [] = []
+all_ops s (c ∷ more) = ops_of s c ++ all_ops (state_after s c) more
+
+named_ok : (id : List ℕ) → says_ok (done_head Num.Lock ++ id) ≡ true
+unfolding number
+named_ok id = refl
+
+it_grants : (k : LockTold) (owner : List ℕ) (d : RanOp) → Grants k owner d → grants d ≡ true
+it_grants k owner d g =
+    let l = g.tells.locks in
+    ap (λ i. is_lock i && says_ok d.result) l.is ∙ (ap says_ok l.names.answers ∙ named_ok l.names.id)
+
+in_first : (d : RanOp) (front back : List RanOp) → In d front → In d (front ++ back)
+in_first d [] back there = absurd there
+in_first d (f ∷ front) back (inl here) = inl here
+in_first d (f ∷ front) back (inr later) = inr (in_first d front back later)
+
+in_records : (s : State) (before : List Arrival) (c : Arrival) (more : List Arrival) (d : RanOp) → In d (ops_of (state_after_all s before) c) → In d (all_ops s (before ++ c ∷ more))
+in_records s [] c more d there = in_first d (ops_of s c) (all_ops (state_after s c) more) there
+in_records s (b ∷ before) c more d there = in_back d (ops_of s b) (all_ops (state_after s b) (before ++ c ∷ more)) (in_records (state_after s b) before c more d there)
+
+abbrev granting : List RanOp → List RanOp
+granting ds = filter grants ds
+
+given_in : (k : LockTold) (owner : List ℕ) (records : List Arrival) (g : IsGrantedIn 511 7 90 k owner records) → In g.lock (granting (all_ops (new_state 511 7 90) records))
+given_in k owner records g =
+    let there : In g.lock (ops_of (reached 511 7 90 g.earlier) g.arrival) = subst (In g.lock) (sym g.ops) (in_back g.lock g.front (g.lock ∷ g.back) (inl refl)) in
+    stays_in grants (all_ops (new_state 511 7 90) records) g.lock
+    (subst (λ rs. In g.lock (all_ops (new_state 511 7 90) rs)) (sym g.all) (in_records (new_state 511 7 90) g.earlier g.arrival g.between g.lock there)) (it_grants k owner g.lock g.grants)
+
+none_in : (ds : List RanOp) (d : RanOp) → length ds ≡ 0 → In d ds → ⊥
+none_in [] d e there = there
+none_in (x ∷ ds) d e there = absurd (omega (arith, e))
+
+one_in : (ds : List RanOp) (x d : RanOp) → length ds ≡ 1 → In d ds → d ≡ last_of x ds
+one_in [] x d e there = absurd there
+one_in (y ∷ []) x d e (inl here) = here
+one_in (y ∷ []) x d e (inr later) = absurd later
+one_in (y ∷ z ∷ ds) x d e there = absurd (omega (arith, e))
+
+-- none in the compound
+not_within : (k : LockTold) (owner : List ℕ) (until front back : List RanOp) (lock : RanOp) → length (granting until) ≡ 0 → until ≡ front ++ lock ∷ back → Grants k owner lock → ⊥
+not_within k owner until front back lock none same g =
+    none_in (granting until) lock none (stays_in grants until lock (subst (In lock) (sym same) (in_back lock front (lock ∷ back) (inl refl))) (it_grants k owner lock g))
+
+-- nobody locked
+by_nobody : (k : LockTold) (owner : List ℕ) (records : List Arrival) (c : Arrival) (until : List RanOp) → length (granting (all_ops (new_state 511 7 90) records)) ≡ 0
+    → length (granting until) ≡ 0 → IsGranted 511 7 90 k owner records c until → ⊥
+by_nobody k owner records c until none here (Before g lease spared) = none_in (granting (all_ops (new_state 511 7 90) records)) g.lock none (given_in k owner records g)
+by_nobody k owner records c until none here (Within front lock back same g spared) = not_within k owner until front back lock here same g
+
+-- one client did, once
+record IsOnes (k : LockTold) (records : List Arrival) (c : Arrival) (client : ℕ) : Type 0 where
+  pub its : k.client ≡ client
+  pub lease : IsInLease 511 7 90 k.client records c
+
+by_one : (k : LockTold) (owner : List ℕ) (records : List Arrival) (c : Arrival) (until : List RanOp) (client : ℕ)
+    → length (granting (all_ops (new_state 511 7 90) records)) ≡ 1 → (last_of nothing (granting (all_ops (new_state 511 7 90) records))).context.client ≡ client
+    → length (granting until) ≡ 0 → IsGranted 511 7 90 k owner records c until → IsOnes k records c client
+by_one k owner records c until client one its here (Before g lease spared) = record {
+  its = g.grants.tells.client
+      ∙ (ap (λ (d : RanOp). d.context.client) (one_in (granting (all_ops (new_state 511 7 90) records)) nothing g.lock one (given_in k owner records g)) ∙ its);
+  lease = lease;
+}
+by_one k owner records c until client one its here (Within front lock back same g spared) = absurd (not_within k owner until front back lock here same g)
+
+late : (records : List Arrival) (c : Arrival) (client moment last : ℕ) → last_renewal client None (new_state 511 7 90) records ≡ Some last → taken (reached 511 7 90 records) c ≡ moment
+    → last + 91 ≤ moment → IsInLease 511 7 90 client records c → ⊥
+late records c client moment last renewed now past is =
+    let same : Some last ≡ Some is.0 = sym renewed ∙ is.1 in
+    let one : last ≡ is.0 = cc in
+    let within = is.2 in absurd (omega (arith, now, past, within, one))
+
+-- the client in the report of a LOCK
+client_byte : (r : result.Denied) → get_or (spell_result (Res.LockDenied r)) 35 0 ≡ get_or (hyper r.owner.clientid) 7 0
+unfolding computing
+client_byte r = refl
+
+pub is_denied_truly : IsDeniedTruly
+unfolding computing
+is_denied_truly = record {
+  until = take 2 (ops_of asked clashes);
+  lock = last_of nothing (ops_of asked clashes);
+  ops = three nothing (ops_of asked clashes) refl;
+  asks = refl;
+  denied = refl;
+}
+
+blamed : 2 ≡ get_or blames_another 35 0
+unfolding computing
+blamed = refl
+
+-- it is of the client that locked
+another_client : (client : ℕ) → client ≡ 7 * 2 ^ 32 + 1 → 2 ≡ get_or (hyper client) 7 0 → ⊥
+unfolding hyper
+another_client client its e = let bad : ◌≡◌ {A = ℕ} 2 1 = e ∙ ap (λ client. get_or (hyper client) 7 0) its in absurd (omega arith)
+
+not_another : (records : List Arrival) (c : Arrival) (until : List RanOp) (d : RanOp) → is_lock d.item ≡ true → length (granting (all_ops (new_state 511 7 90) records)) ≡ 1
+    → (last_of nothing (granting (all_ops (new_state 511 7 90) records))).context.client ≡ 7 * 2 ^ 32 + 1 → length (granting until) ≡ 0
+    → IsTrue 511 7 90 records c until (denies blames_another d) → ⊥
+not_another records c until d lock one its here t = go _ refl t.refused
+  where
+    ones : IsOnes (byte_of t.held t.held.first) records c (7 * 2 ^ 32 + 1)
+    ones = by_one (byte_of t.held t.held.first) t.owner records c until (7 * 2 ^ 32 + 1) one its here (t.granted t.held.first (omega arith) t.clash.2)
+
+    go : (r : result.Denied) → r.owner.clientid ≡ t.held.client → IsRefusedFor (denies blames_another d) t.wish r → ⊥
+    go r mine (ByLock a is wish text) = another_client r.owner.clientid (mine ∙ ones.its) (blamed ∙ (ap (λ text. get_or text 35 0) text ∙ client_byte r))
+    go r mine (ByTest a is wish text) = absurd (let bad : true ≡ false = sym lock ∙ ap is_lock is in cc)
+
+pub denials_refused : DenialsRefused
+unfolding computing
+denials_refused = record {
+  nobody = λ d result t. by_nobody (byte_of t.held t.held.first) t.owner earlier locks (take 2 (ops_of start locks)) refl refl
+      (t.granted t.held.first (omega arith) t.clash.2);
+  run_out = λ d result t.
+      (let ones = by_one (byte_of t.held t.held.first) t.owner silence asks_late (take 2 (ops_of (reached 511 7 90 silence) asks_late)) (7 * 2 ^ 32 + 1) refl refl refl
+      (t.granted t.held.first (omega arith) t.clash.2) in
+      late silence asks_late (7 * 2 ^ 32 + 1) 202 102 refl refl (omega arith) (subst (λ client. IsInLease 511 7 90 client silence asks_late) ones.its ones.lease));
+  another = λ d t. not_another before_clash clashes (take 2 (ops_of asked clashes)) (last_of d (ops_of asked clashes)) refl refl refl refl t;
+}

@@ -1,0 +1,55 @@
+-- Denials worked by hand: one that is true, and wrong servers that the promise refuses (RFC 8881 sections 8.3 and 18.10). They are over the run of `HeldLock`: A locks the
+-- first byte of the file, and B asks for it.
+use Rattle.std.specs.Prelude.{◌≡◌, ℕ, ◌+◌, ◌*◌, ◌^◌, true, List, [], ◌∷◌, ◌++◌, take}
+use Rattle.nfs_xdr.specs.declared.status.Status.TheVariants.{Denied}
+use Rattle.nfs_compound.specs.declared.lock_args.LockType.TheVariants as LockTypes
+use Rattle.nfs_results.specs.declared.res.Res.TheVariants as Res
+use Rattle.nfs_results.specs.Results.{spell_result}
+use Rattle.nfs_exec.specs.Runs.Ops.{RanOp}
+use Rattle.nfs_serve.specs.Promises.Endpoint.{Arrival}
+use Rattle.nfs_serve.specs.Promises.HeldLock.{came, in_session, opens_and_locks, earlier, locks, waits, clashes, start, asked, last_of}
+use Rattle.nfs_serve.specs.Promises.LostReply.{exchange_id, create_session}
+use Rattle.nfs_serve.specs.Promises.Denials.{asks_for_lock}
+use Rattle.nfs_serve.specs.Promises.NoIsTrue.{IsTrue}
+use Rattle.nfs_serve.specs.Promises.Points.{reached, ops_of}
+
+abbrev pub before_clash : List Arrival
+before_clash = earlier ++ locks ∷ waits
+
+-- The run meets the premises: B's LOCK is denied.
+pub record IsDeniedTruly : Type 0 where
+  pub until : List RanOp
+  pub lock : RanOp
+  pub ops : ops_of (reached 511 7 90 before_clash) clashes ≡ until ++ lock ∷ []
+  pub asks : asks_for_lock lock.item ≡ true
+  pub denied : lock.status ≡ Denied
+
+-- an operation that answers NFS4ERR_DENIED, and these bytes
+abbrev pub denies : List ℕ → RanOp → RanOp
+denies result d = record d { status = Denied; result = result }
+
+-- a report that gives the first byte to an owner of B, which asks
+abbrev pub blames_another : List ℕ
+blames_another = spell_result (Res.LockDenied (record {
+  offset = 0;
+  length = 1;
+  locktype = LockTypes.Write;
+  owner = record { clientid = 7 * 2 ^ 32 + 2; owner = 0x6c ∷ [] };
+}))
+
+-- A is silent from its LOCK on; B comes, and asks for the byte when A's lease has run out
+abbrev pub silence : List Arrival
+silence = earlier ++ locks ∷ came 200 5 (exchange_id 0x4200_0000) ∷ came 201 6 (create_session 2) ∷ []
+
+abbrev pub asks_late : Arrival
+asks_late = came 202 7 (in_session 2 1 4 (opens_and_locks 0))
+
+pub record DenialsRefused : Type 0 where
+  -- A's LOCK is denied, whatever is reported, where nobody locked a byte
+  pub nobody : (d : RanOp) (result : List ℕ) → IsTrue 511 7 90 earlier locks (take 2 (ops_of start locks)) (denies result (last_of d (ops_of start locks))) → ⊥
+  -- B's LOCK is denied, whatever is reported, 100 seconds behind A's last renewal
+  pub run_out : (d : RanOp) (result : List ℕ)
+      → (let ds = ops_of (reached 511 7 90 silence) asks_late in IsTrue 511 7 90 silence asks_late (take 2 ds) (denies result (last_of d ds))) → ⊥
+  -- the report gives B's own client for A's lock
+  pub another : (d : RanOp)
+      → (let ds = ops_of asked clashes in IsTrue 511 7 90 before_clash clashes (take 2 ds) (denies blames_another (last_of d ds))) → ⊥
