@@ -4,19 +4,15 @@ tests/gate/contracts.tsv has a line for each, which `tests/gate/believed --write
 many state something, and a sum of those clauses and of all that they lean on. So no contract changes without a line of it. tests/gate/uncalled.tsv
 names the functions that nothing but tests calls, each with the reason for which it is there."""
 
-import hashlib
 import re
 
 import rattle
 from edits import public
-from pinned import TESTS
+from pinned import TESTS, bodies, differs
+from rattle import crates
 
 CALL = re.compile(r"(?:(\w+)(?:::<[^>]*>)?::|(\.)\s*|\b)(\w+)(?=\s*(?:::<|[(),;}]))")
 HEAD = "# The contract of each public function (tests/gate/believed --write): crate, function, clauses that ask, clauses that state, sum of what they lean on.\n"
-
-
-def crates(top):
-    return sorted(it.parent for it in top.glob("crates/*/src"))
 
 
 def page(top, promises):
@@ -34,20 +30,15 @@ def sum_of(promises, folder, function):
     place = next(folder / file for file, (source, _) in rattle.tree(folder).items() if function in source.functions)
     needed, _, types = promises.behind({one for it in function.clauses for one in promises.all.cited_in(place, it)})
     said = [f"{it.kind}: {' '.join(it.text.split())}" for it in function.clauses]
-    said += sorted(f"{it}: {line.rstrip()}" for it in needed for line in it.lines)
-    said += sorted(f"{it}: {promises.all.declared.get(it, '')}" for it in types)
-    return hashlib.sha256("\n".join([" ".join(function.takes.split()), *said]).encode()).hexdigest()[:10]
+    return rattle.sum_of([" ".join(function.takes.split()), *said, *promises.all.text_of(needed, types)])[:10]
 
 
 def calls(top):
     """What is called by code that is none of tests: by its name, who calls it, and the word in front of it."""
     found = {}
-    for folder in crates(top):
-        for source, is_test in rattle.tree(folder).values() if folder.name not in TESTS else ():
-            for it in source.functions:
-                if it.opens >= 0 and not is_test and not it.is_test:
-                    for call in CALL.finditer(source.plain, it.opens, it.closes):
-                        found.setdefault(call[3], set()).add((it, call[1] or call[2] or ""))
+    for _, source, it in bodies(top):
+        for call in CALL.finditer(source.plain, it.opens, it.closes):
+            found.setdefault(call[3], set()).add((it, call[1] or call[2] or ""))
     return found
 
 
@@ -65,10 +56,8 @@ def uncalled(top):
 
 def faults(top, promises, rows):
     """Where the page is not what is there, and where a function that only tests call has no reason."""
-    path = top / "tests/gate/contracts.tsv"
-    was = path.read_text(encoding="utf-8").splitlines() if path.is_file() else []
-    now = page(top, promises).splitlines()
-    found = [f"tests/gate/contracts.tsv is not what tests/gate/believed --write makes: {it}" for it in sorted(set(was) ^ set(now))]
+    was, now = rattle.text_of(top / "tests/gate/contracts.tsv").splitlines(), page(top, promises).splitlines()
+    found = [f"tests/gate/contracts.tsv is not what tests/gate/believed --write makes: {it}" for some in differs(was, now) for it in some]
     told, there = {"\t".join(it[:2]): it[2:] for it in rows}, {*uncalled(top)}
     found += [f"{' '.join(it.split())}: only tests call it, and tests/gate/uncalled.tsv has no reason for it" for it in sorted(there - told.keys())]
     found += [f"tests/gate/uncalled.tsv: {' '.join(it.split())}: it is called, or it is not there" for it in sorted(told.keys() - there)]

@@ -270,6 +270,10 @@ class Definitions:
         folder = self.top / "crates" / crate
         return [folder / file for file, (_, is_test) in rattle.tree(folder).items() if not is_test]
 
+    def text_of(self, needed, types):
+        """The lines of definitions and the texts of Rust types, each behind its name."""
+        return sorted(f"{it}: {line.rstrip()}" for it in needed for line in it.lines) + sorted(f"{it}: {self.declared.get(it, '')}" for it in types)
+
     def cited_in(self, path, clause):
         """What a clause of a source names."""
         return self.cited(clause.text, self.read_source(path)[1], None, self.place(path))

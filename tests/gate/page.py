@@ -1,9 +1,11 @@
 """Makes docs/BELIEVED.md of what the promises lean on. `tests/gate/believed` stands on it."""
 
+import itertools
 import re
 import textwrap
 
 from promises import CALLS, WORKED
+from rattle import text_of
 
 RFC = re.compile(r"RFC (\d+)(?: (?:sections?|appendix) [A-Z\d][\d.]*(?:(?:, (?:and )?| and | to )\d[\d.]*)*(?<![.,]))?")
 ROW = re.compile(r"^\| (.*?) \| ([\d,]+) \| ([\d,]+) \| ([\d,]+) \| ([\d,]+) \| `(\w+)` \|$", re.M)
@@ -59,12 +61,22 @@ number is given if it is not one line.
 """
 
 
-def number(it):
-    return f"{it:,}"
-
-
 def wrapped(text, indent=""):
     return textwrap.fill(text, 80, subsequent_indent=indent, break_long_words=False, break_on_hyphens=False)
+
+
+def listed(head, entries):
+    """A section of entries, if there are any."""
+    lines = "".join(wrapped(f"- {it}", "  ") + "\n" for it in entries)
+    return f"{head}\n{lines}" if lines else ""
+
+
+def grouped(pairs):
+    """The second ones of pairs by the first ones."""
+    found = {}
+    for key, it in pairs:
+        found.setdefault(key, []).append(it)
+    return found
 
 
 class Page:
@@ -72,11 +84,10 @@ class Page:
 
     def __init__(self, promises):
         self.promises, self.all, self.links = promises, promises.all, {}
-        self.whole = {it: len(path.read_text(encoding="utf-8").splitlines()) for it, path in self.all.files.items()}
+        self.whole = {it: len(text_of(path).splitlines()) for it, path in self.all.files.items()}
         self.rows, seen = [], set()
         for it in promises.promises:
-            new = it.needed - seen
-            self.rows.append((it, new))
+            self.rows.append((it, it.needed - seen))
             seen |= it.needed
         self.believed = {it.file for it in seen}
 
@@ -90,44 +101,37 @@ class Page:
         return it.title, it.lines, sum(len(one.lines) for one in new), files, len(it.types), it.sum(self.all)
 
     def text(self):
-        parts = [HEAD, self.table()]
-        for it, new in self.rows:
-            parts.append(self.section(it, new))
-        if self.promises.pinned:
-            parts.append(PINS + "\n" + "".join(wrapped(self.told(one, pin), "  ") + "\n" for one, pin in self.promises.pinned.items()))
-        parts += [self.unmet(), self.rest(), self.ghosts()]
+        # (a file that only passes names on says nothing)
+        files = self.in_order({it for it in self.all.files if self.all.names[it]} - self.believed)
+        rest = grouped((crate, f"`{name}` {self.whole[crate, name]}") for crate, name in files)
+        parts = [HEAD, self.table(), *(self.section(it, new) for it, new in self.rows)]
+        parts += [listed(PINS, [f"`{pin}` by `laws::{pin.law}`" for pin in self.promises.pinned.values()])]
+        parts += [listed(UNMET, [f"`{it}`: {', '.join(f'`{law}`' for law in laws)}" for it, laws in self.promises.unmet().items()])]
+        parts += [listed(REST, [f"`{crate}`: {', '.join(some)}" for crate, some in rest.items()]), listed(GHOSTS, self.ghosts())]
         text = "\n".join(it for it in parts if it)
         return text + "".join(["\n", *(f"[{label}]: {to}\n" for label, to in sorted(self.links.items()))] if self.links else [])
 
-    def told(self, one, pin):
-        return f"- `{pin}` by `laws::{pin.law}`"
-
     def table(self):
         lines = ["| Promise | Lines of meaning | New | Lines of their files | Rust types | Sum |", "|---|---|---|---|---|---|"]
-        return "\n".join([*lines, *(f"| {title} | {' | '.join(map(number, told))} | `{sum_of}` |" for title, *told, sum_of in self.totals())]) + "\n"
+        return "\n".join([*lines, *(f"| {title} | {' | '.join(f'{it:,}' for it in told)} | `{sum_of}` |" for title, *told, sum_of in self.totals())]) + "\n"
 
     def section(self, promise, new):
-        head = f"## {promise.title}\n\n"
-        lines = [*(self.calls(promise) if promise.title == CALLS else self.laws(promise)), ""]
+        lines = [f"## {promise.title}", "", *(self.calls(promise) if promise.title == CALLS else self.laws(promise)), ""]
         files = {file: [it for it in self.definitions_of(file) if it in new] for file in self.in_order({it.file for it in new})}
-        for crate in dict.fromkeys(file[0] for file in files):
-            lines += [f"### {promise.title}: {crate}", ""]
-            lines += [self.entry(file, some) for file, some in files.items() if file[0] == crate]
-            lines.append("")
-        types = sorted(promise.types)
+        for crate, entries in grouped((file[0], self.entry(file, some)) for file, some in files.items()).items():
+            lines += [f"### {promise.title}: {crate}", "", *entries, ""]
+        types = grouped((crate, f"`{path[0]}`") for crate, path in sorted(promise.types))
         if types:
-            crates = {crate: [f"`{path[0]}`" for at, path in types if at == crate] for crate in dict.fromkeys(at for at, _ in types)}
-            lines += [wrapped("Rust types: " + "; ".join(f"`{crate}` {', '.join(crates[crate])}" for crate in crates) + "."), ""]
-        return head + "\n".join(lines).rstrip("\n") + "\n"
+            lines.append(wrapped("Rust types: " + "; ".join(f"`{crate}` {', '.join(some)}" for crate, some in types.items()) + "."))
+        return "\n".join(lines).rstrip("\n") + "\n"
 
     def calls(self, promise):
-        by = {crate: [name for at, name in promise.stated if at == crate] for crate, _ in promise.stated}
-        said = "; ".join(f"`{crate}`: {', '.join(f'`{it}`' for it in by[crate])}" for crate in by)
-        return [wrapped(f"Stated by the contracts of {said}.")]
+        said = grouped((crate, f"`{name}`") for crate, name in promise.stated)
+        return [wrapped(f"Stated by the contracts of {'; '.join(f'`{crate}`: ' + ', '.join(some) for crate, some in said.items())}.")]
 
     def laws(self, promise):
         """What each law of a promise says."""
-        lines = ["Stated by" if promise.stated else "There are none."] + [""] * bool(promise.stated)
+        lines = ["Stated by", ""] if promise.stated else ["There are none."]
         for crate, name in promise.stated:
             if (crate, name) not in self.promises.laws:
                 lines.append(f"- `{crate}`: `{name}`, by its contract")
@@ -143,19 +147,11 @@ class Page:
 
     def entry(self, file, some):
         path = self.all.files[file]
-        against = ", ".join(self.link(it[0]) for it in RFC.finditer(self.first_lines(path)))
-        few = sum(len(it.lines) for it in some)
-        told = ", ".join(f"`{it.name}` {len(it.lines)}" for it in some)
+        first_lines = itertools.takewhile(lambda line: line.startswith("--"), text_of(path).splitlines())
+        against = ", ".join(self.link(it[0]) for it in RFC.finditer(" ".join(line.lstrip("- ") for line in first_lines)))
+        few, told = sum(len(it.lines) for it in some), ", ".join(f"`{it.name}` {len(it.lines)}" for it in some)
         link = f"[`{file[1]}`](../{path.relative_to(self.all.top)})"
         return wrapped(f"- {link} {few} of {self.whole[file]}{f' ({against})' if against else ''}: {told}", "  ")
-
-    def first_lines(self, path):
-        lines = []
-        for line in path.read_text(encoding="utf-8").splitlines():
-            if not line.startswith("--"):
-                break
-            lines.append(line.lstrip("- "))
-        return " ".join(lines)
 
     def link(self, said):
         rfc, *rest = said.split(" ")[1:]
@@ -182,30 +178,17 @@ class Page:
                 visit(file, frozenset())
         return [it for it in found if it in files]
 
-    def unmet(self):
-        found = self.promises.unmet()
-        lines = [wrapped(f"- `{it}`: {', '.join(f'`{law}`' for law in laws)}", "  ") for it, laws in found.items()]
-        return UNMET + "\n" + "\n".join(lines) + "\n" if found else ""
-
-    def rest(self):
-        # (a file that only passes names on says nothing)
-        files = self.in_order({it for it in self.all.files if self.all.names[it]} - self.believed)
-        lines = []
-        for crate in dict.fromkeys(it[0] for it in files):
-            lines.append(wrapped(f"- `{crate}`: " + ", ".join(f"`{it[1]}` {self.whole[it]}" for it in files if it[0] == crate), "  "))
-        return REST + "\n" + "\n".join(lines) + "\n" if files else ""
-
     def ghosts(self):
-        found = {}
+        """The ghosts of each crate, by their types and sources."""
+        found = []
         for path in sorted(self.all.clauses):
             crate, _, *place = self.all.place(path).parts
             for it in self.all.clauses[path][0]:
+                count = len([line for line in it.text.splitlines() if line.strip()])
                 if it.kind == "ghost":
-                    count = len([line for line in it.text.splitlines() if line.strip()])
-                    said = it.name if count == 1 else f"{it.name} {count}"
-                    found.setdefault(crate, {}).setdefault(f"`{it.owner}` in `src/{'/'.join(place)}`", []).append(said)
-        lines = [wrapped(f"- `{crate}`: " + "; ".join(f"{it} ({', '.join(some)})" for it, some in found[crate].items()), "  ") for crate in found]
-        return GHOSTS + "\n" + "\n".join(lines) + "\n" if lines else ""
+                    found.append((crate, (f"`{it.owner}` in `src/{'/'.join(place)}`", it.name if count == 1 else f"{it.name} {count}")))
+        for crate, some in grouped(found).items():
+            yield f"`{crate}`: " + "; ".join(f"{it} ({', '.join(names)})" for it, names in grouped(some).items())
 
 
 def told_before(text):

@@ -6,6 +6,7 @@ import os
 import re
 
 import rattle
+from rattle import crates, text_of
 
 TESTS = ("nfs_testing", "nfs_tests")
 ASSERT = re.compile(r"\bassert\w*!\s*(?=[(\[{])")
@@ -42,39 +43,39 @@ def asks_nothing(word, asked):
 def counts(top):
     """How many tests and asserts the sources of each crate have that has any."""
     found = {}
-    for folder in sorted(it.parent for it in top.glob("crates/*/src")):
+    for folder in crates(top):
         if count := tests_of(folder):
             found[f"tests of {folder.name}"] = count
             found[f"asserts of {folder.name}"] = len([*asserts_of(folder)])
     return found
 
 
+def bodies(top):
+    """Each function with a body whose code is none of tests, with its crate's name and its source."""
+    for folder in crates(top):
+        for source, is_test in rattle.tree(folder).values() if folder.name not in TESTS else ():
+            yield from ((folder.name, source, it) for it in source.functions if it.opens >= 0 and not is_test and not it.is_test)
+
+
 def wants(top):
-    """The lines at which code that is none of tests names want of memory, as tests/gate/wants.tsv has them."""
-    lines = []
-    for folder in sorted(it.parent for it in top.glob("crates/*/src") if it.parent.name not in TESTS):
-        for source, is_test in rattle.tree(folder).values():
-            for it in source.functions if not is_test else ():
-                if it.opens >= 0 and not it.is_test:
-                    lines += [f"{folder.name}\t{it}\t{line.strip()}\n" for line in WANT.findall(source.plain[it.opens : it.closes])]
-    return WANTS + "".join(lines)
+    """The lines at which a body names want of memory, as tests/gate/wants.tsv has them."""
+    return WANTS + "".join(f"{crate}\t{it}\t{line.strip()}\n" for crate, source, it in bodies(top) for line in WANT.findall(source.plain[it.opens : it.closes]))
+
+
+def differs(was, now):
+    """The lines that a list has and should not have, and those that it lacks."""
+    return [it for it in was if was.count(it) > now.count(it)], [it for it in now if now.count(it) > was.count(it)]
 
 
 def faults(top, rows):
-    """What is not as it is pinned."""
-    path = top / "tests/gate/wants.tsv"
-    was, now = path.read_text(encoding="utf-8").splitlines() if path.is_file() else [WANTS.strip()], wants(top).splitlines()
-    fresh = [f"want of memory that tests/gate/wants.tsv does not list (tests/gate/believed --pin): {it}" for it in now if now.count(it) > was.count(it)]
-    return [*fresh, *(f"tests/gate/wants.tsv: no body has {it}" for it in was if was.count(it) > now.count(it)), *of_names(top, rows)]
-
-
-def of_names(top, rows):
-    """Where edits, tests, asserts and parts are not as they are pinned."""
-    path = top / "tests/gate/wrong_bodies.txt"
-    told = path.read_text(encoding="utf-8").split() if path.is_file() else []
-    there = wrong_bodies(top)
-    found = [f"must-fail edit {it}: tests/gate/wrong_bodies.txt names it, and it is not there" for it in told if it not in there]
-    found += [f"must-fail edit {it}: tests/gate/wrong_bodies.txt does not name it (tests/gate/believed --pin)" for it in there if it not in told]
+    """Where wants of memory, edits, tests, asserts and parts are not as they are pinned."""
+    gone, fresh = differs(text_of(top / "tests/gate/wants.tsv").splitlines() or [WANTS.strip()], wants(top).splitlines())
+    found = [f"tests/gate/wants.tsv: no body has {it}" for it in gone]
+    found += [f"want of memory that tests/gate/wants.tsv does not list (tests/gate/believed --pin): {it}" for it in fresh]
+    told = text_of(top / "tests/gate/wrong_bodies.txt").split()
+    gone, fresh = differs(told, wrong_bodies(top))
+    found += [f"must-fail edit {it}: tests/gate/wrong_bodies.txt names it, and it is not there" for it in gone]
+    found += [f"must-fail edit {it}: tests/gate/wrong_bodies.txt does not name it (tests/gate/believed --pin)" for it in fresh]
     found += ["tests/gate/wrong_bodies.txt: its lines are not in order, or one stands there twice"] * (told != sorted(set(told)))
     due = {it[0]: it[1] for it in rows if len(it) > 1 and len(it) == 2 + ("-" in it[1]) and NUMBER.fullmatch(it[1])}
     found += [f"tests/least.tsv: no line of a name and a number, or of a range and its reason: {' '.join(it)}" for it in rows if it[0] not in due]
@@ -82,15 +83,14 @@ def of_names(top, rows):
     for name in sorted({it for it in due if " of " in it} | set(counted)):
         if counted.get(name, 0) != int(due.get(name, "0")):
             found.append(f"{name}: {counted.get(name, 0)}, and tests/least.tsv has {due.get(name, 'none')} (tests/gate/believed --pin)")
-    for folder in sorted(it.parent for it in top.glob("crates/*/src")):
+    for folder in crates(top):
         found += [f"{folder.name}: {word}({asked.strip()}) asks nothing" for word, asked in asserts_of(folder) if asks_nothing(word, asked)]
     return found + of_parts(top, due)
 
 
 def of_parts(top, due):
     """Where ./test, tests/least.tsv and the scripts of tests/ do not name the same parts."""
-    path = top / "test"
-    added = ADDED.findall(path.read_text(encoding="utf-8")) if path.is_file() else []
+    added = ADDED.findall(text_of(top / "test"))
     told = [it for it in due if " of " not in it]
     scripts = [str(it.relative_to(top)) for it in sorted(top.glob("tests/**/*")) if it.is_file() and not it.suffix and os.access(it, os.X_OK)]
     found = [f"tests/least.tsv: it says nothing of {it}, which ./test runs" for it in added if it not in told]
@@ -103,9 +103,8 @@ def write(top, log):
     (top / "tests/gate/wrong_bodies.txt").write_text("".join(f"{it}\n" for it in wrong_bodies(top)), encoding="utf-8")
     (top / "tests/gate/wants.tsv").write_text(wants(top), encoding="utf-8")
     path, passed = top / "tests/least.tsv", dict(PART.findall(log))
-    lines = path.read_text(encoding="utf-8").splitlines() if path.is_file() else []
     kept = []
-    for it in (it for it in lines if not re.match(r"(?:tests|asserts) of \w+\t", it)):
+    for it in (it for it in text_of(path).splitlines() if not re.match(r"(?:tests|asserts) of \w+\t", it)):
         name, _, number = it.partition("\t")
         kept.append(f"{name}\t{passed[name]}" if name in passed and "-" not in number else it)
     path.write_text("".join(f"{it}\n" for it in [*kept, *(f"{name}\t{count}" for name, count in counts(top).items())]), encoding="utf-8")

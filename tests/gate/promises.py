@@ -6,13 +6,13 @@ the laws that a section of docs/PROMISES.md names in code, as `laws::exactly_onc
 before it in its section, as "`nfs_serve`: `laws::exactly_once`", if that has it; else there has to be one crate that has it. Laws that no section
 names come last, and then the worked examples of tests/gate/worked.tsv: they are told with the section that names them and count for none."""
 
-import hashlib
 import re
 
 import rattle
 from definitions import Definitions
 from edits import public
-from statements import Statements, bare, equations, groups, is_binder, parts_of_record, split, tokens_of
+from rattle import crates, text_of
+from statements import Statements, bare, groups, is_binder, parts_of_record, split, tokens_of
 
 CALLS = "The calls that the program makes"
 OTHERS = "Laws that no promise names"
@@ -43,9 +43,7 @@ class Promise:
 
     def sum(self, definitions):
         """A sum of all that the promise says: of its clauses, of what they lean on, and of the Rust types that these name."""
-        lines = sorted(f"{it}: {line.rstrip()}" for it in self.needed for line in it.lines)
-        types = sorted(f"{it}: {definitions.declared.get(it, '')}" for it in self.types)
-        return hashlib.sha256("\n".join([*sorted(self.texts), *lines, *types]).encode()).hexdigest()[:12]
+        return rattle.sum_of([*sorted(self.texts), *definitions.text_of(self.needed, self.types)])[:12]
 
 
 class Pin:
@@ -63,20 +61,18 @@ class Pin:
 
 def listed(top):
     """The crates of crates.txt with what each stands on, in its order."""
-    lines = [it for it in (top / "crates.txt").read_text(encoding="utf-8").splitlines() if ":" in it and not it.startswith("#")]
+    lines = [it for it in text_of(top / "crates.txt").splitlines() if ":" in it and not it.startswith("#")]
     return {name.strip(): rest.split() for name, _, rest in (it.partition(":") for it in lines)}
 
 
 def rows_of(path):
     """The rows of a table of tabs, without comments."""
-    text = path.read_text(encoding="utf-8") if path.is_file() else ""
-    return [line.split("\t") for line in text.splitlines() if line.strip() and not line.startswith("#")]
+    return [line.split("\t") for line in text_of(path).splitlines() if line.strip() and not line.startswith("#")]
 
 
 def read(top):
     """The promises of a repository."""
-    text = (top / "docs/PROMISES.md").read_text(encoding="utf-8")
-    return Promises(Definitions(top), text, [it for it in rows_of(top / "tests/gate/pins.tsv") if len(it) == 3], rows_of(top / "tests/gate/worked.tsv"))
+    return Promises(Definitions(top), text_of(top / "docs/PROMISES.md"), [it for it in rows_of(top / "tests/gate/pins.tsv") if len(it) == 3], rows_of(top / "tests/gate/worked.tsv"))
 
 
 def lines_by_crate(top):
@@ -94,16 +90,17 @@ class Promises:
         self.all, self.statements, self.faults, self.top = definitions, Statements(definitions), [], definitions.top
         self.laws, self.pinned = {}, {}  # (sources of each crate's laws by their names; pins by their definitions)
         self.order, self.judged = listed(self.top), 0  # (how many clauses were judged)
-        for crate in sorted({it.parent.name for it in self.top.glob("crates/*/src")}):
-            self.find_laws(crate)
+        for folder in crates(self.top):
+            self.find_laws(folder.name)
         self.faults += [f"{crate} laws::{name}: it states what laws::{other} does" for crate, name, other in self.copies()]
         self.worked = [(crate, law.removeprefix("laws::")) for crate, law in worked]
         self.faults += [f"tests/gate/worked.tsv: {crate} has no laws::{name}" for crate, name in self.worked if (crate, name) not in self.laws]
-        pins = [Pin(it) for it in pins]
         for it in pins:
-            self.pin(it)
+            self.pin(Pin(it))
         self.promises = [self.of_calls(), *self.of_sections(text)]
-        self.promises += [self.of_others(), self.of_worked()]
+        told = {it for promise in self.promises for it in promise.stated}
+        self.promises.append(self.of_laws(OTHERS, [it for it in self.laws if it not in told]))
+        self.promises.append(self.of_laws(WORKED, [it for it in self.worked if it in self.laws]))
         asked = [self.lean(it) for it in self.promises]
         self.judge_pins(asked)
 
@@ -189,7 +186,7 @@ class Promises:
         return found
 
     def all_sources(self):
-        return [it for path in sorted(self.top.glob("crates/*/src")) for it in self.all.sources(path.parent.name)]
+        return [it for folder in crates(self.top) for it in self.all.sources(folder.name)]
 
     def ghosts(self):
         """The ghosts of all sources, each with its crate and its source."""
@@ -285,18 +282,10 @@ class Promises:
         found = [name for word in CODE.findall(text) if (law := LAW.match(word)) for name in re.findall(r"\w+", law[2])]
         return [it for it in dict.fromkeys(found) if it not in told]
 
-    def of_others(self):
-        made, told = Promise(OTHERS), {it for promise in self.promises for it in promise.stated}
-        for crate, name in self.laws:
-            if (crate, name) not in told:
-                self.take_law(made, crate, name)
-        return made
-
-    def of_worked(self):
-        made = Promise(WORKED)
-        for crate, name in self.worked:
-            if (crate, name) in self.laws:
-                self.take_law(made, crate, name)
+    def of_laws(self, title, laws):
+        made = Promise(title)
+        for crate, name in laws:
+            self.take_law(made, crate, name)
         return made
 
     def unmet(self):
@@ -326,7 +315,7 @@ class Promises:
         if one and one not in seen and not one.is_data:
             seen.add(one)
             within = self.statements.scope(one.file)[0]
-            for it in parts_of_record(one)[1].values() if one.is_record else [right for _, right in equations(one)]:
+            for it in self.statements.types_in(one):
                 self.premises_in(it, within, seen, premises)
 
     # What is leaned on.
@@ -372,7 +361,7 @@ class Promises:
                 fields.add(pinned.field)
                 beside |= {(it.file, it.name) for it in pinned.statements}
                 for text in pinned.words:
-                    leant |= self.all.named_in(pinned.home, text) if pinned.home else self.all.cited(text, imports, None, self.all.place(path))
+                    leant |= self.all.named_in(pinned.statements[-1], text) if pinned.statements else self.all.cited(text, imports, None, self.all.place(path))
         if not fields:
             self.faults.append(f"{pin}: laws::{pin.law} is no equation or equivalence of it with other words, for every argument")
         elif one in {self.all.at(it) for it in leant} | self.behind(leant)[0]:

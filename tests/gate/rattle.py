@@ -4,8 +4,13 @@ Comments are Rust's, and within the braces of a clause or a ghost antt's; blocks
 clauses, are blanks in `Source.plain`, which is as long as the text. An item under `#[cfg(test)]` or `#[test]` is one of tests."""
 
 import functools
+import hashlib
+import importlib.machinery
+import importlib.util
 import os
 import re
+from collections import namedtuple
+from pathlib import Path
 
 # words, strings and signs that matter outside of clauses; a clause's head may go on over comments up to its brace
 RUST = re.compile(r"//[^\n]*|/\*|[bc]?\"(?:\\.|[^\"\\])*\"|[bc]?r(#*)\".*?\"\1|b?'(?:\\[^\n']*.|[^\\'\n])'|\b(?:requires|ensures|ghost)\b|[\w*:=]+|\s+|.", re.S)
@@ -15,6 +20,28 @@ CLAUSE = re.compile(r"(requires|ensures|ghost)\s*\*?(?:\s*(\w+))?(?:\s*:(?:\s*\w
 # (the toolchain gives a block of a trait a name of its own, behind `as`)
 IMPL = re.compile(r"impl\s*(?P<own><.*?>)?\s+(?:(?P<trait>[^{]+?)\s+for\s+)?(?P<type>[^{]+?)(?:\s+as\s+\w+)?\s*(?:\bwhere\b[^{]*)?\Z", re.S)
 TYPES = ("struct", "enum", "union")
+
+
+def text_of(path):
+    """The text of a file, or none where there is no file."""
+    return Path(path).read_text(encoding="utf-8") if os.path.isfile(path) else ""
+
+
+def crates(top):
+    """The folders of a repository's crates."""
+    return sorted(it.parent for it in Path(top).glob("crates/*/src"))
+
+
+def sum_of(lines):
+    return hashlib.sha256("\n".join(lines).encode()).hexdigest()
+
+
+def script(path):
+    """A script without an ending, as a module."""
+    loader = importlib.machinery.SourceFileLoader(os.path.basename(path), str(path))
+    made = importlib.util.module_from_spec(importlib.util.spec_from_loader(loader.name, loader))
+    loader.exec_module(made)
+    return made
 
 
 def nested(text, at, opens, closes):
@@ -71,24 +98,22 @@ def plain_of(text):
     return "".join(parts)
 
 
-class Clause:
+class Clause(namedtuple("Clause", "kind text name owner is_public")):
     """A clause of a contract, or a ghost: what it is, its text, the name of its function, or its own, the type or trait that has that, if any,
     and whether it is public."""
-
-    def __init__(self, kind, text, name, owner, is_public):
-        self.kind, self.text, self.name, self.owner, self.is_public = kind, text, name, owner, is_public
 
     def __str__(self):
         return f"{self.owner}::{self.name}" if self.owner else self.name
 
 
 class Block:
-    """An impl block, a trait or a type: its name or that of its type, its trait, what is said of it in front of its brace, and where it stands."""
+    """An impl block, a trait or a type: its name or that of its type, its trait, and where it stands."""
 
     def __init__(self, kind, name, head, at, opens, closes, is_test):
-        self.kind, self.name, self.at, self.opens, self.closes, self.is_test = kind, name, at, opens, closes, is_test
         it = IMPL.match(head) if kind == "impl" else None
         self.own, self.trait, self.type = (it["own"] or "", it["trait"], it["type"]) if it else ("", None, name)
+        named = it and re.match(r"(?:\w+::)*(\w+)", self.type.lstrip("&' "))
+        self.kind, self.name, self.at, self.opens, self.closes, self.is_test = kind, named[1] if named else name, at, opens, closes, is_test
 
     @property
     def holder(self):
@@ -99,11 +124,11 @@ class Block:
 
 
 class Function:
-    """A function: its name, its visibility, the block that has it, its attributes, its text between its name and its body with its clauses, and
-    where its item, its name's end and its body stand; -1 where it has no body."""
+    """A function: its name, its visibility, the block that has it, its attributes, its text between its name and its clauses, those, and where its
+    body stands; -1 where it has none."""
 
-    def __init__(self, name, sees, owner, attributes, is_test, at, named):
-        self.name, self.sees, self.owner, self.attributes, self.is_test, self.at, self.named = name, sees, owner, attributes, is_test, at, named
+    def __init__(self, name, sees, owner, attributes, is_test):
+        self.name, self.sees, self.owner, self.attributes, self.is_test = name, sees, owner, attributes, is_test
         self.clauses, self.takes, self.opens, self.closes = [], "", -1, -1
 
     @property
@@ -112,6 +137,11 @@ class Function:
 
     def __str__(self):
         return f"{self.owner.name}::{self.name}" if self.owner else self.name
+
+
+@functools.cache
+def source_of(text):
+    return Source(text)
 
 
 class Source:
@@ -147,14 +177,11 @@ class Source:
             is_tests = is_test or any(re.fullmatch(r"cfg\s*\(\s*test\s*\)|test", it) for it in attributes)
             head = HEAD.match(self.plain, at)
             if not head or head.start() >= end:
-                at = max(at, begun + 1) if at < end else end
-                at += 1 if at < end else 0
-                continue
-            word = " ".join(head["word"].split())
-            if word == "fn":
-                at = self.function(head, owner, attributes, is_tests, begun)
+                at = max(at, begun) + 1
+            elif head["word"] == "fn":
+                at = self.function(head, owner, attributes, is_tests)
             else:
-                at = self.other(word, head, owner, is_tests, attributes)
+                at = self.other(" ".join(head["word"].split()), head, owner, is_tests, attributes)
 
     def stop(self, at, signs):
         """The next place of one of these signs that stands in no brackets that open behind a place."""
@@ -171,9 +198,7 @@ class Source:
         ends = self.end_of(opens) if is_block else opens
         said, whole = self.plain[begun:opens], self.plain[begun : ends + 1]
         if word in ("impl", "trait", *TYPES):
-            named = re.match(r"(?:\w+::)*(\w+)", IMPL.match(said)["type"].lstrip("&' ")) if word == "impl" and IMPL.match(said) else None
-            made = Block(word, named[1] if named else name, said, begun, opens, ends, is_test)
-            made.sees = sees
+            made = Block(word, name, said, begun, opens, ends, is_test)
             self.blocks.append(made)
             if word in ("impl", "trait") and is_block:
                 self.items(opens + 1, ends, made, is_test)
@@ -203,11 +228,10 @@ class Source:
             found += [] if is_test else [Clause("ghost", said, it[1], owner, True)]
         return found
 
-    def function(self, head, owner, attributes, is_test, begun):
+    def function(self, head, owner, attributes, is_test):
         """Reads a function; returns where it ends."""
-        made = Function(head["name"], " ".join((head["pub"] or "").split()), owner, attributes, is_test, begun, head.end())
-        made.head, at, signs = self.plain[head.start() : head.end()], head.end(), re.compile(r"\b(?:requires|ensures|ghost)\b|[({\[;]")
-        first = -1
+        made = Function(head["name"], " ".join((head["pub"] or "").split()), owner, attributes, is_test)
+        at, signs, first = head.end(), re.compile(r"\b(?:requires|ensures|ghost)\b|[({\[;]"), -1
         while it := signs.search(self.plain, at):
             if it[0] in "([":
                 at = self.end_of(it.start()) + 1
@@ -220,9 +244,8 @@ class Source:
                 if clause:
                     said = self.plain[clause.end() + 1 : at - 1]
                     made.clauses.append(Clause(clause[1], said, made.name, owner.name if owner else "", made.is_public))
-                    made.clauses[-1].label = clause[2] or ""
         ends = it.start() if it else len(self.plain)
-        made.takes, made.signature = self.plain[head.end() : first if first >= 0 else ends], self.plain[head.end() : ends]
+        made.takes = self.plain[head.end() : first if first >= 0 else ends]
         if it and it[0] == "{":
             made.opens, made.closes = ends + 1, self.end_of(ends)
             ends = made.closes
@@ -257,14 +280,8 @@ def hidden(source, is_root):
     yield from (f"the trait's default {it.name} is no function of a type" for it in source.functions if it.opens >= 0 and it.owner and it.owner.kind == "trait")
 
 
-@functools.cache
-def source_of(text):
-    return Source(text)
-
-
 def read(path):
-    with open(path, encoding="utf-8") as it:
-        return source_of(it.read())
+    return source_of(Path(path).read_text(encoding="utf-8"))
 
 
 @functools.cache

@@ -8,6 +8,7 @@ A law pins a definition if a clause of it is, for all arguments and without a pr
 definition at these arguments with words that do not lean on it. Where a definition gives a record, clauses of the law may pin it field by field."""
 
 import re
+from typing import NamedTuple
 
 TOKEN = re.compile(r"[(){}\[\],;⟦⟧]|[^\s(){}\[\],;⟦⟧]+")
 OPENS, CLOSES = {"(": ")", "{": "}", "[": "]", "⟦": "⟧"}, {")", "}", "]", "⟧"}
@@ -115,16 +116,12 @@ def constructors(one):
     return [tokens_of(it.replace(" ∶ ", " : ")) for it in found[2::2]]
 
 
-class Pinned:
+class Pinned(NamedTuple):
     """What a clause pins: the name of a field, or "" for the whole; the words in its place; and the definitions that state it, by their names, of
     which the last has the words in its file: in the law's own source where there is none."""
-
-    def __init__(self):
-        self.field, self.words, self.statements = None, [], []
-
-    @property
-    def home(self):
-        return self.statements[-1] if self.statements else None
+    field: str
+    words: list
+    statements: list
 
 
 class Statements:
@@ -137,9 +134,7 @@ class Statements:
 
     def states(self, text, imports, std):
         """Whether a clause of a source states anything."""
-        def named(word):
-            return self.found(imports, None, word)
-        return self.says(tokens_of(text), (named, std, frozenset()), frozenset(), ())
+        return self.says(tokens_of(text), (lambda word: self.found(imports, None, word), std, frozenset()), frozenset(), ())
 
     def found(self, imports, own, word):
         """The definition that a word stands for, if any."""
@@ -152,9 +147,12 @@ class Statements:
         return None
 
     def scope(self, file):
-        def named(word):
-            return self.found(self.all.imports[file], file, word)
-        return named, self.all.std[file], frozenset()
+        return lambda word: self.found(self.all.imports[file], file, word), self.all.std[file], frozenset()
+
+    @staticmethod
+    def types_in(one):
+        """The types of a record's fields, or the texts of a definition's equations."""
+        return [*parts_of_record(one)[1].values()] if one.is_record else [right for _, right in equations(one)]
 
     def says(self, tokens, scope, seen, known):
         """Whether a type can be empty as far as its text tells, where these are known to hold."""
@@ -203,7 +201,7 @@ class Statements:
         within, seen = self.scope(one.file), (*seen, one)
         if one.is_data:
             return not constructors(one)
-        some = [*parts_of_record(one)[1].values()] if one.is_record else [right for _, right in equations(one)]
+        some = self.types_in(one)
         return (one.is_record or len(some) == 1) and any(self.is_never(it, within, seen) for it in some)
 
     def applies(self, found, scope, seen, known):
@@ -229,8 +227,7 @@ class Statements:
         if one.is_data:
             names = bound([it for some in groups(tokens_of(" ".join(one.lines).partition(" where")[0])) if is_binder(some) for it in some])
             return all(self.asks(put(it, dict(zip(names, given))), scope, seen) for it in constructors(one))
-        some = [*equations(one)]
-        return any(self.says(put(right, named_by(left, given)), scope, seen, ()) for left, right in some)
+        return any(self.says(put(right, named_by(left, given)), scope, seen, ()) for left, right in equations(one))
 
     def asks(self, tokens, scope, seen):
         """Whether a constructor can only be of some values: it has a premise that states something, or is of special arguments."""
@@ -243,13 +240,12 @@ class Statements:
 
     def pinned_by(self, one, text, imports):
         """What a clause of a law pins of a definition, or none."""
-        made = Pinned()
-        tokens, named = tokens_of(text), lambda word: self.found(imports, None, word)
+        statements, tokens, named = [], tokens_of(text), lambda word: self.found(imports, None, word)
         while len(alone := groups(bare(tokens))) == 1 and len(alone[0]) == 1 and (said := named(alone[0][0])) and said != one:
             some = [*equations(said)]
-            if len(some) != 1 or some[0][0] or said.is_record or said.is_data or said in made.statements:
+            if len(some) != 1 or some[0][0] or said.is_record or said.is_data or said in statements:
                 return None
-            made.statements.append(said)
+            statements.append(said)
             tokens, named = some[0][1], self.scope(said.file)[0]
         names, premises, last = premises_of(tokens)
         # (a law may be of fewer arguments than a definition that has more in front of these)
@@ -257,12 +253,11 @@ class Statements:
         sign = next((it for it in ("↔", "≡") if len(split(last, it)) == 2), None) if is_whole else None
         sides = split(last, sign) if sign else []
         for subject, other in (sides, sides[::-1]) if sign else ():
-            made.field = self.is_at_all(one, bare(subject), named, names)
-            if made.field is None and sign == "↔":
-                made.field = self.is_equation_of(one, bare(subject), named, names)
-            if made.field is not None:
-                made.words = [" ".join(other), " ".join(word for part in split(bare(tokens), "→")[:-1] for word in part)]
-                return made
+            field = self.is_at_all(one, bare(subject), named, names)
+            if field is None and sign == "↔":
+                field = self.is_equation_of(one, bare(subject), named, names)
+            if field is not None:
+                return Pinned(field, [" ".join(other), " ".join(word for part in split(bare(tokens), "→")[:-1] for word in part)], statements)
         return None
 
     def is_domain(self, premise, named, names):

@@ -34,15 +34,14 @@ def blocks(text):
 
 def faults(top, order):
     """Where crates.txt, the sources and the documents do not agree on the libraries of the kit."""
-    found, crates = [], {it.parent.name for it in top.glob("crates/*/src")}
-    found += [f"crates.txt: it has no line for {it}" for it in sorted(crates - set(order))]
+    crates = {it.name for it in rattle.crates(top)}
+    found = [f"crates.txt: it has no line for {it}" for it in sorted(crates - set(order))]
     used = {crate: named(top, crate) for crate in sorted(crates & set(order))}
     for crate in used:
         found += [f"crates.txt: the sources of {crate} name {it}, and its line does not" for it in sorted(used[crate] - set(order[crate]))]
     libraries = {it for below in (*order.values(), *used.values()) for it in below} - crates
     found += [f"crates.txt: no source names {it}" for it in sorted(libraries - set().union(*used.values()))]
     for name in ("README.md", "docs/PROMISES.md") if libraries else ():
-        path = top / name
-        told = {it for block in blocks(path.read_text(encoding="utf-8")) for it in CODE.findall(block)} if path.is_file() else set()
+        told = {it for block in blocks(rattle.text_of(top / name)) for it in CODE.findall(block)}
         found += [f"{name}: {it} is of the kit, and not among what is trusted" for it in sorted(libraries - told)]
     return found

@@ -3,9 +3,12 @@ that this run has shown."""
 
 import csv
 import os
+import sys
+import threading
+import time
 from pathlib import Path
 
-RESULTS = Path(__file__).resolve().parents[2] / "bench/results"
+RESULTS = Path(__file__).resolve().parents[1] / "bench/results"
 
 # the minutes of processors that a run has to have worked off before its own pace is believed
 ENOUGH = 4
@@ -48,3 +51,33 @@ def said(of, pace, wanted, took, running, since):
     else:
         text += f"{since:.0f} minutes"
     return text + (f"; now {now}" if now else "")
+
+
+def tell(minutes, wanted):
+    """Says on standard error, each quarter of a minute and as long as the program runs, how far the proofs of the crates are."""
+    of, pace = measured()
+
+    def ever():
+        while True:
+            time.sleep(15)
+            now = time.monotonic()
+            took = {name: minutes.seconds[name]["proof"] / 60 for name in [*minutes.ended]}
+            running = {name: (now - began) / 60 for (name, *_), began in sorted([*minutes.running.items()], key=lambda it: it[1])}
+            print(f"nfs41d: {said(of, pace, wanted, took, running, (now - minutes.began) / 60)}", file=sys.stderr, flush=True)
+
+    threading.Thread(target=ever, daemon=True).start()
+
+
+class Ended(Exception):
+    """The proofs of a program ended, all of them proved or not."""
+
+
+def program_alone(rt, in_lanes, minutes):
+    """Returns what runs of a run's tasks the proofs of the programs, and of what they stand on, and then ends the run."""
+    def run(tasks):
+        crates = rt.rtlib.crates_below(os.getcwd())
+        wanted = {below.name for it in crates if it.is_program for below in [it, *it.below()]}
+        tell(minutes, wanted)
+        raise Ended(all(in_lanes({key: it for key, it in tasks.items() if key[1] == "proof" and key[0] in wanted}).values()))
+
+    return run
