@@ -1,11 +1,10 @@
 """What a must-fail edit changes, and whether a contract refuses it. `tests/run_ci` stands on it, and what an earlier run came to counts only
 while this file is the same."""
 
-import os
 import re
 
 import rattle
-from rattle import module_of, path_of
+from rattle import module_of, path_of, text_of
 
 # what the prover says where a proof names a step that the edit took away, which tells nothing of the contract
 GONE = re.compile(r"has no field|is not in scope|has no `|was not admitted")
@@ -17,15 +16,10 @@ UNPROVED = re.compile(r"did not prove (.*)")
 # goals that any body owes, whatever its contract: that sums fit, divisors are not 0, indices are within, loops and recursion end
 SAFETY = re.compile(r"overflow_|nonzero_|(?:offset_|slice_)?bounds\b|index\b|decreases")
 
-def text_of(path):
-    with open(path, encoding="utf-8") as it:
-        return it.read()
-
 
 def listed(edit):
     """Returns the functions that the edit turns, or none where it has no list."""
-    path = edit.removesuffix(".edit") + ".md"
-    return [line.strip() for line in text_of(path).splitlines() if line.strip()] if os.path.isfile(path) else []
+    return [line.strip() for line in text_of(edit.removesuffix(".edit") + ".md").splitlines() if line.strip()]
 
 
 class Said:
@@ -81,8 +75,7 @@ def bodies(file, folder):
 
 def body_at(file, folder, old):
     """Returns the path of the function whose body holds the old text, or None."""
-    text = text_of(f"{folder}/{file}") if os.path.isfile(f"{folder}/{file}") else ""
-    place = text.find(old)
+    place = text_of(f"{folder}/{file}").find(old)
     begins, ends = place + len(old) - len(old.lstrip()), place + len(old.rstrip())
     some = [it for it in bodies(file, folder) if place >= 0 and it.opens <= begins and ends <= it.closes]
     return path_of(some[0], file, folder) if some else None

@@ -1,17 +1,12 @@
-"""What a toolchain's script that keeps what passed for later runs on this machine (`rt.Kept`) has to keep of the rounds in which
+"""What the toolchain's script, which keeps what passed for later runs on this machine (`rt.Kept`), has to keep of the rounds in which
 tests/gate/rounds.py tries must-fail edits, and where."""
 
 import hashlib
 import os
-import threading
 
 import edits as of_edits
-from edits import listed, text_of
-
-
-def keeps(rt):
-    """Returns whether the toolchain's script keeps what passed for later runs on this machine."""
-    return hasattr(rt, "Kept")
+from edits import listed
+from rattle import text_of
 
 
 def rule():
@@ -61,28 +56,17 @@ class Tries:
                     kept.keep_tried(named[at], *found[at])
 
         rounds = self.rounds.planned(crate, edits) if edits else []
-        left = Countdown(len(rounds), lambda: self.rounds.forget(crate))
+        left = iter(range(len(rounds))[::-1])
         for number, (some, turns) in enumerate(rounds):
             def call(given, jobs, some=some):
                 if not in_ci or given[crate.name, "proof"]:
                     tried(some, jobs)
-                left.one_less()
+                # (the interpreter gives each number to one thread)
+                if not next(left):
+                    self.rounds.forget(crate)
 
             tasks[crate.name, "edits", number] = ([(crate.name, "proof")] if in_ci else [], LINES_OF_A_TURN * turns, self.rt.need(crate), call)
         return lambda given: [{**found, **earlier}[at] for at in range(len(edits))], lambda: earlier
 
     def all_of(self, crate, edits, jobs):
         return self.rounds.all_of(crate, edits, ["--jobs", str(jobs)]) if edits else []
-
-
-class Countdown:
-    """Does something once so many tasks have ended."""
-
-    def __init__(self, tasks, ended):
-        self.left, self.ended, self.alone = tasks, ended, threading.Lock()
-
-    def one_less(self):
-        with self.alone:
-            self.left -= 1
-            if not self.left:
-                self.ended()

@@ -7,7 +7,7 @@
   holds its statements; the rounds of its edits are made from that.
 - Tests are run under the toolchain's run-time checks (`rt try --test`), which takes minutes where their proofs take an hour. Plain `rt ci` proves
   them too: what that adds is that the tests' own code is safe and returns.
-- Where a kit's script keeps what passed for later runs on this machine, tests/kept.py has it keep what these rounds came to.
+- tests/gate/kept.py has the toolchain's script keep what these rounds came to, as it keeps what else passed, for later runs on this machine.
 
 The closing lines tell how many minutes of processors the proofs, the tests and the edits of each crate took."""
 
@@ -17,18 +17,18 @@ import os
 import re
 import shutil
 import subprocess
-import sys
 import tempfile
 import threading
 import time
 from collections import defaultdict
-from concurrent.futures import Future
+from concurrent.futures import Future, ThreadPoolExecutor
 
 import kept as for_later
 import pinned
 import progress
 from built import Build
-from edits import Said, changed, listed, text_of
+from edits import Said, changed, listed
+from rattle import text_of
 
 KINDS = {"proof": "proofs", "tests": "tests", "edits": "edits"}
 
@@ -45,12 +45,7 @@ class Rounds:
         # what the last check of this thread said; of each crate, whether a function that no edit of a check changes was seen to be proved in
         # it, what its rounds begin with, and who makes that
         self.last, self.unchanged, self.starts, self.alone_in = threading.local(), {}, {}, defaultdict(threading.Lock)
-        rt.checked, rt.must_fail_all = self.checked, self.all_of
-
-    def by_toolchain(self, crate, edit, flags, kept):
-        """Returns whether the toolchain's script takes an edit for refused, and what it says."""
-        came, text = self.must_fail(crate, edit, flags, kept)
-        return came is True or came == "refused", text
+        rt.checked = self.checked
 
     def checked(self, crate, texts, flags, kept, only=()):
         """Checks a copy of the crate with these texts in place of its own, over what kept holds where it is given, and returns how that
@@ -67,8 +62,7 @@ class Rounds:
             verb, to = ("check", []) if crate.is_program or only else ("build", ["-o", f"{room}/{crate.name}.rlib"])
             to += [word for function in sorted(only) for word in ("--only", function)]
             words = [rtlib.RATTLE, verb, *crate.words(flags, keeps=False), *(["--incremental", kept] if kept else []), *to]
-            how = {"cwd": room, "stdin": subprocess.DEVNULL, "stdout": subprocess.PIPE, "stderr": subprocess.STDOUT, "errors": "replace"}
-            ran = subprocess.run([*rtlib.guarded(), *words], **how)
+            ran = ran_in(room, [*rtlib.guarded(), *words])
         ran.stdout = re.sub(r"^rattle build: nothing was built, .*\n\Z", "", ran.stdout, flags=re.MULTILINE)
         self.last.output = ran.stdout
         return ran
@@ -77,7 +71,8 @@ class Rounds:
         """Tries one edit as `rt ci` does, and asks whether a contract refuses it."""
         label = f"must-fail {crate.name}/{os.path.basename(edit)}"
         functions, why = changed(self.rt, edit, crate.folder)
-        is_well, text = (False, f"{label}: BAD EDIT: {why}") if why else self.by_toolchain(crate, edit, flags, kept)
+        came, text = ("bad", f"{label}: BAD EDIT: {why}") if why else self.must_fail(crate, edit, flags, kept)
+        is_well = came == self.rt.REFUSED
         if is_well:
             is_well, text = self.judged(crate, edit, functions, functions, Said(self.last.output))
         print("tried", text[:200], flush=True)
@@ -143,12 +138,9 @@ class Rounds:
                 print("tried", text[:200], flush=True)
                 tried.append((True, text))
             else:
-                tried.append(self.alone_over(crate, edit, flags, kept))
+                with copied(kept) as copy:
+                    tried.append(self.alone(crate, edit, flags, copy))
         return tried
-
-    def alone_over(self, crate, edit, flags, kept):
-        with copied(kept) as copy:
-            return self.alone(crate, edit, flags, copy)
 
     def planned(self, crate, edits):
         """Returns the edits of a crate in rounds, by their numbers, with how many turns each has. Those that cannot be applied are with the
@@ -164,24 +156,24 @@ class Rounds:
         any edit shows it or, over what this run kept, the functions that an edit's check proves beside those that it refuses. What was not
         refused so is tried again from nothing, as is every edit where the crate is not proved so."""
         tried, able = {}, [it for it in edits if not changed(self.rt, it, crate.folder)[1]]
-        kept, is_shown_later, is_shown = self.start_of(crate, flags) if able else ("", False, False)
-        if is_shown_later or is_shown:
+        kept, is_shown = self.start_of(crate, flags) if able else ("", False)
+        if is_shown:
             for some, texts in self.rounds_of(crate, able):
                 tried.update(zip(some, self.round_of(crate, some, texts, flags, kept)))
-            if is_shown_later and not self.is_unchanged(crate, flags, kept):
+            if self.is_this_run and not self.is_unchanged(crate, flags, kept):
                 tried = {}
         return [tried[it] if it in tried and tried[it][0] else self.alone(crate, it, flags) for it in edits]
 
     def start_of(self, crate, flags):
-        """Returns the folder that a crate's rounds begin with, whether they show themselves that the crate is proved over that, and whether a
-        check without any edit showed it."""
+        """Returns the folder that a crate's rounds begin with, and whether the crate is proved over that: a check without any edit showed it, or
+        the rounds over what this run kept show it themselves."""
         with self.alone_in[crate.name]:
             if self.is_this_run and crate.name not in self.kept:
                 self.kept[crate.name] = self.unpacked(crate)
             if crate.name not in self.starts:
                 # (where nothing was kept, the check without any edit fills the folder)
                 kept = self.kept.get(crate.name) or tempfile.mkdtemp(prefix="rt-edits-")
-                self.starts[crate.name] = (kept, True, False) if self.is_this_run else (kept, False, self.is_proved(crate, flags, kept))
+                self.starts[crate.name] = kept, self.is_this_run or self.is_proved(crate, flags, kept)
             return self.starts[crate.name]
 
     def forget(self, crate):
@@ -198,6 +190,11 @@ class Rounds:
 
     def is_proved(self, crate, flags, kept):
         return not self.checked(crate, {}, flags, kept).returncode
+
+
+def ran_in(folder, words):
+    """A command that has ended, with all that it said."""
+    return subprocess.run(words, cwd=folder, stdin=subprocess.DEVNULL, stdout=subprocess.PIPE, stderr=subprocess.STDOUT, errors="replace")
 
 
 @contextlib.contextmanager
@@ -257,22 +254,19 @@ def unpacked(rt, crate, path):
 
 
 def in_order(rt, tasks, store):
-    """Returns the tasks of a run so that tests are run under run-time checks, and edits wait for the proof of their crate and not for its tests."""
+    """Returns the tasks of a run so that tests are run under run-time checks, and edits wait for the proof of their crate and not for its tests:
+    they are tried whether or not these pass, and where they do not, the run fails for that."""
     crates = {it.name: it for it in rt.rtlib.crates_below(os.getcwd())}
     ordered = {}
     for key, (waits, lines, needs, call) in tasks.items():
         name, kind = key[:2]
         if kind == "edits":
-            waits, call = [it for it in [(name, "proof")] if it in tasks], beside_tests(name, call)
+            waits = [it for it in [(name, "proof")] if it in tasks]
+            call = lambda given, jobs, name=name, call=call: call({**given, (name, "tests"): True}, jobs)
         if kind == "tests":
             waits, lines, needs, call = [], lines // 4, MEMORY_OF_TESTS, tests_of(rt, crates[name], store)
         ordered[key] = (waits, lines, needs, call)
     return ordered
-
-
-def beside_tests(name, call):
-    """Returns the call that tries a crate's edits, which are tried whether or not its tests pass: where they do not, the run fails for that."""
-    return lambda given, jobs: call({**given, (name, "tests"): True}, jobs)
 
 
 def tests_of(rt, crate, store):
@@ -285,8 +279,7 @@ def tests_of(rt, crate, store):
         if kept and kept.tried(name):
             rt.say(f"{crate.name}: its tests passed in an earlier run on this machine, and nothing that they read has changed")
             return True
-        how = {"cwd": crate.folder, "stdin": subprocess.DEVNULL, "stdout": subprocess.PIPE, "stderr": subprocess.STDOUT, "errors": "replace"}
-        ran = subprocess.run([f"{rt.KIT}/bin/rt", "try", "--test"], **how)
+        ran = ran_in(crate.folder, [f"{rt.KIT}/bin/rt", "try", "--test"])
         ended = re.search(r"^test result: ok\. ([1-9]\d*) passed; 0 failed", ran.stdout, re.MULTILINE)
         # (a test that the reader of the sources finds and the runner does not is none, and the other way round)
         is_well = ran.returncode == 0 and ended is not None and int(ended[1]) == pinned.tests_of(crate.folder)
@@ -308,17 +301,8 @@ def keep_own(rt, room, names):
     return kept
 
 
-class InPlace:
+class InPlace(ThreadPoolExecutor):
     """Runs what is submitted at once, in the thread that submits it, so that what a command takes counts for whoever waits for it."""
-
-    def __init__(self, _number):
-        pass
-
-    def __enter__(self):
-        return self
-
-    def __exit__(self, *_):
-        pass
 
     def submit(self, call, *given):
         ended = Future()
@@ -374,43 +358,13 @@ class Minutes:
         return ["minutes of processors: proofs, tests, edits", *("  ".join([f"{name:14}", *(f"{it:6.1f}" for it in took)]) for name, took in lines)]
 
 
-def tell(minutes, wanted):
-    """Says on standard error, each quarter of a minute and as long as the program runs, how far the proofs of the crates are."""
-    of, pace = progress.measured()
-
-    def ever():
-        while True:
-            time.sleep(15)
-            now = time.monotonic()
-            took = {name: minutes.seconds[name]["proof"] / 60 for name in [*minutes.ended]}
-            running = {name: (now - began) / 60 for (name, *_), began in sorted([*minutes.running.items()], key=lambda it: it[1])}
-            print(f"nfs41d: {progress.said(of, pace, wanted, took, running, (now - minutes.began) / 60)}", file=sys.stderr, flush=True)
-
-    threading.Thread(target=ever, daemon=True).start()
-
-
-class Ended(Exception):
-    """The proofs of a program ended, all of them proved or not."""
-
-
-def program_alone(rt, in_lanes, minutes):
-    """Returns what runs of a run's tasks the proofs of the programs, and of what they stand on, and then ends the run."""
-    def run(tasks):
-        crates = rt.rtlib.crates_below(os.getcwd())
-        wanted = {below.name for it in crates if it.is_program for below in [it, *it.below()]}
-        tell(minutes, wanted)
-        raise Ended(all(in_lanes({key: it for key, it in tasks.items() if key[1] == "proof" and key[0] in wanted}).values()))
-
-    return run
-
-
 def run(rt, words):
     """Runs the toolchain's command with these words, and returns its status. The word `program` in the place of `ci` has the program proved and
     built, and nothing beside it."""
     count_processors(rt)
     is_program = words[0] == "program"
     minutes, in_lanes, store = Minutes(), rt.in_lanes, {}
-    in_lanes = program_alone(rt, in_lanes, minutes) if is_program else in_lanes
+    in_lanes = progress.program_alone(rt, in_lanes, minutes) if is_program else in_lanes
     tasks_of = lambda tasks: in_order(rt, tasks, lambda: store.get("kept"))
     rt.in_lanes = lambda tasks: in_lanes({key: (*task[:3], minutes.timed(key, task[3])) for key, task in tasks_of(tasks).items()})
     build = Build(os.getcwd())
@@ -420,11 +374,10 @@ def run(rt, words):
         is_ci = words[0] != "must-fail"
         kept = keep_all(rt, room) if is_ci else keep_own(rt, room, words[1:])
         rounds = Rounds(rt, kept, is_ci, lambda crate: unpacked(rt, crate, f"{room}/{crate.name}"))
-        if for_later.keeps(rt):
-            for_later.Tries(rt, rounds, store)
+        for_later.Tries(rt, rounds, store)
         try:
             status = rt.main(["ci", *words[1:]] if is_program else words)
-        except Ended as ended:
+        except progress.Ended as ended:
             status = 0 if ended.args[0] else 1
     build.note(mark, sources)
     print("\n".join(minutes.table()))
