@@ -7,6 +7,7 @@ import re
 
 import rattle
 from rattle import crates, text_of
+from statements import split, tokens_of
 
 TESTS = ("nfs_testing", "nfs_tests")
 ASSERT = re.compile(r"\bassert\w*!\s*(?=[(\[{])")
@@ -36,8 +37,10 @@ def asserts_of(folder):
 
 def asks_nothing(word, asked):
     """Whether an assert compares a thing with itself, or asks for what is always so."""
-    sides = re.split(r" == |,", asked, maxsplit=1) if "_eq" in word else re.split(r" (?:==|>=|<=) ", asked)
-    return asked.strip() == "true" or len(sides) == 2 and "".join(sides[0].split()) == "".join(sides[1].split()).rstrip(",")
+    # (the runtime may stand in front of what is asked, and a message behind it)
+    first, *more = split(split(tokens_of(asked), ";")[-1], ",")
+    sides = [first, *more[:1]] if "_eq" in word else next((it for sign in ("==", ">=", "<=") if len(it := split(first, sign)) == 2), [])
+    return first == ["true"] or len(sides) == 2 and sides[0] == sides[1]
 
 
 def counts(top):

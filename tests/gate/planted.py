@@ -474,6 +474,7 @@ def counts():
         ("a test that asserts nothing", {**tests, "crates/tried/src/tests.rt": bare}, f"asserts of tried: 0, and {least} has 1"),
         ("a test that asserts more than is pinned", {**tests, "crates/tried/src/tests.rt": TEST * 2}, f"tests of tried: 2, and {least} has 1"),
         ("a test that compares a thing with itself", {**tests, "crates/tried/src/tests.rt": TEST.replace("== 2", "== halved(4)")}, "asks nothing"),
+        ("a test that compares a thing with itself at the runtime", {**tests, "crates/tried/src/tests.rt": TEST.replace("assert!(halved(4) == 2)", "assert_eq!(rt; halved(4), halved(4))")}, "asks nothing"),
         ("a range without a reason", {"test": "add tests/halves\n", least: "tests/halves\t3-4\n"}, "a range and its reason"),
         ("tests that are not pinned", {**tests, least: None}, f"tests of tried: 1, and {least} has none"),
         ("a check that is not pinned", {"test": "add tests/halves\n"}, "it says nothing of tests/halves"),
