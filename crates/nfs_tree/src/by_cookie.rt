@@ -24,7 +24,7 @@ pub(crate) struct ByCookie {
 }
 
 impl Model for ByCookie {
-    ghost use Rattle.std.specs.Prelude.{List};
+    ghost use Rattle.std.specs.Prelude.{List, ◌≤◌};
     ghost use Rattle.slab.specs.Slab.{get};
     ghost use Rattle.nfs_tree.specs.declared.row.Row.{Row};
     ghost use Rattle.nfs_tree.specs.Indexed.{stored, placed, AreShelved};
@@ -33,7 +33,7 @@ impl Model for ByCookie {
 
     ghost view = { λ t. stored placed (get t.slab) t.keys.entries };
 
-    ghost invariant = { λ t. AreShelved (get t.slab) t.keys.entries };
+    ghost invariant = { λ t. AreShelved (get t.slab) t.keys.entries × (t.seen ≤ t.slab.capacity) };
 }
 
 impl ByCookie {
@@ -119,7 +119,7 @@ impl ByCookie {
         } = row;
         self.slab.reserve(1)?;
         let key = short_key(self.slab.vacant_key())?;
-        self.seen.reach(key)?;
+        self.seen.reach(self.slab.capacity())?;
         self.keys.insert(cookie, key)?;
         self.slab.insert_reserved(Naming {
             directory,
@@ -141,7 +141,8 @@ impl ByCookie {
 
 /// Drops what stands at a key.
 fn drop_at(slab: &mut Slab<Naming>, key: usize)
-    ensures { Updates slab.old slab.new key None }
+    ensures updates { Updates slab.old slab.new key None }
+    ensures capacity { slab.new.capacity ≡ slab.old.capacity }
 {
     slab.try_remove(key);
 }

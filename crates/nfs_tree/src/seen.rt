@@ -1,6 +1,6 @@
 //! Where rows were last seen.
 
-ghost use Rattle.std.specs.Prelude.{◌≡◌, ◌≤◌, ◌+◌, nat_le, if◌then◌else◌, OnOk, OnErr};
+ghost use Rattle.std.specs.Prelude.{◌≡◌, ◌≤◌, ◌+◌, nat_lt, if◌then◌else◌, OnOk, OnErr};
 
 use std::alloc::{AllocError, Global};
 use std::cell::Cell;
@@ -50,12 +50,12 @@ impl Seen {
         }
     }
 
-    /// Has room for the next key, once it has room for those before.
-    pub(crate) fn reach(&mut self, key: u32) -> Result<(), AllocError>
-        ensures ok { OnOk result (self.new ≡ (if nat_le self.old key then self.old + 1 else self.old)) }
+    /// Has room for one key more, up to `most`: so many keys there are.
+    pub(crate) fn reach(&mut self, most: usize) -> Result<(), AllocError>
+        ensures ok { OnOk result (self.new ≡ (if nat_lt self.old most then self.old + 1 else self.old)) }
         ensures err { OnErr result (self.new ≡ self.old) }
     {
-        if self.above.len() <= key as usize {
+        if self.above.len() < most {
             self.above.push(Cell::new(u32::MAX))?;
         }
         Ok(())

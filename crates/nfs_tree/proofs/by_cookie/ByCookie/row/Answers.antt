@@ -8,11 +8,11 @@ use Rattle.nfs_tree.proofs.by_cookie.ByCookie.row.Goals as goal
 
 pub returns-in-None : goal.returns-in-None
 returns-in-None c =
-    let seen = find_same c.self.inside.slab c.self.inside.keys.entries c.args.cookie c.self.invariant in
+    let seen = find_same c.self.inside.slab c.self.inside.keys.entries c.args.cookie c.self.invariant.0 in
     rw (← c.self.view_is) (sym (seen ∙ ap (λ k. option_map (placed c.args.cookie) (option_and_then (get c.self.inside.slab) k)) (sym c.in-None.ensures.value)))
 
 pub returns-in-Some : goal.returns-in-Some
 returns-in-Some c =
-    let seen = find_same c.self.inside.slab c.self.inside.keys.entries c.args.cookie c.self.invariant in
+    let seen = find_same c.self.inside.slab c.self.inside.keys.entries c.args.cookie c.self.invariant.0 in
     rw (← c.self.view_is) (ap (option_map (placed c.args.cookie)) c.get-in-Some.ensures
     ∙ sym (seen ∙ ap (λ k. option_map (placed c.args.cookie) (option_and_then (get c.self.inside.slab) k)) (sym c.in-Some.ensures.value)))

@@ -28,7 +28,7 @@ made c =
     let is : AreObjects (get c.reserve.new.self) es = objects_same c.self.inside.slab c.reserve.new.self _ _ slots refl c.self.invariant in
     let seen : stored numbered (get c.reserve.new.self) es ≡ c.args.self.now = view_same c.self.inside.slab c.reserve.new.self es slots ∙ c.self.view_is in
     let up = subst (λ xs. IsRising (λ (s : Stored). s.number) root xs c.args.stored.number) (sym seen) c.requires in
-    let key : c.in_ok-key.key ≡ c.insert_reserved.result = c.in_ok-key.ensures ∙ c.vacant_key.ensures.value ∙ sym c.insert_reserved.ensures.key in
+    let key : c.in_ok-key.key ≡ c.insert_reserved.result = c.in_ok-key.ensures.same ∙ c.vacant_key.ensures.value ∙ sym c.insert_reserved.ensures.key in
     let entries : c.insert.new.self.entries ≡ insert_entry nat_cmp es c.args.stored.number c.insert_reserved.result =
     c.in_ok-insert.ensures.entries ∙ ap (insert_entry nat_cmp es c.args.stored.number) key in
     objects_new c.reserve.new.self c.insert_reserved.new.self es c.insert.new.self.entries c.args.stored.number c.insert_reserved.result (record { object = c.args.stored.object; bytes = c.args.stored.bytes }) is up
