@@ -67,6 +67,11 @@ pub mod NameRows
 pub mod NameSaid
 pub mod NameStays
 pub mod NameWorked
+pub mod Without
+pub mod NeverStale
+pub mod FileStays
+pub mod FileStaysWorked
+pub mod NamelessStays
 pub mod SessionsOnce
 pub mod SessionsWorked
 pub mod Staying

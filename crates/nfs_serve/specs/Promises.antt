@@ -46,6 +46,8 @@ pub mod ChangeNamesWorked
 pub mod ChangeSeenWorked
 pub mod NameStays
 pub mod NameWorked
+pub mod FileStays
+pub mod FileStaysWorked
 pub mod SessionsOnce
 pub mod OpenKept
 pub mod HeldOpen

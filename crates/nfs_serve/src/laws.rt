@@ -18,6 +18,8 @@ ghost use Rattle.nfs_serve.specs.Promises.ChangeWorked.{ToldByChange, ToldByAttr
 ghost use Rattle.nfs_serve.specs.Promises.Exchanges.{RunsTo, null_script, null_output, exchange_script, exchange_output};
 ghost use Rattle.nfs_serve.specs.Promises.FileRead.{ReadsAreWhole};
 ghost use Rattle.nfs_serve.specs.Promises.FileReadWorked.{IsReadWhole, ReadsAreRefused};
+ghost use Rattle.nfs_serve.specs.Promises.FileStays.{FilesStay, NamelessStays};
+ghost use Rattle.nfs_serve.specs.Promises.FileStaysWorked.{IsKeptOpen, LossesAreRefused};
 ghost use Rattle.nfs_serve.specs.Promises.FreshRuns.{FreshRuns, NextRuns, Passes};
 ghost use Rattle.nfs_serve.specs.Promises.Laws.{HasOneReading, CutsAnywhere, BringsOnce, ConnectionsAreStreams};
 ghost use Rattle.nfs_serve.specs.Promises.Forms.{EachFormRunsRecords};
@@ -511,6 +513,29 @@ pub fn a_name_leads()
 /// `gone_names_stay_gone` refuses a RENAME that leaves the old name, and a LOOKUP of it that is answered NFS4_OK.
 pub fn wrong_names_are_refused()
     ensures { NamesAreRefused }
+{}
+
+/// A file that is open stays when its names go: from an OPEN on that told an open, while no CLOSE of it is answered NFS4_OK and its client renews in time, no PUTFH of
+/// the file's filehandle is answered NFS4ERR_STALE, and no READ, WRITE, GETATTR or SETATTR of the file.
+pub fn open_files_stay()
+    ensures { FilesStay }
+{}
+
+/// An object that no name leads to is not named again: no CREATE, OPEN, LOOKUP, LINK or RENAME that is answered NFS4_OK says that a name leads to it.
+pub fn nameless_files_stay_nameless()
+    ensures { NamelessStays }
+{}
+
+/// The definitions compute: a client makes and writes a file, and removes it while it is open; its bytes are read by its filehandle, and its name is not found; behind
+/// the CLOSE the filehandle is stale. That run meets the premises of `open_files_stay` and `nameless_files_stay_nameless`.
+pub fn a_file_outlasts_its_name()
+    ensures { IsKeptOpen }
+{}
+
+/// The definitions compute: over that run `open_files_stay` refuses a stale filehandle, a READ that is answered NFS4ERR_STALE and a file that is dropped with its name;
+/// `reads_are_whole` refuses a READ that finds it empty; and `nameless_files_stay_nameless` refuses a name that is there again, and a LOOKUP that leads to the file.
+pub fn wrong_losses_are_refused()
+    ensures { LossesAreRefused }
 {}
 
 /// A CREATE_SESSION that is answered NFS4_OK makes one session of its client, of the id that is answered, which did not stand before; or it changes nothing.

@@ -70,7 +70,7 @@ use Rattle.nfs_serve.proofs.Promises.LaterRecords.{op_done, first_there, later_k
 
 -- What is there under a number was there, and has a greater change, or is the same, and then this holds.
 
-record Was (n : ℕ) (xs : List Stored) (now : Stored) (Same : Type 0) : Type 0 where
+pub record Was (n : ℕ) (xs : List Stored) (now : Stored) (Same : Type 0) : Type 0 where
   pub was : Stored
   pub there : stored_in xs n ≡ Some was
   pub either : (was.object.change < now.object.change) ⊎ ((now ≡ was) × Same)
@@ -159,11 +159,11 @@ at_bytes n m now sets bytes xs Same same k e =
 
 -- A tree behind another.
 
-record Follows (n : ℕ) (t u : Files) : Type 0 where
+pub record Follows (n : ℕ) (t u : Files) : Type 0 where
   pub given : n ≤ u.last_object
   pub came : (now : Stored) → stored_in u.objects n ≡ Some now → Was n t.objects now (SameRows n t.rows u.rows)
 
-follows_itself : (n : ℕ) (t : Files) → n ≤ t.last_object → Follows n t t
+pub follows_itself : (n : ℕ) (t : Files) → n ≤ t.last_object → Follows n t t
 follows_itself n t low = record { given = low; came = λ k e. record { was = k; there = e; either = inr (refl, rows_are n t.rows) } }
 
 follows_on : (n : ℕ) (t u v : Files) → Follows n t u → (n ≤ u.last_object → Follows n u v) → Follows n t v
@@ -290,7 +290,7 @@ file_item n t refused s x now i table is = (files_effected.kept_item (FollowsOn 
   follows = files_behind n t u x.client e (fits table) is.sound.tree is.follows;
 }) is).follows
 
-run_follows : (n : ℕ) (t : Files) (d : RanOp) → IsRun d → Follows n t d.before.store.tree → Follows n t d.behind.store.tree
+pub run_follows : (n : ℕ) (t : Files) (d : RanOp) → IsRun d → Follows n t d.before.store.tree → Follows n t d.behind.store.tree
 run_follows n t d r is =
     let here : FollowsOn n t d.before.store = record { sound = record { tree = r.whole.tree; store = r.whole.store }; follows = is } in
     by_run (λ status text s. Follows n t s.tree) d r is (names_item n t r.refused d.before.store d.context (moment r.now) d.item here)
@@ -301,7 +301,7 @@ run_follows n t d r is =
 follows_kept : (n : ℕ) (t : Files) → IsKept (λ s. Follows n t s.tree)
 follows_kept n t = record { run = λ d r is. run_follows n t d r is; end = λ stays s is. staying_follows n t stays s is }
 
-low_there : (n : ℕ) (m : Machine) → Is m → is_there m.store.tree n ≡ true → n ≤ m.store.tree.last_object
+pub low_there : (n : ℕ) (m : Machine) → Is m → is_there m.store.tree n ≡ true → n ≤ m.store.tree.last_object
 low_there n m is there =
     let within = stored_within root (m.store.tree.last_object + 1) m.store.tree.objects n is.tree.objects there in
     let below = within.1 in omega arith

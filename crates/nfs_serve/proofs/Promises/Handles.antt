@@ -26,16 +26,16 @@ use Rattle.nfs_serve.proofs.Promises.Points.{left, for_asked, next_is, IsSound, 
 
 -- The instance does not change.
 
-abbrev Has : ℕ → Machine → Type 0
+abbrev pub Has : ℕ → Machine → Type 0
 Has instance m = m.store.instance ≡ instance
 
-has_next : (s : State) (c : Arrival) (instance : ℕ) → IsSound s → Has instance s.machine → Has instance (state_after s c).machine
+pub has_next : (s : State) (c : Arrival) (instance : ℕ) → IsSound s → Has instance s.machine → Has instance (state_after s c).machine
 has_next s c instance sound is =
     subst (λ (s : State). Has instance s.machine) (sym (next_is s c))
     (for_asked (λ o. Has instance (left (before s c) o)) s c is (λ r who.
     (throughout (λ s. s.instance ≡ instance) (instance_kept instance) (before s c) (Asks r who (length c.bytes) (taken s c) c.choice) (whole_before s c sound.whole) is).behind))
 
-has_all : (s : State) (records : List Arrival) (instance : ℕ) → IsSound s → Has instance s.machine → Has instance (state_after_all s records).machine
+pub has_all : (s : State) (records : List Arrival) (instance : ℕ) → IsSound s → Has instance s.machine → Has instance (state_after_all s records).machine
 has_all s [] instance sound is = is
 has_all s (c ∷ more) instance sound is = has_all (state_after s c) more instance (sound_next s c sound) (has_next s c instance sound is)
 
@@ -56,7 +56,7 @@ whole_at mode instance lease records c =
     let sound : IsSound (reached mode instance lease records) = sound_all (new_state mode instance lease) records (sound_new mode instance lease) in
     whole_before (reached mode instance lease records) c sound.whole
 
-given_at : (mode instance lease : ℕ) (records : List Arrival) (c : Arrival) (get : RanOp) (n : ℕ) (h : List ℕ)
+pub given_at : (mode instance lease : ℕ) (records : List Arrival) (c : Arrival) (get : RanOp) (n : ℕ) (h : List ℕ)
     → In get (ops_of (reached mode instance lease records) c) → Gives n h get → (h ≡ handle_in instance n) × (n < 2 ^ 64)
 given_at mode instance lease records c get n h there gives =
     let s = reached mode instance lease records in

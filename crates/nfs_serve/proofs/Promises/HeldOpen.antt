@@ -55,7 +55,7 @@ abbrev bits_of_all : ℕ → Bits → State → List Arrival → Bits
 bits_of_all n b s [] = b
 bits_of_all n b s (c ∷ more) = bits_of_all n (bits_left n b (ops_of s c)) (state_after s c) more
 
-leave_open : (k : OpenTold) (b : Bits) (lease last : ℕ) (s : State) (cs : List Arrival) (Then : Bits → ℕ → State → Type 0)
+pub leave_open : (k : OpenTold) (b : Bits) (lease last : ℕ) (s : State) (cs : List Arrival) (Then : Bits → ℕ → State → Type 0)
     → in_time k.client lease last s cs ≡ true → Then (bits_of_all k.number b s cs) (last_of_all k.client last s cs) (state_after_all s cs)
     → LeaveOpen k b lease last s cs Then
 leave_open k b lease last s [] Then e holds = holds
@@ -69,7 +69,7 @@ leave_open k b lease last s (c ∷ more) Then e holds =
       leave_open k (bits_left k.number b (ops_of s c)) lease (if renews_by k.client s c then taken s c else last) (state_after s c) more Then r.1 holds,
     )
 
-two : (x : RanOp) (ds : List RanOp) → length ds ≡ 2 → ds ≡ take 1 ds ++ last_of x ds ∷ []
+pub two : (x : RanOp) (ds : List RanOp) → length ds ≡ 2 → ds ≡ take 1 ds ++ last_of x ds ∷ []
 two x [] e = absurd (omega arith)
 two x (a ∷ []) e = absurd (omega arith)
 two x (a ∷ b ∷ []) e = refl

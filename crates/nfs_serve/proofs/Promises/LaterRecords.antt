@@ -37,17 +37,17 @@ run_done s (c ∷ more) sound d (inl here) = op_done s c sound d here
 run_done s (c ∷ more) sound d (inr later) = run_done (state_after s c) more (sound_next s c sound) d later
 
 module _ (P : of_store.State → Type 0) (held : IsKept P) where
-  before_keeps : (s : State) (c : Arrival) → P s.machine.store → P (before s c).store
+  pub before_keeps : (s : State) (c : Arrival) → P s.machine.store → P (before s c).store
   before_keeps s c is = held.end (λ client. not (has_run_out s.machine.leases (taken s c) client)) s.machine.store is
 
-  next_keeps : (s : State) (c : Arrival) → IsSound s → P s.machine.store → P (state_after s c).machine.store
+  pub next_keeps : (s : State) (c : Arrival) → IsSound s → P s.machine.store → P (state_after s c).machine.store
   next_keeps s c sound is =
       let here = before_keeps s c is in
       subst (λ (s : State). P s.machine.store) (sym (next_is s c))
       (for_asked (λ o. P (left (before s c) o).store) s c here (λ r who.
       (throughout P held (before s c) (Asks r who (length c.bytes) (taken s c) c.choice) (whole_before s c sound.whole) here).behind))
 
-  asked_keeps : (m : Machine) (o : Option MachineEvent) → Is m → P m.store → (d : RanOp) → In d (option_map_or (ops_by m) o []) → P d.before.store
+  pub asked_keeps : (m : Machine) (o : Option MachineEvent) → Is m → P m.store → (d : RanOp) → In d (option_map_or (ops_by m) o []) → P d.before.store
   asked_keeps m None whole is d there = absurd there
   asked_keeps m (Some e) whole is d there = (throughout P held m e whole is).within d there
 
@@ -57,7 +57,7 @@ module _ (P : of_store.State → Type 0) (held : IsKept P) where
   runs_keep s (c ∷ more) sound is d (inl here) = asked_keeps (before s c) (asked_by s c) (whole_before s c sound.whole) (before_keeps s c is) d here
   runs_keep s (c ∷ more) sound is d (inr later) = runs_keep (state_after s c) more (sound_next s c sound) (next_keeps s c sound is) d later
 
-  asked_back : (m : Machine) (o : Option MachineEvent) (front : List RanOp) (d : RanOp) (back : List RanOp) → Is m → option_map_or (ops_by m) o [] ≡ front ++ d ∷ back
+  pub asked_back : (m : Machine) (o : Option MachineEvent) (front : List RanOp) (d : RanOp) (back : List RanOp) → Is m → option_map_or (ops_by m) o [] ≡ front ++ d ∷ back
       → P d.behind.store → Throughout P back (left m o)
   asked_back m None front d back is same here = absurd (none_at front d back same)
   asked_back m (Some e) front d back is same here = throughout_behind P held m e front d back is same here

@@ -57,7 +57,7 @@ pub record RunsTo (d : RanOp) (next : Option Context) : Type 0 where
   pub run : IsRun d
   pub hands : (y : Context) → next ≡ Some y → y ≡ (ran_as d run d.item).context
 
-abbrev AreLinked : List RanOp → Type 0
+abbrev pub AreLinked : List RanOp → Type 0
 AreLinked [] = Unit {0}
 AreLinked (d ∷ more) = RunsTo d (next_of more) × AreLinked more
 
@@ -89,10 +89,10 @@ ops_linked limit sofar now choice m x (i ∷ more) is =
 
 -- An event runs such operations, and leaves the rows that they leave.
 
-abbrev rows : Machine → List Row
+abbrev pub rows : Machine → List Row
 rows m = m.store.tree.rows
 
-record Runs (m behind : Machine) (ds : List RanOp) : Type 0 where
+pub record Runs (m behind : Machine) (ds : List RanOp) : Type 0 where
   pub start : Machine
   pub first : rows start ≡ rows m
   pub chained : AreChained start ds
@@ -137,12 +137,12 @@ event_runs m (Asks r who size now choice) is = go (eqb r.minor 1)
     go true = first_ran m r who size now choice r.left is
     go false = runs_none m m refl
 
-asked_runs : (m : Machine) (o : Option MachineEvent) → Is m → Runs m (left m o) (option_map_or (ops_by m) o [])
+pub asked_runs : (m : Machine) (o : Option MachineEvent) → Is m → Runs m (left m o) (option_map_or (ops_by m) o [])
 asked_runs m None is = runs_none m m refl
 asked_runs m (Some e) is = event_runs m e is
 
 -- and from one of them on
-linked_at : (front : List RanOp) (d : RanOp) (back : List RanOp) → AreLinked (front ++ d ∷ back) → RunsTo d (next_of back) × AreLinked back
+pub linked_at : (front : List RanOp) (d : RanOp) (back : List RanOp) → AreLinked (front ++ d ∷ back) → RunsTo d (next_of back) × AreLinked back
 linked_at [] d back linked = linked
 linked_at (f ∷ front) d back linked = linked_at front d back linked.1
 
@@ -196,11 +196,11 @@ module _ (Stands : List Row → Type 0) (Before : RanOp → Option Context → T
       )
 
 -- the operation itself was run
-runs_at : (s : State) (c : Arrival) (front : List RanOp) (d : RanOp) (back : List RanOp) → IsSound s → ops_of s c ≡ front ++ d ∷ back → RunsTo d (next_of back)
+pub runs_at : (s : State) (c : Arrival) (front : List RanOp) (d : RanOp) (back : List RanOp) → IsSound s → ops_of s c ≡ front ++ d ∷ back → RunsTo d (next_of back)
 runs_at s c front d back sound same =
     (linked_at front d back (subst AreLinked same (asked_runs (before s c) (asked_by s c) (whole_before s c sound.whole)).linked)).0
 
-sound_at : (mode instance lease : ℕ) (earlier : List Arrival) → IsSound (reached mode instance lease earlier)
+pub sound_at : (mode instance lease : ℕ) (earlier : List Arrival) → IsSound (reached mode instance lease earlier)
 sound_at mode instance lease earlier = sound_all (new_state mode instance lease) earlier (sound_new mode instance lease)
 
 -- and so was each that a record's compound ran
@@ -274,7 +274,7 @@ row_is k r directory name object =
     ∙ (ap (λ n. record { directory = k.directory; name = n; object = r.object; cookie = r.cookie }) name
     ∙ ap (λ o. record { directory = k.directory; name = k.name; object = o; cookie = r.cookie }) object)
 
-stands_by : (k : Name) (t : Files) → lookup t k.directory k.name ≡ Some k.object → (cookie : ℕ) × Stands k cookie t.rows
+pub stands_by : (k : Name) (t : Files) → lookup t k.directory k.name ≡ Some k.object → (cookie : ℕ) × Stands k cookie t.rows
 stands_by k t e = go (entry t.rows k.directory k.name) refl e
   where
     go : (o : Option Row) → entry t.rows k.directory k.name ≡ o → option_map (λ (r : Row). r.object) o ≡ Some k.object → (cookie : ℕ) × Stands k cookie t.rows
@@ -289,7 +289,7 @@ handed : (d : RanOp) (next : Option Context) (i : Item) (object : ℕ) (to : Run
 handed d next i object to item leaves =
     ap (λ (y : Context). y.current) (sym (to.hands leaves.0 leaves.1 ∙ ap (λ i. (ran_as d to.run i).context) item)) ∙ leaves.2
 
-says_leads : (k : Name) (d : RanOp) (next : Option Context) → RunsTo d next → Says k d next → lookup d.behind.store.tree k.directory k.name ≡ Some k.object
+pub says_leads : (k : Name) (d : RanOp) (next : Option Context) → RunsTo d next → Says k d next → lookup d.behind.store.tree k.directory k.name ≡ Some k.object
 says_leads k d next to (Creates a item name at is leaves) =
     let r = to.run in
     let i = Operation (Op.Create a) in
