@@ -6,12 +6,12 @@ use Rattle.std.proofs.lemmas.Bool.Decides.{nat_tests}
 use Rattle.std.proofs.lemmas.Slice.Eq.{bytes_eq-Decides}
 use Rattle.nfs_xdr.specs.Text.{IsBytes}
 use Rattle.nfs_xdr.specs.Tables.{IsRising, In, record_at, without_record}
-use Rattle.nfs_xdr.proofs.Lists.{in_filter, in_push, find_in, none_in, find_none, find_kept, find_past, find_out, find_push, find_push_some, find_push_other, filter_in, filter_all, some_or_none}
+use Rattle.nfs_xdr.proofs.Lists.{any_in, in_filter, in_push, find_in, none_in, find_none, find_kept, find_past, find_out, find_push, find_push_some, find_push_other, filter_in, filter_all, some_or_none}
 use Rattle.nfs_xdr.proofs.Tables.{IsRising-push, IsRising-filter, in_bounds, in_once, at_of_in}
 use Rattle.nfs_tree.specs.declared.row.Found.{Found}
 use Rattle.nfs_tree.specs.declared.row.Row.{Row}
 use Rattle.nfs_tree.specs.Finding.{found_of, found_at}
-use Rattle.nfs_tree.specs.Files.{most_name, is_entry, entry, without_entry, listed, listing}
+use Rattle.nfs_tree.specs.Files.{most_name, is_entry, entry, has_row, without_entry, listed, listing}
 use Rattle.nfs_tree.specs.ByName.{NamesAnew}
 use Rattle.nfs_tree.specs.Maps.{AreNamed, ArePairs}
 use Rattle.nfs_tree.proofs.PairLemmas.{row_pair}
@@ -306,6 +306,12 @@ found_object (Some x) = refl
 pub found_there : (o : Option Row) → is_some (option_map found_of o) ≡ is_some o
 found_there None = refl
 found_there (Some x) = refl
+
+-- what is found has a name
+pub found_named : (rows : List Row) (d : ℕ) (name : List ℕ) (f : Found) → Some f ≡ found_at rows d name → has_row rows f.object ≡ true
+found_named rows d name f found =
+    let x = some_found (entry rows d name) f found in
+    any_in (λ (r : Row). r.object == f.object) rows x.0 (find_in (is_entry d name) rows x.0 x.1).0 (eq-eqb x.0.object f.object x.2)
 
 -- the entry of one name stays where that of another goes, and a row of that other comes
 pub entry_stays : (rows : List Row) (d : ℕ) (name : List ℕ) (to x : Row) → is_entry d name to ≡ false

@@ -1,8 +1,7 @@
 -- The tree that a RENAME leaves keeps what every tree keeps.
-use Rattle.std.proofs.Common.{◌≡◌, ◌≢◌, ℕ, ◌+◌, ◌<◌, Bool, true, false, cond, not, List, [], ◌∷◌, ◌++◌, length}
+use Rattle.std.proofs.Common.{◌≡◌, ◌≢◌, ℕ, ◌+◌, ◌<◌, Bool, true, false, cond, not, [], ◌∷◌, ◌++◌, length}
 use Rattle.std.proofs.Common.{None, refl, sym, ◌∙◌, ap, subst, arith, inl, inr}
 use Rattle.std.specs.Prelude.{◌==◌, ◌&&◌, ◌||◌, option_map, unwrap_or}
-use Rattle.std.specs.List.{list_any}
 use Rattle.std.proofs.lemmas.Bool.{cases_Bool, and_parts, eq-eqb, ne_eqb, ltb-true, not-false, false≢true}
 use Rattle.nfs_xdr.specs.Tables.{In}
 use Rattle.nfs_xdr.proofs.Lists.{in_filter, stays_in, find_in, find_none, filter_swap}
@@ -20,7 +19,7 @@ use Rattle.nfs_tree.specs.TreeInvariants.{Grounded, AreRows, IsTree}
 use Rattle.nfs_tree.proofs.RowsKept.{entry_parts, reached, grounded_without, no_entries}
 use Rattle.nfs_tree.proofs.Objects.{stored_within, can_change_all, can_change_none}
 use Rattle.nfs_tree.proofs.Trees.{tree_changed, tree_dropped, entry_names, row_of, has_one, apart}
-use Rattle.nfs_tree.proofs.Put.{directory_there, vacant_of}
+use Rattle.nfs_tree.proofs.Put.{any_none, directory_there, vacant_of}
 use Rattle.nfs_tree.proofs.Move.{unique_of, same_entry, depth_bound, clear, rows_moved}
 
 pub record MoveGranted (t : Files) (m : Move) : Type 0 where
@@ -75,10 +74,6 @@ move_granted t m e go =
 -- where no object has the new name its number is 0
 none_replaced : (t : Files) (m : Move) → has_name t m.target m.name ≡ false → replaced_object t m ≡ 0
 none_replaced t m e = ap (λ o. unwrap_or (option_map (λ (r : Row). r.object) o) 0) (vacant_of (entry t.rows m.target m.name) e)
-
-any_none : (p : Row → Bool) (rows : List Row) → ((r : Row) → In r rows → p r ≡ false) → list_any p rows ≡ false
-any_none p [] gone = refl
-any_none p (r ∷ rows) gone = rw (gone r (inl refl)) (any_none p rows (λ r there. gone r (inr there)))
 
 -- no object has the number 0
 pub above_zero : (t : Files) (n : ℕ) → IsTree t → is_directory_at t n ≡ true → n ≢ 0

@@ -1,7 +1,8 @@
 -- A tree with one row more, or one object more, keeps what every tree keeps.
-use Rattle.std.proofs.Common.{◌≡◌, ◌≢◌, ℕ, ◌+◌, ◌<◌, ◌≤◌, true, false, not, List, [], ◌∷◌, ◌++◌, length, Option}
+use Rattle.std.proofs.Common.{◌≡◌, ◌≢◌, ℕ, ◌+◌, ◌<◌, ◌≤◌, Bool, true, false, not, List, [], ◌∷◌, ◌++◌, length, Option}
 use Rattle.std.proofs.Common.{Some, None, refl, sym, ◌∙◌, ap, subst, arith, inl, inr, length-append}
-use Rattle.std.specs.Prelude.{nat_lt, nat_le, ◌&&◌, is_some, replicate}
+use Rattle.std.specs.Prelude.{nat_lt, nat_le, ◌==◌, ◌&&◌, is_some, replicate}
+use Rattle.std.specs.List.{list_any}
 use Rattle.std.specs.Option.{option_map_or}
 use Rattle.std.proofs.lemmas.Bool.{and_parts, ne_eqb, ltb-true, ltb-false, leb-true, leb-false, not-false, false≢true}
 use Rattle.nfs_xdr.proofs.Checks.{all_passed}
@@ -15,7 +16,7 @@ use Rattle.nfs_tree.specs.declared.sets.Sets.{Sets}
 use Rattle.nfs_tree.specs.declared.stored.Stored.{Stored}
 use Rattle.nfs_tree.specs.Object.{is_directory, no_sets, modified}
 use Rattle.nfs_tree.specs.Files.{Files, root, last_count, most_objects, most_links, most_bytes, most_text, is_name, stored_in, is_there, is_directory_in}
-use Rattle.nfs_tree.specs.Files.{is_directory_at, can_change, entry, links_in, change_at, with_entries_changed}
+use Rattle.nfs_tree.specs.Files.{is_directory_at, can_change, entry, has_row, links_in, change_at, with_entries_changed}
 use Rattle.nfs_tree.specs.Files.{with_links_changed}
 use Rattle.nfs_tree.specs.Calls.{IsReached, create_fault, link_fault}
 use Rattle.nfs_tree.specs.Create.{New, File, Directory, Link, size_of, data_of, kind_of, new_object, is_bad_text, is_too_big, create_checks}
@@ -78,6 +79,7 @@ pub record LinkGranted (t : Files) (n d : ℕ) (name : List ℕ) : Type 0 where
   pub other : is_directory_at t n ≡ false
   pub short : is_name name ≡ true
   pub vacant : entry t.rows d name ≡ None
+  pub named : has_row t.rows n ≡ true
   pub few : links_in t.rows n < most_links
   pub change : can_change t d ≡ true
   pub change_object : can_change t n ≡ true
@@ -97,6 +99,7 @@ link_granted t n d name e =
       other = checks.1.1.0;
       short = not-false _ checks.1.1.1.0;
       vacant = vacant_of _ checks.1.1.1.1.0;
+      named = not-false _ checks.1.1.1.1.1.0;
       few = more_than most_links (links_in t.rows n) checks.1.1.1.1.1.1.0;
       change = change.0;
       change_object = rest.0;
@@ -126,6 +129,15 @@ tree_linked t n d name now is granted condition =
       short = can.short;
       few = can.few;
     })
+
+pub any_none : (p : Row → Bool) (rows : List Row) → ((r : Row) → In r rows → p r ≡ false) → list_any p rows ≡ false
+any_none p [] gone = refl
+any_none p (r ∷ rows) gone = rw (gone r (inl refl)) (any_none p rows (λ r there. gone r (inr there)))
+
+-- no row names the object that comes next
+pub new_unnamed : (t : Files) → IsTree t → has_row t.rows (t.last_object + 1) ≡ false
+new_unnamed t is = any_none (λ r. r.object == t.last_object + 1) t.rows (λ r there.
+    let within = stored_within root (t.last_object + 1) t.objects r.object is.objects (is.rows.names r there) in ne_eqb r.object (t.last_object + 1) (λ same. omega arith))
 
 -- CREATE
 pub record CreateGranted (t : Files) (d : ℕ) (name : List ℕ) (new : New) : Type 0 where

@@ -14,7 +14,7 @@ use crate::by_name::ByName;
 use crate::counts::Counts;
 use crate::list::Listing;
 use crate::name::Name;
-use crate::row::{Found, Naming, Row};
+use crate::row::{Coming, Found, Naming, Row};
 use crate::tree::Tree;
 use std::alloc::{AllocError, Global};
 use std::collections::BTreeMap;
@@ -169,42 +169,39 @@ impl Rows {
     pub(crate) fn put(
         &mut self,
         alloc: Global,
-        directory: u64,
-        name: &[u8],
-        object: u64,
-        cookie: u64,
+        to: &Coming,
         replaced: Option<Found>,
     ) -> Result<(), AllocError>
-        requires short { length name.now ≤ most_name }
-        requires last { IsRising (λ r. r.cookie) 3 self.old cookie }
-        requires replaced { replaced ≡ found_at self.old directory name.now }
-        ensures ok { OnOk result (self.new ≡ with_row (without_entry directory name.now self.old) directory name.now object cookie) }
+        requires short { length to.now.name.now ≤ most_name }
+        requires last { IsRising (λ r. r.cookie) 3 self.old to.now.cookie }
+        requires named { to.now.named ≡ has_row self.old to.now.object }
+        requires replaced { replaced ≡ found_at self.old to.now.directory to.now.name.now }
+        ensures ok { OnOk result (self.new ≡ with_row (without_entry to.now.directory to.now.name.now self.old) to.now.directory to.now.name.now to.now.object to.now.cookie) }
         ensures err { OnErr result (self.new ≡ self.old) }
     {
-        let kept = Name::of(alloc, name)?;
+        let kept = Name::of(alloc, to.name)?;
         let row = Row {
-            directory,
+            directory: to.directory,
             name: kept,
-            object,
-            cookie,
+            object: to.object,
+            cookie: to.cookie,
         };
-        let named = self.has_row(object);
-        self.counts.add(object, named)?;
+        self.counts.add(to.object, to.named)?;
         let added = add(
             &mut self.rows,
             &mut self.names,
             &mut self.listed,
             &mut self.owned,
             alloc,
-            name,
+            to.name,
             row,
         );
         if let Err(fault) = added {
-            self.counts.take(object);
+            self.counts.take(to.object);
             return Err(fault);
         }
         if let Some(loser) = replaced {
-            take(&mut self.rows, &mut self.listed, directory, loser.cookie);
+            take(&mut self.rows, &mut self.listed, to.directory, loser.cookie);
             take_pair(&mut self.owned, loser.object, loser.cookie);
             self.counts.take(loser.object);
         }
@@ -212,21 +209,15 @@ impl Rows {
     }
 
     /// Puts an entry of a new name behind all rows.
-    pub(crate) fn put_new(
-        &mut self,
-        alloc: Global,
-        directory: u64,
-        name: &[u8],
-        object: u64,
-        cookie: u64,
-    ) -> Result<(), AllocError>
-        requires vacant { entry self.old directory name.now ≡ None }
-        requires short { length name.now ≤ most_name }
-        requires last { IsRising (λ r. r.cookie) 3 self.old cookie }
-        ensures ok { OnOk result (self.new ≡ with_row self.old directory name.now object cookie) }
+    pub(crate) fn put_new(&mut self, alloc: Global, to: &Coming) -> Result<(), AllocError>
+        requires vacant { entry self.old to.now.directory to.now.name.now ≡ None }
+        requires short { length to.now.name.now ≤ most_name }
+        requires last { IsRising (λ r. r.cookie) 3 self.old to.now.cookie }
+        requires named { to.now.named ≡ has_row self.old to.now.object }
+        ensures ok { OnOk result (self.new ≡ with_row self.old to.now.directory to.now.name.now to.now.object to.now.cookie) }
         ensures err { OnErr result (self.new ≡ self.old) }
     {
-        self.put(alloc, directory, name, object, cookie, None)
+        self.put(alloc, to, None)
     }
 
     /// Drops the entry that was found under the name.

@@ -2,8 +2,11 @@ use Rattle.std.proofs.Common.{sym, ◌∙◌, ap}
 use Rattle.nfs_tree.specs.declared.row.Row.{Row}
 use Rattle.nfs_tree.specs.Files.{without_entry}
 use Rattle.nfs_tree.specs.Finding.{found_at}
-use Rattle.nfs_tree.proofs.MapLemmas.{gone_push, found_stays}
+use Rattle.nfs_tree.proofs.MapLemmas.{gone_push, found_named, found_stays}
 use Rattle.nfs_tree.proofs.rename.replace_row.Goals as goal
+
+pub put-requires-clause-named : goal.put-requires-clause-named
+put-requires-clause-named c = sym (found_named c.args.rows.now c.args.m.now.source c.args.m.now.old.now c.args.ends.now.moved c.requires.moved)
 
 pub drop_entry-requires : goal.drop_entry-requires
 drop_entry-requires c =

@@ -11,5 +11,5 @@ put-requires-clause-replaced c = sym (ap (option_map found_of) c.requires.vacant
 
 pub returns-clause-ok : goal.returns-clause-ok
 returns-clause-ok c = on_ok_weaker c.put.result
-    (λ e. e ∙ ap (λ rows. with_row rows c.args.directory c.args.name.now c.args.object c.args.cookie) (none_gone c.args.self.now c.args.directory c.args.name.now c.requires.vacant))
+    (λ e. e ∙ ap (λ rows. with_row rows c.args.to.now.directory c.args.to.now.name.now c.args.to.now.object c.args.to.now.cookie) (none_gone c.args.self.now c.args.to.now.directory c.args.to.now.name.now c.requires.vacant))
     c.put.ensures.ok

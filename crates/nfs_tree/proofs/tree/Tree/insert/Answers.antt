@@ -7,7 +7,7 @@ use Rattle.nfs_tree.specs.TreeInvariants.{IsTree}
 use Rattle.nfs_tree.proofs.Objects.{can_change_all, stored_within}
 use Rattle.nfs_tree.proofs.Trees.{tree_of}
 use Rattle.nfs_tree.proofs.Mapped.{short_of}
-use Rattle.nfs_tree.proofs.Put.{create_granted, directory_there, tree_created}
+use Rattle.nfs_tree.proofs.Put.{create_granted, directory_there, new_unnamed, tree_created}
 use Rattle.nfs_tree.proofs.tree.Tree.insert.Goals as goal
 
 pub put_both-requires : goal.put_both-requires
@@ -29,6 +29,7 @@ put_both-requires c =
       vacant = rw rows can.vacant;
       short = short_of c.args.name.now can.short;
       last = rw (rows, cookies) is.cookies;
+      named = rw (rows, last) (sym (new_unnamed t is));
     }
 
 pub invariant_of-self-2 : goal.invariant_of-self-2

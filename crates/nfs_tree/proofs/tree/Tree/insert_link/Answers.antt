@@ -22,6 +22,7 @@ put_new-requires c =
       vacant = rw rows can.vacant;
       short = short_of c.args.name.now can.short;
       last = rw (rows, last) is.cookies;
+      named = rw rows (sym can.named);
     }
 
 pub change_entry-requires : goal.change_entry-requires
