@@ -12,6 +12,8 @@ from pinned import TESTS, bodies, differs
 from rattle import crates
 
 CALL = re.compile(r"(?:(\w+)(?:::<[^>]*>)?::|(\.)\s*|\b)(\w+)(?=\s*(?:::<|[(),;}]))")
+BROUGHT = re.compile(r"^use (\S+)(?: as (\S+))?$", re.M)
+PRINTED = re.compile(r"[^\s(){},;\[\]⌜⌝]+")
 HEAD = "# The contract of each public function (tests/gate/believed --write): crate, function, clauses that ask, clauses that state, sum of what they lean on.\n"
 
 
@@ -84,3 +86,35 @@ def proved(top):
             found += [f"{folder.name} {file}: {'::'.join(filter(None, it))}: the checker took {told.get(it, 'no such function')}, and not {mine[it]}" for it in wrong]
             same += len(mine) - len(wrong)
     return same, found
+
+
+def named(top, promises, folder):
+    """How many contracts name no more definitions in the checker's own print of them than are found here, and which do: `rt check --generated FOLDER`
+    in the folder of a crate prints each of its contracts with every name behind its module."""
+    same, found = 0, []
+    for crate in crates(top):
+        mine = {}
+        for file, (source, is_test) in rattle.tree(crate).items():
+            for it in source.functions if not is_test else ():
+                cited = {one for clause in it.clauses for one in promises.all.cited_in(crate / file, clause)}
+                mine[rattle.path_of(it, file, crate)] = {str(one) for it in cited if (one := promises.all.at(it))}
+        for path in sorted(folder.glob(f"Rattle-{crate.name}*/**/contracts/**/*.antt")):
+            text = rattle.without_comments(path.read_text(encoding="utf-8"))
+            if "abbrev pub spec " in text:
+                inside = path.with_suffix("").parts
+                function = "::".join(inside[inside.index("contracts") + 1 :])
+                more = printed(promises.all, text) - mine.get(function, set())
+                found += [f"{crate.name} {function}: the checker's print of its contract names {', '.join(sorted(more))} too"] * bool(more)
+                same += not more
+    return same, found
+
+
+def printed(definitions, text):
+    """The definitions that such a print names."""
+    modules, found = {other or path.rpartition(".")[2]: path for path, other in BROUGHT.findall(text)}, set()
+    for word in PRINTED.findall(text):
+        module, _, name = word.partition(".")
+        home = definitions.home_of(modules[module], None)[0] if name and definitions.is_own(modules.get(module, "")) else None
+        if home in definitions.files and (one := definitions.at((home, name.partition(".")[0]))):
+            found.add(str(one))
+    return found
