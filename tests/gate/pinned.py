@@ -79,6 +79,8 @@ def faults(top, rows):
     gone, fresh = differs(told, wrong_bodies(top))
     found += [f"must-fail edit {it}: tests/gate/wrong_bodies.txt names it, and it is not there" for it in gone]
     found += [f"must-fail edit {it}: tests/gate/wrong_bodies.txt does not name it (tests/gate/believed --pin)" for it in fresh]
+    others = [it for it in sorted(top.glob("crates/*/must-fail/*")) if it.suffix != ".edit" and it.name != "UNTURNED.md"]
+    found += [f"{it.relative_to(top)}: it is no edit, and no list beside one" for it in others if it.suffix != ".md" or not it.with_suffix(".edit").is_file()]
     found += ["tests/gate/wrong_bodies.txt: its lines are not in order, or one stands there twice"] * (told != sorted(set(told)))
     due = {it[0]: it[1] for it in rows if len(it) > 1 and len(it) == 2 + ("-" in it[1]) and NUMBER.fullmatch(it[1])}
     found += [f"tests/least.tsv: no line of a name and a number, or of a range and its reason: {' '.join(it)}" for it in rows if it[0] not in due]

@@ -468,6 +468,7 @@ def counts():
     for what, changes, why in (
         ("a must-fail edit that is gone", {"crates/tried/must-fail/turned.edit": None}, f"edit tried/turned: {edits} names it"),
         ("a must-fail edit that is not pinned", {"crates/tried/must-fail/other.edit": WRONG}, f"edit tried/other: {edits} does not"),
+        ("a must-fail edit under another name", {"crates/tried/must-fail/more.edit.md": WRONG}, "it is no edit, and no list beside one"),
         ("a list of must-fail edits that is gone", {edits: None}, f"{edits} does not name it"),
         ("tests that are gone", {**tests, "crates/tried/src/tests.rt": None}, f"tests of tried: 0, and {least} has 1"),
         ("a test that is a comment", {**tests, "crates/tried/src/tests.rt": f"/* {TEST} */\n"}, f"tests of tried: 0, and {least} has 1"),
