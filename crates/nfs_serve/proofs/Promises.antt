@@ -72,6 +72,11 @@ pub mod NeverStale
 pub mod FileStays
 pub mod FileStaysWorked
 pub mod NamelessStays
+pub mod PageText
+pub mod PageLists
+pub mod PageRows
+pub mod ListsAll
+pub mod ListsWorked
 pub mod SessionsOnce
 pub mod SessionsWorked
 pub mod Staying

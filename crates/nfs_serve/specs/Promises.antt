@@ -48,6 +48,8 @@ pub mod NameStays
 pub mod NameWorked
 pub mod FileStays
 pub mod FileStaysWorked
+pub mod ListsAll
+pub mod ListsWorked
 pub mod SessionsOnce
 pub mod OpenKept
 pub mod HeldOpen

@@ -32,6 +32,8 @@ ghost use Rattle.nfs_serve.specs.Promises.Handles.{HandlesLead, HandlesTell, IsL
 ghost use Rattle.nfs_serve.specs.Promises.LockOwners.{StatesHaveOneOwner, OnlyOneOwnerIsTold, OneOwnerEach};
 ghost use Rattle.nfs_serve.specs.Promises.LockOwned.{EachIsOwned, OwnersApart};
 ghost use Rattle.nfs_serve.specs.Promises.LostReply.{IsAccepted, IsOverAWire};
+ghost use Rattle.nfs_serve.specs.Promises.ListsAll.{RowsAreListed, NamesAreListed, PagesAreParts, GoneIsUnlisted};
+ghost use Rattle.nfs_serve.specs.Promises.ListsWorked.{IsListedInPages, ListingsAreRefused};
 ghost use Rattle.nfs_serve.specs.Promises.NameStays.{NameStays, GoneStays};
 ghost use Rattle.nfs_serve.specs.Promises.NameWorked.{LeadsTo, NamesAreRefused};
 ghost use Rattle.nfs_serve.specs.Promises.Network.{ExactlyOnce, AnswersExecuted};
@@ -536,6 +538,32 @@ pub fn a_file_outlasts_its_name()
 /// `reads_are_whole` refuses a READ that finds it empty; and `nameless_files_stay_nameless` refuses a name that is there again, and a LOOKUP that leads to the file.
 pub fn wrong_losses_are_refused()
     ensures { LossesAreRefused }
+{}
+
+/// A listing in pages lists each name that stands all the while once, with its cookie and the attributes of its object, whatever comes between the pages: by the rows
+/// that stand before each of its READDIRs, and by what operations were answered.
+pub fn listings_are_whole()
+    ensures rows { RowsAreListed }
+    ensures names { NamesAreListed }
+{}
+
+/// Nothing else is listed: each entry of a page is of a name in the directory before its READDIR, behind the cookie that was asked for, and the cookies rise; a page
+/// after which the directory goes on has an entry, and a name is left. A name that was said to lead nowhere is in no page until something may make it.
+pub fn nothing_else_is_listed()
+    ensures parts { PagesAreParts }
+    ensures gone { GoneIsUnlisted }
+{}
+
+/// The definitions compute: a client makes three files and lists them in three pages, and removes the first of them behind the first page. That run meets the premises
+/// of `listings_are_whole`.
+pub fn a_listing_is_whole()
+    ensures { IsListedInPages }
+{}
+
+/// The definitions compute: `listings_are_whole` refuses pages that skip an entry behind a REMOVE, pages that list one twice, and a READDIR that lists nothing and says
+/// that the directory ends; and `nothing_else_is_listed` refuses a name that nobody made, and a page that lists nothing and says that the directory goes on.
+pub fn wrong_listings_are_refused()
+    ensures { ListingsAreRefused }
 {}
 
 /// A CREATE_SESSION that is answered NFS4_OK makes one session of its client, of the id that is answered, which did not stand before; or it changes nothing.

@@ -1,0 +1,109 @@
+-- A listing in pages, worked by hand in words of four bytes (RFC 8881 section 18.23). The client `A` of `WrittenWorked`, which made the file `f`, makes the files `g` and
+-- `h` too. It lists the root in pages into which one entry fits, and removes `f` between the first page and the second.
+use Rattle.std.specs.Prelude.{◌≡◌, ℕ, Bool, true, false, List, [], ◌∷◌, ◌++◌}
+use Rattle.nfs_xdr.specs.Tables.{In}
+use Rattle.nfs_compound.specs.declared.name_args.ReadDir.{ReadDir}
+use Rattle.nfs_results.specs.declared.res.Entry.{Entry}
+use Rattle.nfs_results.specs.declared.res.ReadDirOk.{ReadDirOk}
+use Rattle.nfs_tree.specs.Files.{root}
+use Rattle.nfs_names.specs.ReadDir.{zeros}
+use Rattle.nfs_exec.specs.Runs.Ops.{RanOp}
+use Rattle.nfs_serve.specs.Step.{State}
+use Rattle.nfs_serve.specs.Promises.Endpoint.{Arrival}
+use Rattle.nfs_serve.specs.Promises.Exchanges.{words}
+use Rattle.nfs_serve.specs.Promises.HeldLock.{came, in_session, last_of}
+use Rattle.nfs_serve.specs.Promises.ListsAll.{Page, ArePages, IsListedOnce, IsPart, all_ops}
+use Rattle.nfs_serve.specs.Promises.NameStays.{Name, TakesIt, Says, AllSpare, next_of, row_of}
+use Rattle.nfs_serve.specs.Promises.Points.{state_after, ops_of}
+use Rattle.nfs_serve.specs.Promises.WrittenWorked.{made}
+
+-- PUTROOTFH, and OPEN by the open owner `o` for reading and writing, which denies nothing, of a name of one byte, which is made where it is not there, without attributes
+abbrev pub opens : (name : ℕ) → List ℕ
+opens name = words (24 ∷ 18 ∷ 0 ∷ 3 ∷ 0 ∷ 0 ∷ 0 ∷ 1 ∷ 0x6f00_0000 ∷ 1 ∷ 0 ∷ 0 ∷ 0 ∷ 0 ∷ 1 ∷ name ∷ [])
+
+abbrev pub makes_more : Arrival
+makes_more = came 103 4 (in_session 1 2 5 (opens 0x6700_0000 ++ opens 0x6800_0000))
+
+-- PUTROOTFH, and READDIR of the entries behind a cookie, up to 44 bytes of them, without attributes
+abbrev pub lists : (now number cookie : ℕ) → Arrival
+lists now number cookie = came now number (in_session 1 number 3 (words (24 ∷ 26 ∷ 0 ∷ cookie ∷ 0 ∷ 0 ∷ 44 ∷ 44 ∷ 0 ∷ [])))
+
+abbrev pub first : Arrival
+first = lists 104 3 0
+
+-- PUTROOTFH, and REMOVE of `f`
+abbrev pub removes : Arrival
+removes = came 105 6 (in_session 1 4 3 (words (24 ∷ 28 ∷ 1 ∷ 0x6600_0000 ∷ [])))
+
+abbrev pub second : Arrival
+second = lists 106 5 3
+
+abbrev pub third : Arrival
+third = lists 107 6 4
+
+abbrev pub later : List Arrival
+later = first ∷ removes ∷ second ∷ third ∷ []
+
+abbrev pub more : State
+more = state_after made makes_more
+
+abbrev pub begun : State
+begun = state_after more first
+
+abbrev pub removed : State
+removed = state_after begun removes
+
+abbrev pub gone_on : State
+gone_on = state_after removed second
+
+-- what is asked for, and what is told: an entry has a name of one byte
+abbrev pub asked : (cookie : ℕ) → ReadDir
+asked cookie = record { cookie = cookie; cookieverf = zeros; dircount = 44; maxcount = 44; attr_request = [] }
+
+abbrev pub entry : (cookie name : ℕ) → Entry
+entry cookie name = record { cookie = cookie; name = name ∷ []; attrs = record { attrmask = []; attr_vals = [] } }
+
+abbrev pub told : List Entry → (eof : Bool) → ReadDirOk
+told entries eof = record { cookieverf = zeros; entries = entries; eof = eof }
+
+abbrev pub page : RanOp → (cookie : ℕ) → ReadDirOk → Page
+page d cookie told = record { op = d; asked = asked cookie; told = told }
+
+-- `g` in the root, which leads to object 3
+abbrev pub g : Name
+g = record { directory = root; name = 0x67 ∷ []; object = 3 }
+
+-- The run meets the premises of the promises, and computes to what they say.
+pub record IsListedInPages : Type 0 where
+  -- the first OPEN said `g`; no operation behind it takes that away
+  pub front : List RanOp
+  pub opening : RanOp
+  pub back : List RanOp
+  pub ops : ops_of made makes_more ≡ front ++ opening ∷ back
+  pub says : Says g opening (next_of back)
+  pub spared : AllSpare (λ e. TakesIt g.directory g.name e → ⊥) (back ++ all_ops more later)
+  -- three pages: `f`, `g` and `h`
+  pub one : RanOp
+  pub two : RanOp
+  pub three : RanOp
+  pub run : (p : Page)
+      → In p (page one 0 (told (entry 3 0x66 ∷ []) false) ∷ page two 3 (told (entry 4 0x67 ∷ []) false) ∷ page three 4 (told (entry 5 0x68 ∷ []) true) ∷ [])
+      → In p.op (back ++ all_ops more later)
+  pub pages : ArePages root 0 (page one 0 (told (entry 3 0x66 ∷ []) false))
+      (page two 3 (told (entry 4 0x67 ∷ []) false) ∷ page three 4 (told (entry 5 0x68 ∷ []) true) ∷ [])
+
+-- The promises refuse these, under whatever cookie `g` is listed.
+pub record ListingsAreRefused : Type 0 where
+  -- the second page is without `g`, since it begins behind as many entries as were listed before `f` was removed
+  pub skipped : (d e : RanOp) (cookie : ℕ)
+      → IsListedOnce (row_of g cookie) (page d 0 (told (entry 3 0x66 ∷ []) false) ∷ page e 3 (told (entry 5 0x68 ∷ []) true) ∷ []) → ⊥
+  -- both pages have `g`
+  pub twice : (d e : RanOp) (cookie : ℕ)
+      → IsListedOnce (row_of g cookie)
+      (page d 0 (told (entry 3 0x66 ∷ entry 4 0x67 ∷ []) false) ∷ page e 4 (told (entry 4 0x67 ∷ entry 5 0x68 ∷ []) true) ∷ []) → ⊥
+  -- a READDIR lists nothing, and says that the directory ends
+  pub none : (d : RanOp) (cookie : ℕ) → IsListedOnce (row_of g cookie) (page d 0 (told [] true) ∷ []) → ⊥
+  -- it lists `x`, which nobody made
+  pub unmade : (d : RanOp) → IsPart root 0 (page (last_of d (ops_of more first)) 0 (told (entry 6 0x78 ∷ []) false)) → ⊥
+  -- it lists nothing, and says that the directory goes on
+  pub idle : (d : RanOp) → IsPart root 0 (page d 0 (told [] false)) → ⊥
