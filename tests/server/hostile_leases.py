@@ -10,6 +10,8 @@ from cases import judge
 from hostile_clients import SLOTS, Good, Peer, Served, Wrong, at, chain, lock_first, lock_more, lock_test
 from wire import CURRENT, SAVE, create, null, null_reply, received, rename
 
+# what the attacks with large numbers came to: of each, figures by their names
+found = []
 
 
 def spread_owners(peer, count):
@@ -93,6 +95,8 @@ def renewed_in_time(name, lease, phases, goods=6):
         waits = sorted(wait for one in good for wait in one.waits) or [0]
         print(f"{name}: good clients waited {1e3 * statistics.median(waits):.1f} ms in the middle and {1e3 * waits[-1]:.1f} at most, {len(waits)} times")
         lost = [f"{n}: {one.shown()}" for n, one in enumerate(good) if not one.stood()]
+        found.extend((name, figure, value) for figure, value in (
+            ("good clients", goods), ("who lost something", len(lost)), ("longest wait, seconds", f"{waits[-1]:.1f}")))
         judge(f"{name}: of {goods} clients that renew in time none loses anything", not lost, lost)
 
 
@@ -166,11 +170,12 @@ def calls_without_a_session(count=2_000):
     """Connections with a NULL call each, more than the program is to serve: they end nothing, and the next client is served."""
     name = f"NULL on each of {count} connections"
     with Served(connections=20) as server:
-        right = 0
+        right, begun = 0, time.monotonic()
         for n in range(count):
             with server.connect() as stream:
                 stream.sendall(null(n))
                 right += received(stream, 28) == null_reply(n)
+        print(f"{name}: they took {time.monotonic() - begun:.0f} s, and {server.seconds():.0f} of a processor")
         judge(f"{name}: each is answered", right == count, right)
         with Peer(server, b"later") as later:
             judge(f"{name}: a client behind them is served", bool(later.asks()))
