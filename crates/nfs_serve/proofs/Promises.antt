@@ -43,6 +43,7 @@ pub mod HeldSpared
 pub mod HeldTraced
 pub mod HeldReplaced
 pub mod StatesBegun
+pub mod OneStateEach
 pub mod DenialsCaused
 pub mod NoIsTrue
 pub mod WrongDenials

@@ -327,8 +327,8 @@ pub fn owners_share_no_lock()
     ensures { OneOwnerEach }
 {}
 
-/// A no is true: in every run a LOCK or a LOCKT that is answered NFS4ERR_DENIED reports a lock that clashes with it, each byte of which was granted by a LOCK
-/// that was answered NFS4_OK to that owner of that client, and that nothing has ended since.
+/// A no is true: in every run a LOCK or a LOCKT that is answered NFS4ERR_DENIED reports a lock of another owner that clashes with it. Each byte of it was granted by a
+/// LOCK that was answered NFS4_OK, to that owner of that client, and nothing has ended that since.
 pub fn denials_are_true()
     ensures { NoIsTrue }
 {}
@@ -338,8 +338,8 @@ pub fn a_denial_is_true()
     ensures { IsDeniedTruly }
 {}
 
-/// The definitions compute: `denials_are_true` refuses a LOCK that is denied where nobody locked, one that is denied for a lock whose client's lease has run out, and one
-/// that reports another client.
+/// The definitions compute: `denials_are_true` refuses a LOCK that is denied where nobody locked, one that is denied for a lock whose client's lease has run out, one that
+/// reports another client, and one that is denied for the owner's own lock.
 pub fn wrong_denials_are_refused()
     ensures { DenialsRefused }
 {}

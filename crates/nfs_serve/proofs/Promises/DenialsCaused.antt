@@ -37,6 +37,7 @@ use Rattle.nfs_opens.specs.Locking as locking
 use Rattle.nfs_opens.specs.StateId.{last_number, is_anonymous, is_bypass, is_current, has_zeros, has_ones, with_seqid}
 use Rattle.nfs_opens.specs.Steps.{◌>>=◌, require, map_err}
 use Rattle.nfs_opens.specs.Table.{Table, lock_at}
+use Rattle.nfs_opens.proofs.CallLaws.{came}
 use Rattle.nfs_names.specs.declared.context.Context.{Context}
 use Rattle.nfs_names.specs.Checks.{node_as, node_at, current}
 use Rattle.nfs_names.specs.Outcome.{Outcome, passed, checked, mapped, answers}
@@ -152,88 +153,114 @@ judge_clear t id client file sort = go (is_anonymous id) (is_bypass id)
 
 -- What the table of opens denies.
 
--- a fault that is answered NFS4ERR_DENIED is a clash
-record IsClash (t : Table) (w : Wish) (fault : OpenFault) : Type 0 where
+-- a fault that is answered NFS4ERR_DENIED is a clash, which lock state n met
+record IsClash (t : Table) (w : Wish) (n : ℕ) (fault : OpenFault) : Type 0 where
   pub held : Held
   pub is : fault ≡ F.Denied held
-  pub number : ℕ
-  pub clash : locking.clash t number w ≡ Some held
+  pub clash : locking.clash t n w ≡ Some held
 
-abbrev IsFair : {A : Type 0} → Table → Wish → Result A OpenFault → Type 0
-IsFair t w v = (fault : OpenFault) → v ≡ Err fault → is_denied (status_of fault) ≡ true → IsClash t w fault
+abbrev IsFair : {A : Type 0} → Table → Wish → ℕ → Result A OpenFault → Type 0
+IsFair t w n v = (fault : OpenFault) → v ≡ Err fault → is_denied (status_of fault) ≡ true → IsClash t w n fault
 
-ok_fair : {A : Type 0} (t : Table) (w : Wish) (a : A) → IsFair t w (Ok a)
-ok_fair t w a fault e is = absurd cc
+ok_fair : {A : Type 0} (t : Table) (w : Wish) (n : ℕ) (a : A) → IsFair t w n (Ok a)
+ok_fair t w n a fault e is = absurd cc
 
-refused_fair : {A : Type 0} (t : Table) (w : Wish) (status : Status) → is_denied status ≡ false → IsFair {A = A} t w (Err (F.Refused status))
-refused_fair t w status other fault e is =
+refused_fair : {A : Type 0} (t : Table) (w : Wish) (n : ℕ) (status : Status) → is_denied status ≡ false → IsFair {A = A} t w n (Err (F.Refused status))
+refused_fair t w n status other fault e is =
     let same : F.Refused status ≡ fault = cc in
     absurd (false≢true (sym other ∙ subst (λ f. is_denied (status_of f) ≡ true) (sym same) is))
 
-next_fair : {A B : Type 0} (t : Table) (w : Wish) (v : Result A OpenFault) (next : A → Result B OpenFault) → IsFair t w v → ((a : A) → IsFair t w (next a)) → IsFair t w (v >>= next)
-next_fair t w (Err fault) next is more = λ f e denied. let same : fault ≡ f = cc in is f (ap Err same) denied
-next_fair t w (Ok a) next is more = more a
+next_fair : {A B : Type 0} (t : Table) (w : Wish) (n : ℕ) (v : Result A OpenFault) (next : A → Result B OpenFault) → IsFair t w n v → ((a : A) → IsFair t w n (next a))
+    → IsFair t w n (v >>= next)
+next_fair t w n (Err fault) next is more = λ f e denied. let same : fault ≡ f = cc in is f (ap Err same) denied
+next_fair t w n (Ok a) next is more = more a
 
-there_fair : {A : Type 0} (t : Table) (w : Wish) (o : Option A) → IsFair t w (ok_or o (F.Refused S.BadStateId))
-there_fair t w None = refused_fair t w S.BadStateId refl
-there_fair t w (Some a) = ok_fair t w a
+there_fair : {A : Type 0} (t : Table) (w : Wish) (n : ℕ) (o : Option A) → IsFair t w n (ok_or o (F.Refused S.BadStateId))
+there_fair t w n None = refused_fair t w n S.BadStateId refl
+there_fair t w n (Some a) = ok_fair t w n a
 
-room_fair : (t : Table) (w : Wish) (b : Bool) → IsFair t w (require b (F.Refused S.ServerFault))
-room_fair t w true = ok_fair t w tt
-room_fair t w false = refused_fair t w S.ServerFault refl
+room_fair : (t : Table) (w : Wish) (n : ℕ) (b : Bool) → IsFair t w n (require b (F.Refused S.ServerFault))
+room_fair t w n true = ok_fair t w n tt
+room_fair t w n false = refused_fair t w n S.ServerFault refl
 
-seat_fair : (t : Table) (w : Wish) (v : Result Seat Status) → IsClear v → IsFair t w (map_err F.Refused v)
-seat_fair t w (Err status) is = refused_fair t w status (is status refl)
-seat_fair t w (Ok seat) is = ok_fair t w seat
+seat_fair : (t : Table) (w : Wish) (n : ℕ) (v : Result Seat Status) → IsClear v → IsFair t w n (map_err F.Refused v)
+seat_fair t w n (Err status) is = refused_fair t w n status (is status refl)
+seat_fair t w n (Ok seat) is = ok_fair t w n seat
 
-told_fair : (t : Table) (w : Wish) (n : ℕ) (o : Option Held) → locking.clash t n w ≡ o → IsFair t w (locking.unless_told o)
-told_fair t w n None e = ok_fair t w tt
-told_fair t w n (Some h) e = λ fault same is. record { held = h; is = (let one : F.Denied h ≡ fault = cc in sym one); number = n; clash = e }
+told_fair : (t : Table) (w : Wish) (n : ℕ) (o : Option Held) → locking.clash t n w ≡ o → IsFair t w n (locking.unless_told o)
+told_fair t w n None e = ok_fair t w n tt
+told_fair t w n (Some h) e = λ fault same is. record { held = h; is = (let one : F.Denied h ≡ fault = cc in sym one); clash = e }
 
-judged_fair : (t : Table) (w : Wish) (n : ℕ) (access : Share) → IsFair t w (locking.lock_judged t n access w)
+judged_fair : (t : Table) (w : Wish) (n : ℕ) (access : Share) → IsFair t w n (locking.lock_judged t n access w)
 judged_fair t w n access = go (locking.permits access w.kind)
   where
-    go : (b : Bool) → IsFair t w (cond b (locking.unless_told (locking.clash t n w)) (Err (F.Refused S.OpenMode)))
+    go : (b : Bool) → IsFair t w n (cond b (locking.unless_told (locking.clash t n w)) (Err (F.Refused S.OpenMode)))
     go true = told_fair t w n (locking.clash t n w) refl
-    go false = refused_fair t w S.OpenMode refl
+    go false = refused_fair t w n S.OpenMode refl
 
-as_fair : (t : Table) (w : Wish) (n : ℕ) (access : Share) → IsFair t w (locking.lock_as t w n access)
+as_fair : (t : Table) (w : Wish) (n : ℕ) (access : Share) → IsFair t w n (locking.lock_as t w n access)
 as_fair t w n access =
-    next_fair t w (locking.lock_judged t n access w) _ (judged_fair t w n access) (λ u.
-    next_fair t w (ok_or (lock_at t n) (F.Refused S.BadStateId)) _ (there_fair t w (lock_at t n)) (λ l. ok_fair t w _))
+    next_fair t w n (locking.lock_judged t n access w) _ (judged_fair t w n access) (λ u.
+    next_fair t w n (ok_or (lock_at t n) (F.Refused S.BadStateId)) _ (there_fair t w n (lock_at t n)) (λ l. ok_fair t w n _))
 
-owner_fair : (t : Table) (w : Wish) (opened : ℕ) (owner : List ℕ) (access : Share) (o : Option LockState) → IsFair t w (locking.lock_by_owner t w opened owner access o)
+owner_fair : (t : Table) (w : Wish) (opened : ℕ) (owner : List ℕ) (access : Share) (o : Option LockState)
+    → IsFair t w (locking.number_of o) (locking.lock_by_owner t w opened owner access o)
 owner_fair t w opened owner access (Some l) = as_fair t w l.number access
 owner_fair t w opened owner access None =
-    next_fair t w (locking.lock_judged t 0 access w) _ (judged_fair t w 0 access) (λ u.
-    next_fair t w (require (not (t.last == last_number)) (F.Refused S.ServerFault)) _ (room_fair t w _) (λ u. ok_fair t w _))
+    next_fair t w 0 (locking.lock_judged t 0 access w) _ (judged_fair t w 0 access) (λ u.
+    next_fair t w 0 (require (not (t.last == last_number)) (F.Refused S.ServerFault)) _ (room_fair t w 0 _) (λ u. ok_fair t w 0 _))
 
-locks_fair : (t : Table) (who : Locker) (id : StateId) (w : Wish) → IsFair t w (of_lock.locks_as t who id w)
+-- the lock state of whoever asks, 0 where there is none
+abbrev pub asker : Table → Locker → StateId → Wish → ℕ
+asker t (OpenOwner o) id w = locking.number_of (locking.state_of t w.client o.lock_owner.owner w.file)
+asker t (LockOwner o) id w = id.number
+
+locks_fair : (t : Table) (who : Locker) (id : StateId) (w : Wish) → IsFair t w (asker t who id w) (of_lock.locks_as t who id w)
 locks_fair t (OpenOwner o) id w =
-    next_fair t w (map_err F.Refused (judge t id w.client (Some w.file) OpenOnly)) _
-    (seat_fair t w (judge t id w.client (Some w.file) OpenOnly) (judge_clear t id w.client (Some w.file) OpenOnly))
+    let n = locking.number_of (locking.state_of t w.client o.lock_owner.owner w.file) in
+    next_fair t w n (map_err F.Refused (judge t id w.client (Some w.file) OpenOnly)) _
+    (seat_fair t w n (judge t id w.client (Some w.file) OpenOnly) (judge_clear t id w.client (Some w.file) OpenOnly))
     (λ seat. owner_fair t w id.number o.lock_owner.owner (locking.access_in seat) (locking.state_of t w.client o.lock_owner.owner w.file))
 locks_fair t (LockOwner o) id w =
-    next_fair t w (map_err F.Refused (judge t id w.client (Some w.file) LockOnly)) _
-    (seat_fair t w (judge t id w.client (Some w.file) LockOnly) (judge_clear t id w.client (Some w.file) LockOnly))
+    next_fair t w id.number (map_err F.Refused (judge t id w.client (Some w.file) LockOnly)) _
+    (seat_fair t w id.number (judge t id w.client (Some w.file) LockOnly) (judge_clear t id w.client (Some w.file) LockOnly))
     (λ seat. as_fair t w id.number (locking.access_in seat))
 
 -- One operation.
 
-pub record WasDenied (s : State) (x : Context) (how : LockType) (offset size : ℕ) (r : Res) (reports : result.Denied → Res) : Type 0 where
+-- what it found, where `IsAsker` says which lock state asks
+pub record WasDenied (s : State) (x : Context) (how : LockType) (offset size : ℕ) (r : Res) (reports : result.Denied → Res) (IsAsker : Wish → ℕ → Type 0) : Type 0 where
   pub wish : Wish
   pub asks : wished s x how offset size ≡ Ok wish
   pub held : Held
   pub number : ℕ
+  pub whose : IsAsker wish number
   pub clash : locking.clash s.opens number wish ≡ Some held
   pub answers : r ≡ reports (denied s.opens held)
 
 refused_not : {A : Type 0} (v : Result A Status) (status : Status) (n : ℕ) → IsClear v → v ≡ Err status → is_denied (status_of_result (refusal n status)) ≡ true → ⊥
 refused_not v status n clear e is = false≢true (sym (clear status e) ∙ (ap is_denied (sym (status_of_refusal n status)) ∙ is))
 
+-- which stateid was given
+mapped_at : {A B C : Type 0} (b : B) (part : B → C) (f : A → B) (v : Result A Status) → mapped f v ≡ Ok b → (a : A) × (v ≡ Ok a) × (part (f a) ≡ part b)
+mapped_at b part f (Err status) e = absurd cc
+mapped_at b part f (Ok a) e = let same : f a ≡ b = cc in (a, refl, ap part same)
+
+locking_id : (s : State) (x : Context) (a : Lock) (m : _) → of_lock.locking s x a ≡ Ok m → meant x Any (of_lock.stateid_in a.locker) ≡ Ok m.id
+locking_id s x a m e =
+    let f = came (checked (wished s x a.locktype a.offset a.length) (of_lock.reclaim_checks a)) _ m e in
+    let id = mapped_at m (λ k. k.id) _ (meant x Any (of_lock.stateid_in a.locker)) f.then in id.1 ∙ ap Ok id.2
+
 module _ (s : State) (x : Context) where
+  -- a LOCK asks for the lock state that it names, or for the one of its new lock owner
+  abbrev pub IsLocker : Lock → Wish → ℕ → Type 0
+  IsLocker a w n = (id : StateId) × (meant x Any (of_lock.stateid_in a.locker) ≡ Ok id) × (n ≡ asker s.opens a.locker id w)
+
+  abbrev pub IsTester : LockT → Wish → ℕ → Type 0
+  IsTester a w n = n ≡ locking.number_of (locking.state_of s.opens w.client a.owner.owner w.file)
+
   abbrev IsDenied : Lock → Outcome → Type 0
-  IsDenied a o = is_denied (status_of_result o.result) ≡ true → WasDenied s x a.locktype a.offset a.length o.result Res.LockDenied
+  IsDenied a o = is_denied (status_of_result o.result) ≡ true → WasDenied s x a.locktype a.offset a.length o.result Res.LockDenied (IsLocker a)
 
   by_fault : (a : Lock) (m : _) → of_lock.locking s x a ≡ Ok m → (v : Result (StateId × Table) OpenFault) → of_lock.locks_as s.opens a.locker m.id m.wish ≡ v
       → IsDenied a (of_lock.locked s x v)
@@ -249,7 +276,8 @@ module _ (s : State) (x : Context) where
         wish = m.wish;
         asks = lock_wish s x a m judged;
         held = c.held;
-        number = c.number;
+        number = asker s.opens a.locker m.id m.wish;
+        whose = (m.id, locking_id s x a m judged, refl);
         clash = c.clash;
         answers = ap (λ h. Res.LockDenied (denied s.opens h)) same;
       }
@@ -265,18 +293,19 @@ module _ (s : State) (x : Context) where
       (by_wished a (of_lock.locking s x a) refl)
 
   abbrev IsTestDenied : LockT → Outcome → Type 0
-  IsTestDenied a o = is_denied (status_of_result o.result) ≡ true → WasDenied s x a.locktype a.offset a.length o.result Res.LockTDenied
+  IsTestDenied a o = is_denied (status_of_result o.result) ≡ true → WasDenied s x a.locktype a.offset a.length o.result Res.LockTDenied (IsTester a)
 
-  by_test : (a : LockT) (w : Wish) (n : ℕ) → wished s x a.locktype a.offset a.length ≡ Ok w → (o : Option Held) → locking.clash s.opens n w ≡ o → IsTestDenied a (tested s x o)
-  by_test a w n asks None e is = absurd (false≢true is)
-  by_test a w n asks (Some h) e is = record { wish = w; asks = asks; held = h; number = n; clash = e; answers = refl }
+  by_test : (a : LockT) (w : Wish) (n : ℕ) → wished s x a.locktype a.offset a.length ≡ Ok w → IsTester a w n → (o : Option Held) → locking.clash s.opens n w ≡ o
+      → IsTestDenied a (tested s x o)
+  by_test a w n asks whose None e is = absurd (false≢true is)
+  by_test a w n asks whose (Some h) e is = record { wish = w; asks = asks; held = h; number = n; whose = whose; clash = e; answers = refl }
 
   by_wish : (a : LockT) (v : Result Wish Status) → wished s x a.locktype a.offset a.length ≡ v
       → IsTestDenied a (answers s x Num.LockT v (λ w. tested s x (locking.test_lock s.opens a.owner.owner w)))
   by_wish a (Err status) e is =
       absurd (refused_not (wished s x a.locktype a.offset a.length) status (op_number Num.LockT) (wished_clear s x a.locktype a.offset a.length) e is)
   by_wish a (Ok w) e is =
-      by_test a w (locking.number_of (locking.state_of s.opens w.client a.owner.owner w.file)) e (locking.test_lock s.opens a.owner.owner w) refl is
+      by_test a w (locking.number_of (locking.state_of s.opens w.client a.owner.owner w.file)) e refl (locking.test_lock s.opens a.owner.owner w) refl is
 
   pub test_denied : (now : Time) (refused : Bool) (a : LockT) → IsTestDenied a (one_or_delay refused s x now (Op.LockT a))
   unfolding lock_t

@@ -52,7 +52,7 @@ module _ (P : of_store.State → Type 0) (held : IsKept P) where
   asked_keeps m (Some e) whole is d there = (throughout P held m e whole is).within d there
 
   -- before each operation of later records
-  runs_keep : (s : State) (records : List Arrival) → IsSound s → P s.machine.store → (d : RanOp) → RunsIn s records d → P d.before.store
+  pub runs_keep : (s : State) (records : List Arrival) → IsSound s → P s.machine.store → (d : RanOp) → RunsIn s records d → P d.before.store
   runs_keep s [] sound is d there = absurd there
   runs_keep s (c ∷ more) sound is d (inl here) = asked_keeps (before s c) (asked_by s c) (whole_before s c sound.whole) (before_keeps s c is) d here
   runs_keep s (c ∷ more) sound is d (inr later) = runs_keep (state_after s c) more (sound_next s c sound) (next_keeps s c sound is) d later

@@ -1,16 +1,18 @@
 -- A no is true: what a LOCK or a LOCKT that is denied reports was granted before, and has not ended.
-use Rattle.std.proofs.Common.{◌≡◌, ◌⊎◌, ℕ, suc, ◌-◌, ◌<◌, ◌≤◌, true, false, List, [], ◌∷◌, ◌++◌, length, take, Option, Some, None, refl, sym, ◌∙◌, ap, subst, arith, inl, inr}
+use Rattle.std.proofs.Common.{◌≡◌, not, Bool, ◌≢◌, ◌⊎◌, ℕ, suc, ◌-◌, ◌<◌, ◌≤◌, true, false, List, [], ◌∷◌, ◌++◌, length, take, Option, Some, None, refl, sym, ◌∙◌, ap, subst, arith, inl, inr}
 use Rattle.std.proofs.Common.{append_assoc, append-nil}
-use Rattle.std.specs.Prelude.{◌^◌}
+use Rattle.std.specs.Prelude.{◌^◌, Ok}
 use Rattle.std.specs.Option.{option_map_or}
-use Rattle.std.proofs.lemmas.Bool.{cases_Bool, and_parts, false≢true}
+use Rattle.std.proofs.lemmas.Bool.{cases_Bool, and_parts, false≢true, eq-eqb, eqb-true}
+use Rattle.std.proofs.lemmas.Slice.Eq.{bytes_eq-Decides}
 use Rattle.nfs_xdr.specs.Limits.{opaque_limit}
 use Rattle.nfs_xdr.specs.Tables.{In}
 use Rattle.nfs_xdr.specs.declared.status.Status.TheVariants.{Denied, RepTooBig}
-use Rattle.nfs_xdr.proofs.Lists.{in_filter}
+use Rattle.nfs_xdr.proofs.Lists.{in_filter, find_in, none_in}
 use Rattle.nfs_xdr.proofs.Tables.{in_once}
 use Rattle.nfs_compound.specs.declared.lock_args.Lock as lock_args
 use Rattle.nfs_compound.specs.declared.lock_args.LockT as test_args
+use Rattle.nfs_compound.specs.declared.lock_args.Locker.TheVariants.{LockOwner, OpenOwner}
 use Rattle.nfs_compound.specs.declared.op.Item.{Item}
 use Rattle.nfs_compound.specs.declared.op.Item.TheVariants.{Operation}
 use Rattle.nfs_compound.specs.declared.op.Op.TheVariants as Op
@@ -21,7 +23,9 @@ use Rattle.nfs_ranges.specs.declared.Held.{Held}
 use Rattle.nfs_ranges.specs.Told.{meets, told}
 use Rattle.nfs_opens.specs.declared.locking.Wish.{Wish}
 use Rattle.nfs_opens.specs.declared.records.LockState.{LockState}
-use Rattle.nfs_opens.specs.Locking.{clash}
+use Rattle.nfs_opens.specs.Locking.{clash, number_of, state_of, is_locker}
+use Rattle.nfs_opens.specs.declared.stateid.CurrentSeqid.TheVariants.{Any}
+use Rattle.nfs_opens.specs.declared.stateid.StateId.{StateId}
 use Rattle.nfs_opens.specs.Table.{Table, lock_at}
 use Rattle.nfs_opens.proofs.LockLemmas.{clash_tells}
 use Rattle.nfs_names.specs.State as of_store
@@ -29,8 +33,10 @@ use Rattle.nfs_names.specs.State.{moment}
 use Rattle.nfs_names.specs.declared.context.Context.{Context}
 use Rattle.nfs_compound.specs.declared.lock_args.LockType.{LockType}
 use Rattle.nfs_files.specs.Denied.{denied, type_of, size_of}
+use Rattle.nfs_files.specs.Lock.{stateid_in}
 use Rattle.nfs_files.specs.LockTold.{LockTold}
-use Rattle.nfs_files.proofs.Wishes.{IsRange, wish_range}
+use Rattle.nfs_files.specs.StateIds.{meant}
+use Rattle.nfs_files.proofs.Wishes.{IsRange, wish_is, wish_range}
 use Rattle.nfs_exec.specs.Step.Laws.{MachineEvent}
 use Rattle.nfs_exec.specs.Step.Machine.{Machine, IsMachine}
 use Rattle.nfs_exec.specs.Runs.LockHeld.{replaces}
@@ -42,18 +48,19 @@ use Rattle.nfs_exec.proofs.Runs.OneRun.{IsRun, by_item}
 use Rattle.nfs_exec.proofs.Runs.OneWalk.{none_at}
 use Rattle.nfs_serve.specs.Step.{State, new_state}
 use Rattle.nfs_serve.specs.Promises.Endpoint.{Arrival}
-use Rattle.nfs_serve.specs.Promises.Denials.{IsRefusedFor, ByLock, ByTest, IsBegunBy, asks_for_lock}
+use Rattle.nfs_serve.specs.Promises.Denials.{IsRefusedFor, ByLock, ByTest, IsBegunBy, IsOthers, asks_for_lock}
 use Rattle.nfs_serve.specs.Promises.ChangeTells.{RunsIn}
 use Rattle.nfs_serve.specs.Promises.NoIsTrue.{IsInLease, Passes, AllPass, IsGrantedIn, IsGranted, Before, Within, NoIsTrue}
 use Rattle.nfs_serve.specs.Promises.LockKept.{replaces_by}
 use Rattle.nfs_serve.specs.Promises.Outlived.{last_renewal}
 use Rattle.nfs_serve.specs.Promises.Points.{state_after, state_after_all, reached, taken, before, asked_by, ops_of}
-use Rattle.nfs_serve.proofs.Promises.DenialsCaused.{WasDenied, is_denied, lock_denied, test_denied}
+use Rattle.nfs_serve.proofs.Promises.DenialsCaused.{WasDenied, IsLocker, IsTester, asker, is_denied, lock_denied, test_denied}
 use Rattle.nfs_serve.proofs.Promises.HeldBefore.{Holds, found_at}
 use Rattle.nfs_serve.proofs.Promises.HeldReplaced.{replaced_same}
 use Rattle.nfs_serve.proofs.Promises.HeldTraced.{Traced, Stood, Given, event_traced, event_until, held_staying}
-use Rattle.nfs_serve.proofs.Promises.LaterRecords.{op_done, first_there}
-use Rattle.nfs_serve.proofs.Promises.StatesBegun.{WasThere, IsBegunIn, event_states, until_states}
+use Rattle.nfs_serve.proofs.Promises.OneStateEach.{HasOneEach, locker_is, each_kept}
+use Rattle.nfs_serve.proofs.Promises.LaterRecords.{runs_keep, op_done, first_there}
+use Rattle.nfs_serve.proofs.Promises.StatesBegun.{same_lock, WasThere, IsBegunIn, event_states, until_states}
 use Rattle.nfs_serve.proofs.Promises.Outlived.{machine_before, machine_all, none_outlives}
 use Rattle.nfs_serve.proofs.Promises.Points.{left, for_asked, next_is, IsSound, whole_before, sound_all, sound_new}
 
@@ -270,6 +277,25 @@ report_of : (t : Table) (h : Held) (l : LockState) → lock_at t h.owner ≡ Som
 unfolding denied
 report_of t h l found = rw found refl
 
+-- The lock that is reported is not of whoever asks.
+
+its_number : (t : Table) (client : ℕ) (owner : List ℕ) (file : ℕ) (l : LockState) → HasOneEach t → In l t.locks → l.client ≡ client → l.owner ≡ owner → l.file ≡ file
+    → number_of (state_of t client owner file) ≡ l.number
+its_number t client owner file l each there mine its on = go (state_of t client owner file) refl
+  where
+    go : (o : Option LockState) → state_of t client owner file ≡ o → number_of o ≡ l.number
+    go None none = absurd (false≢true (sym (none_in (is_locker client owner file) t.locks l none there) ∙ locker_is client owner file l mine its on))
+    go (Some k) found =
+        (let at = find_in (is_locker client owner file) t.locks k found in
+        let tests = and_parts _ _ at.1 in
+        let more = and_parts _ _ tests.1 in
+        ap (λ (l : LockState). l.number)
+        (each k l at.0 there (eqb-true k.client client more.0 ∙ sym mine) ((bytes_eq-Decides k.owner owner).0 more.1 ∙ sym its) (eqb-true k.file file tests.0 ∙ sym on)))
+
+abbrev is_locking : Item → Bool
+is_locking (Operation (Op.Lock a)) = true
+is_locking item = false
+
 -- what a LOCK or a LOCKT that was denied found
 record Found (d : RanOp) : Type 0 where
   pub wish : Wish
@@ -278,20 +304,53 @@ record Found (d : RanOp) : Type 0 where
   pub met : clash d.before.store.opens number wish ≡ Some held
   pub range : (wish.first ≤ wish.last) × (wish.last < 2 ^ 64)
   pub refused : IsRefusedFor d wish (denied d.before.store.opens held)
+  pub others : HasOneEach d.before.store.opens → (l : LockState) → In l d.before.store.opens.locks → l.file ≡ wish.file → l.number ≢ number
+      → IsOthers d l.number l.client l.owner
 
 -- a wish that meets a lock has a byte
 has_byte : (t : Table) (n : ℕ) (w : Wish) (h : Held) → IsRange w.first w.last → clash t n w ≡ Some h → (w.first ≤ w.last) × (w.last < 2 ^ 64)
 has_byte t n w h (inl some) e = some
 has_byte t n w h (inr empty) e = absurd (none_told t n w h (let below = empty.0 in omega (arith, below)) e)
 
-record Reported (s : of_store.State) (x : Context) (how : LockType) (offset size : ℕ) (text : List ℕ) (reports : result.Denied → Res) : Type 0 where
-  pub was : (r : Res) × (text ≡ spell_result r) × WasDenied s x how offset size r reports
+lock_others : (d : RanOp) (a : lock_args.Lock) (w : Wish) (n : ℕ) → d.item ≡ Operation (Op.Lock a) → w.client ≡ d.context.client
+    → IsLocker d.before.store d.context a w n → HasOneEach d.before.store.opens → (l : LockState) → In l d.before.store.opens.locks → l.file ≡ w.file → l.number ≢ n
+    → IsOthers d l.number l.client l.owner
+lock_others d a w n is asks whose each l there on other = record {
+  named = λ b o id item locker means same.
+      (let at : a.locker ≡ LockOwner o = ap (λ (a : lock_args.Lock). a.locker) (same_lock d.item a b is item) ∙ locker in
+      let found : Ok whose.0 ≡ Ok id = sym whose.1 ∙ (ap (λ k. meant d.context Any (stateid_in k)) at ∙ means) in
+      let one : whose.0 ≡ id = cc in
+      other (sym same ∙ (ap (λ (i : StateId). i.number) (sym one) ∙ sym (whose.2 ∙ ap (λ k. asker d.before.store.opens k whose.0 w) at))));
+  new = λ b o item locker mine its.
+      (let at : a.locker ≡ OpenOwner o = ap (λ (a : lock_args.Lock). a.locker) (same_lock d.item a b is item) ∙ locker in
+      other (sym (its_number d.before.store.opens w.client o.lock_owner.owner w.file l each there (mine ∙ sym asks) its on)
+      ∙ sym (whose.2 ∙ ap (λ k. asker d.before.store.opens k whose.0 w) at)));
+  tested = λ b item mine its. let bad : true ≡ false = ap is_locking (sym is ∙ item) in absurd cc;
+}
+
+same_test : (i : Item) (a b : test_args.LockT) → i ≡ Operation (Op.LockT a) → i ≡ Operation (Op.LockT b) → a ≡ b
+same_test i a b one two = let same : Operation (Op.LockT a) ≡ Operation (Op.LockT b) = sym one ∙ two in cc
+
+test_others : (d : RanOp) (a : test_args.LockT) (w : Wish) (n : ℕ) → d.item ≡ Operation (Op.LockT a) → w.client ≡ d.context.client
+    → IsTester d.before.store d.context a w n → HasOneEach d.before.store.opens → (l : LockState) → In l d.before.store.opens.locks → l.file ≡ w.file → l.number ≢ n
+    → IsOthers d l.number l.client l.owner
+test_others d a w n is asks whose each l there on other = record {
+  named = λ b o id item locker means same. let bad : true ≡ false = ap is_locking (sym item ∙ is) in absurd cc;
+  new = λ b o item locker mine its. let bad : true ≡ false = ap is_locking (sym item ∙ is) in absurd cc;
+  tested = λ b item mine its.
+      (let name : l.owner ≡ a.owner.owner = its ∙ ap (λ (a : test_args.LockT). a.owner.owner) (same_test d.item b a item is) in
+      other (sym (its_number d.before.store.opens w.client a.owner.owner w.file l each there (mine ∙ sym asks) name on) ∙ sym whose));
+}
+
+record Reported (s : of_store.State) (x : Context) (how : LockType) (offset size : ℕ) (text : List ℕ) (reports : result.Denied → Res) (IsAsker : Wish → ℕ → Type 0)
+    : Type 0 where
+  pub was : (r : Res) × (text ≡ spell_result r) × WasDenied s x how offset size r reports IsAsker
 
 lock_found : (d : RanOp) → IsRun d → (a : lock_args.Lock) → d.item ≡ Operation (Op.Lock a) → d.status ≡ Denied → Found d
 lock_found d r a is status =
     let s = d.before.store in
     let x = d.context in
-    let (answer, text, did) = (by_item (λ status text u. status ≡ Denied → Reported s x a.locktype a.offset a.length text Res.LockDenied) d r (Operation (Op.Lock a)) is
+    let (answer, text, did) = (by_item (λ status text u. status ≡ Denied → Reported s x a.locktype a.offset a.length text Res.LockDenied (IsLocker s x a)) d r (Operation (Op.Lock a)) is
     (λ e. let bad : RepTooBig ≡ Denied = e in absurd cc)
     (λ e. record { was = (_, refl, lock_denied s x (moment r.now) r.refused a (ap is_denied e)) }) status).was in
     record {
@@ -301,13 +360,14 @@ lock_found d r a is status =
       met = did.clash;
       range = has_byte s.opens did.number did.wish did.held (wish_range s x a.locktype a.offset a.length did.wish did.asks) did.clash;
       refused = ByLock a is did.asks (text ∙ ap spell_result did.answers);
+      others = lock_others d a did.wish did.number is (wish_is s x a.locktype a.offset a.length did.wish did.asks).client did.whose;
     }
 
 test_found : (d : RanOp) → IsRun d → (a : test_args.LockT) → d.item ≡ Operation (Op.LockT a) → d.status ≡ Denied → Found d
 test_found d r a is status =
     let s = d.before.store in
     let x = d.context in
-    let (answer, text, did) = (by_item (λ status text u. status ≡ Denied → Reported s x a.locktype a.offset a.length text Res.LockTDenied) d r (Operation (Op.LockT a)) is
+    let (answer, text, did) = (by_item (λ status text u. status ≡ Denied → Reported s x a.locktype a.offset a.length text Res.LockTDenied (IsTester s x a)) d r (Operation (Op.LockT a)) is
     (λ e. let bad : RepTooBig ≡ Denied = e in absurd cc)
     (λ e. record { was = (_, refl, test_denied s x (moment r.now) r.refused a (ap is_denied e)) }) status).was in
     record {
@@ -317,6 +377,7 @@ test_found d r a is status =
       met = did.clash;
       range = has_byte s.opens did.number did.wish did.held (wish_range s x a.locktype a.offset a.length did.wish did.asks) did.clash;
       refused = ByTest a is did.asks (text ∙ ap spell_result did.answers);
+      others = test_others d a did.wish did.number is (wish_is s x a.locktype a.offset a.length did.wish did.asks).client did.whose;
     }
 
 found_by : (d : RanOp) → IsRun d → (i : Item) → d.item ≡ i → asks_for_lock i ≡ true → d.status ≡ Denied → Found d
@@ -331,6 +392,8 @@ no_is_true mode instance lease records c until d behind small same asks status =
     let r = (op_done s c sound d (first_there s c until d behind same)).run in
     let f = found_by d r d.item refl asks status in
     let t = d.before.store.opens in
+    let each : HasOneEach t = runs_keep (λ s. HasOneEach s.opens) each_kept (new_state mode instance lease) (records ++ c ∷ []) (sound_new mode instance lease)
+    (λ k l here. absurd here) d (runs_last (new_state mode instance lease) records c d (first_there s c until d behind same)) in
     let w = f.wish in
     let h = f.held in
     let (b, told) = clash_tells t w.file f.number w.kind w.first w.last (Some h) r.whole.table f.range.0 f.range.1 f.met in
@@ -342,6 +405,8 @@ no_is_true mode instance lease records c until d behind small same asks status =
       owner = l.owner;
       refused = subst (IsRefusedFor d w) (report_of t h l (found_at t l h.owner r.whole.table here.stands here.number)) f.refused;
       file = refl;
+      others = subst (λ n. IsOthers d n l.client l.owner) here.number (f.others each l here.stands here.file (λ same. false≢true
+          (sym (ap not (eq-eqb h.owner f.number (sym here.number ∙ same))) ∙ (and_parts _ _ told.clash).0)));
       begun = (let b = begun_by mode instance lease records c until d behind same l here.stands in
           (b.0, b.1, subst (λ n. IsBegunBy b.0 n l.client l.owner) here.number b.2));
       clash = (

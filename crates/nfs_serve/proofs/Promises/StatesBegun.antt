@@ -148,7 +148,7 @@ state_run d r l =
     (state_item d.before.store d.context (moment r.now) r.refused d.item l)
     (λ other there. inr (l, there, as_itself l))
 
-same_lock : (i : Item) (a b : args.Lock) → i ≡ Operation (Op.Lock a) → i ≡ Operation (Op.Lock b) → a ≡ b
+pub same_lock : (i : Item) (a b : args.Lock) → i ≡ Operation (Op.Lock a) → i ≡ Operation (Op.Lock b) → a ≡ b
 same_lock i a b one two = let same : Operation (Op.Lock a) ≡ Operation (Op.Lock b) = sym one ∙ two in cc
 
 state_before : (d : RanOp) → IsRun d → (l : LockState) → In l d.behind.store.opens.locks → IsBegunBy d l.number l.client l.owner ⊎ WasThere d.before.store.opens l

@@ -1,9 +1,12 @@
 -- The run of a denial that is true, and the denials that are refused, computed.
-use Rattle.std.proofs.Common.{◌≡◌, ℕ, ◌+◌, ◌*◌, ◌≤◌, Bool, true, false, List, [], ◌∷◌, ◌++◌, length, take, get_or, Some, None, refl, sym, ◌∙◌, ap, subst, arith, inl, inr}
+use Rattle.std.proofs.Common.{◌≡◌, ◌⊎◌, ℕ, ◌+◌, ◌*◌, ◌≤◌, Bool, true, false, List, [], ◌∷◌, ◌++◌, length, take, get_or, Some, None, refl, sym, ◌∙◌, ap, subst, arith, inl, inr}
 use Rattle.std.specs.Prelude.{◌^◌, ◌&&◌, filter}
 use Rattle.nfs_xdr.specs.Tables.{In}
 use Rattle.nfs_xdr.specs.Spelling.{number, hyper}
 use Rattle.nfs_xdr.proofs.Lists.{stays_in}
+use Rattle.nfs_compound.specs.declared.lock_args.Lock.{Lock}
+use Rattle.nfs_compound.specs.declared.lock_args.Locker.TheVariants.{OpenOwner}
+use Rattle.nfs_compound.specs.declared.lock_args.OpenToLockOwner.{OpenToLockOwner}
 use Rattle.nfs_compound.specs.declared.op.Item.{Item}
 use Rattle.nfs_compound.specs.declared.op.Item.TheVariants.{Operation}
 use Rattle.nfs_compound.specs.declared.op.Op.TheVariants as Op
@@ -11,19 +14,24 @@ use Rattle.nfs_compound.specs.declared.op_num.OpNum.TheVariants as Num
 use Rattle.nfs_results.specs.declared.res.Denied as result
 use Rattle.nfs_results.specs.declared.res.Res.TheVariants as Res
 use Rattle.nfs_results.specs.Results.{spell_result, done_head}
+use Rattle.nfs_opens.specs.declared.locking.Wish.{Wish}
 use Rattle.nfs_files.specs.LockTold.{LockTold}
+use Rattle.nfs_exec.specs.Runs.LockHeld.{LocksFor}
 use Rattle.nfs_exec.specs.Runs.Ops.{RanOp}
 use Rattle.nfs_exec.proofs.Runs.OneWalk.{in_back}
 use Rattle.nfs_serve.specs.Step.{State, new_state}
 use Rattle.nfs_serve.specs.Promises.Endpoint.{Arrival}
 use Rattle.nfs_serve.specs.Promises.HeldLock.{earlier, locks, clashes, start, asked, last_of}
-use Rattle.nfs_serve.specs.Promises.Denials.{IsRefusedFor, ByLock, ByTest, byte_of, Grants}
+use Rattle.nfs_serve.specs.Promises.ChangeTells.{RunsIn}
+use Rattle.nfs_serve.specs.Promises.Exchanges.{words}
+use Rattle.nfs_serve.specs.Promises.Denials.{IsBegunBy, IsRefusedFor, ByLock, ByTest, byte_of, Grants}
 use Rattle.nfs_serve.specs.Promises.NoIsTrue.{IsInLease, IsGrantedIn, IsGranted, Before, Within, IsTrue}
 use Rattle.nfs_serve.specs.Promises.Outlived.{last_renewal}
 use Rattle.nfs_serve.specs.Promises.Points.{state_after, state_after_all, reached, taken, ops_of}
-use Rattle.nfs_serve.specs.Promises.WrongDenials.{before_clash, IsDeniedTruly, denies, blames_another, silence, asks_late, DenialsRefused}
+use Rattle.nfs_serve.specs.Promises.WrongDenials.{before_clash, IsDeniedTruly, denies, blames_another, silence, asks_late, before_again, asks_again, DenialsRefused}
 use Rattle.nfs_serve.proofs.Promises.Computing.{computing}
-use Rattle.nfs_serve.proofs.Promises.HeldLock.{nothing, three, says_ok}
+use Rattle.nfs_serve.proofs.Promises.HeldLock.{nothing, three, says_ok, asking}
+use Rattle.nfs_serve.proofs.Promises.StatesBegun.{same_lock}
 
 -- A LOCK that granted something says NFS4_OK, and is among the operations of the records or of the compound.
 
@@ -144,6 +152,56 @@ not_another records c until d lock one its here t = go _ refl t.refused
     go r mine (ByLock a is wish text) = another_client r.owner.clientid (mine ∙ ones.its) (blamed ∙ (ap (λ text. get_or text 35 0) text ∙ client_byte r))
     go r mine (ByTest a is wish text) = absurd (let bad : true ≡ false = sym lock ∙ ap is_lock is in cc)
 
+-- It is not of the owner that asks.
+
+abbrev again : Lock
+again = record (asking 0) {
+  locker = OpenOwner (record {
+    open_seqid = 0;
+    open_stateid = record { seqid = 1; other = words (7 ∷ 0 ∷ 1 ∷ []) };
+    lock_seqid = 0;
+    lock_owner = record { clientid = 0; owner = 0x6c ∷ [] };
+  });
+}
+
+runs_ops : (s : State) (records : List Arrival) (d : RanOp) → RunsIn s records d → In d (all_ops s records)
+runs_ops s [] d there = there
+runs_ops s (c ∷ more) d (inl here) = in_first d (ops_of s c) (all_ops (state_after s c) more) here
+runs_ops s (c ∷ more) d (inr later) = in_back d (ops_of s c) (all_ops (state_after s c) more) (runs_ops (state_after s c) more d later)
+
+told_grants : (d : RanOp) (n : ℕ) (w : Wish) → LocksFor d n w → grants d ≡ true
+told_grants d n w l = ap (λ i. is_lock i && says_ok d.result) l.is ∙ (ap says_ok l.names.answers ∙ named_ok l.names.id)
+
+-- which operation began the lock state
+begun_by_one : (records : List Arrival) (until : List RanOp) (first : RanOp) (n client : ℕ) (owner : List ℕ) → length (granting (all_ops (new_state 511 7 90) records)) ≡ 1
+    → length (granting until) ≡ 0 → RunsIn (new_state 511 7 90) records first ⊎ In first until → IsBegunBy first n client owner
+    → first ≡ last_of nothing (granting (all_ops (new_state 511 7 90) records))
+begun_by_one records until first n client owner one none (inl runs) b = one_in (granting (all_ops (new_state 511 7 90) records)) nothing first one
+    (stays_in grants (all_ops (new_state 511 7 90) records) first (runs_ops (new_state 511 7 90) records first runs) (told_grants first n b.wish b.locks))
+begun_by_one records until first n client owner one none (inr here) b =
+    absurd (none_in (granting until) first none (stays_in grants until first here (told_grants first n b.wish b.locks)))
+
+new_owner : (o p : OpenToLockOwner) → OpenOwner o ≡ OpenOwner p → o.lock_owner.owner ≡ p.lock_owner.owner
+new_owner o p e = let same : o ≡ p = cc in ap (λ (o : OpenToLockOwner). o.lock_owner.owner) same
+
+begun_owner : (first : RanOp) (n client : ℕ) (owner : List ℕ) (a : Lock) (o : OpenToLockOwner) → first.item ≡ Operation (Op.Lock a) → a.locker ≡ OpenOwner o
+    → IsBegunBy first n client owner → owner ≡ o.lock_owner.owner
+begun_owner first n client owner a o is new b =
+    let locker : OpenOwner b.new ≡ OpenOwner o = sym b.locker ∙ (ap (λ (a : Lock). a.locker) (same_lock first.item b.locks.asked a b.locks.is is) ∙ new) in
+    sym b.named ∙ new_owner b.new o locker
+
+not_own : (records : List Arrival) (c : Arrival) (until : List RanOp) (d : RanOp) (result : List ℕ) (a b : Lock) (o p : OpenToLockOwner)
+    → length (granting (all_ops (new_state 511 7 90) records)) ≡ 1
+    → (last_of nothing (granting (all_ops (new_state 511 7 90) records))).context.client ≡ d.context.client
+    → (last_of nothing (granting (all_ops (new_state 511 7 90) records))).item ≡ Operation (Op.Lock a) → a.locker ≡ OpenOwner o
+    → d.item ≡ Operation (Op.Lock b) → b.locker ≡ OpenOwner p → o.lock_owner.owner ≡ p.lock_owner.owner → length (granting until) ≡ 0
+    → IsTrue 511 7 90 records c until (denies result d) → ⊥
+not_own records c until d result a b o p one its is new asks by same none t =
+    let ones = by_one (byte_of t.held t.held.first) t.owner records c until d.context.client one its none (t.granted t.held.first (omega arith) t.clash.2) in
+    let first = begun_by_one records until t.begun.0 t.held.state t.held.client t.owner one none t.begun.1 t.begun.2 in
+    let owner : t.owner ≡ o.lock_owner.owner = begun_owner t.begun.0 t.held.state t.held.client t.owner a o (ap (λ (d : RanOp). d.item) first ∙ is) new t.begun.2 in
+    t.others.new b p asks by ones.its (owner ∙ same)
+
 pub denials_refused : DenialsRefused
 unfolding computing
 denials_refused = record {
@@ -154,4 +212,6 @@ denials_refused = record {
       (t.granted t.held.first (omega arith) t.clash.2) in
       late silence asks_late (7 * 2 ^ 32 + 1) 202 102 refl refl (omega arith) (subst (λ client. IsInLease 511 7 90 client silence asks_late) ones.its ones.lease));
   another = λ d t. not_another before_clash clashes (take 2 (ops_of asked clashes)) (last_of d (ops_of asked clashes)) refl refl refl refl t;
+  own = λ d result t. not_own before_again asks_again (take 1 (ops_of (reached 511 7 90 before_again) asks_again)) (last_of d (ops_of (reached 511 7 90 before_again) asks_again))
+      result (asking 0) again _ _ refl refl refl refl refl refl refl refl t;
 }

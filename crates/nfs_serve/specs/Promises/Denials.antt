@@ -1,8 +1,9 @@
 -- A LOCK or a LOCKT that is denied, and what it reports (RFC 8881 sections 18.10 and 18.11); and a LOCK that grants a lock to a lock owner.
-use Rattle.std.specs.Prelude.{◌≡◌, ℕ, true, false, Bool, List, Ok}
+use Rattle.std.specs.Prelude.{◌≡◌, ◌≢◌, ℕ, true, false, Bool, List, Ok}
 use Rattle.nfs_compound.specs.declared.lock_args.Lock as lock_args
 use Rattle.nfs_compound.specs.declared.lock_args.LockT as test_args
-use Rattle.nfs_compound.specs.declared.lock_args.Locker.TheVariants.{OpenOwner}
+use Rattle.nfs_compound.specs.declared.lock_args.ExistLockOwner.{ExistLockOwner}
+use Rattle.nfs_compound.specs.declared.lock_args.Locker.TheVariants.{LockOwner, OpenOwner}
 use Rattle.nfs_compound.specs.declared.lock_args.OpenToLockOwner.{OpenToLockOwner}
 use Rattle.nfs_compound.specs.declared.op.Item.{Item}
 use Rattle.nfs_compound.specs.declared.op.Item.TheVariants.{Operation}
@@ -11,7 +12,10 @@ use Rattle.nfs_results.specs.declared.res.Denied as result
 use Rattle.nfs_results.specs.declared.res.Res.TheVariants as Res
 use Rattle.nfs_results.specs.Results.{spell_result}
 use Rattle.nfs_opens.specs.declared.locking.Wish.{Wish}
+use Rattle.nfs_opens.specs.declared.stateid.CurrentSeqid.TheVariants.{Any}
+use Rattle.nfs_opens.specs.declared.stateid.StateId.{StateId}
 use Rattle.nfs_files.specs.LockTold.{LockTold}
+use Rattle.nfs_files.specs.StateIds.{meant}
 use Rattle.nfs_files.specs.Ranges.{wished}
 use Rattle.nfs_exec.specs.Runs.LockHeld.{LocksFor, Tells}
 use Rattle.nfs_exec.specs.Runs.Ops.{RanOp}
@@ -45,3 +49,11 @@ pub record IsBegunBy (d : RanOp) (n client : ℕ) (owner : List ℕ) : Type 0 wh
   pub locker : locks.asked.locker ≡ OpenOwner new
   pub named : new.lock_owner.owner ≡ owner
   pub mine : d.context.client ≡ client
+
+-- A lock is not of whoever asks: its lock state is not the one that a LOCK names; nor is it of the lock owner that a LOCK or a LOCKT gives, of the client whose session that
+-- runs in.
+pub record IsOthers (d : RanOp) (state client : ℕ) (owner : List ℕ) : Type 0 where
+  pub named : (a : lock_args.Lock) (o : ExistLockOwner) (id : StateId) → d.item ≡ Operation (Op.Lock a) → a.locker ≡ LockOwner o
+      → meant d.context Any o.lock_stateid ≡ Ok id → id.number ≢ state
+  pub new : (a : lock_args.Lock) (o : OpenToLockOwner) → d.item ≡ Operation (Op.Lock a) → a.locker ≡ OpenOwner o → client ≡ d.context.client → owner ≢ o.lock_owner.owner
+  pub tested : (a : test_args.LockT) → d.item ≡ Operation (Op.LockT a) → client ≡ d.context.client → owner ≢ a.owner.owner

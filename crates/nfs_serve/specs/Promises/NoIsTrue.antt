@@ -10,7 +10,7 @@ use Rattle.nfs_files.specs.LockTold.{LockTold}
 use Rattle.nfs_exec.specs.Runs.LockHeld.{AreSpared}
 use Rattle.nfs_exec.specs.Runs.Ops.{RanOp}
 use Rattle.nfs_serve.specs.Step.{new_state}
-use Rattle.nfs_serve.specs.Promises.Denials.{IsRefusedFor, asks_for_lock, byte_of, Grants, IsBegunBy}
+use Rattle.nfs_serve.specs.Promises.Denials.{IsRefusedFor, asks_for_lock, byte_of, Grants, IsBegunBy, IsOthers}
 use Rattle.nfs_serve.specs.Promises.ChangeTells.{RunsIn}
 use Rattle.nfs_serve.specs.Promises.Endpoint.{Arrival}
 use Rattle.nfs_serve.specs.Promises.LockKept.{replaces_by}
@@ -57,7 +57,7 @@ pub data IsGranted (mode instance lease : ℕ) (k : LockTold) (owner : List ℕ)
       → IsGranted mode instance lease k owner records c until
 
 -- The refusal is of a wish that clashes with a lock on a byte. It reports that lock, with its client, its kind and its range, and the string that a LOCK of a new lock owner
--- gave for its lock state; and each byte of that range was granted and has not ended.
+-- gave for its lock state; that is not whoever asks; and each byte of that range was granted and has not ended.
 pub record IsTrue (mode instance lease : ℕ) (records : List Arrival) (c : Arrival) (until : List RanOp) (d : RanOp) : Type 0 where
   pub wish : Wish
   pub held : LockTold
@@ -69,6 +69,7 @@ pub record IsTrue (mode instance lease : ℕ) (records : List Arrival) (c : Arri
     owner = record { clientid = held.client; owner = take opaque_limit owner };
   })
   pub file : held.file ≡ wish.file
+  pub others : IsOthers d held.state held.client owner
   pub begun : (first : RanOp) × (RunsIn (new_state mode instance lease) records first ⊎ In first until) × IsBegunBy first held.state held.client owner
   pub clash : (wish.first ≤ held.last) × (held.first ≤ wish.last) × (held.first ≤ held.last)
   pub kinds : meets wish.kind (Some held.kind) ≡ true

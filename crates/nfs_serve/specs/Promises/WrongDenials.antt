@@ -7,6 +7,7 @@ use Rattle.nfs_results.specs.declared.res.Res.TheVariants as Res
 use Rattle.nfs_results.specs.Results.{spell_result}
 use Rattle.nfs_exec.specs.Runs.Ops.{RanOp}
 use Rattle.nfs_serve.specs.Promises.Endpoint.{Arrival}
+use Rattle.nfs_serve.specs.Promises.Exchanges.{words}
 use Rattle.nfs_serve.specs.Promises.HeldLock.{came, in_session, opens_and_locks, earlier, locks, waits, clashes, start, asked, last_of}
 use Rattle.nfs_serve.specs.Promises.LostReply.{exchange_id, create_session}
 use Rattle.nfs_serve.specs.Promises.Denials.{asks_for_lock}
@@ -44,6 +45,13 @@ silence = earlier ++ locks ∷ came 200 5 (exchange_id 0x4200_0000) ∷ came 201
 abbrev pub asks_late : Arrival
 asks_late = came 202 7 (in_session 2 1 4 (opens_and_locks 0))
 
+-- A asks for its byte once more, for the same lock owner: PUTFH of object 2; LOCK of its first byte as WRITE_LT, by the owner `l`, new under open 1
+abbrev pub asks_again : Arrival
+asks_again = came 103 4 (in_session 1 2 3 (words (22 ∷ 16 ∷ 7 ∷ 0 ∷ 0 ∷ 2 ∷ 12 ∷ 2 ∷ 0 ∷ 0 ∷ 0 ∷ 0 ∷ 1 ∷ 1 ∷ 0 ∷ 1 ∷ 7 ∷ 0 ∷ 1 ∷ 0 ∷ 0 ∷ 0 ∷ 1 ∷ 0x6c00_0000 ∷ [])))
+
+abbrev pub before_again : List Arrival
+before_again = earlier ++ locks ∷ []
+
 pub record DenialsRefused : Type 0 where
   -- A's LOCK is denied, whatever is reported, where nobody locked a byte
   pub nobody : (d : RanOp) (result : List ℕ) → IsTrue 511 7 90 earlier locks (take 2 (ops_of start locks)) (denies result (last_of d (ops_of start locks))) → ⊥
@@ -53,3 +61,6 @@ pub record DenialsRefused : Type 0 where
   -- the report gives B's own client for A's lock
   pub another : (d : RanOp)
       → (let ds = ops_of asked clashes in IsTrue 511 7 90 before_clash clashes (take 2 ds) (denies blames_another (last_of d ds))) → ⊥
+  -- A's second LOCK is denied, whatever is reported, where A's own lock alone is in its way
+  pub own : (d : RanOp) (result : List ℕ)
+      → (let ds = ops_of (reached 511 7 90 before_again) asks_again in IsTrue 511 7 90 before_again asks_again (take 1 ds) (denies result (last_of d ds))) → ⊥
