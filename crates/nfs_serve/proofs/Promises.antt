@@ -47,6 +47,8 @@ pub mod OneStateEach
 pub mod DenialsCaused
 pub mod NoIsTrue
 pub mod WrongDenials
+pub mod LockMade
+pub mod LockMadeWorked
 pub mod AskedAgain
 pub mod WrongLocks
 pub mod Others
@@ -78,6 +80,10 @@ pub mod PageLists
 pub mod PageRows
 pub mod ListsAll
 pub mod ListsWorked
+pub mod Seats
+pub mod KnownHandles
+pub mod KnownHandlesWorked
+pub mod HandleBytes
 pub mod SessionsOnce
 pub mod SessionsWorked
 pub mod Staying

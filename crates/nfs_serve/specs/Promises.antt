@@ -30,6 +30,7 @@ pub mod LockOwners
 pub mod Denials
 pub mod NoIsTrue
 pub mod WrongDenials
+pub mod LockMade
 pub mod AskedAgain
 pub mod SessionStays
 pub mod WrongLocks
@@ -50,6 +51,9 @@ pub mod FileStays
 pub mod FileStaysWorked
 pub mod ListsAll
 pub mod ListsWorked
+pub mod KnownHandles
+pub mod KnownHandlesWorked
+pub mod HandleBytes
 pub mod SessionsOnce
 pub mod OpenKept
 pub mod HeldOpen

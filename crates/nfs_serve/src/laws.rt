@@ -29,6 +29,10 @@ ghost use Rattle.nfs_serve.specs.Promises.HeldOpen.{IsOpenTo};
 ghost use Rattle.nfs_serve.specs.Promises.LockKept.{LockKept, EachIsTold, OnlyOneIsTold, LeaseIsTold};
 ghost use Rattle.nfs_serve.specs.Promises.LeaseListed.{LeaseIsListed, IsListed};
 ghost use Rattle.nfs_serve.specs.Promises.Handles.{HandlesLead, HandlesTell, IsLedBack};
+ghost use Rattle.nfs_serve.specs.Promises.HandleBytes.{BytesFollow, AreReadBack};
+ghost use Rattle.nfs_serve.specs.Promises.KnownHandles.{HandlesFollow};
+ghost use Rattle.nfs_serve.specs.Promises.KnownHandlesWorked.{IsKnown, HandlesRefused};
+ghost use Rattle.nfs_serve.specs.Promises.LockMade.{EachLockWasMade, MadeUnderItsOwn};
 ghost use Rattle.nfs_serve.specs.Promises.LockOwners.{StatesHaveOneOwner, OnlyOneOwnerIsTold, OneOwnerEach};
 ghost use Rattle.nfs_serve.specs.Promises.LockOwned.{EachIsOwned, OwnersApart};
 ghost use Rattle.nfs_serve.specs.Promises.LostReply.{IsAccepted, IsOverAWire};
@@ -309,6 +313,36 @@ pub fn a_handle_leads_back()
     ensures { IsLedBack }
 {}
 
+/// Filehandles are as they are known by what was sent and answered: a GETFH behind a PUTFH gives what was put, behind a PUTROOTFH always the same, behind a RESTOREFH what
+/// SAVEFH saved, and behind a LOOKUP, CREATE or OPEN of a name what was given for it before. A LINK or a RENAME leads the new name to the object's.
+pub fn handles_follow()
+    ensures { HandlesFollow }
+{}
+
+/// The definitions compute: a client gets a file's filehandle by its name, links the file and renames it; the filehandle is known by each name. That run meets the premises
+/// of `handles_follow`.
+pub fn names_bear_handles()
+    ensures { IsKnown }
+{}
+
+/// The definitions compute: `handles_follow` refuses a PUTFH that leads to another object or to none, a LINK that makes another object or that leaves the new name out, a
+/// RENAME that gives the file another filehandle, a RESTOREFH that leaves the current one, and a root whose filehandle changes.
+pub fn wrong_handles_are_refused()
+    ensures { HandlesRefused }
+{}
+
+/// What was written to a filehandle is read from it, by whomever, until a WRITE, a SETATTR of a size or an OPEN that sets it 0 changes the byte, of what may be that file by
+/// what was sent and answered.
+pub fn written_handles_are_read()
+    ensures { BytesFollow }
+{}
+
+/// The definitions compute: a client puts a file's filehandle and writes, puts it again and reads. That run meets the premises of `written_handles_are_read`, which refuses a
+/// READ that is answered zeros.
+pub fn a_handle_is_read()
+    ensures { AreReadBack }
+{}
+
 /// Of two LOCKs that clash on a byte, each answered NFS4_OK and a stateid of its own, the second comes behind an end of the first.
 pub fn only_one_writer_is_told()
     ensures { OnlyOneIsTold }
@@ -342,6 +376,16 @@ pub fn a_denial_is_true()
 /// reports another client, and one that is denied for the owner's own lock.
 pub fn wrong_denials_are_refused()
     ensures { DenialsRefused }
+{}
+
+/// A lock stands under the open that a LOCK named by its own argument: of each LOCK that is told a lock, the one that made its lock state, which is this one or one before it.
+pub fn each_lock_was_made()
+    ensures { EachLockWasMade }
+{}
+
+/// The definitions compute: a client opens a file and locks it under the current stateid; `each_lock_was_made` refuses a server that puts the lock state under another open.
+pub fn a_lock_is_under_its_open()
+    ensures { MadeUnderItsOwn }
 {}
 
 /// In every run a byte is held only by a lock state of a client that renewed its lease, by the records, at most a lease before.

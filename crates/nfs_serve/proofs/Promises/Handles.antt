@@ -70,7 +70,7 @@ handles_lead mode instance lease records c get n h small there gives others d =
 
 -- Each object has one filehandle, and each filehandle one object.
 
-number_in : (instance n k : ℕ) → ◌≡◌ {A = Option Handle} (Some (record { instance = instance; number = n })) (Some (record { instance = instance; number = k })) → n ≡ k
+pub number_in : (instance n k : ℕ) → ◌≡◌ {A = Option Handle} (Some (record { instance = instance; number = n })) (Some (record { instance = instance; number = k })) → n ≡ k
 number_in instance n k e = ap (λ (o : Option Handle). option_map_or (λ (h : Handle). h.number) o n) e
 
 pub handles_tell : HandlesTell

@@ -3,7 +3,7 @@ use Rattle.std.proofs.Common.{◌≡◌, ◌≢◌, ℕ, ◌+◌, ◌<◌, ◌^�
 use Rattle.std.specs.Prelude.{◌==◌, ◌&&◌, IfSome, option_map, unwrap_or, Result, Ok, Err}
 use Rattle.std.specs.Int.{w32, from_be_bytes}
 use Rattle.std.specs.Option.{ForSome}
-use Rattle.std.proofs.lemmas.Bool.{cases_Bool, and_parts, eqb-true, eq-eqb, false≢true}
+use Rattle.std.proofs.lemmas.Bool.{cases_Bool, and_parts, eqb-true, eq-eqb, false≢true, true≢false}
 use Rattle.std.proofs.lemmas.List.{take_at, drop_at}
 use Rattle.nfs_xdr.specs.Checks.{first_fault, judged}
 use Rattle.nfs_xdr.specs.Spelling.{number}
@@ -83,7 +83,7 @@ use Rattle.nfs_exec.specs.Runs.Ops.{RanOp}
 use Rattle.nfs_exec.proofs.Step.Behind.{by_step}
 use Rattle.nfs_exec.proofs.Runs.KeptByRuns.{otherwise_store}
 use Rattle.nfs_exec.proofs.Runs.WhatWasDone.{in_room_is, IsRun}
-use Rattle.nfs_serve.specs.Promises.NameStays.{IsDone, Makes, ByCreate, ByOpen, ByLink, ByRename, Takes, Removed, MovedAway, MovedOver}
+use Rattle.nfs_serve.specs.Promises.NameStays.{IsDone, Makes, ByCreate, ByOpen, ByLink, ByRename, Takes, TakesIt, Removed, MovedAway, MovedOver}
 
 -- The rows are the same, or one more is there, or those of a name are gone, or an entry moved.
 pub data DidRows (t : Files) (rows : List Row) (x : Context) (i : Item) (result : List ℕ) : Type 0 where
@@ -326,3 +326,15 @@ gone_rows t rows x i result d name (Moved m n cookie e away over makes) none spa
     ∙ pushed_none (without_entry m.source m.old (without_entry m.target m.name t.rows)) _ d name
     (without_none (without_entry m.target m.name t.rows) d m.source name m.old (without_none t.rows d m.target name m.name none))
     (λ same named. spares (subst (λ d. Makes d name x i result) same (subst (λ n. Makes m.target n x i result) named makes)))
+
+-- What is neither a REMOVE nor a RENAME spares each name.
+
+abbrev pub takes_names : Item → Bool
+takes_names (Operation (Op.Remove name)) = true
+takes_names (Operation (Op.Rename a)) = true
+takes_names i = false
+
+pub spared : (directory : ℕ) (name : List ℕ) (d : RanOp) → takes_names d.item ≡ false → TakesIt directory name d → ⊥
+spared directory name d e (Removed is at done) = true≢false (sym (ap takes_names is) ∙ e)
+spared directory name d e (MovedAway a is old saved done) = true≢false (sym (ap takes_names is) ∙ e)
+spared directory name d e (MovedOver a is new at done) = true≢false (sym (ap takes_names is) ∙ e)

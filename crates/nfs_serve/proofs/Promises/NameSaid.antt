@@ -65,7 +65,7 @@ use Rattle.nfs_serve.proofs.Promises.NameRows.{AreAt, both_at, unused_rows, repl
 
 -- The status in a result.
 
-status_in : (n m : ℕ) (f g : Status) (a b : List ℕ) → head n f ++ a ≡ head m g ++ b → status_number f ≡ status_number g
+pub status_in : (n m : ℕ) (f g : Status) (a b : List ℕ) → head n f ++ a ≡ head m g ++ b → status_number f ≡ status_number g
 status_in n m f g a b e =
     let same : number (status_number f) ++ a ≡ number (status_number g) ++ b =
     sym (drop_at (number n) (number (status_number f) ++ a) 4 (length_number n))
@@ -91,7 +91,7 @@ no_entry : (o : Option Row) → is_some o ≡ false → o ≡ None
 no_entry None e = refl
 no_entry (Some r) e = absurd (true≢false e)
 
-pushed_found : (rows : List Row) (new : Row) → entry rows new.directory new.name ≡ None → entry (rows ++ new ∷ []) new.directory new.name ≡ Some new
+pub pushed_found : (rows : List Row) (new : Row) → entry rows new.directory new.name ≡ None → entry (rows ++ new ∷ []) new.directory new.name ≡ Some new
 pushed_found rows new none = find_push_none (is_entry new.directory new.name) rows new none (entry_self new)
 
 abbrev Leads : Name → Files → Type 0

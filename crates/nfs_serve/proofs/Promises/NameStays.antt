@@ -56,6 +56,7 @@ as_step d r i same = r.is ∙ ap (λ i. done d.before d.context i (ran_as d r i)
 pub record RunsTo (d : RanOp) (next : Option Context) : Type 0 where
   pub run : IsRun d
   pub hands : (y : Context) → next ≡ Some y → y ≡ (ran_as d run d.item).context
+  pub stops : is_ok d.status ≡ false → next ≡ None
 
 abbrev pub AreLinked : List RanOp → Type 0
 AreLinked [] = Unit {0}
@@ -82,6 +83,7 @@ ops_linked limit sofar now choice m x (i ∷ more) is =
         run = record { limit = limit; sofar = sofar; now = now; refused = is_here choice; whole = is; is = refl };
         hands = next_if (is_ok s.outcome.status) rest s.context (λ y e.
             next_ops limit (sofar + length s.outcome.result) now (behind_here choice) s.outcome.machine s.context y more e);
+        stops = λ failed. ap (λ ok. next_of (cond ok rest [])) failed;
       },
       linked_if (is_ok s.outcome.status) rest
           (ops_linked limit (sofar + length s.outcome.result) now (behind_here choice) s.outcome.machine s.context more (whole_room limit sofar now (is_here choice) m x i is)),
@@ -228,7 +230,7 @@ seen d next k to item at is y here =
     ap (λ (y : Context). y.current) (to.hands y here ∙ ap (λ i. (ran_as d r i).context) item)
     ∙ find_leads k r.limit r.sofar r.now r.refused d.before d.context at (subst (λ (d : RanOp). IsDone Num.Lookup d.result) same is)
 
-missed : (d : RanOp) → IsRun d → (directory : ℕ) (name : List ℕ) (n : ℕ) → d.item ≡ Operation (Op.Lookup name) → d.context.current ≡ Some directory
+pub missed : (d : RanOp) → IsRun d → (directory : ℕ) (name : List ℕ) (n : ℕ) → d.item ≡ Operation (Op.Lookup name) → d.context.current ≡ Some directory
     → lookup d.before.store.tree directory name ≡ Some n → d.result ≡ finds_none → ⊥
 missed d r directory name n item at named told =
     let same : d ≡ done d.before d.context (Operation (Op.Lookup name)) (ran_as d r (Operation (Op.Lookup name))) = as_step d r (Operation (Op.Lookup name)) item in

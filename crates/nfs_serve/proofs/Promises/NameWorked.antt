@@ -25,6 +25,7 @@ use Rattle.nfs_serve.specs.Promises.NameWorked.{finds, finds_again, renames, fin
 use Rattle.nfs_serve.specs.Promises.NameWorked.{f, g, second_of, LeadsTo, NamesAreRefused}
 use Rattle.nfs_serve.proofs.Promises.HeldLock.{nothing, three}
 use Rattle.nfs_serve.proofs.Promises.Computing.{computing}
+use Rattle.nfs_serve.proofs.Promises.NameRows.{takes_names, spared}
 
 middle : (x : RanOp) (ds : List RanOp) → length ds ≡ 3 → ds ≡ take 1 ds ++ second_of x ds ∷ last_of x ds ∷ []
 middle x [] e = absurd (omega arith)
@@ -32,18 +33,6 @@ middle x (a ∷ []) e = absurd (omega arith)
 middle x (a ∷ b ∷ []) e = absurd (omega arith)
 middle x (a ∷ b ∷ c ∷ []) e = refl
 middle x (a ∷ b ∷ c ∷ d ∷ more) e = absurd (omega arith)
-
--- what is neither a REMOVE nor a RENAME spares each name
-
-abbrev takes_names : Item → Bool
-takes_names (Operation (Op.Remove name)) = true
-takes_names (Operation (Op.Rename a)) = true
-takes_names i = false
-
-spared : (directory : ℕ) (name : List ℕ) (d : RanOp) → takes_names d.item ≡ false → TakesIt directory name d → ⊥
-spared directory name d e (Removed is at done) = true≢false (sym (ap takes_names is) ∙ e)
-spared directory name d e (MovedAway a is old saved done) = true≢false (sym (ap takes_names is) ∙ e)
-spared directory name d e (MovedOver a is new at done) = true≢false (sym (ap takes_names is) ∙ e)
 
 abbrev all_spare : List RanOp → Bool
 all_spare [] = true

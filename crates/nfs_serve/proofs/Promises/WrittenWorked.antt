@@ -54,7 +54,7 @@ all_spared b (x ∷ ds) e d there = (let p = and_parts _ _ e in elim there [
   | inr later ↦ all_spared b ds p.1 d later
 ])
 
-abbrev wrote : args.Write
+abbrev pub wrote : args.Write
 wrote = record { stateid = anonymous; offset = 0; stable = Unstable; bytes = words (0x7365_656e ∷ []) }
 
 abbrev read : Read
@@ -100,7 +100,7 @@ unfolding computing
 until_read = all_spared byte (take 2 (ops_of closed reads)) refl
 
 -- the READ, answered that the file ends behind it and with these bytes
-abbrev reads_it : (d : RanOp) (text : List ℕ) → d.item ≡ Operation (Op.Read read) → d.context.current ≡ Some byte.file
+abbrev pub reads_it : (d : RanOp) (text : List ℕ) → d.item ≡ Operation (Op.Read read) → d.context.current ≡ Some byte.file
     → d.result ≡ done_head Num.Read ++ (words (1 ∷ []) ++ text) → length (words (1 ∷ [])) ≡ 4 → Reads byte.file byte.place d.context d.item d.result
 reads_it d text is at answers long = record {
   asked = read;
