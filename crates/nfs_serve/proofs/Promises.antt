@@ -84,6 +84,7 @@ pub mod Seats
 pub mod KnownHandles
 pub mod KnownHandlesWorked
 pub mod HandleBytes
+pub mod HandleLocks
 pub mod SessionsOnce
 pub mod SessionsWorked
 pub mod Staying

@@ -54,6 +54,7 @@ pub mod ListsWorked
 pub mod KnownHandles
 pub mod KnownHandlesWorked
 pub mod HandleBytes
+pub mod HandleLocks
 pub mod SessionsOnce
 pub mod OpenKept
 pub mod HeldOpen

@@ -30,6 +30,7 @@ ghost use Rattle.nfs_serve.specs.Promises.LockKept.{LockKept, EachIsTold, OnlyOn
 ghost use Rattle.nfs_serve.specs.Promises.LeaseListed.{LeaseIsListed, IsListed};
 ghost use Rattle.nfs_serve.specs.Promises.Handles.{HandlesLead, HandlesTell, IsLedBack};
 ghost use Rattle.nfs_serve.specs.Promises.HandleBytes.{BytesFollow, AreReadBack};
+ghost use Rattle.nfs_serve.specs.Promises.HandleLocks.{OnlyOneByHandle, IsOneWriter};
 ghost use Rattle.nfs_serve.specs.Promises.KnownHandles.{HandlesFollow};
 ghost use Rattle.nfs_serve.specs.Promises.KnownHandlesWorked.{IsKnown, HandlesRefused};
 ghost use Rattle.nfs_serve.specs.Promises.LockMade.{EachLockWasMade, MadeUnderItsOwn};
@@ -346,6 +347,17 @@ pub fn a_handle_is_read()
 /// Of two LOCKs that clash on a byte, each answered NFS4_OK and a stateid of its own, the second comes behind an end of the first.
 pub fn only_one_writer_is_told()
     ensures { OnlyOneIsTold }
+{}
+
+/// Of two LOCKs under one filehandle that clash on a byte, each answered NFS4_OK and a stateid of its own, the second comes behind an end of the first.
+pub fn only_one_writer_by_handle()
+    ensures { OnlyOneByHandle }
+{}
+
+/// The definitions compute: two clients open a file, get its filehandle and ask for its first byte; the second one is denied. That run meets the premises of
+/// `only_one_writer_by_handle`, and would meet them all if the second LOCK were granted.
+pub fn a_handle_has_one_writer()
+    ensures { IsOneWriter }
 {}
 
 /// A lock state is of one lock owner: two LOCKs of new lock owners that are told it give the same string, in sessions of the same client. So of two LOCKs of different

@@ -92,13 +92,13 @@ module _ (instance : ℕ) (low : instance < 2 ^ 32) (b : ByteAt) (n : ℕ) (its 
 
 -- What is known behind records, and behind operations.
 
-held_behind : (instance : ℕ) (low : instance < 2 ^ 32) (names : List KnownName) (s : State) (records : List Arrival) → HoldsIn instance low names s
+pub held_behind : (instance : ℕ) (low : instance < 2 ^ 32) (names : List KnownName) (s : State) (records : List Arrival) → HoldsIn instance low names s
     → HoldsIn instance low (names_behind (root_of instance) names s records) (state_after_all s records)
 held_behind instance low names s [] is = is
 held_behind instance low names s (c ∷ more) is =
     held_behind instance low (names_after (root_of instance) names s c) (state_after s c) more (one_record instance low names s c is).1
 
-held_back : (instance : ℕ) (low : instance < 2 ^ 32) (k : Known) (front back : List RanOp) → AllHold instance low k (front ++ back)
+pub held_back : (instance : ℕ) (low : instance < 2 ^ 32) (k : Known) (front back : List RanOp) → AllHold instance low k (front ++ back)
     → AllHold instance low (known_after_all (root_of instance) k front) back
 held_back instance low k [] back is = is
 held_back instance low k (d ∷ front) back is = held_back instance low (known_after (root_of instance) k d) front back is.1

@@ -65,7 +65,7 @@ spared k d e = record {
   closes = λ l. ended d Num.Close 0 e (ap ends l.is) l.names;
 }
 
-all_spared : (k : LockTold) (ds : List RanOp) → all_spare ds ≡ true → AreSpared k ds
+pub all_spared : (k : LockTold) (ds : List RanOp) → all_spare ds ≡ true → AreSpared k ds
 all_spared k [] e d there = absurd there
 all_spared k (x ∷ ds) e d there = (let p = and_parts _ _ e in elim there [
   | inl here ↦ subst (Spares k) (sym here) (spared k x p.0)
@@ -85,7 +85,7 @@ in_time k lease last s (c ∷ more) =
     && (all_spare (ops_of s c)
     && (not (replaces_by k.client s c) && in_time k lease (if renews_by k.client s c then taken s c else last) (state_after s c) more))
 
-are_in_time : (k : LockTold) (lease last : ℕ) (s : State) (cs : List Arrival) → in_time k lease last s cs ≡ true → AreInTime k lease last s cs (λ last t. Unit {0})
+pub are_in_time : (k : LockTold) (lease last : ℕ) (s : State) (cs : List Arrival) → in_time k lease last s cs ≡ true → AreInTime k lease last s cs (λ last t. Unit {0})
 are_in_time k lease last s [] e = tt
 are_in_time k lease last s (c ∷ more) e =
     let p = and_parts _ _ e in
@@ -102,7 +102,7 @@ abbrev pub last_of_all : ℕ → ℕ → State → List Arrival → ℕ
 last_of_all client last s [] = last
 last_of_all client last s (c ∷ more) = last_of_all client (if renews_by client s c then taken s c else last) (state_after s c) more
 
-up_to : (k : LockTold) (lease last : ℕ) (s : State) (cs : List Arrival) (Then : ℕ → State → Type 0) → AreInTime k lease last s cs (λ last t. Unit {0})
+pub up_to : (k : LockTold) (lease last : ℕ) (s : State) (cs : List Arrival) (Then : ℕ → State → Type 0) → AreInTime k lease last s cs (λ last t. Unit {0})
     → Then (last_of_all k.client last s cs) (state_after_all s cs) → AreInTime k lease last s cs Then
 up_to k lease last s [] Then all holds = holds
 up_to k lease last s (c ∷ more) Then all holds =

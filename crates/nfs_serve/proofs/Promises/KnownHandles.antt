@@ -1,11 +1,13 @@
 -- What is known of filehandles by what was sent and answered is so, in every run.
-use Rattle.std.proofs.Common.{◌≡◌, ℕ, zero, suc, ◌+◌, ◌<◌, ◌≤◌, ◌^◌, Bool, true, false, cond, not, List, [], ◌∷◌, ◌++◌, length, take, drop, get_or, Option, Some, None, refl, sym, ◌∙◌, ap, subst, arith, inl, inr}
+use Rattle.std.proofs.Common.{◌≡◌, ℕ, zero, suc, ◌<◌, ◌^◌, Bool, true, false, cond, not, List, [], ◌∷◌, length, take, drop, get_or, Option, Some, None}
+use Rattle.std.proofs.Common.{refl, sym, ◌∙◌, ap, subst, arith, inl, inr}
 use Rattle.std.specs.Prelude.{◌==◌, ◌&&◌, nat_lt, bytes_eq, filter, find, is_some, option_map, option_and_then, Result, Ok, Err}
 use Rattle.std.specs.Int.{w32, from_be_bytes}
 use Rattle.std.specs.List.{list_all}
 use Rattle.std.specs.Option.{option_map_or}
 use Rattle.std.proofs.lemmas.Bool.{cases_Bool, and_parts, and_from, not-true, eqb-true, eq-eqb, ltb-true, true≢false, false≢true}
 use Rattle.std.proofs.lemmas.List.{take_at, drop_at}
+use Rattle.std.proofs.lemmas.Option.{same_Some}
 use Rattle.std.proofs.lemmas.Slice.Eq.{bytes_eq-Decides}
 use Rattle.nfs_xdr.specs.Limits.{fhsize}
 use Rattle.nfs_xdr.specs.Spelling.{number, fixed, opaque}
@@ -213,13 +215,12 @@ module _ (instance : ℕ) (low : instance < 2 ^ 32) where
       go (Some k) found e =
           let there = find_in (is_at directory name) names k found in
           let parts = and_parts _ _ there.1 in
-          let leads : k.object ≡ object = cc in
           record {
             known = k;
             there = there.0;
             in_it = (bytes_eq-Decides k.place.directory directory).0 parts.0;
             called = (bytes_eq-Decides k.place.name name).0 parts.1;
-            leads = leads;
+            leads = same_Some k.object object e;
           }
 
   parent_is : (names : List KnownName) (object directory : List ℕ) → directory_of names object ≡ Some directory
@@ -231,8 +232,7 @@ module _ (instance : ℕ) (low : instance < 2 ^ 32) where
       go None found e = absurd cc
       go (Some k) found e =
           let there = find_in (λ k. bytes_eq k.object object) names k found in
-          let leads : k.place.directory ≡ directory = cc in
-          (k, there.0, (bytes_eq-Decides k.object object).0 there.1, leads)
+          (k, there.0, (bytes_eq-Decides k.object object).0 there.1, same_Some k.place.directory directory e)
 
   -- a filehandle that is known, and what is known through it
   through_it : {A : Type 0} (o : Option (List ℕ)) (f : List ℕ → Option A) (a : A) → option_and_then f o ≡ Some a → (h : List ℕ) × (o ≡ Some h) × (f h ≡ Some a)
@@ -430,7 +430,7 @@ module _ (instance : ℕ) (low : instance < 2 ^ 32) where
       let row = row_of s.directory s.object f.0.place.name (entry (rows d.before) s.directory f.0.place.name) refl s.leads in
       let up = up_of is.object is.parent (find (λ (r : Row). r.object == is.object) (rows d.before)) refl is.stands in
       let one : up.0 ≡ row.0 = whole.tree.rows.one up.0 row.0 up.1 row.1 (up.2 ∙ (sym object ∙ sym row.3))
-          (ap (is_directory_at d.before.store.tree) (row.3 ∙ object) ∙ is.directory) in
+      (ap (is_directory_at d.before.store.tree) (row.3 ∙ object) ∙ is.directory) in
       (s.directory, subst (λ h. Its h s.directory) f.3 s.in_it, is.to ∙ ap (λ n. Some n) (sym up.3 ∙ (ap (λ (r : Row). r.directory) one ∙ row.2)))
     where
       row_of : (directory n : ℕ) (name : List ℕ) (o : Option Row) → entry (rows d.before) directory name ≡ o → option_map (λ (r : Row). r.object) o ≡ Some n
@@ -527,7 +527,8 @@ module _ (instance : ℕ) (low : instance < 2 ^ 32) where
     seats_behind : (i : Item) → d.item ≡ i → (let b = behind the_root k i d.result in Seated b.current b.saved (after i))
     seats_behind (Operation (Op.PutFh h)) item =
         let p = was_put room d.before d.context h (was_ok d r (Operation (Op.PutFh h)) item ok) in
-        seat_put k.current k.saved _ d.context (after (Operation (Op.PutFh h))) seated p.saved (put_at h d.before.store.instance d.context (after (Operation (Op.PutFh h))) p own (are_bytes h) refl)
+        seat_put k.current k.saved _ d.context (after (Operation (Op.PutFh h))) seated p.saved
+        (put_at h d.before.store.instance d.context (after (Operation (Op.PutFh h))) p own (are_bytes h) refl)
     seats_behind (Operation Op.PutRootFh) item =
         let p = root_put room d.before d.context (was_ok d r (Operation Op.PutRootFh) item ok) in
         seat_put k.current k.saved (Some the_root) d.context (after (Operation Op.PutRootFh)) seated p.1 (root_at d.context (after (Operation Op.PutRootFh)) p.0)
@@ -556,10 +557,12 @@ module _ (instance : ℕ) (low : instance < 2 ^ 32) where
       where
         by_claim : (claim : OpenClaim) → (let s = ran_as d r (Operation (Op.Open a)) in OpenedTo claim s.outcome.machine.store.tree d.context s.context
             → Seated (opened claim k).current (opened claim k).saved s.context)
-        by_claim (Null name) is = led_seat k name d r (Operation (Op.Open a)) item refl seated stand (by_name name (ran_as d r (Operation (Op.Open a))).outcome.machine.store.tree d.context (after (Operation (Op.Open a))) is)
+        by_claim (Null name) is = led_seat k name d r (Operation (Op.Open a)) item refl seated stand
+            (by_name name (ran_as d r (Operation (Op.Open a))).outcome.machine.store.tree d.context (after (Operation (Op.Open a))) is)
         by_claim claim is = seat_same k.current k.saved d.context (after (Operation (Op.Open a))) seated (sym is.0, is.3)
     seats_behind (Operation (Op.SecinfoNoName style)) item =
-        seat_put k.current k.saved None d.context (after (Operation (Op.SecinfoNoName style))) seated (was_spent room d.before d.context style (was_ok d r (Operation (Op.SecinfoNoName style)) item ok)) (λ h e. absurd cc)
+        seat_put k.current k.saved None d.context (after (Operation (Op.SecinfoNoName style))) seated
+        (was_spent room d.before d.context style (was_ok d r (Operation (Op.SecinfoNoName style)) item ok)) (λ h e. absurd cc)
     seats_behind i item = seat_same k.current k.saved d.context (after i) seated (plain_same room d.before d.context i refl)
 
     came_behind : (i : Item) → d.item ≡ i → (p : Place) → (behind the_root k i d.result).came_by ≡ Some p → CameBy p (after i) (rows d.behind)
@@ -578,7 +581,8 @@ module _ (instance : ℕ) (low : instance < 2 ^ 32) where
       where
         by_claim : (claim : OpenClaim) → (let s = ran_as d r (Operation (Op.Open a)) in OpenedTo claim s.outcome.machine.store.tree d.context s.context
             → (opened claim k).came_by ≡ Some p → CameBy p s.context (rows d.behind))
-        by_claim (Null name) is e = led_came k name d r (Operation (Op.Open a)) item seated (by_name name (ran_as d r (Operation (Op.Open a))).outcome.machine.store.tree d.context (after (Operation (Op.Open a))) is) p e
+        by_claim (Null name) is e = led_came k name d r (Operation (Op.Open a)) item seated
+            (by_name name (ran_as d r (Operation (Op.Open a))).outcome.machine.store.tree d.context (after (Operation (Op.Open a))) is) p e
         by_claim claim is e = came_kept p d r (after (Operation (Op.Open a))) (ap takes_names item) (sym is.0) (came p e)
     came_behind (Operation (Op.Remove name)) item p e = absurd cc
     came_behind (Operation (Op.Rename a)) item p e = absurd cc
@@ -707,7 +711,7 @@ module _ (instance : ℕ) (low : instance < 2 ^ 32) where
       let whole = whole_before s c is.sound.whole in
       let runs = asked_runs (before s c) (asked_by s c) whole in
       let did = walk runs.start (ops_of s c) (starts names) runs.chained runs.linked (own_within (before s c) (asked_by s c) whole is.own)
-          (begun names (rows runs.start) (next_of (ops_of s c))) (subst (AllStand names) (sym runs.first) is.stand) in (
+      (begun names (rows runs.start) (next_of (ops_of s c))) (subst (AllStand names) (sym runs.first) is.stand) in (
         did.0,
         record {
           sound = sound_next s c is.sound;

@@ -37,7 +37,7 @@ states_have_one_owner mode instance lease earlier c front first back more second
     ((descends_kept t).run second two.run (later_keeps (λ s. Descends t s.opens) (descends_kept t) s c front first back more sound same (descends_same t) second place))
 
 -- what comes in time ends in the state behind all records
-end_of : (k : Kept) (client lease last : ℕ) (way : k.Way) (s : State) (cs : List Arrival) (Then : k.Way → ℕ → State → Type 0) → InTimeFor k client lease last way s cs Then
+pub end_of : (k : Kept) (client lease last : ℕ) (way : k.Way) (s : State) (cs : List Arrival) (Then : k.Way → ℕ → State → Type 0) → InTimeFor k client lease last way s cs Then
     → (to : k.Way) × (n : ℕ) × Then to n (state_after_all s cs)
 end_of k client lease last way s [] Then all = (way, last, all)
 end_of k client lease last way s (c ∷ more) Then all =
