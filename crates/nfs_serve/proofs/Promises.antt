@@ -74,6 +74,7 @@ pub mod Without
 pub mod NeverStale
 pub mod FileStays
 pub mod FileStaysWorked
+pub mod OpenReads
 pub mod NamelessStays
 pub mod PageText
 pub mod PageLists
@@ -85,6 +86,15 @@ pub mod KnownHandles
 pub mod KnownHandlesWorked
 pub mod HandleBytes
 pub mod HandleLocks
+pub mod Granting
+pub mod PermittedNames
+pub mod PermittedBytes
+pub mod PermittedOpens
+pub mod PermittedClaims
+pub mod Permitted
+pub mod PermittedWorked
+pub mod RightsKept
+pub mod RightsTold
 pub mod SessionsOnce
 pub mod SessionsWorked
 pub mod Staying

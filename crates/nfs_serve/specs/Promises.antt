@@ -55,6 +55,10 @@ pub mod KnownHandles
 pub mod KnownHandlesWorked
 pub mod HandleBytes
 pub mod HandleLocks
+pub mod OpenReads
+pub mod Permitted
+pub mod PermittedWorked
+pub mod RightsTold
 pub mod SessionsOnce
 pub mod OpenKept
 pub mod HeldOpen

@@ -45,11 +45,15 @@ ghost use Rattle.nfs_serve.specs.Promises.Network.{ExactlyOnce, AnswersExecuted}
 ghost use Rattle.nfs_serve.specs.Promises.NoIsTrue.{NoIsTrue};
 ghost use Rattle.nfs_serve.specs.Promises.Numbered.{AnswersNumbered, ExactlyOnceByNumber, XidsSuffice};
 ghost use Rattle.nfs_serve.specs.Promises.OpenKept.{OpenKept, EachOpenIsTold};
+ghost use Rattle.nfs_serve.specs.Promises.OpenReads.{OpensCanRead};
 ghost use Rattle.nfs_serve.specs.Promises.Others.{OthersLeaveAll, StrangersChangeNothing, ComeInTime};
 ghost use Rattle.nfs_serve.specs.Promises.Outlived.{NoneOutlives};
+ghost use Rattle.nfs_serve.specs.Promises.Permitted.{PermissionsHold};
+ghost use Rattle.nfs_serve.specs.Promises.PermittedWorked.{IsAskedOfTheOwner, GrantsAreRefused};
 ghost use Rattle.nfs_serve.specs.Promises.Points.{NoClash};
 ghost use Rattle.nfs_serve.specs.Promises.PerfectWire.{AsOverAWire};
 ghost use Rattle.nfs_serve.specs.Promises.RealTime.{Atomic};
+ghost use Rattle.nfs_serve.specs.Promises.RightsTold.{RightsAreTold, RootIsTold};
 ghost use Rattle.nfs_serve.specs.Promises.Seen.{ReplyReader, IsSequenced, Bears, server};
 ghost use Rattle.nfs_serve.specs.Promises.SessionsOnce.{EachMakesOne, EachWasMade, RepeatsMakeNone, NextMakesOne, IsGivenOnce};
 ghost use Rattle.nfs_serve.specs.Promises.SeenWrite.{IsSeen};
@@ -579,19 +583,26 @@ pub fn open_files_stay()
     ensures { FilesStay }
 {}
 
+/// What is open can be had: under the same premises a GETATTR of the file, of whatever can be read, and a READ by the open's stateid, if the open may read, are answered
+/// NFS4_OK, or NFS4ERR_REP_TOO_BIG where the reply has no room.
+pub fn open_files_can_be_read()
+    ensures { OpensCanRead }
+{}
+
 /// An object that no name leads to is not named again: no CREATE, OPEN, LOOKUP, LINK or RENAME that is answered NFS4_OK says that a name leads to it.
 pub fn nameless_files_stay_nameless()
     ensures { NamelessStays }
 {}
 
 /// The definitions compute: a client makes and writes a file, and removes it while it is open; its bytes are read by its filehandle, and its name is not found; behind
-/// the CLOSE the filehandle is stale. That run meets the premises of `open_files_stay` and `nameless_files_stay_nameless`.
+/// the CLOSE the filehandle is stale. That run meets the premises of `open_files_stay`, `open_files_can_be_read` and `nameless_files_stay_nameless`.
 pub fn a_file_outlasts_its_name()
     ensures { IsKeptOpen }
 {}
 
 /// The definitions compute: over that run `open_files_stay` refuses a stale filehandle, a READ that is answered NFS4ERR_STALE and a file that is dropped with its name;
-/// `reads_are_whole` refuses a READ that finds it empty; and `nameless_files_stay_nameless` refuses a name that is there again, and a LOOKUP that leads to the file.
+/// `open_files_can_be_read` refuses a READ that is answered NFS4ERR_NOENT, and `reads_are_whole` one that finds the file empty; and `nameless_files_stay_nameless` refuses
+/// a name that is there again, and a LOOKUP that leads to the file.
 pub fn wrong_losses_are_refused()
     ensures { LossesAreRefused }
 {}
@@ -620,6 +631,31 @@ pub fn a_listing_is_whole()
 /// that the directory ends; and `nothing_else_is_listed` refuses a name that nobody made, and a page that lists nothing and says that the directory goes on.
 pub fn wrong_listings_are_refused()
     ensures { ListingsAreRefused }
+{}
+
+/// Whoever is answered NFS4_OK may do what was asked: a LOOKUP, LOOKUPP, READDIR, CREATE, LINK, REMOVE and OPEN by a name were granted by the mode, owner and group of the
+/// directory; an OPEN of a file that is there by the file's; a READ and a WRITE by the file's too under a special stateid, and else by an open of the client that stands.
+/// Where they grant all that was wanted, NFS4ERR_ACCESS is not the answer to any of these.
+pub fn permissions_hold()
+    ensures { PermissionsHold }
+{}
+
+/// The mode, owner and group of an object are those that a CREATE or an OPEN made it with, and that SETATTRs which were answered NFS4_OK set since.
+pub fn rights_are_told()
+    ensures made { RightsAreTold }
+    ensures root { RootIsTold }
+{}
+
+/// The definitions compute: a user makes a file and lets its group alone read it; the user's READ is refused; then the owner alone may read it, and the READ is answered.
+/// That run meets the premises of `permissions_hold` and `rights_are_told`.
+pub fn a_mode_is_asked()
+    ensures { IsAskedOfTheOwner }
+{}
+
+/// The definitions compute: over that run `permissions_hold` refuses a READ that is granted by the group's digit of the mode, and a READ that is refused though the owner
+/// may read; and `rights_are_told` refuses a SETATTR that sets nothing.
+pub fn wrong_grants_are_refused()
+    ensures { GrantsAreRefused }
 {}
 
 /// A CREATE_SESSION that is answered NFS4_OK makes one session of its client, of the id that is answered, which did not stand before; or it changes nothing.

@@ -342,7 +342,7 @@ read_text st offset count =
     let bytes : List ℕ = take (given count) (drop offset st.bytes) in
     spell_result (Res.Read (record { eof = nat_le st.object.size (offset + length bytes); bytes = bytes }))
 
-node_there : (s : store.State) (x : Context) (n : ℕ) (st : Stored) → x.current ≡ Some n → stored_in s.tree.objects n ≡ Some st
+pub node_there : (s : store.State) (x : Context) (n : ℕ) (st : Stored) → x.current ≡ Some n → stored_in s.tree.objects n ≡ Some st
     → current s x ≡ Ok (record { number = n; object = st.object })
 unfolding current
 node_there s x n st at there = ap (node_at s) at ∙ ap (λ (o : Option Stored). node_as n (option_map (λ (s : Stored). s.object) o)) there

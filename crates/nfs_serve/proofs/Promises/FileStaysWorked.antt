@@ -1,15 +1,18 @@
 -- The run of a file that is open and loses its name, and the wrong answers, computed.
-use Rattle.std.proofs.Common.{◌≡◌, ℕ, true, false, List, [], ◌∷◌, ◌++◌, length, get_or, take, Option, refl, sym, ap, subst, arith, inl, inr}
+use Rattle.std.proofs.Common.{◌≡◌, ◌⊎◌, ℕ, true, false, List, [], ◌∷◌, ◌++◌, length, get_or, take, Option, refl, sym, ap, subst, arith, inl, inr}
 use Rattle.std.proofs.lemmas.Bool.{true≢false, false≢true}
-use Rattle.nfs_xdr.specs.declared.status.Status.TheVariants.{Nfs4Ok, NoEnt, Stale}
+use Rattle.nfs_xdr.specs.declared.status.Status.{Status}
+use Rattle.nfs_xdr.specs.declared.status.Status.TheVariants.{Nfs4Ok, NoEnt, Stale, RepTooBig}
 use Rattle.nfs_xdr.specs.Tables.{In}
 use Rattle.nfs_compound.specs.declared.file_args.Read.{Read}
 use Rattle.nfs_compound.specs.declared.op_num.OpNum.TheVariants as Num
 use Rattle.nfs_results.specs.Results.{done_head}
 use Rattle.nfs_tree.specs.Files.{is_there, has_row}
-use Rattle.nfs_names.specs.Context.{anonymous}
+use Rattle.nfs_compound.specs.declared.stateid.Stateid.{Stateid}
 use Rattle.nfs_names.specs.GetFh.{get_fh}
+use Rattle.nfs_names.specs.Outcome.{is_ok}
 use Rattle.nfs_names.specs.Remove.{remove}
+use Rattle.nfs_files.specs.StateIds.{state_id}
 use Rattle.nfs_exec.specs.Runs.Handles.{Gives}
 use Rattle.nfs_exec.specs.Runs.OpenHeld.{TellsOpen}
 use Rattle.nfs_exec.specs.Runs.Ops.{RanOp}
@@ -24,6 +27,7 @@ use Rattle.nfs_serve.specs.Promises.HeldOpen.{its_open}
 use Rattle.nfs_serve.specs.Promises.NameStays.{Finds}
 use Rattle.nfs_serve.specs.Promises.NameWorked.{f, with_names}
 use Rattle.nfs_serve.specs.Promises.OpenKept.{LeaveOpen}
+use Rattle.nfs_serve.specs.Promises.OpenReads.{CanBeHad}
 use Rattle.nfs_serve.specs.Promises.Points.{reached, ops_of}
 use Rattle.nfs_serve.specs.Promises.WrittenWorked.{makes, made, writes, written, answering, without_objects}
 use Rattle.nfs_serve.proofs.Promises.Computing.{computing}
@@ -36,8 +40,11 @@ opening = last_of nothing (ops_of start makes)
 abbrev removal : RanOp
 removal = last_of nothing (ops_of worked.found worked.removes)
 
+abbrev its_stateid : Stateid
+its_stateid = record { seqid = 0; other = words (7 ∷ 0 ∷ 1 ∷ []) }
+
 abbrev asked : Read
-asked = record { stateid = anonymous; offset = 0; count = 8 }
+asked = record { stateid = its_stateid; offset = 0; count = 8 }
 
 make_ops : ops_of start makes ≡ take 1 (ops_of start makes) ++ opening ∷ []
 unfolding computing
@@ -136,6 +143,14 @@ unread : (d : RanOp) → IsThere 2 given (with_status Stale (last_of d (ops_of w
 unfolding computing get_fh remove
 unread d is = is.used refl refl refl
 
+not_answered : (is_ok NoEnt ≡ true) ⊎ (◌≡◌ {A = Status} NoEnt RepTooBig) → ⊥
+not_answered (inl ok) = false≢true ok
+not_answered (inr same) = absurd cc
+
+failed : (d : RanOp) → CanBeHad its_open its_bits (with_status NoEnt (last_of d (ops_of worked.removed worked.reads))) → ⊥
+unfolding computing get_fh remove
+failed d is = not_answered (is.read asked (state_id its_stateid) refl refl refl refl refl refl refl refl)
+
 dropped : (d : RanOp) → IsThere 2 given (without_objects (last_of d (ops_of worked.removed worked.reads))) → ⊥
 unfolding computing get_fh remove
 dropped d is = false≢true is.there
@@ -155,4 +170,4 @@ unfolding computing get_fh remove
 shown d is = is.unsaid f refl (Finds refl refl ([], refl) (_, refl, refl))
 
 pub losses_are_refused : LossesAreRefused
-losses_are_refused = record { stale = stale_handle; unread = unread; dropped = dropped; emptied = emptied; named = named; shown = shown }
+losses_are_refused = record { stale = stale_handle; unread = unread; failed = failed; dropped = dropped; emptied = emptied; named = named; shown = shown }

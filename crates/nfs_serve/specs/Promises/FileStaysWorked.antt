@@ -23,6 +23,7 @@ use Rattle.nfs_serve.specs.Promises.HeldLock.{came, in_session, start, last_of, 
 use Rattle.nfs_serve.specs.Promises.HeldOpen.{its_open}
 use Rattle.nfs_serve.specs.Promises.NameWorked.{looks_up, with_names}
 use Rattle.nfs_serve.specs.Promises.OpenKept.{LeaveOpen}
+use Rattle.nfs_serve.specs.Promises.OpenReads.{CanBeHad}
 use Rattle.nfs_serve.specs.Promises.Points.{state_after, ops_of}
 use Rattle.nfs_serve.specs.Promises.WrittenWorked.{makes, made, writes, written, answering, without_objects}
 
@@ -34,9 +35,9 @@ finds = looks_up 5 3 0x6600_0000
 abbrev pub removes : Arrival
 removes = came 106 6 (in_session 1 4 3 (words (24 ∷ 28 ∷ 1 ∷ 0x6600_0000 ∷ [])))
 
--- PUTFH of object 2, and READ under the anonymous stateid, from byte 0 on, of at most 8 bytes
+-- PUTFH of object 2, and READ under the stateid of open 1, with seqid 0, from byte 0 on, of at most 8 bytes
 abbrev pub reads : Arrival
-reads = came 107 7 (in_session 1 5 3 (words (22 ∷ 16 ∷ 7 ∷ 0 ∷ 0 ∷ 2 ∷ 25 ∷ 0 ∷ 0 ∷ 0 ∷ 0 ∷ 0 ∷ 0 ∷ 8 ∷ [])))
+reads = came 107 7 (in_session 1 5 3 (words (22 ∷ 16 ∷ 7 ∷ 0 ∷ 0 ∷ 2 ∷ 25 ∷ 0 ∷ 7 ∷ 0 ∷ 1 ∷ 0 ∷ 0 ∷ 8 ∷ [])))
 
 abbrev pub misses : Arrival
 misses = looks_up 8 6 0x6600_0000
@@ -114,6 +115,8 @@ pub record LossesAreRefused : Type 0 where
   pub stale : (d : RanOp) → IsThere 2 given (with_status Stale (first_of d (ops_of removed reads))) → ⊥
   -- a READ is answered NFS4ERR_STALE
   pub unread : (d : RanOp) → IsThere 2 given (with_status Stale (last_of d (ops_of removed reads))) → ⊥
+  -- a READ by the open is answered NFS4ERR_NOENT
+  pub failed : (d : RanOp) → CanBeHad its_open its_bits (with_status NoEnt (last_of d (ops_of removed reads))) → ⊥
   -- the file is dropped with its name
   pub dropped : (d : RanOp) → IsThere 2 given (without_objects (last_of d (ops_of removed reads))) → ⊥
   -- its bytes are: READ answers that it is empty
