@@ -113,7 +113,8 @@ fn show<P: Ports, C: Clock, W: Watch<P, C>>(engine: &Engine, ports: &P, clock: &
 
 /// Whether on some port something waits to be stepped.
 fn have_more(lanes: &[Lane]) -> bool
-    ensures { result ≡ false → (port : ℕ) → port < length lanes.now → HasMore (at (desks_of lanes.now) port) → ⊥ }
+    ensures none { result ≡ false → (port : ℕ) → port < length lanes.now → HasMore (at (desks_of lanes.now) port) → ⊥ }
+    ensures some { result ≡ true → (port : ℕ) × (port < length lanes.now) × HasMore (at (desks_of lanes.now) port) }
 {
     for port in 0..lanes.len() {
         if lanes[port].has_more() {
