@@ -95,6 +95,7 @@ pub mod Permitted
 pub mod PermittedWorked
 pub mod RightsKept
 pub mod RightsTold
+pub mod EntriesAlike
 pub mod SessionsOnce
 pub mod SessionsWorked
 pub mod Staying

@@ -59,6 +59,7 @@ pub mod OpenReads
 pub mod Permitted
 pub mod PermittedWorked
 pub mod RightsTold
+pub mod EntriesAlike
 pub mod SessionsOnce
 pub mod OpenKept
 pub mod HeldOpen

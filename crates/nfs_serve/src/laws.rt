@@ -15,6 +15,7 @@ ghost use Rattle.nfs_serve.specs.Promises.ChangeSeen.{ReportsAreTrue, ChangesAre
 ghost use Rattle.nfs_serve.specs.Promises.ChangeSeenWorked as change_seen;
 ghost use Rattle.nfs_serve.specs.Promises.ChangeTells.{ChangeTells, ReadsAreAlike, AttributesAreAlike, ChangeIsTold};
 ghost use Rattle.nfs_serve.specs.Promises.ChangeWorked.{ToldByChange, ToldByAttributes, ChangesAreRefused};
+ghost use Rattle.nfs_serve.specs.Promises.EntriesAlike.{EntriesAreAlike};
 ghost use Rattle.nfs_serve.specs.Promises.Exchanges.{RunsTo, null_script, null_output, exchange_script, exchange_output};
 ghost use Rattle.nfs_serve.specs.Promises.FileRead.{ReadsAreWhole};
 ghost use Rattle.nfs_serve.specs.Promises.FileReadWorked.{IsReadWhole, ReadsAreRefused};
@@ -476,6 +477,11 @@ pub fn reads_are_alike()
 /// While an object's change is the same, two GETATTRs of the same attributes that are answered NFS4_OK are answered the same.
 pub fn attributes_are_alike()
     ensures { AttributesAreAlike }
+{}
+
+/// In every run READDIR tells of an object what GETATTR of it does, of the same attributes, as long as its change is the same; and so do two READDIRs.
+pub fn entries_are_alike()
+    ensures { EntriesAreAlike }
 {}
 
 /// In every run a GETATTR of attribute 3, whatever else it asks for, that answers NFS4_OK gives the object's change.

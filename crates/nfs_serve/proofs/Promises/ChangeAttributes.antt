@@ -26,7 +26,7 @@ use Rattle.nfs_serve.proofs.Promises.Points.{IsSound, sound_all, sound_new}
 use Rattle.nfs_serve.proofs.Promises.LaterRecords.{op_done, first_there, later_keeps, later_done}
 use Rattle.nfs_serve.proofs.Promises.ChangeTells.{change_tells}
 
-attributes_text : (words : List ℕ) (n links instance lease : ℕ) (o : Object) → List ℕ
+unfoldable pub attributes_text : (words : List ℕ) (n links instance lease : ℕ) (o : Object) → List ℕ
 attributes_text words n links instance lease o =
     spell_result (Res.GetAttr (record {
       attrmask = trimmed_words (common (mask_of words) readable);
@@ -34,7 +34,7 @@ attributes_text words n links instance lease o =
     }))
 
 -- what a GETATTR of an object answers, if it answers NFS4_OK
-record Attributes (n : ℕ) (words : List ℕ) (s : store.State) (text : List ℕ) : Type 0 where
+pub record Attributes (n : ℕ) (words : List ℕ) (s : store.State) (text : List ℕ) : Type 0 where
   pub kept : Stored
   pub there : stored_in s.tree.objects n ≡ Some kept
   pub answers : text ≡ attributes_text words n (links_in s.tree.rows n) s.instance s.lease kept.object
@@ -49,7 +49,7 @@ node_stored s x n d at found = go (stored_in s.tree.objects n) refl (sym (ap (no
     go None e bad = absurd cc
     go (Some st) e same = (st, e, (let one : record { number = n; object = st.object } ≡ d = cc in sym one))
 
-gets_run : (n : ℕ) (words : List ℕ) (d : RanOp) → IsRun d → GetsOf n words d → Attributes n words d.before.store d.result
+pub gets_run : (n : ℕ) (words : List ℕ) (d : RanOp) → IsRun d → GetsOf n words d → Attributes n words d.before.store d.result
 unfolding attributes_text
 gets_run n words d r gets =
     told (Attributes n words d.before.store) d r words gets.is gets.ok (λ k found.
@@ -63,7 +63,7 @@ gets_run n words d r gets =
       }))) it.2;
     }))
 
-text_same : (words : List ℕ) (n : ℕ) (s t : store.State) (text also : List ℕ) → t.instance ≡ s.instance → t.lease ≡ s.lease
+pub text_same : (words : List ℕ) (n : ℕ) (s t : store.State) (text also : List ℕ) → t.instance ≡ s.instance → t.lease ≡ s.lease
     → stored_in t.tree.objects n ≡ stored_in s.tree.objects n → links_in t.tree.rows n ≡ links_in s.tree.rows n
     → Attributes n words s text → Attributes n words t also → also ≡ text
 text_same words n s t text also instance lease stored links first second =
@@ -76,7 +76,7 @@ text_same words n s t text also instance lease stored links first second =
     ∙ (ap (λ (l : ℕ). attributes_text words n l s.instance s.lease first.kept.object) links
     ∙ sym first.answers))))
 
-stored_there : (t : Files) (n : ℕ) (k : Stored) → stored_in t.objects n ≡ Some k → is_there t n ≡ true
+pub stored_there : (t : Files) (n : ℕ) (k : Stored) → stored_in t.objects n ≡ Some k → is_there t n ≡ true
 stored_there t n k e = ap is_some e
 
 pub attributes_are_alike : AttributesAreAlike

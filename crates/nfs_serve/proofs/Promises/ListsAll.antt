@@ -1,7 +1,7 @@
 -- Listings are whole, in every run.
-use Rattle.std.proofs.Common.{◌≡◌, ◌⊎◌, ℕ, suc, ◌+◌, ◌<◌, ◌≤◌, Bool, true, false, List, [], ◌∷◌, ◌++◌, length, Option, Some, None, refl, sym, ◌∙◌, ap, subst, arith, inl, inr}
+use Rattle.std.proofs.Common.{◌≡◌, ℕ, suc, ◌+◌, ◌<◌, ◌≤◌, true, false, List, [], ◌∷◌, ◌++◌, Option, Some, None, refl, sym, ◌∙◌, ap, subst, arith, inl, inr}
 use Rattle.std.specs.Prelude.{◌==◌, bytes_eq}
-use Rattle.std.proofs.lemmas.Bool.{cases_Bool, cases_eq, cases_lt, eq-eqb, ne_eqb}
+use Rattle.std.proofs.lemmas.Bool.{cases_Bool, cases_lt, eq-eqb, ne_eqb}
 use Rattle.std.proofs.lemmas.Slice.Eq.{bytes_eq-Decides}
 use Rattle.nfs_xdr.specs.Tables.{In}
 use Rattle.nfs_xdr.specs.declared.status.Status.TheVariants.{RepTooBig}
@@ -23,22 +23,22 @@ use Rattle.nfs_exec.proofs.Runs.WhatWasDone.{IsRun, in_room_is}
 use Rattle.nfs_serve.specs.Step.{State, new_state}
 use Rattle.nfs_serve.specs.Promises.ChangeTells.{RunsIn}
 use Rattle.nfs_serve.specs.Promises.Endpoint.{Arrival}
-use Rattle.nfs_serve.specs.Promises.ListsAll.{Page, IsPage, last_cookie, ArePages, entries_of, entry_in, IsListedOnce, RowsAreListed, IsPart, PagesAreParts, all_ops, NamesAreListed, GoneIsUnlisted}
-use Rattle.nfs_serve.specs.Promises.NameStays.{Name, TakesIt, MakesIt, HoldsWhile, AllSpare, HoldsThrough, HoldsFrom, row_of, LeadsBefore, MissesBefore}
+use Rattle.nfs_serve.specs.Promises.ListsAll.{Page, IsPage, last_cookie, ArePages, entries_of, entry_in, IsListedOnce, RowsAreListed, PagesAreParts, all_ops, NamesAreListed, GoneIsUnlisted}
+use Rattle.nfs_serve.specs.Promises.NameStays.{TakesIt, MakesIt, HoldsWhile, AllSpare, HoldsThrough, HoldsFrom, row_of, LeadsBefore, MissesBefore}
 use Rattle.nfs_serve.specs.Promises.Points.{state_after, reached, ops_of}
 use Rattle.nfs_serve.proofs.Promises.LaterRecords.{run_done, later_done}
 use Rattle.nfs_serve.proofs.Promises.NameSaid.{not_done}
 use Rattle.nfs_serve.proofs.Promises.NameStays.{as_step, name_stays, gone_stays}
 use Rattle.nfs_serve.proofs.Promises.PageLists.{Rises, times, times_both, counted_same, last_up, front_rises, rest_rises, in_page, none_low, none_high, once_in, in_both, first_in, second_in, in_flat}
 use Rattle.nfs_serve.proofs.Promises.PageRows.{entry_cookie, entry_name, Lists, page_told, one_row, one_cookie, some_cookie}
-use Rattle.nfs_serve.proofs.Promises.Points.{IsSound, sound_all, sound_new}
+use Rattle.nfs_serve.proofs.Promises.Points.{sound_all, sound_new}
 
 -- A page is what its READDIR listed.
 
-abbrev Told : Page → ℕ → ℕ → Type 0
+abbrev pub Told : Page → ℕ → ℕ → Type 0
 Told p n c = Lists p.op.before.store (mask_of p.asked.attr_request) n c p.told
 
-page_lists : (p : Page) (n c : ℕ) → IsRun p.op → IsPage n c p → Told p n c
+pub page_lists : (p : Page) (n c : ℕ) → IsRun p.op → IsPage n c p → Told p n c
 page_lists p n c run is =
     let d = p.op in
     let i = Operation (Op.ReadDir p.asked) in

@@ -23,8 +23,8 @@ use Rattle.nfs_names.specs.ReadDir.{entry_of, fitting, read_dir, zeros}
 use Rattle.nfs_names.specs.Remove.{remove}
 use Rattle.nfs_exec.specs.Runs.Ops.{RanOp}
 use Rattle.nfs_serve.specs.Promises.HeldLock.{last_of}
-use Rattle.nfs_serve.specs.Promises.ListsAll.{Page, IsPage, ArePages, all_ops}
-use Rattle.nfs_serve.specs.Promises.ListsWorked.{makes_more, first, removes, second, third, later, more, begun, removed, gone_on, asked, entry, told, page, g, IsListedInPages, ListingsAreRefused}
+use Rattle.nfs_serve.specs.Promises.ListsAll.{Page, IsPage, all_ops}
+use Rattle.nfs_serve.specs.Promises.ListsWorked.{makes_more, first, removes, second, third, later, more, begun, removed, gone_on, entry, told, page, g, IsListedInPages, ListingsAreRefused}
 use Rattle.nfs_serve.specs.Promises.NameStays.{TakesIt, Removed, MovedAway, MovedOver, Says, Opens, AllSpare, next_of}
 use Rattle.nfs_serve.specs.Promises.Points.{ops_of}
 use Rattle.nfs_serve.specs.Promises.WrittenWorked.{made}

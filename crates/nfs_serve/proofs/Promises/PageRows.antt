@@ -1,7 +1,7 @@
 -- What a READDIR lists of the rows of its directory: the first of those behind its cookie, in rising order.
-use Rattle.std.proofs.Common.{◌≡◌, ℕ, suc, ◌+◌, ◌<◌, ◌≤◌, ◌^◌, Bool, true, false, cond, not, eqb, List, [], ◌∷◌, ◌++◌, length, map, filter, Option, Some, None, refl, sym, ◌∙◌, ap, subst, arith, append-nil, inl, inr}
-use Rattle.std.specs.Prelude.{◌==◌, ◌&&◌, nat_lt, bit_and, get_or}
-use Rattle.std.proofs.lemmas.Bool.{and_parts, eqb-true, eq-eqb, ltb-true, lt-ltb, leb-true, not-true, true≢false}
+use Rattle.std.proofs.Common.{◌≡◌, ℕ, suc, ◌+◌, ◌<◌, ◌^◌, Bool, true, false, cond, not, List, [], ◌∷◌, ◌++◌, length, map, filter, Option, Some, None, refl, sym, ◌∙◌, ap, subst, arith, append-nil, inl}
+use Rattle.std.specs.Prelude.{◌==◌, ◌&&◌, nat_lt, get_or}
+use Rattle.std.proofs.lemmas.Bool.{and_parts, eqb-true, eq-eqb, ltb-true, lt-ltb, leb-true, true≢false}
 use Rattle.std.proofs.lemmas.List.{length-append}
 use Rattle.std.proofs.lemmas.Nat.{and_le_r}
 use Rattle.nfs_xdr.specs.Tables.{IsRising, In}
@@ -18,10 +18,10 @@ use Rattle.nfs_results.specs.ResultCodec.{FitsResult}
 use Rattle.nfs_results.specs.Results.{spell_result}
 use Rattle.nfs_tree.specs.declared.object.Object.{Object}
 use Rattle.nfs_tree.specs.declared.row.Row.{Row}
-use Rattle.nfs_tree.specs.Files.{Files, listed, listing, object_at, entry}
+use Rattle.nfs_tree.specs.Files.{Files, listed, object_at, entry}
 use Rattle.nfs_tree.specs.TreeInvariants.{IsTree}
 use Rattle.nfs_attrs.specs.Attributes.{readable}
-use Rattle.nfs_attrs.specs.Mask.{mask_of, common, without_last_zeros, before_zero}
+use Rattle.nfs_attrs.specs.Mask.{mask_of, common, without_last_zeros}
 use Rattle.nfs_attrs.specs.declared.mask.Mask.{Mask}
 use Rattle.nfs_attrs.proofs.Bounds.{attributes_within}
 use Rattle.nfs_names.specs.Attributes.{about}

@@ -1,5 +1,5 @@
 -- A page of a listing has one reading.
-use Rattle.std.proofs.Common.{◌≡◌, ℕ, ◌+◌, ◌<◌, ◌≤◌, ◌^◌, Bool, true, false, List, [], ◌∷◌, ◌++◌, length, take, drop, replicate, refl, sym, ◌∙◌, ap, subst, arith, append_assoc, inl, inr}
+use Rattle.std.proofs.Common.{◌≡◌, ℕ, ◌+◌, ◌<◌, ◌^◌, Bool, true, false, List, [], ◌∷◌, ◌++◌, length, take, drop, replicate, refl, sym, ◌∙◌, ap, subst, arith, append_assoc, inl, inr}
 use Rattle.std.specs.Int.{w32, w64, from_be_bytes}
 use Rattle.std.specs.List.{flat_map, AllByRecursion}
 use Rattle.std.proofs.lemmas.List.{take_at, drop_at, length-append}
@@ -16,7 +16,7 @@ use Rattle.nfs_results.specs.Items.{entry, fattr, attr_set}
 use Rattle.nfs_results.specs.Listing.{read_dir}
 use Rattle.nfs_results.specs.ResultCodec.{FitsResult}
 use Rattle.nfs_results.specs.Results.{spell_result, done_head}
-use Rattle.nfs_results.specs.Straight.{read_dir_head, entry_head, entry_text, list_end}
+use Rattle.nfs_results.specs.Straight.{entry_head, entry_text, list_end}
 use Rattle.nfs_results.proofs.StraightLaws.{read_dir_in_parts}
 use Rattle.nfs_files.proofs.WrittenOps.{number_back}
 

@@ -1,0 +1,27 @@
+-- While an object's change is the same, READDIR tells the same of it as GETATTR, and as READDIR told before (RFC 8881 sections 5.8.1.4, 18.7 and 18.23).
+use Rattle.std.specs.Prelude.{◌≡◌, ◌⊎◌, ℕ, List, ◌∷◌, ◌++◌, Some}
+use Rattle.nfs_xdr.specs.Tables.{In}
+use Rattle.nfs_results.specs.declared.res.Entry.{Entry}
+use Rattle.nfs_results.specs.declared.res.Res.TheVariants as Res
+use Rattle.nfs_results.specs.Results.{spell_result}
+use Rattle.nfs_tree.specs.Files.{change_of, lookup}
+use Rattle.nfs_exec.specs.Runs.Ops.{RanOp}
+use Rattle.nfs_serve.specs.Promises.ChangeTells.{RunsIn, GetsOf}
+use Rattle.nfs_serve.specs.Promises.Endpoint.{Arrival}
+use Rattle.nfs_serve.specs.Promises.ListsAll.{Page, IsPage}
+use Rattle.nfs_serve.specs.Promises.Points.{state_after, reached, ops_of}
+
+-- An operation told these attributes of an object: a GETATTR of it; or a READDIR, in an entry whose name leads to the object before it. They are given as a GETATTR
+-- answers them.
+pub data TellsOf (n : ℕ) (words : List ℕ) (d : RanOp) (told : List ℕ) : Type 0 where
+  Gets : GetsOf n words d → d.result ≡ told → TellsOf n words d told
+  Lists : (directory cookie : ℕ) (p : Page) (e : Entry) → IsPage directory cookie p → p.op ≡ d → p.asked.attr_request ≡ words → In e p.told.entries
+      → lookup p.op.before.store.tree directory e.name ≡ Some n → spell_result (Res.GetAttr e.attrs) ≡ told → TellsOf n words d told
+
+-- In every run of a server, from its start on: two operations tell of an object, and its change is the same before both. Then they tell the same.
+abbrev pub EntriesAreAlike : Type 0
+EntriesAreAlike = (mode instance lease : ℕ) (earlier : List Arrival) (c : Arrival) (front : List RanOp) (d : RanOp) (back : List RanOp) (more : List Arrival) (e : RanOp)
+    (n : ℕ) (words told also : List ℕ)
+    → (let s = reached mode instance lease earlier in
+    ops_of s c ≡ front ++ d ∷ back → In e back ⊎ RunsIn (state_after s c) more e
+    → change_of e.before.store.tree n ≡ change_of d.before.store.tree n → TellsOf n words d told → TellsOf n words e also → also ≡ told)
