@@ -12,7 +12,8 @@ use Rattle.nfs_names.specs.Checks.{current}
 use Rattle.nfs_names.proofs.Found.{came, checked_ok}
 use Rattle.nfs_files.specs.LockTold.{LockTold}
 use Rattle.nfs_files.specs.Ranges.{wished, wish, range}
-use Rattle.nfs_files.specs.Target.{the_file, file_checks}
+use Rattle.nfs_files.specs.Bytes.{file_checks}
+use Rattle.nfs_files.specs.Target.{the_file}
 use Rattle.nfs_files.proofs.WrittenOps.{current_number}
 use Rattle.nfs_exec.specs.Runs.LockHeld.{LocksFor, AreSpared, Tells, the_lock}
 use Rattle.nfs_exec.specs.Runs.Ops.{RanOp}

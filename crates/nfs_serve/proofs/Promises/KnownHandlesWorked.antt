@@ -12,24 +12,27 @@ use Rattle.nfs_names.specs.Rename.{rename}
 use Rattle.nfs_names.specs.RestoreFh.{restore_fh}
 use Rattle.nfs_names.specs.SaveFh.{save_fh}
 use Rattle.nfs_serve.specs.Promises.Handles.{given}
-use Rattle.nfs_serve.specs.Promises.KnownHandles.{names_after}
-use Rattle.nfs_serve.specs.Promises.KnownHandlesWorked.{finds, links, renames, found, linked, root, another, f, g, h, IsKnown, HandlesRefused}
+use Rattle.nfs_serve.specs.Promises.KnownHandles.{starts, Follow, names_after}
+use Rattle.nfs_serve.specs.Promises.KnownHandlesWorked.{finds, links, renames, found, linked, root, another, f, g, h, IsKnown}
+use Rattle.nfs_serve.specs.Promises.KnownHandlesWorked.{but_for, answering, no_handle, giving, HandlesRefused}
+use Rattle.nfs_serve.specs.Promises.NameStays.{finds_none}
+use Rattle.nfs_serve.specs.Promises.Points.{ops_of}
 use Rattle.nfs_serve.specs.Promises.WrittenWorked.{made}
 use Rattle.nfs_serve.proofs.Promises.Computing.{computing}
 
 -- The parts of the run, each computed by itself.
 
-found_f : (top : List ℕ) → names_after top [] made finds ≡ f ∷ []
+found_f : names_after root [] made finds ≡ f ∷ []
 unfolding computing get_fh
-found_f top = refl
+found_f = refl
 
-linked_g : (top : List ℕ) → names_after top (f ∷ []) found links ≡ g ∷ f ∷ []
+linked_g : names_after root (f ∷ []) found links ≡ g ∷ f ∷ []
 unfolding computing get_fh save_fh both link
-linked_g top = refl
+linked_g = refl
 
-renamed_h : (top : List ℕ) → names_after top (g ∷ f ∷ []) linked renames ≡ h ∷ g ∷ []
+renamed_h : names_after root (g ∷ f ∷ []) linked renames ≡ h ∷ g ∷ []
 unfolding computing get_fh save_fh both link rename rename_args results.rename restore_fh
-renamed_h top = refl
+renamed_h = refl
 
 pub is_known : IsKnown
 is_known = record { found_f = found_f; linked_g = linked_g; renamed_h = renamed_h }
@@ -47,14 +50,35 @@ another_root : spell_result (Res.GetFh another) ≡ spell_result (Res.GetFh root
 unfolding number
 another_root e = let bad : ◌≡◌ {A = ℕ} 3 1 = ap (λ (text : List ℕ). get_or text 27 0) e in absurd (omega arith)
 
-pub handles_refused : HandlesRefused
+-- The wrong answers, each computed by itself.
+
+misled : Follow 7 root (starts (f ∷ [])) (but_for 1 (giving another) (ops_of found links)) → ⊥
+unfolding computing get_fh save_fh both link
+misled is = another_given (is.1.0.gives given refl refl refl)
+
+unset : Follow 7 root (starts (f ∷ [])) (but_for 1 (answering no_handle) (ops_of found links)) → ⊥
+unfolding computing get_fh save_fh both link
+unset is = is.1.0.there given refl refl refl
+
+copied : Follow 7 root (starts (f ∷ [])) (but_for 6 (giving another) (ops_of found links)) → ⊥
+unfolding computing get_fh save_fh both link
+copied is = another_given (is.1.1.1.1.1.1.0.gives given refl refl refl)
+
+lost : Follow 7 root (starts (f ∷ [])) (but_for 5 (answering finds_none) (ops_of found links)) → ⊥
+unfolding computing get_fh save_fh both link
+lost is = is.1.1.1.1.1.0.finds root (0x67 ∷ []) given refl refl refl refl
+
+renewed : Follow 7 root (starts (g ∷ f ∷ [])) (but_for 4 (giving another) (ops_of linked renames)) → ⊥
 unfolding computing get_fh save_fh both link rename rename_args results.rename restore_fh
-handles_refused = record {
-  misled = λ top is. another_given (is.1.0.gives given refl refl refl);
-  unset = λ top is. is.1.0.there given refl refl refl;
-  copied = λ top is. another_given (is.1.1.1.1.1.1.1.0.gives given refl refl refl);
-  lost = λ top is. is.1.1.1.1.1.1.0.finds root (0x67 ∷ []) given refl refl refl refl;
-  renewed = λ top is. another_given (is.1.1.1.1.1.0.gives given refl refl refl);
-  kept = λ top is. given_root (is.1.1.1.1.1.1.1.0.gives root refl refl refl);
-  unsettled = λ is. another_root (is.1.0.gives root refl refl refl);
-}
+renewed is = another_given (is.1.1.1.1.0.gives given refl refl refl)
+
+kept : Follow 7 root (starts (g ∷ f ∷ [])) (but_for 6 (giving given) (ops_of linked renames)) → ⊥
+unfolding computing get_fh save_fh both link rename rename_args results.rename restore_fh
+kept is = given_root (is.1.1.1.1.1.1.0.gives root refl refl refl)
+
+unsettled : Follow 7 root (starts []) (but_for 1 (giving another) (ops_of made finds)) → ⊥
+unfolding computing get_fh
+unsettled is = another_root (is.1.0.gives root refl refl refl)
+
+pub handles_refused : HandlesRefused
+handles_refused = record { misled = misled; unset = unset; copied = copied; lost = lost; renewed = renewed; kept = kept; unsettled = unsettled }

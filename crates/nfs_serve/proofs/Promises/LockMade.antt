@@ -90,7 +90,7 @@ were t l there = (l, there, as_itself l)
 
 -- What is no LOCK makes none.
 
-abbrev is_lock : Op → Bool
+abbrev pub is_lock : Op → Bool
 is_lock (Op.Lock a) = true
 is_lock op = false
 
@@ -114,7 +114,7 @@ effect_were s x op r t u (Unlocks n w) other caused are l there = were_changed t
 effect_were s x op r t u (Frees n) other caused are l there = are l (in_filter (λ (l : LockState). not (l.number == n)) u.opens.locks l there).0
 effect_were s x op r t u e other caused are l there = are l there
 
-abbrev is_lock_item : Item → Bool
+abbrev pub is_lock_item : Item → Bool
 is_lock_item (Operation op) = is_lock op
 is_lock_item (Fault number status) = false
 

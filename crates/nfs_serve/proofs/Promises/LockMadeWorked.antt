@@ -1,6 +1,6 @@
 -- The open that a lock stands under, in the run of `HeldLock`, computed.
-use Rattle.std.proofs.Common.{◌≡◌, ℕ, List, [], ◌∷◌, refl, sym, ◌∙◌, ap, subst, arith, inl, inr}
-use Rattle.std.specs.Prelude.{Result, Ok, Err}
+use Rattle.std.proofs.Common.{◌≡◌, ℕ, false, List, [], ◌∷◌, refl, sym, ◌∙◌, ap, subst, arith, inl, inr}
+use Rattle.std.specs.Prelude.{replicate, Result, Ok, Err}
 use Rattle.std.proofs.lemmas.Bool.{false≢true}
 use Rattle.nfs_xdr.specs.declared.status.Status.{Status}
 use Rattle.nfs_xdr.specs.Tables.{In}
@@ -19,7 +19,7 @@ use Rattle.nfs_serve.specs.Promises.HeldLock.{start, locks, last_of}
 use Rattle.nfs_serve.specs.Promises.LockMade.{MakesUnder, MadeUnderItsOwn}
 use Rattle.nfs_serve.specs.Promises.Points.{ops_of}
 use Rattle.nfs_serve.proofs.Promises.Computing.{computing}
-use Rattle.nfs_serve.proofs.Promises.HeldLock.{asking, locks_for, nothing}
+use Rattle.nfs_serve.proofs.Promises.HeldLock.{asking}
 use Rattle.nfs_serve.proofs.Promises.LockMade.{is_lock_item}
 
 abbrev AllSo : (RanOp → Type 0) → List RanOp → Type 0
@@ -56,10 +56,20 @@ unfolding computing
 made_under_its_own = record {
   its = λ d. record {
     wish = worked.wish 1 0;
-    locks = locks_for (last_of d (ops_of start locks)) 1 0 2 refl refl refl refl refl;
-    owner = _;
+    locks = record {
+      asked = asking 0;
+      is = refl;
+      wish = refl;
+      names = record { id = worked.stateid_of_lock 2; answers = refl; long = refl; number = refl };
+    };
+    owner = record {
+      open_seqid = 0;
+      open_stateid = record { seqid = 1; other = replicate 12 0 };
+      lock_seqid = 0;
+      lock_owner = record { clientid = 0; owner = 0x6c ∷ [] };
+    };
     new = refl;
-    id = record { seqid = 1; instance = 7; number = 1 };
+    id = record { seqid = 0; instance = 7; number = 1 };
     means = refl;
     names = refl;
   };

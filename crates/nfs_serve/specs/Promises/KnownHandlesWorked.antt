@@ -21,13 +21,13 @@ use Rattle.nfs_serve.specs.Promises.WrittenWorked.{made}
 abbrev pub finds : Arrival
 finds = came 104 4 (in_session 1 2 5 (words (24 ∷ 10 ∷ 15 ∷ 1 ∷ 0x6600_0000 ∷ 10 ∷ [])))
 
--- PUTFH of the file, GETFH, SAVEFH, PUTROOTFH, GETFH, LINK as `g`, LOOKUP of `g`, and GETFH
+-- PUTFH of the file, GETFH, SAVEFH, PUTROOTFH, LINK as `g`, LOOKUP of `g`, and GETFH
 abbrev pub links : Arrival
-links = came 105 5 (in_session 1 3 9 (words (22 ∷ 16 ∷ []) ++ (given ++ words (10 ∷ 32 ∷ 24 ∷ 10 ∷ 11 ∷ 1 ∷ 0x6700_0000 ∷ 15 ∷ 1 ∷ 0x6700_0000 ∷ 10 ∷ []))))
+links = came 105 5 (in_session 1 3 8 (words (22 ∷ 16 ∷ []) ++ (given ++ words (10 ∷ 32 ∷ 24 ∷ 11 ∷ 1 ∷ 0x6700_0000 ∷ 15 ∷ 1 ∷ 0x6700_0000 ∷ 10 ∷ []))))
 
--- PUTROOTFH, GETFH, SAVEFH, RENAME of `f` to `h`, LOOKUP of `h`, GETFH, RESTOREFH, and GETFH
+-- PUTROOTFH, SAVEFH, RENAME of `f` to `h`, LOOKUP of `h`, GETFH, RESTOREFH, and GETFH
 abbrev pub renames : Arrival
-renames = came 106 6 (in_session 1 4 9 (words (24 ∷ 10 ∷ 32 ∷ 29 ∷ 1 ∷ 0x6600_0000 ∷ 1 ∷ 0x6800_0000 ∷ 15 ∷ 1 ∷ 0x6800_0000 ∷ 10 ∷ 31 ∷ 10 ∷ [])))
+renames = came 106 6 (in_session 1 4 8 (words (24 ∷ 32 ∷ 29 ∷ 1 ∷ 0x6600_0000 ∷ 1 ∷ 0x6800_0000 ∷ 15 ∷ 1 ∷ 0x6800_0000 ∷ 10 ∷ 31 ∷ 10 ∷ [])))
 
 abbrev pub found : State
 found = state_after made finds
@@ -57,9 +57,9 @@ h = named 0x68
 
 -- the names that are known behind each of the three
 pub record IsKnown : Type 0 where
-  pub found_f : (top : List ℕ) → names_after top [] made finds ≡ f ∷ []
-  pub linked_g : (top : List ℕ) → names_after top (f ∷ []) found links ≡ g ∷ f ∷ []
-  pub renamed_h : (top : List ℕ) → names_after top (g ∷ f ∷ []) linked renames ≡ h ∷ g ∷ []
+  pub found_f : names_after root [] made finds ≡ f ∷ []
+  pub linked_g : names_after root (f ∷ []) found links ≡ g ∷ f ∷ []
+  pub renamed_h : names_after root (g ∷ f ∷ []) linked renames ≡ h ∷ g ∷ []
 
 -- so many operations are as they are, and the next one is another
 abbrev pub but_for : ℕ → (RanOp → RanOp) → List RanOp → List RanOp
@@ -78,19 +78,19 @@ no_handle = spell_result (refusal (op_number Num.GetFh) NoFileHandle)
 abbrev pub giving : List ℕ → RanOp → RanOp
 giving handle = answering (spell_result (Res.GetFh handle))
 
--- The promise refuses these, whatever filehandle the root is said to have.
+-- The promise refuses these.
 pub record HandlesRefused : Type 0 where
   -- a PUTFH of the file that leads to another object
-  pub misled : (top : List ℕ) → Follow 7 top (starts (f ∷ [])) (but_for 1 (giving another) (ops_of found links)) → ⊥
+  pub misled : Follow 7 root (starts (f ∷ [])) (but_for 1 (giving another) (ops_of found links)) → ⊥
   -- a PUTFH that leads nowhere: the GETFH is answered NFS4ERR_NOFILEHANDLE
-  pub unset : (top : List ℕ) → Follow 7 top (starts (f ∷ [])) (but_for 1 (answering no_handle) (ops_of found links)) → ⊥
+  pub unset : Follow 7 root (starts (f ∷ [])) (but_for 1 (answering no_handle) (ops_of found links)) → ⊥
   -- a LINK that makes another object: by the new name it gives another filehandle
-  pub copied : (top : List ℕ) → Follow 7 top (starts (f ∷ [])) (but_for 7 (giving another) (ops_of found links)) → ⊥
+  pub copied : Follow 7 root (starts (f ∷ [])) (but_for 6 (giving another) (ops_of found links)) → ⊥
   -- a LOOKUP of the new name that is answered NFS4ERR_NOENT
-  pub lost : (top : List ℕ) → Follow 7 top (starts (f ∷ [])) (but_for 6 (answering finds_none) (ops_of found links)) → ⊥
+  pub lost : Follow 7 root (starts (f ∷ [])) (but_for 5 (answering finds_none) (ops_of found links)) → ⊥
   -- a RENAME that gives the file another filehandle
-  pub renewed : (top : List ℕ) → Follow 7 top (starts (g ∷ f ∷ [])) (but_for 5 (giving another) (ops_of linked renames)) → ⊥
+  pub renewed : Follow 7 root (starts (g ∷ f ∷ [])) (but_for 4 (giving another) (ops_of linked renames)) → ⊥
   -- a RESTOREFH that leaves the file's
-  pub kept : (top : List ℕ) → Follow 7 top (starts (g ∷ f ∷ [])) (but_for 7 (giving given) (ops_of linked renames)) → ⊥
+  pub kept : Follow 7 root (starts (g ∷ f ∷ [])) (but_for 6 (giving given) (ops_of linked renames)) → ⊥
   -- a root whose filehandle changes
-  pub unsettled : Follow 7 root (starts (g ∷ f ∷ [])) (but_for 1 (giving another) (ops_of linked renames)) → ⊥
+  pub unsettled : Follow 7 root (starts []) (but_for 1 (giving another) (ops_of made finds)) → ⊥
