@@ -1,7 +1,6 @@
 -- The keys of a table, and the members that it stands for.
 use Rattle.std.proofs.Common.{◌≡◌, Bool, true, ◌&&◌, List, [], ◌∷◌, map, String, Global, string_bytes, refl, ap}
-use Rattle.toml.specs.declared.value.Value.{Value}
-use Rattle.toml.specs.View.{members_view}
+use Rattle.toml.specs.{declared.value.Value.Value, View.members_view}
 use Rattle.nfs41d.specs.SettingsFile.{is_known, all_known}
 
 abbrev pub known_keys : List (String Global) → Bool

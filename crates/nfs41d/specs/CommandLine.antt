@@ -1,8 +1,7 @@
 -- What may be asked for on the command line (this server's profile).
 use Rattle.std.specs.Prelude.{◌≤◌, IfSome}
 use Rattle.nfs_serve.specs.Script.{connection_count}
-use Rattle.nfs41d.specs.declared.asked.Order.{Order}
-use Rattle.nfs41d.specs.declared.asked.Order.TheVariants.{Replay, Serve}
+use Rattle.nfs41d.specs.{declared.asked.Order.Order, declared.asked.Order.TheVariants.{Replay, Serve}}
 
 -- 1 to 1,000,000 connections, or no end of them; 1 to 16 at once; a line of status after each 1 to 86,400 seconds, or none
 abbrev pub MayBeAsked : Order → Type 0

@@ -1,13 +1,7 @@
 -- How the program ends, and with which status (this server's profile).
-use Rattle.std.specs.Prelude.{◌≡◌, ◌⊎◌, ℕ, Bool, true, false, Result, Ok, Err}
-use Rattle.std.specs.declared.io.ErrorKind.{ErrorKind}
-use Rattle.std.specs.declared.io.ErrorKind.TheVariants.{OutOfMemory}
-use Rattle.nfs_serve.specs.declared.fault.Stop.{Stop}
-use Rattle.nfs_serve.specs.declared.fault.Stop.TheVariants.{ReadFailed, WriteFailed}
-use Rattle.nfs_serve.specs.declared.fault.ReplayFault.{ReplayFault}
-use Rattle.nfs41d.specs.declared.fault.Fault.{Fault}
-use Rattle.nfs41d.specs.declared.settings_file.Bad.{Bad}
-use Rattle.nfs41d.specs.declared.settings_file.Bad.TheVariants.{Text, Memory}
+use Rattle.std.specs.{Prelude.{◌≡◌, ◌⊎◌, ℕ, Bool, true, false, Result, Ok, Err}, declared.io.ErrorKind.ErrorKind, declared.io.ErrorKind.TheVariants.OutOfMemory}
+use Rattle.nfs_serve.specs.{declared.fault.Stop.Stop, declared.fault.Stop.TheVariants.{ReadFailed, WriteFailed}, declared.fault.ReplayFault.ReplayFault}
+use Rattle.nfs41d.specs.{declared.fault.Fault.Fault, declared.settings_file.Bad.Bad, declared.settings_file.Bad.TheVariants.{Text, Memory}}
 
 abbrev pub stop_status : Stop → ℕ
 stop_status ReadFailed = 3

@@ -1,8 +1,7 @@
 -- What a settings file says: a TOML document of up to three integers (this server's profile).
 use Rattle.std.specs.Prelude.{ℕ, pos, List, Bool, true, ◌&&◌, ◌||◌, nat_le, Option, Some, None, option_and_then, codes, bytes_eq, if◌then◌else◌}
 use Rattle.nfs_serve.specs.declared.server.Settings.{Settings}
-use Rattle.toml.specs.Data.{Data, integer, Members, no_members, member, get_member}
-use Rattle.toml.specs.Parse.{parse_document}
+use Rattle.toml.specs.{Data.{Data, integer, Members, no_members, member, get_member}, Parse.parse_document}
 
 -- an integer from `low` to `high`, or `default` where the key is left out
 abbrev pub number_of : ℕ → ℕ → ℕ → Option Data → Option ℕ

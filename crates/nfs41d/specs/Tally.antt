@@ -1,7 +1,6 @@
 -- What a reply is counted as. It stands with its record mark (RFC 5531 sections 9 and 11): the mark, xid, REPLY, reply_stat, and, of one that is
 -- accepted, a verifier of no bytes, accept_stat, and the status of the compound (RFC 8881 section 16.2.2).
-use Rattle.std.specs.Prelude.{ℕ, ◌+◌, ◌==◌, ◌||◌, Bool, nat_lt, List, length, take, drop, min, Option, Some, None, if◌then◌else◌}
-use Rattle.std.specs.Int.{from_be_bytes, w32}
+use Rattle.std.specs.{Prelude.{ℕ, ◌+◌, ◌==◌, ◌||◌, Bool, nat_lt, List, length, take, drop, min, Option, Some, None, if◌then◌else◌}, Int.{from_be_bytes, w32}}
 use Rattle.nfs41d.specs.declared.tally.Tally.{Tally}
 
 abbrev pub word_at : ℕ → List ℕ → Option ℕ

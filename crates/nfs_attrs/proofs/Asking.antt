@@ -1,15 +1,11 @@
 -- The numbers that a mask asks for, and their values.
 use Rattle.std.proofs.Common.{◌≡◌, ℕ, suc, ◌<◌, ◌≤◌, ◌+◌, Bool, true, false, cond, List, [], ◌∷◌, ◌++◌, length, take, drop, get_or, refl, sym, ap, ◌∙◌, add-one, arith}
-use Rattle.std.specs.List.{flat_map, filter}
 use Rattle.std.proofs.lemmas.List.{length-append}
+use Rattle.std.specs.List.{flat_map, filter}
 use Rattle.nfs_tree.specs.declared.object.Object.{Object}
-use Rattle.nfs_attrs.specs.Attributes.{attributes, values, value_at}
-use Rattle.nfs_attrs.specs.Asked.{asked_numbers, values_of}
-use Rattle.nfs_attrs.specs.Mask.{has}
-use Rattle.nfs_attrs.specs.declared.about.About.{About}
+use Rattle.nfs_attrs.specs.{Attributes.{attributes, values, value_at}, Asked.{asked_numbers, values_of}, Mask.has, declared.about.About.About}
 use Rattle.nfs_attrs.specs.declared.mask.Mask.{Mask}
-use Rattle.nfs_attrs.proofs.Fronts.{one_more, split_at}
-use Rattle.nfs_attrs.proofs.Values.{numbers, values_by_number}
+use Rattle.nfs_attrs.proofs.{Fronts.{one_more, split_at}, Values.{numbers, values_by_number}}
 
 pub asked_of_table : (asked : Mask) → asked_numbers asked ≡ filter (has asked) numbers
 unfolding asked_numbers attributes

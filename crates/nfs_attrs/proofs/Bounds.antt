@@ -1,19 +1,12 @@
 -- How long attributes can be.
-use Rattle.std.proofs.Common.{ℕ, ◌≤◌, ◌+◌, Bool, true, false, cond, List, [], ◌∷◌, length, arith, zero, suc, ◌/◌, ◌%◌, eqb}
-use Rattle.std.specs.Fmt.{decimal, digits, digits_onto, digit_glyph}
-use Rattle.std.specs.List.{flat_map}
-use Rattle.std.proofs.lemmas.List.{length-append}
+use Rattle.std.proofs.{Common.{ℕ, ◌≤◌, ◌+◌, Bool, true, false, cond, List, [], ◌∷◌, length, arith, zero, suc, ◌/◌, ◌%◌, eqb}, lemmas.List.length-append}
+use Rattle.std.specs.{Fmt.{decimal, digits, digits_onto, digit_glyph}, List.flat_map}
 use Rattle.nfs_xdr.specs.Spelling as spelling
 use Rattle.nfs_xdr.proofs.Putting.{length_number}
 use Rattle.nfs_tree.specs.declared.object.Object.{Object}
-use Rattle.nfs_attrs.specs.Attributes.{attributes, values, readable, spell_attrs}
-use Rattle.nfs_attrs.specs.Mask.{has, trimmed_words, common, spell_mask}
-use Rattle.nfs_attrs.specs.Value.{asked_at}
-use Rattle.nfs_attrs.specs.declared.about.About.{About}
-use Rattle.nfs_attrs.specs.declared.mask.Mask.{Mask}
-use Rattle.nfs_attrs.proofs.Lengths.{measuring}
-use Rattle.nfs_attrs.proofs.MaskWords.{length_numbers, length-without_last_zeros}
-use Rattle.nfs_attrs.proofs.Values.{numbers, values_by_number}
+use Rattle.nfs_attrs.specs.{Attributes.{attributes, values, readable, spell_attrs}, Mask.{has, trimmed_words, common, spell_mask}, Value.asked_at}
+use Rattle.nfs_attrs.specs.{declared.about.About.About, declared.mask.Mask.Mask}
+use Rattle.nfs_attrs.proofs.{Lengths.measuring, MaskWords.{length_numbers, length-without_last_zeros}, Values.{numbers, values_by_number}}
 
 -- the text of each number is within its width
 abbrev pub EachWithin : (ℕ → List ℕ) → List ℕ → List ℕ → Type 0

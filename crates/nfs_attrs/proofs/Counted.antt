@@ -1,11 +1,9 @@
 -- A count that is written in its place when what it counts has been put.
 use Rattle.std.proofs.Common.{◌≡◌, ℕ, ◌+◌, ◌≤◌, ◌%◌, List, ◌++◌, length, take, drop, append_assoc, sym, ap, ◌∙◌, arith}
 use Rattle.std.proofs.lemmas.List.{length-append, take_at, drop_at, drop-drop}
-use Rattle.nfs_xdr.specs.SheetState.{SheetState, Puts}
-use Rattle.nfs_xdr.specs.Spelling.{number, opaque}
+use Rattle.nfs_xdr.specs.{SheetState.{SheetState, Puts}, Spelling.{number, opaque}}
 use Rattle.nfs_xdr.proofs.Putting.{length_number}
-use Rattle.nfs_attrs.proofs.Lengths.{measuring}
-use Rattle.nfs_attrs.proofs.Whole.{opaque_of_words}
+use Rattle.nfs_attrs.proofs.{Lengths.measuring, Whole.opaque_of_words}
 
 -- an opaque has at least its count and its bytes
 pub length_opaque_more : (text : List ℕ) → 4 + length text ≤ length (opaque text)

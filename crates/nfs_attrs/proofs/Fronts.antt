@@ -1,11 +1,9 @@
 -- What follows what.
 use Rattle.std.proofs.Common.{◌≡◌, ◌≢◌, ℕ, ◌<◌, zero, suc, Bool, true, false, List, [], ◌∷◌}
-use Rattle.std.proofs.Common.{◌++◌, length, take, drop, get_or, Some, refl, sym, ap, ◌∙◌, append_assoc, arith}
-use Rattle.std.specs.List.{flat_map}
-use Rattle.std.proofs.lemmas.Option.{same_Some}
+use Rattle.std.proofs.{Common.{◌++◌, length, take, drop, get_or, Some, refl, sym, ap, ◌∙◌, append_assoc, arith}, lemmas.Option.same_Some}
 use Rattle.std.proofs.lemmas.List.{drop_at, append-nil}
-use Rattle.nfs_xdr.specs.Codec.{Codec}
-use Rattle.nfs_xdr.specs.Lawful.{IsCodec}
+use Rattle.std.specs.List.{flat_map}
+use Rattle.nfs_xdr.specs.{Codec.Codec, Lawful.IsCodec}
 use Rattle.nfs_attrs.specs.Following.{Follows}
 
 -- no spelling begins another

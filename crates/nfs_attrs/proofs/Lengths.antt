@@ -1,15 +1,9 @@
 -- How long the spellings of values are.
-use Rattle.std.proofs.Common.{◌≡◌, ◌+◌, ◌*◌, ◌%◌, length, arith}
+use Rattle.std.proofs.{Common.{◌≡◌, ◌+◌, ◌*◌, ◌%◌, length, arith}, lemmas.List.{length-append, length-replicate}}
 use Rattle.std.specs.List.{flat_map}
-use Rattle.std.proofs.lemmas.List.{length-append, length-replicate}
-use Rattle.nfs_xdr.specs.Spelling.{number}
-use Rattle.nfs_xdr.specs.Time.{time}
-use Rattle.nfs_xdr.specs.declared.time.Time.{Time}
+use Rattle.nfs_xdr.specs.{Spelling.number, Time.time, declared.time.Time.Time}
 use Rattle.nfs_xdr.proofs.Putting.{length_number, length_hyper}
-use Rattle.nfs_attrs.specs.Mask.{trimmed_words, spell_mask}
-use Rattle.nfs_attrs.specs.Wire.{nfs_fh4}
-use Rattle.nfs_attrs.specs.declared.handle.Handle.{Handle}
-use Rattle.nfs_attrs.specs.declared.mask.Mask.{Mask}
+use Rattle.nfs_attrs.specs.{Mask.{trimmed_words, spell_mask}, Wire.nfs_fh4, declared.handle.Handle.Handle, declared.mask.Mask.Mask}
 use Rattle.nfs_attrs.proofs.MaskWords.{length_numbers}
 
 pub length_handle : (h : Handle) → length (nfs_fh4 h).bytes ≡ 16

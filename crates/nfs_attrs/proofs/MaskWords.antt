@@ -1,8 +1,8 @@
 -- The words in which a mask is written.
 use Rattle.std.proofs.Common.{◌≡◌, ℕ, ◌≤◌, ◌<◌, ◌+◌, ◌*◌, ◌&&◌, List, [], ◌∷◌, length, take, Bool, true, false, cond, eqb, arith}
+use Rattle.std.proofs.lemmas.List.{length-append, length-take}
 use Rattle.nfs_attrs.specs.Mask.{without_last_zeros}
 use Rattle.std.specs.List.{flat_map}
-use Rattle.std.proofs.lemmas.List.{length-append, length-take}
 use Rattle.nfs_xdr.specs.Spelling.{number}
 use Rattle.nfs_xdr.proofs.Putting.{length_number}
 

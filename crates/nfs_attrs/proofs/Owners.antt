@@ -1,11 +1,7 @@
 -- Which text is a number's.
 use Rattle.std.proofs.Common.{◌≡◌, ◌≢◌, ℕ, ◌<◌, ◌^◌, Bool, true, false, List, Some, None, refl, ap, ◌∙◌, arith, cond}
-use Rattle.std.specs.Prelude.{nat_lt, bytes_eq}
-use Rattle.std.specs.Fmt.{decimal}
-use Rattle.std.specs.Str.Parse.{digits_value}
-use Rattle.std.proofs.lemmas.Bool.{ltb-true, lt-ltb, and_parts}
-use Rattle.std.proofs.lemmas.Fmt.{decimal_is_IsNumeral}
-use Rattle.std.proofs.lemmas.Slice.Eq.{bytes_eq-Decides}
+use Rattle.std.proofs.{lemmas.Bool.{ltb-true, lt-ltb, and_parts}, lemmas.Fmt.decimal_is_IsNumeral, lemmas.Slice.Eq.bytes_eq-Decides}
+use Rattle.std.specs.{Prelude.{nat_lt, bytes_eq}, Fmt.decimal, Str.Parse.digits_value}
 use Rattle.nfs_attrs.specs.Owner.{owner_of}
 
 digits_of_decimal : (n : ℕ) → n < 2 ^ 32 → digits_value 10 (decimal n) ≡ n

@@ -1,6 +1,5 @@
 -- Room for the next part of a text, of which some has been put.
-use Rattle.std.proofs.Common.{ℕ, ◌≤◌, ◌+◌, List, length, ap, ◌∙◌, arith}
-use Rattle.std.proofs.lemmas.List.{length-append}
+use Rattle.std.proofs.{Common.{ℕ, ◌≤◌, ◌+◌, List, length, ap, ◌∙◌, arith}, lemmas.List.length-append}
 use Rattle.nfs_xdr.specs.SheetState.{SheetState, HasRoom, Puts}
 
 pub room_within : (old now : SheetState) (before next whole : List ℕ) → Puts old now before → length before + length next ≤ length whole

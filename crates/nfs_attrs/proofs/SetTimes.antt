@@ -1,13 +1,9 @@
 -- A set time is read exactly where it is spelled.
 use Rattle.std.proofs.Common.{◌≡◌, ℕ, ◌<◌, ◌^◌, List, ◌++◌, Some, refl, append_assoc, arith}
 use Rattle.nfs_xdr.specs.Spelling as spelling
-use Rattle.nfs_xdr.specs.Codec.{choose}
-use Rattle.nfs_xdr.specs.Lawful.{IsCodec}
-use Rattle.nfs_xdr.specs.Time.{time}
-use Rattle.nfs_xdr.proofs.CodecLaws.{is_union, is_arm, is_bare}
-use Rattle.nfs_xdr.proofs.WordLaws.{is_time}
-use Rattle.nfs_attrs.specs.SetTime.{set_time, spell_set_time, FitsSetTime, set_time_arms}
-use Rattle.nfs_attrs.specs.declared.set_time.SetTime.{SetTime}
+use Rattle.nfs_xdr.specs.{Codec.choose, Lawful.IsCodec, Time.time}
+use Rattle.nfs_xdr.proofs.{CodecLaws.{is_union, is_arm, is_bare}, WordLaws.is_time}
+use Rattle.nfs_attrs.specs.{SetTime.{set_time, spell_set_time, FitsSetTime, set_time_arms}, declared.set_time.SetTime.SetTime}
 use Rattle.nfs_attrs.specs.declared.set_time.SetTime.TheVariants.{Now, Given}
 
 set_time_again : (y : SetTime) (rest : List ℕ) → FitsSetTime y

@@ -1,28 +1,16 @@
 -- What is read of filehandles and of values that are set is their text.
-use Rattle.std.proofs.Common.{◌≡◌, ℕ, Bool, true, false, List, [], ◌∷◌, ◌++◌, length, Option, Some, None, refl, sym, ap, ◌∙◌, arith}
+use Rattle.std.proofs.{Common.{◌≡◌, ℕ, Bool, true, false, List, [], ◌∷◌, ◌++◌, length, Option, Some, None, refl, sym, ap, ◌∙◌, arith}, lemmas.Bool.eqb-true}
+use Rattle.std.proofs.{lemmas.List.append-nil, lemmas.Option.same_Some}
 use Rattle.std.specs.Prelude.{◌↔◌, ◌==◌, is_some, if◌then◌else◌}
-use Rattle.std.proofs.lemmas.Bool.{eqb-true}
-use Rattle.std.proofs.lemmas.List.{append-nil}
-use Rattle.std.proofs.lemmas.Option.{same_Some}
 use Rattle.nfs_xdr.specs.Spelling as spelling
-use Rattle.nfs_xdr.specs.Reading.{◌>>=◌}
+use Rattle.nfs_xdr.specs.{Reading.{◌>>=◌}, Codec.Codec, Lawful.IsCodec, Text.{IsBytes, Text, Leads, uint32, uint64, opaque, most}}
 use Rattle.nfs_xdr.specs.Codec as codec
-use Rattle.nfs_xdr.specs.Codec.{Codec}
-use Rattle.nfs_xdr.specs.Lawful.{IsCodec}
-use Rattle.nfs_xdr.specs.Text.{IsBytes, Text, Leads, uint32, uint64, opaque, most}
 use Rattle.nfs_xdr.proofs.CodecLaws.{bind_some, test_some, taken_at, is_number, is_hyper, is_opaque, is_then, is_as_type, is_led_by}
 use Rattle.nfs_xdr.proofs.TextLaws.{Spells, times, leads_from, leads_again}
-use Rattle.nfs_attrs.specs.Whole.{whole}
-use Rattle.nfs_attrs.specs.Handle.{handle, handle_of}
-use Rattle.nfs_attrs.specs.Mask.{has}
-use Rattle.nfs_attrs.specs.SetTime.{set_time, set_time_at}
-use Rattle.nfs_attrs.specs.Wire.{nfs_fh4, settime4}
+use Rattle.nfs_attrs.specs.{Whole.whole, Handle.{handle, handle_of}, Mask.has, SetTime.{set_time, set_time_at}, Wire.{nfs_fh4, settime4}}
 use Rattle.nfs_attrs.specs.Attributes.{Settings, attributes, if_there, AreAsGiven, settings4}
-use Rattle.nfs_attrs.specs.SettingsCodec.{spell_if, FitsIf, where_there, settings, settings_of}
-use Rattle.nfs_attrs.specs.declared.handle.Handle.{Handle}
-use Rattle.nfs_attrs.specs.declared.mask.Mask.{Mask}
-use Rattle.nfs_attrs.specs.declared.set_time.SetTime.{SetTime}
-use Rattle.nfs_attrs.specs.declared.set_time.SetTime.TheVariants.{Now, Given}
+use Rattle.nfs_attrs.specs.{SettingsCodec.{spell_if, FitsIf, where_there, settings, settings_of}, declared.handle.Handle.Handle, declared.mask.Mask.Mask}
+use Rattle.nfs_attrs.specs.{declared.set_time.SetTime.SetTime, declared.set_time.SetTime.TheVariants.{Now, Given}}
 use Rattle.nfs_attrs.proofs.SetTimes.{is_set_time}
 
 -- Bytes that are a text from their first to their last.

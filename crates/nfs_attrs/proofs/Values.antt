@@ -4,10 +4,7 @@ use Rattle.std.proofs.lemmas.List.{length-append, take_all}
 use Rattle.nfs_attrs.proofs.Fronts.{one_more, split_at}
 use Rattle.std.specs.List.{flat_map}
 use Rattle.nfs_tree.specs.declared.object.Object.{Object}
-use Rattle.nfs_attrs.specs.Attributes.{attributes, values}
-use Rattle.nfs_attrs.specs.Value.{asked_at}
-use Rattle.nfs_attrs.specs.declared.about.About.{About}
-use Rattle.nfs_attrs.specs.declared.mask.Mask.{Mask}
+use Rattle.nfs_attrs.specs.{Attributes.{attributes, values}, Value.asked_at, declared.about.About.About, declared.mask.Mask.Mask}
 
 abbrev pub numbers : List ℕ
 numbers = 0 ∷ 1 ∷ 2 ∷ 3 ∷ 4 ∷ 5 ∷ 6 ∷ 7 ∷ 8 ∷ 9 ∷ 10 ∷ 11 ∷ 19 ∷ 20 ∷ 27 ∷ 28 ∷ 29 ∷ 30 ∷ 31 ∷ 33 ∷ 35 ∷ 36 ∷ 37 ∷ 45 ∷ 47 ∷ 48 ∷ 52 ∷ 53 ∷ 54 ∷ 55 ∷ 75 ∷ []

@@ -1,9 +1,7 @@
 -- Whether bytes are a text from their first to their last.
 use Rattle.std.proofs.Common.{◌≡◌, ◌≢◌, ℕ, ◌+◌, ◌%◌, Bool, true, false, List, [], ◌∷◌, ◌++◌, length, replicate, refl, sym, ap, ◌∙◌, eqb, arith}
+use Rattle.std.proofs.{lemmas.List.{append-nil, length-append}, lemmas.Bool.ne_eqb, lemmas.Slice.Eq.bytes_eq-Decides}
 use Rattle.std.specs.Prelude.{bytes_eq}
-use Rattle.std.proofs.lemmas.List.{append-nil, length-append}
-use Rattle.std.proofs.lemmas.Bool.{ne_eqb}
-use Rattle.std.proofs.lemmas.Slice.Eq.{bytes_eq-Decides}
 use Rattle.nfs_xdr.specs.Spelling.{number, opaque, padding}
 use Rattle.nfs_xdr.proofs.Putting.{length_number}
 

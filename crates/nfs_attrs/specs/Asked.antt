@@ -1,11 +1,7 @@
 -- The attributes that a mask asks for, by their numbers.
-use Rattle.std.specs.Prelude.{ℕ, List, map}
-use Rattle.std.specs.List.{flat_map, filter}
+use Rattle.std.specs.{Prelude.{ℕ, List, map}, List.{flat_map, filter}}
 use Rattle.nfs_tree.specs.declared.object.Object.{Object}
-use Rattle.nfs_attrs.specs.Attributes.{attributes, value_at}
-use Rattle.nfs_attrs.specs.Mask.{has}
-use Rattle.nfs_attrs.specs.declared.about.About.{About}
-use Rattle.nfs_attrs.specs.declared.mask.Mask.{Mask}
+use Rattle.nfs_attrs.specs.{Attributes.{attributes, value_at}, Mask.has, declared.about.About.About, declared.mask.Mask.Mask}
 
 -- the numbers of those of the table that are asked for, in rising order
 unfoldable pub asked_numbers : Mask → List ℕ

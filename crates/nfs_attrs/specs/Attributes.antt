@@ -1,20 +1,11 @@
 -- The table of attributes (RFC 8881 section 5): all that this server has, a line each, in rising order of their numbers.
-use Rattle.std.specs.Prelude.{◌≡◌, ℕ, ◌==◌, List, [], ◌∷◌, ◌++◌, Bool, true, false, Option, Some, None, is_some, if◌then◌else◌}
-use Rattle.std.specs.Fmt.{decimal}
-use Rattle.std.specs.List.{flat_map}
+use Rattle.std.specs.{Prelude.{◌≡◌, ℕ, ◌==◌, List, [], ◌∷◌, ◌++◌, Bool, true, false, Option, Some, None, is_some, if◌then◌else◌}, Fmt.decimal, List.flat_map}
 use Rattle.nfs_xdr.specs.Spelling as spelling
-use Rattle.nfs_xdr.specs.Text.{Text, ◌then◌, void, uint32, uint64, bool, opaque, most}
-use Rattle.nfs_xdr.specs.Wire.{nfstime4}
-use Rattle.nfs_xdr.specs.Limits.{fhsize, most_transfer}
-use Rattle.nfs_tree.specs.Files.{most_bytes, most_links, most_name}
-use Rattle.nfs_tree.specs.declared.object.FileType.{FileType}
-use Rattle.nfs_tree.specs.declared.object.FileType.TheVariants.{Regular, Directory, Link}
-use Rattle.nfs_tree.specs.declared.object.Object.{Object}
-use Rattle.nfs_attrs.specs.Mask.{has, trimmed_words, common, spell_mask}
-use Rattle.nfs_attrs.specs.Wire.{nfs_fh4, settime4, bitmap4, fsid4}
-use Rattle.nfs_attrs.specs.declared.about.About.{About}
-use Rattle.nfs_attrs.specs.declared.mask.Mask.{Mask}
-use Rattle.nfs_attrs.specs.declared.set_time.SetTime.{SetTime}
+use Rattle.nfs_xdr.specs.{Text.{Text, ◌then◌, void, uint32, uint64, bool, opaque, most}, Wire.nfstime4, Limits.{fhsize, most_transfer}}
+use Rattle.nfs_tree.specs.{Files.{most_bytes, most_links, most_name}, declared.object.FileType.FileType}
+use Rattle.nfs_tree.specs.{declared.object.FileType.TheVariants.{Regular, Directory, Link}, declared.object.Object.Object}
+use Rattle.nfs_attrs.specs.{Mask.{has, trimmed_words, common, spell_mask}, Wire.{nfs_fh4, settime4, bitmap4, fsid4}, declared.about.About.About}
+use Rattle.nfs_attrs.specs.{declared.mask.Mask.Mask, declared.set_time.SetTime.SetTime}
 
 -- the number of a type (nfs_ftype4, RFC 8881 section 3.2)
 abbrev pub type_number : FileType → ℕ

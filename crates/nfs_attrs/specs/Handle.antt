@@ -1,8 +1,7 @@
 -- The filehandles that this server gives (RFC 8881 section 4).
 use Rattle.std.specs.Prelude.{ℕ, List, Option}
 use Rattle.nfs_xdr.specs.Codec.{Codec, number, hyper, ◌then◌, led_by, as_type}
-use Rattle.nfs_attrs.specs.Whole.{whole}
-use Rattle.nfs_attrs.specs.declared.handle.Handle.{Handle}
+use Rattle.nfs_attrs.specs.{Whole.whole, declared.handle.Handle.Handle}
 
 -- the instance that gave it, four zero bytes, the object's number
 unfoldable pub handle : Codec Handle

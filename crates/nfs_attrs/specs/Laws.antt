@@ -1,7 +1,6 @@
 -- What holds of the table of attributes as a whole.
 use Rattle.std.specs.Prelude.{ℕ, ◌/◌, ◌%◌, ◌^◌, ◌+◌, ◌==◌, List, [], ◌∷◌, Bool, false, map, filter, if◌then◌else◌}
-use Rattle.nfs_attrs.specs.Attributes.{Attribute, attributes}
-use Rattle.nfs_attrs.specs.declared.mask.Mask.{Mask}
+use Rattle.nfs_attrs.specs.{Attributes.{Attribute, attributes}, declared.mask.Mask.Mask}
 
 -- word w of the mask of these numbers, each of which stands there once
 abbrev pub word_of : ℕ → List ℕ → ℕ

@@ -1,9 +1,7 @@
 -- Which attributes are asked for, set or reported: bitmap4 (RFC 8881 sections 3.3.7 and 5).
-use Rattle.std.specs.Prelude.{ℕ, ◌/◌, ◌%◌, ◌==◌, ◌&&◌, ◌||◌, List, [], ◌∷◌, get_or, drop, Bool, false, not, length, bit_and, if◌then◌else◌}
-use Rattle.std.specs.Int.{bit_at}
+use Rattle.std.specs.{Prelude.{ℕ, ◌/◌, ◌%◌, ◌==◌, ◌&&◌, ◌||◌, List, [], ◌∷◌, get_or, drop, Bool, false, not, length, bit_and, if◌then◌else◌}, Int.bit_at}
 use Rattle.std.specs.List.{list_any}
-use Rattle.nfs_attrs.specs.Wire.{bitmap4}
-use Rattle.nfs_attrs.specs.declared.mask.Mask.{Mask}
+use Rattle.nfs_attrs.specs.{Wire.bitmap4, declared.mask.Mask.Mask}
 
 -- the mask of a list of words, of which there may be any number
 abbrev pub mask_of : List ℕ → Mask

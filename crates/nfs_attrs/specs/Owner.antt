@@ -1,7 +1,5 @@
 -- The text of a user or a group (RFC 8881 section 5.9): its number in decimal, without leading zeros.
-use Rattle.std.specs.Prelude.{ℕ, ◌^◌, ◌&&◌, List, Option, Some, None, nat_lt, bytes_eq, if◌then◌else◌}
-use Rattle.std.specs.Fmt.{decimal}
-use Rattle.std.specs.Str.Parse.{digits_value}
+use Rattle.std.specs.{Prelude.{ℕ, ◌^◌, ◌&&◌, List, Option, Some, None, nat_lt, bytes_eq, if◌then◌else◌}, Fmt.decimal, Str.Parse.digits_value}
 
 -- the number below 2^32 that is written so
 abbrev pub owner_of : List ℕ → Option ℕ

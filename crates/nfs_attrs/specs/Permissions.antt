@@ -1,13 +1,8 @@
 -- Permission bits (RFC 8881 section 6.2.4), and what they let a caller do. Of the three classes only the caller's own counts.
-use Rattle.std.specs.Prelude.{ℕ, ◌+◌, ◌/◌, ◌%◌, ◌==◌, ◌||◌, ◌&&◌, Bool, true, false, not, bit_and, if◌then◌else◌}
-use Rattle.std.specs.Int.{bit_at}
-use Rattle.std.specs.List.{list_any}
+use Rattle.std.specs.{Prelude.{ℕ, ◌+◌, ◌/◌, ◌%◌, ◌==◌, ◌||◌, ◌&&◌, Bool, true, false, not, bit_and, if◌then◌else◌}, Int.bit_at, List.list_any}
 use Rattle.nfs_xdr.specs.Caller.{Caller}
-use Rattle.nfs_tree.specs.declared.object.FileType.{FileType}
-use Rattle.nfs_tree.specs.declared.object.FileType.TheVariants.{Regular, Directory, Link}
-use Rattle.nfs_tree.specs.declared.object.Object.{Object}
-use Rattle.nfs_attrs.specs.declared.permission.Want.{Want}
-use Rattle.nfs_attrs.specs.declared.permission.Access.{Access}
+use Rattle.nfs_tree.specs.{declared.object.FileType.FileType, declared.object.FileType.TheVariants.{Regular, Directory, Link}, declared.object.Object.Object}
+use Rattle.nfs_attrs.specs.{declared.permission.Want.Want, declared.permission.Access.Access}
 
 abbrev pub in_group : ℕ → Caller → Bool
 in_group group who = who.gid == group || list_any (λ g. g == group) who.gids

@@ -2,16 +2,9 @@
 use Rattle.std.specs.Prelude.{ℕ, ◌||◌, List, Bool, false, not, Option, Some, None, Result, Ok, Err, is_some, nat_lt, if◌then◌else◌}
 use Rattle.nfs_xdr.specs.declared.status.Status.{Status}
 use Rattle.nfs_xdr.specs.declared.status.Status.TheVariants as S
-use Rattle.nfs_attrs.specs.Mask.{within}
-use Rattle.nfs_attrs.specs.Owner.{owner_of}
-use Rattle.nfs_attrs.specs.Attributes.{Settings, supported, settable}
-use Rattle.nfs_attrs.specs.SettingsCodec.{settings_of}
-use Rattle.nfs_attrs.specs.declared.mask.Mask.{Mask}
-use Rattle.nfs_attrs.specs.declared.set_time.SetTime.{SetTime}
-use Rattle.nfs_attrs.specs.declared.set_time.SetTime.TheVariants.{Now, Given}
-use Rattle.nfs_attrs.specs.declared.wanted.Wanted.{Wanted}
-use Rattle.nfs_attrs.specs.declared.wanted.AttrFault.{AttrFault}
-use Rattle.nfs_attrs.specs.declared.wanted.AttrFault.TheVariants.{AttrNotSupp, Inval, BadXdr, BadOwner}
+use Rattle.nfs_attrs.specs.{Mask.within, Owner.owner_of, Attributes.{Settings, supported, settable}, SettingsCodec.settings_of, declared.mask.Mask.Mask}
+use Rattle.nfs_attrs.specs.{declared.set_time.SetTime.SetTime, declared.set_time.SetTime.TheVariants.{Now, Given}, declared.wanted.Wanted.Wanted}
+use Rattle.nfs_attrs.specs.{declared.wanted.AttrFault.AttrFault, declared.wanted.AttrFault.TheVariants.{AttrNotSupp, Inval, BadXdr, BadOwner}}
 
 -- the number that a text names, where there is a text
 abbrev pub named : Option (List ℕ) → Option ℕ

@@ -1,10 +1,8 @@
 -- A time that is set: the server's own, or one that is given (settime4; RFC 8881 section 3.3.3).
 use Rattle.std.specs.Prelude.{ℕ, List, [], ◌∷◌, ◌++◌, Option}
 use Rattle.nfs_xdr.specs.Spelling as spelling
-use Rattle.nfs_xdr.specs.Codec.{Codec, union, bare, arm}
-use Rattle.nfs_xdr.specs.Time.{time}
-use Rattle.nfs_attrs.specs.declared.set_time.SetTime.{SetTime}
-use Rattle.nfs_attrs.specs.declared.set_time.SetTime.TheVariants.{Now, Given}
+use Rattle.nfs_xdr.specs.{Codec.{Codec, union, bare, arm}, Time.time}
+use Rattle.nfs_attrs.specs.{declared.set_time.SetTime.SetTime, declared.set_time.SetTime.TheVariants.{Now, Given}}
 
 abbrev pub spell_set_time : SetTime → List ℕ
 spell_set_time Now = spelling.number 0

@@ -1,13 +1,8 @@
 -- Who may set which attributes (RFC 8881 sections 6.2.4, 18.4.3 and 18.30.3). The user 0 may set them all.
 use Rattle.std.specs.Prelude.{ℕ, ◌==◌, ◌||◌, ◌&&◌, List, [], ◌∷◌, Bool, true, false, not, Option, Some, None, Result, is_some}
-use Rattle.nfs_xdr.specs.Caller.{Caller}
-use Rattle.nfs_xdr.specs.Checks.{first_fault, judged}
-use Rattle.nfs_xdr.specs.declared.status.Status.{Status}
-use Rattle.nfs_xdr.specs.declared.status.Status.TheVariants.{Perm, Access}
+use Rattle.nfs_xdr.specs.{Caller.Caller, Checks.{first_fault, judged}, declared.status.Status.Status, declared.status.Status.TheVariants.{Perm, Access}}
 use Rattle.nfs_tree.specs.declared.object.Object.{Object}
-use Rattle.nfs_attrs.specs.Permissions.{in_group, may, write}
-use Rattle.nfs_attrs.specs.declared.set_time.SetTime.{SetTime}
-use Rattle.nfs_attrs.specs.declared.set_time.SetTime.TheVariants.{Now, Given}
+use Rattle.nfs_attrs.specs.{Permissions.{in_group, may, write}, declared.set_time.SetTime.SetTime, declared.set_time.SetTime.TheVariants.{Now, Given}}
 use Rattle.nfs_attrs.specs.declared.wanted.Wanted.{Wanted}
 
 abbrev pub owns : ℕ → Caller → Bool

@@ -1,12 +1,7 @@
 -- Reading the values that a request sets. That this gives what the table of attributes has (Attributes) is a law.
 use Rattle.std.specs.Prelude.{◌≡◌, ℕ, List, [], Bool, Option, Some, None, is_some, if◌then◌else◌}
-use Rattle.nfs_xdr.specs.Reading.{◌>>=◌}
-use Rattle.nfs_xdr.specs.Codec.{Codec, number, hyper, unbounded, ◌then◌, as_type}
-use Rattle.nfs_attrs.specs.Mask.{has}
-use Rattle.nfs_attrs.specs.SetTime.{set_time}
-use Rattle.nfs_attrs.specs.Attributes.{Settings}
-use Rattle.nfs_attrs.specs.Whole.{whole}
-use Rattle.nfs_attrs.specs.declared.mask.Mask.{Mask}
+use Rattle.nfs_xdr.specs.{Reading.{◌>>=◌}, Codec.{Codec, number, hyper, unbounded, ◌then◌, as_type}}
+use Rattle.nfs_attrs.specs.{Mask.has, SetTime.set_time, Attributes.Settings, Whole.whole, declared.mask.Mask.Mask}
 
 abbrev pub spell_if : {A : Type 0} → (A → List ℕ) → Option A → List ℕ
 spell_if spell None = []

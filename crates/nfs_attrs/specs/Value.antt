@@ -1,13 +1,8 @@
 -- How a value is spelled, by its kind.
-use Rattle.std.specs.Prelude.{ℕ, List, [], ◌++◌, Option, Some, None, if◌then◌else◌}
-use Rattle.std.specs.Fmt.{decimal}
+use Rattle.std.specs.{Prelude.{ℕ, List, [], ◌++◌, Option, Some, None, if◌then◌else◌}, Fmt.decimal}
 use Rattle.nfs_xdr.specs.Spelling as spelling
 use Rattle.nfs_xdr.specs.Wire.{nfstime4}
-use Rattle.nfs_attrs.specs.Wire.{nfs_fh4}
-use Rattle.nfs_attrs.specs.Mask.{has, spell_mask}
-use Rattle.nfs_attrs.specs.Attributes.{attributes, value_at}
-use Rattle.nfs_attrs.specs.declared.about.About.{About}
-use Rattle.nfs_attrs.specs.declared.mask.Mask.{Mask}
+use Rattle.nfs_attrs.specs.{Wire.nfs_fh4, Mask.{has, spell_mask}, Attributes.{attributes, value_at}, declared.about.About.About, declared.mask.Mask.Mask}
 use Rattle.nfs_tree.specs.declared.object.Object.{Object}
 use Rattle.nfs_attrs.specs.declared.value.Value as rust_value
 use Rattle.nfs_attrs.specs.declared.value.Value.TheVariants as V

@@ -1,6 +1,5 @@
 -- What lent values are, wherever their bytes lie.
-use Rattle.std.specs.Prelude.{ℕ, List, Option, Some, None}
-use Rattle.std.specs.Borrow.{Bor}
+use Rattle.std.specs.{Prelude.{ℕ, List, Option, Some, None}, Borrow.Bor}
 use Rattle.nfs_attrs.specs.Attributes as table
 use Rattle.nfs_attrs.specs.declared.wanted.Settings as rust_settings
 

@@ -1,11 +1,8 @@
 -- What a filehandle of this server, a time that is set and the values of attributes are on the wire (RFC 8881 sections 3.3, 4 and 5), each field
 -- under its type.
 use Rattle.std.specs.Prelude.{ℕ, List}
-use Rattle.nfs_xdr.specs.Text.{Text, ◌then◌, uint32, uint64, enum, array, most}
-use Rattle.nfs_xdr.specs.Wire.{nfstime4}
-use Rattle.nfs_attrs.specs.declared.handle.Handle.{Handle}
-use Rattle.nfs_attrs.specs.declared.set_time.SetTime.{SetTime}
-use Rattle.nfs_attrs.specs.declared.set_time.SetTime.TheVariants.{Now, Given}
+use Rattle.nfs_xdr.specs.{Text.{Text, ◌then◌, uint32, uint64, enum, array, most}, Wire.nfstime4}
+use Rattle.nfs_attrs.specs.{declared.handle.Handle.Handle, declared.set_time.SetTime.SetTime, declared.set_time.SetTime.TheVariants.{Now, Given}}
 
 -- the instance that gave it, four zero bytes, the object's number
 abbrev pub nfs_fh4 : Handle → Text

@@ -1,18 +1,11 @@
 -- What a write or a removal at the place of a record does to the table, in the value that was opened.
 use Rattle.std.proofs.Common.{◌≡◌, ℕ, ◌+◌, Bool, true, not, List, [], ◌∷◌, ◌++◌, length, set, get_or, Option, Some, None, Result, refl, sym, ◌∙◌, ap, subst}
-use Rattle.std.proofs.Common.{IsTrue}
-use Rattle.std.specs.Prelude.{◌==◌, if◌then◌else◌, find, filter, position, option_map}
-use Rattle.std.specs.List.{remove}
-use Rattle.std.specs.Result.{result_ok}
-use Rattle.std.specs.Ordering.{nat_cmp}
-use Rattle.std.specs.Option.{option_map_or}
+use Rattle.std.proofs.{Common.IsTrue, lemmas.List.Quantifiers.position-Some}
+use Rattle.std.specs.{Prelude.{◌==◌, if◌then◌else◌, find, filter, position, option_map}, List.remove, Result.result_ok, Ordering.nat_cmp, Option.option_map_or}
 use Rattle.std.specs.List.Sorted.{IsSearchInRange, IsBinarySearchResult}
-use Rattle.std.proofs.lemmas.List.Quantifiers.{position-Some}
-use Rattle.nfs_xdr.proofs.Lists.{position_finds, position_nowhere}
-use Rattle.nfs_xdr.proofs.Tables.{searched, written, unwritten, removed, position_is, without_none}
+use Rattle.nfs_xdr.proofs.{Lists.{position_finds, position_nowhere}, Tables.{searched, written, unwritten, removed, position_is, without_none}}
 use Rattle.nfs_clients.specs.Roster.{ClientRecord, Roster, IsRoster, id_of, next_id, client_at, is_unconfirmed_of, with_changed, without}
-use Rattle.nfs_clients.specs.ExchangeId.{Ask, has_room, with_new, new_client}
-use Rattle.nfs_clients.specs.CreateSession.{with_confirmed, confirms, leaving, without_any}
+use Rattle.nfs_clients.specs.{ExchangeId.{Ask, has_room, with_new, new_client}, CreateSession.{with_confirmed, confirms, leaving, without_any}}
 use Rattle.nfs_clients.proofs.Members.{the_id, IsMild, roster_changed, roster_without, roster_confirmed, roster_new, without_unconfirmed}
 
 -- where the record of an id stands

@@ -1,17 +1,15 @@
 -- What keeps every fact of a roster.
 use Rattle.std.proofs.Common.{◌≡◌, ℕ, ◌+◌, ◌<◌, ◌≤◌, Bool, true, false, cond, not, eqb, ltb, List, [], ◌∷◌, ◌++◌, map, length, Option, Some, None, refl, sym}
 use Rattle.std.proofs.Common.{◌∙◌, ap, subst, arith, inl, inr, length-append}
-use Rattle.std.specs.Prelude.{◌==◌, if◌then◌else◌, find, filter, is_some, ◌||◌, bytes_eq, option_map}
-use Rattle.std.proofs.lemmas.Bool.{cases_Bool, cases_eq, ne_eqb, eq-eqb, ltb-true, and_parts, false≢true}
-use Rattle.std.proofs.lemmas.Slice.Eq.{bytes_eq-Decides}
+use Rattle.std.proofs.{lemmas.Bool.{cases_Bool, cases_eq, ne_eqb, eq-eqb, ltb-true, and_parts, false≢true}, lemmas.Slice.Eq.bytes_eq-Decides}
 use Rattle.std.proofs.lemmas.List.{length-map}
+use Rattle.std.specs.Prelude.{◌==◌, if◌then◌else◌, find, filter, is_some, ◌||◌, bytes_eq, option_map}
 use Rattle.nfs_xdr.specs.Tables.{In}
 use Rattle.nfs_xdr.proofs.Lists.{in_filter, in_push, in_map, find_in, none_in, map_same, filter_in, filter_all, length_filter, length_left}
 use Rattle.nfs_xdr.proofs.Tables.{IsRising-push, IsRising-map, IsRising-filter, in_once, at_of_in, at_above}
 use Rattle.nfs_clients.specs.declared.created.CreateResult.{CreateResult}
 use Rattle.nfs_clients.specs.Roster.{ClientRecord, Roster, IsRoster, id_of, next_id, client_at, is_unconfirmed_of, unconfirmed_of, with_changed, without}
-use Rattle.nfs_clients.specs.Roster.{most_records, last_counter}
-use Rattle.nfs_clients.specs.ExchangeId.{Ask, has_room, with_new, new_client}
+use Rattle.nfs_clients.specs.{Roster.{most_records, last_counter}, ExchangeId.{Ask, has_room, with_new, new_client}}
 use Rattle.nfs_clients.specs.CreateSession.{following, uses_up, keeps, with_kept, is_other_confirmed_of, leaving, leaving_by, without_any, confirms}
 use Rattle.nfs_clients.specs.CreateSession.{with_confirmed}
 

@@ -1,17 +1,13 @@
 -- What holds over all changes of a table: an id that was given names the record that it was given to, or none; and each table is in order.
-use Rattle.std.proofs.Common.{◌≡◌, ℕ, ◌<◌, Bool, true, false, not, eqb, List, [], ◌∷◌, Option, Some, None, refl, arith}
+use Rattle.std.proofs.{Common.{◌≡◌, ℕ, ◌<◌, Bool, true, false, not, eqb, List, [], ◌∷◌, Option, Some, None, refl, arith}, lemmas.Bool.ne_eqb}
 use Rattle.std.specs.Prelude.{filter}
-use Rattle.std.proofs.lemmas.Bool.{ne_eqb}
 use Rattle.nfs_xdr.proofs.Tables.{gone_filter, gone_map, gone_push}
-use Rattle.nfs_clients.specs.Roster.{ClientRecord, Roster, IsRoster, no_clients, next_id, client_at, is_unconfirmed_of, with_changed}
+use Rattle.nfs_clients.specs.Roster.{ClientRecord, Roster, IsRoster, no_clients, next_id, client_at, is_unconfirmed_of, with_changed, confirmed_of}
 use Rattle.nfs_clients.specs.ExchangeId.{Ask, Case, Refuses, Stays, Adds, has_room, if_room, case_by, case_of, does, with_new, new_client}
-use Rattle.nfs_clients.specs.CreateSession.{keeps, leaving, without_any, confirms}
-use Rattle.nfs_clients.specs.DestroyClientId.{destroy_fault}
-use Rattle.nfs_clients.specs.Calls.{without_unless}
+use Rattle.nfs_clients.specs.{CreateSession.{keeps, leaving, without_any, confirms}, DestroyClientId.destroy_fault, Calls.without_unless}
 use Rattle.nfs_clients.specs.declared.destroy.DestroyFault.{DestroyFault}
 use Rattle.nfs_clients.specs.Laws.{Change, Exchanges, Confirms, Keeps, Reclaims, Holds, Destroys, Removes, changed, after_all, IdsAreGivenOnce}
 use Rattle.nfs_clients.specs.Laws.{TablesAreInOrder}
-use Rattle.nfs_clients.specs.Roster.{confirmed_of}
 use Rattle.nfs_clients.proofs.Members.{the_id, change_at, IsMild, mild_keeps, mild_reclaims, mild_holds, confirmed_id, mild_at, roster_changed}
 use Rattle.nfs_clients.proofs.Members.{roster_confirmed, roster_without, roster_new}
 

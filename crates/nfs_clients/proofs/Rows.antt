@@ -1,14 +1,11 @@
 -- The rows of EXCHANGE_ID, as the code has judged them.
 use Rattle.std.proofs.Common.{◌≡◌, Bool, true, false, Option, Result, Ok, refl, sym, ◌∙◌, ap, subst, List, ℕ}
 use Rattle.std.specs.Prelude.{find}
-use Rattle.nfs_clients.specs.declared.exchange_id.ClientFault.TheVariants.{ServerFault}
-use Rattle.nfs_clients.specs.declared.exchange_id.Case.{Case as Code}
-use Rattle.nfs_clients.specs.declared.exchange_id.Case.TheVariants as code
+use Rattle.nfs_clients.specs.{declared.exchange_id.ClientFault.TheVariants.ServerFault, declared.exchange_id.Case.{Case as Code}}
 use Rattle.nfs_clients.specs.Roster.{ClientRecord, Roster, is_confirmed_of, confirmed_of}
-use Rattle.nfs_clients.specs.ExchangeId.{Case, Refuses, Stays, Adds, if_room, asks, case_of, does, exchange, answer_added, with_new}
-use Rattle.nfs_clients.specs.Seen.{case_seen}
-use Rattle.nfs_clients.specs.declared.exchange_id.ClientFault.{ClientFault}
-use Rattle.nfs_clients.specs.declared.exchange_id.Exchanged.{Exchanged}
+use Rattle.nfs_clients.specs.{ExchangeId.{Case, Refuses, Stays, Adds, if_room, asks, case_of, does, exchange, answer_added, with_new}, Seen.case_seen}
+use Rattle.nfs_clients.specs.{declared.exchange_id.ClientFault.ClientFault, declared.exchange_id.Exchanged.Exchanged}
+use Rattle.nfs_clients.specs.declared.exchange_id.Case.TheVariants as code
 
 pub adds_with_room : (room : Bool) (row : Case) → Adds ≡ row → room ≡ true → Adds ≡ if_room room row
 adds_with_room room row e there = subst (λ row. Adds ≡ if_room room row) e (subst (λ room. Adds ≡ if_room room Adds) (sym there) refl)

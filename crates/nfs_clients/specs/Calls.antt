@@ -1,15 +1,10 @@
 -- What single calls of `Clients` answer and leave, beside what they come to by their rows.
 use Rattle.std.specs.Prelude.{◌≡◌, Option, Some, None, Result, Err, ℕ, Bool}
-use Rattle.nfs_clients.specs.CreateSession.{Verdict, Stale, Again, Misordered, InUse, Runs}
-use Rattle.nfs_clients.specs.declared.create_session.CreateVerdict.{CreateVerdict}
+use Rattle.nfs_clients.specs.{CreateSession.{Verdict, Stale, Again, Misordered, InUse, Runs}, declared.create_session.CreateVerdict.CreateVerdict}
+use Rattle.nfs_clients.specs.{ExchangeId.{Ask, Case, Refuses, Stays, Adds, case_of, exchange}, Roster.{Roster, without}}
+use Rattle.nfs_clients.specs.{declared.exchange_id.ClientFault.ClientFault, declared.exchange_id.ClientFault.TheVariants.Memory}
+use Rattle.nfs_clients.specs.{declared.exchange_id.Exchanged.Exchanged, DestroyClientId.destroy_fault, declared.destroy.DestroyFault.DestroyFault}
 use Rattle.nfs_clients.specs.declared.create_session.CreateVerdict.TheVariants as code
-use Rattle.nfs_clients.specs.ExchangeId.{Ask, Case, Refuses, Stays, Adds, case_of, exchange}
-use Rattle.nfs_clients.specs.Roster.{Roster, without}
-use Rattle.nfs_clients.specs.declared.exchange_id.ClientFault.{ClientFault}
-use Rattle.nfs_clients.specs.declared.exchange_id.ClientFault.TheVariants.{Memory}
-use Rattle.nfs_clients.specs.declared.exchange_id.Exchanged.{Exchanged}
-use Rattle.nfs_clients.specs.DestroyClientId.{destroy_fault}
-use Rattle.nfs_clients.specs.declared.destroy.DestroyFault.{DestroyFault}
 
 -- what the code's answer says, with the result that it lends
 abbrev pub verdict_of : CreateVerdict → Verdict

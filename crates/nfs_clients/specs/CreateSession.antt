@@ -2,10 +2,8 @@
 -- which refusals use a number up is this server's profile).
 use Rattle.std.specs.Prelude.{ℕ, ◌+◌, ◌%◌, ◌^◌, ◌==◌, ◌&&◌, not, Bool, true, false, Option, Some, None, find, option_map, option_and_then, if◌then◌else◌}
 use Rattle.std.specs.Option.{option_map_or}
-use Rattle.nfs_xdr.specs.declared.status.Status.{Status}
-use Rattle.nfs_xdr.specs.declared.status.Status.TheVariants.{TooSmall, NoSpc, ServerFault}
-use Rattle.nfs_clients.specs.Roster.{ClientRecord, Roster, client_at, is_confirmed_of, with_changed, without}
-use Rattle.nfs_clients.specs.declared.created.CreateResult.{CreateResult}
+use Rattle.nfs_xdr.specs.{declared.status.Status.Status, declared.status.Status.TheVariants.{TooSmall, NoSpc, ServerFault}}
+use Rattle.nfs_clients.specs.{Roster.{ClientRecord, Roster, client_at, is_confirmed_of, with_changed, without}, declared.created.CreateResult.CreateResult}
 use Rattle.nfs_clients.specs.declared.created.CreateResult.TheVariants.{Done, Refused}
 
 -- numbers go round behind 2^32 - 1

@@ -1,11 +1,8 @@
 -- DESTROY_CLIENTID: an id that names no record, a client that has a session or an open, or the record goes (RFC 8881 section 18.50).
 use Rattle.std.specs.Prelude.{ℕ, Bool, not, ◌||◌, [], ◌∷◌, Option}
-use Rattle.nfs_xdr.specs.Checks.{first_fault}
-use Rattle.nfs_xdr.specs.declared.status.Status.{Status}
+use Rattle.nfs_xdr.specs.{Checks.first_fault, declared.status.Status.Status}
 use Rattle.nfs_xdr.specs.declared.status.Status.TheVariants as status
-use Rattle.nfs_clients.specs.declared.destroy.DestroyFault.{DestroyFault}
-use Rattle.nfs_clients.specs.declared.destroy.DestroyFault.TheVariants.{Stale, Busy}
-use Rattle.nfs_clients.specs.Roster.{Roster}
+use Rattle.nfs_clients.specs.{declared.destroy.DestroyFault.DestroyFault, declared.destroy.DestroyFault.TheVariants.{Stale, Busy}, Roster.Roster}
 use Rattle.nfs_clients.specs.Marks.{has_client, has_open}
 
 -- the status that a fault is answered with

@@ -2,9 +2,8 @@
 -- the cases are this server's profile).
 use Rattle.std.specs.Prelude.{ℕ, ◌+◌, ◌==◌, ◌&&◌, ◌||◌, not, nat_lt, Bool, true, false, List, [], ◌∷◌, ◌++◌, length, Option, Some, None, Result, Ok, Err}
 use Rattle.std.specs.Prelude.{filter, option_map, is_some, unwrap_or, bytes_eq, bit_and}
-use Rattle.nfs_xdr.specs.declared.status.Status.{Status}
+use Rattle.nfs_xdr.specs.{declared.status.Status.Status, Checks.first_fault}
 use Rattle.nfs_xdr.specs.declared.status.Status.TheVariants as status
-use Rattle.nfs_xdr.specs.Checks.{first_fault}
 use Rattle.nfs_clients.specs.Roster.{ClientRecord, Roster, most_records, last_counter, next_id, is_unconfirmed_of, confirmed_of, unconfirmed_of}
 use Rattle.nfs_clients.specs.declared.exchange_id.ClientFault.{ClientFault}
 use Rattle.nfs_clients.specs.declared.exchange_id.ClientFault.TheVariants.{Inval, NoEnt, NotSame, Perm, ClidInUse, ServerFault, Memory}

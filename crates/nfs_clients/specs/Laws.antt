@@ -1,11 +1,7 @@
 -- What holds over any run of changes of a client table.
 use Rattle.std.specs.Prelude.{◌≡◌, ℕ, ◌<◌, ◌^◌, Bool, List, [], ◌∷◌, None}
-use Rattle.nfs_clients.specs.declared.created.CreateResult.{CreateResult}
-use Rattle.nfs_clients.specs.Roster.{Roster, IsRoster, no_clients, next_id, client_at, without}
-use Rattle.nfs_clients.specs.ExchangeId.{Ask, exchange}
-use Rattle.nfs_clients.specs.CreateSession.{with_kept, with_confirmed}
-use Rattle.nfs_clients.specs.Calls.{destroyed}
-use Rattle.nfs_clients.specs.Marks.{with_reclaimed, with_open}
+use Rattle.nfs_clients.specs.{declared.created.CreateResult.CreateResult, Roster.{Roster, IsRoster, no_clients, next_id, client_at, without}}
+use Rattle.nfs_clients.specs.{ExchangeId.{Ask, exchange}, CreateSession.{with_kept, with_confirmed}, Calls.destroyed, Marks.{with_reclaimed, with_open}}
 
 -- what changes a table
 pub data Change : Type 0 where

@@ -1,6 +1,5 @@
 -- The marks of a client record: that its reclaim is complete (RFC 8881 section 18.51), and that it has an open.
-use Rattle.std.specs.Prelude.{ℕ, Bool, true, false, Option, is_some}
-use Rattle.std.specs.Option.{option_map_or}
+use Rattle.std.specs.{Prelude.{ℕ, Bool, true, false, Option, is_some}, Option.option_map_or}
 use Rattle.nfs_clients.specs.Roster.{ClientRecord, Roster, client_at, with_changed}
 
 abbrev pub has_client : Roster → ℕ → Bool

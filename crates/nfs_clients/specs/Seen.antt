@@ -1,7 +1,6 @@
 -- What the answers that functions of this crate pass to each other say of the records that they lend.
-use Rattle.nfs_clients.specs.declared.exchange_id.Case.{Case as Code}
+use Rattle.nfs_clients.specs.{declared.exchange_id.Case.{Case as Code}, ExchangeId.{Case, Refuses, Stays, Adds}}
 use Rattle.nfs_clients.specs.declared.exchange_id.Case.TheVariants as code
-use Rattle.nfs_clients.specs.ExchangeId.{Case, Refuses, Stays, Adds}
 
 abbrev pub case_seen : Code → Case
 case_seen (code.Refuses fault) = Refuses fault

@@ -1,42 +1,30 @@
 -- The arguments of each operation are read exactly where they are spelled.
-use Rattle.std.proofs.Common.{◌≡◌, ℕ, ◌^◌, ◌<◌, ◌||◌, eqb, ◌++◌, List, Some, refl, append_assoc, arith}
-use Rattle.std.proofs.lemmas.Bool.{ne_eqb}
+use Rattle.std.proofs.{Common.{◌≡◌, ℕ, ◌^◌, ◌<◌, ◌||◌, eqb, ◌++◌, List, Some, refl, append_assoc, arith}, lemmas.Bool.ne_eqb}
 use Rattle.nfs_xdr.specs.Spelling as spelling
-use Rattle.nfs_xdr.specs.Codec.{choose, unbounded, number, ◌then◌}
-use Rattle.nfs_xdr.specs.Lawful.{IsCodec, IsListing}
-use Rattle.nfs_xdr.specs.Combinators.{listed_at, choose_or, fixed}
+use Rattle.nfs_xdr.specs.{Codec.{choose, unbounded, number, ◌then◌}, Lawful.{IsCodec, IsListing}, Combinators.{listed_at, choose_or, fixed}}
 use Rattle.nfs_xdr.proofs.CodecLaws.{is_number, is_hyper, is_flag, is_fixed, is_opaque, is_unbounded, is_then, is_as_type, is_only, is_optional, is_led_by}
-use Rattle.nfs_xdr.proofs.CodecLaws.{is_union, is_arm, is_bare}
-use Rattle.nfs_xdr.proofs.WordLaws.{is_listed, is_union_or, is_time}
+use Rattle.nfs_xdr.proofs.{CodecLaws.{is_union, is_arm, is_bare}, WordLaws.{is_listed, is_union_or, is_time}}
 use Rattle.nfs_compound.proofs.ItemLaws.{is_stateid, is_state_owner, is_channel_attrs, is_bitmap, is_attributes, is_all_sec_parms}
 use Rattle.nfs_compound.specs.Stateid.{stateid}
 use Rattle.nfs_compound.specs.ArgCodecs.{attributes, impl_id, exchange_id_args, protected, create_session_args, sequence_args, lock_types, lock_type}
 use Rattle.nfs_compound.specs.ArgCodecs.{open_to_lock_owner, exist_lock_owner, locker, spell_locker, FitsLocker, locker_arms, lock_args, lock_t_args}
 use Rattle.nfs_compound.specs.ArgCodecs.{lock_u_args, commit_args, read_args, stable_hows, stable_how, write_args, set_attr_args, spec_data, create_type}
 use Rattle.nfs_compound.specs.ArgCodecs.{spell_create_type, FitsCreateType, create_type_arms, create_args, read_dir_args, rename_args, secinfo_styles}
-use Rattle.nfs_compound.specs.ArgCodecs.{secinfo_style}
-use Rattle.nfs_compound.specs.declared.open_args.DelegationType.{DelegationType}
-use Rattle.nfs_compound.specs.declared.open_args.DelegationType.TheVariants as Delegations
-use Rattle.nfs_compound.specs.declared.lock_args.LockType.{LockType}
-use Rattle.nfs_compound.specs.declared.lock_args.LockType.TheVariants as LockTypes
-use Rattle.nfs_compound.specs.declared.file_args.StableHow.{StableHow}
-use Rattle.nfs_compound.specs.declared.file_args.StableHow.TheVariants as StableHows
-use Rattle.nfs_compound.specs.declared.name_args.SecinfoStyle.{SecinfoStyle}
-use Rattle.nfs_compound.specs.declared.name_args.SecinfoStyle.TheVariants as SecinfoStyles
-use Rattle.nfs_compound.specs.declared.open_args.CreateHow.{CreateHow}
+use Rattle.nfs_compound.specs.{ArgCodecs.secinfo_style, declared.open_args.DelegationType.DelegationType, declared.lock_args.LockType.LockType}
+use Rattle.nfs_compound.specs.{declared.file_args.StableHow.StableHow, declared.name_args.SecinfoStyle.SecinfoStyle, declared.open_args.CreateHow.CreateHow}
 use Rattle.nfs_compound.specs.declared.open_args.CreateHow.TheVariants.{Unchecked, Guarded, Exclusive, Exclusive41}
 use Rattle.nfs_compound.specs.OpenCodecs.{create_how, spell_create_how, FitsCreateHow, create_how_arms, open_how, spell_open_how, FitsOpenHow, open_how_arms}
 use Rattle.nfs_compound.specs.OpenCodecs.{delegations, delegation_type, open_claim, spell_open_claim, FitsOpenClaim, open_claim_arms, open_args}
 use Rattle.nfs_compound.specs.OpenCodecs.{open_downgrade_args, close_args}
-use Rattle.nfs_compound.specs.Enums.{delegation_number, lock_type_number, stable_how_number, secinfo_style_number}
-use Rattle.nfs_compound.specs.declared.open_args.OpenHow.{OpenHow}
-use Rattle.nfs_compound.specs.declared.open_args.OpenHow.TheVariants.{NoCreate, Create}
-use Rattle.nfs_compound.specs.declared.open_args.OpenClaim.{OpenClaim}
+use Rattle.nfs_compound.specs.{Enums.{delegation_number, lock_type_number, stable_how_number, secinfo_style_number}, declared.open_args.OpenHow.OpenHow}
+use Rattle.nfs_compound.specs.{declared.open_args.OpenHow.TheVariants.{NoCreate, Create}, declared.open_args.OpenClaim.OpenClaim}
 use Rattle.nfs_compound.specs.declared.open_args.OpenClaim.TheVariants.{Null, Previous, DelegateCur, DelegatePrev, Fh, DelegCurFh, DelegPrevFh}
-use Rattle.nfs_compound.specs.declared.lock_args.Locker.{Locker}
-use Rattle.nfs_compound.specs.declared.lock_args.Locker.TheVariants.{OpenOwner, LockOwner}
-use Rattle.nfs_compound.specs.declared.name_args.CreateType.{CreateType}
-use Rattle.nfs_compound.specs.declared.name_args.CreateType.TheVariants.{Block, Character, Symlink, Other}
+use Rattle.nfs_compound.specs.{declared.lock_args.Locker.Locker, declared.lock_args.Locker.TheVariants.{OpenOwner, LockOwner}}
+use Rattle.nfs_compound.specs.{declared.name_args.CreateType.CreateType, declared.name_args.CreateType.TheVariants.{Block, Character, Symlink, Other}}
+use Rattle.nfs_compound.specs.declared.open_args.DelegationType.TheVariants as Delegations
+use Rattle.nfs_compound.specs.declared.lock_args.LockType.TheVariants as LockTypes
+use Rattle.nfs_compound.specs.declared.file_args.StableHow.TheVariants as StableHows
+use Rattle.nfs_compound.specs.declared.name_args.SecinfoStyle.TheVariants as SecinfoStyles
 
 -- Clients and sessions.
 

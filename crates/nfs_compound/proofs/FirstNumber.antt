@@ -1,18 +1,10 @@
 -- An operation is the one whose number its text begins with.
-use Rattle.std.proofs.Common.{◌≡◌, ℕ, ◌<◌, ◌^◌, Some, refl, sym, ◌∙◌, ap}
-use Rattle.std.specs.Prelude.{◌↔◌, take}
-use Rattle.std.specs.Int.{w32, from_be_bytes}
-use Rattle.std.proofs.lemmas.List.{take_at}
-use Rattle.std.proofs.lemmas.Nat.{from_be_bytes-to_be_bytes_4}
+use Rattle.std.proofs.{Common.{◌≡◌, ℕ, ◌<◌, ◌^◌, Some, refl, sym, ◌∙◌, ap}, lemmas.List.take_at, lemmas.Nat.from_be_bytes-to_be_bytes_4}
+use Rattle.std.specs.{Prelude.{◌↔◌, take}, Int.{w32, from_be_bytes}}
 use Rattle.nfs_xdr.specs.Spelling.{number}
 use Rattle.nfs_xdr.proofs.Putting.{length_number}
-use Rattle.nfs_compound.specs.declared.op_num.OpNum.{OpNum}
-use Rattle.nfs_compound.specs.OpNum.{op_num, op_number}
-use Rattle.nfs_compound.specs.declared.op.Op.{Op}
-use Rattle.nfs_compound.specs.Arguments.{arguments}
-use Rattle.nfs_compound.specs.Wire.{nfs_argop4}
-use Rattle.nfs_compound.proofs.OpNumLaws.{is_op_listing}
-use Rattle.nfs_compound.proofs.WireLaws.{ops}
+use Rattle.nfs_compound.specs.{declared.op_num.OpNum.OpNum, OpNum.{op_num, op_number}, declared.op.Op.Op, Arguments.arguments, Wire.nfs_argop4}
+use Rattle.nfs_compound.proofs.{OpNumLaws.is_op_listing, WireLaws.ops}
 
 one_number : (n m : ℕ) → n < 2 ^ 32 → m < 2 ^ 32 → number n ≡ number m → n ≡ m
 unfolding number

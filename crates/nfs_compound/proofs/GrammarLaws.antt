@@ -1,29 +1,16 @@
 -- What is read of a body is in the grammar, and what is in the grammar is read.
 use Rattle.std.proofs.Common.{◌≡◌, ◌≢◌, ◌<◌, ◌⊎◌, ℕ, zero, suc, false, eqb, leb, ◌&&◌, cond, List, [], ◌∷◌, ◌++◌, length, Option, Some, None, refl}
 use Rattle.std.proofs.Common.{sym, ap, subst, ◌∙◌, inl, inr, arith}
-use Rattle.std.proofs.lemmas.Bool.{cases_Bool, and_parts, and_right, eqb-true, ne_eqb, le-leb, lt-leb, leb-true, leb-false}
-use Rattle.std.proofs.lemmas.Option.{same_Some}
+use Rattle.std.proofs.{lemmas.Bool.{cases_Bool, and_parts, and_right, eqb-true, ne_eqb, le-leb, lt-leb, leb-true, leb-false}, lemmas.Option.same_Some}
 use Rattle.std.proofs.lemmas.List.{nil_from_length}
-use Rattle.nfs_xdr.specs.Reading.{◌>>=◌, number_at, fixed_at}
-use Rattle.nfs_xdr.specs.Lawful.{IsCodec}
-use Rattle.nfs_xdr.proofs.CodecLaws.{bind_some, test_some, is_number}
-use Rattle.nfs_xdr.proofs.WordLaws.{listed_number}
-use Rattle.nfs_xdr.specs.declared.status.Status.TheVariants.{BadXdr}
-use Rattle.nfs_compound.specs.declared.op_num.OpNum.{OpNum}
-use Rattle.nfs_compound.specs.declared.op_num.OpNum.TheVariants as Num
-use Rattle.nfs_compound.specs.OpNum.{op_number, op_nums, op_num}
-use Rattle.nfs_compound.specs.declared.op.Op.{Op}
-use Rattle.nfs_compound.specs.declared.op.Item.{Item}
-use Rattle.nfs_compound.specs.declared.op.Item.TheVariants.{Operation, Fault}
-use Rattle.nfs_compound.specs.ArgCodecs.{protected}
-use Rattle.nfs_compound.specs.OpCodec.{op_codec, op_at, flaw, fault_of, fault_at}
-use Rattle.nfs_xdr.specs.Text.{IsBytes, Text, uint32, Lacks}
-use Rattle.nfs_xdr.proofs.TextLaws.{read_as}
-use Rattle.nfs_compound.specs.Wire.{protected4, nfs_argop4}
-use Rattle.nfs_compound.specs.Request.{Answers, Unserved, Unreadable, Unsupported, Illegal, IsFault, Lists, Spoils}
+use Rattle.nfs_xdr.specs.{Reading.{◌>>=◌, number_at, fixed_at}, Lawful.IsCodec, declared.status.Status.TheVariants.BadXdr, Text.{IsBytes, Text, uint32, Lacks}}
+use Rattle.nfs_xdr.proofs.{CodecLaws.{bind_some, test_some, is_number}, WordLaws.listed_number, TextLaws.read_as}
+use Rattle.nfs_compound.specs.{declared.op_num.OpNum.OpNum, OpNum.{op_number, op_nums, op_num}, declared.op.Op.Op, declared.op.Item.Item}
+use Rattle.nfs_compound.specs.{declared.op.Item.TheVariants.{Operation, Fault}, ArgCodecs.protected, OpCodec.{op_codec, op_at, flaw, fault_of, fault_at}}
+use Rattle.nfs_compound.specs.{Wire.{protected4, nfs_argop4}, Request.{Answers, Unserved, Unreadable, Unsupported, Illegal, IsFault, Lists, Spoils}}
 use Rattle.nfs_compound.specs.ReadRequest.{op_or_fault, in_front, item_at, items_at}
-use Rattle.nfs_compound.proofs.OpNumLaws.{is_op_listing}
-use Rattle.nfs_compound.proofs.WireLaws.{is_protected_text, is_op_text}
+use Rattle.nfs_compound.specs.declared.op_num.OpNum.TheVariants as Num
+use Rattle.nfs_compound.proofs.{OpNumLaws.is_op_listing, WireLaws.{is_protected_text, is_op_text}}
 
 pub none≢some : {A : Type 0} (x : A) → None ≡ Some x → ⊥
 none≢some x e = cc

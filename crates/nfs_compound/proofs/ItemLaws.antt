@@ -1,22 +1,14 @@
 -- The items that operations share are read exactly where they are spelled.
 use Rattle.std.proofs.Common.{◌≡◌, ℕ, ◌^◌, ◌<◌, ◌++◌, List, length, take, drop, Some, refl, sym, ap, ◌∙◌, append_assoc, arith, inl, inr}
+use Rattle.std.proofs.{lemmas.Bool.{cases_lt, lt-ltb, le-ltb}, lemmas.List.{length-drop, drop-drop, take-take, drop-take}}
 use Rattle.std.specs.Int.{w32, from_be_bytes}
-use Rattle.std.proofs.lemmas.Bool.{cases_lt, lt-ltb, le-ltb}
-use Rattle.std.proofs.lemmas.List.{length-drop, drop-drop, take-take, drop-take}
-use Rattle.nfs_xdr.specs.Reading.{fixed_at}
-use Rattle.nfs_compound.specs.declared.stateid.Stateid.{Stateid}
-use Rattle.nfs_xdr.specs.Spelling as spelling
-use Rattle.nfs_xdr.specs.Codec.{choose, number}
-use Rattle.nfs_xdr.specs.Lawful.{IsCodec, IsSized}
-use Rattle.nfs_xdr.proofs.CodecLaws.{is_number, is_hyper, is_fixed, is_opaque, is_unbounded, is_then, is_as_type, is_optional, is_array, is_pieces, is_union}
-use Rattle.nfs_xdr.proofs.CodecLaws.{is_arm, is_bare}
-use Rattle.nfs_xdr.proofs.WordLaws.{is_at_most, is_raw}
-use Rattle.nfs_compound.specs.Stateid.{stateid, stateid_of, stateids}
-use Rattle.nfs_compound.specs.StateOwner.{state_owner}
-use Rattle.nfs_compound.specs.ChannelAttrs.{channel_attrs}
+use Rattle.nfs_xdr.specs.{Reading.fixed_at, Codec.{choose, number}, Lawful.{IsCodec, IsSized}, AuthSys.auth_sys}
+use Rattle.nfs_compound.specs.{declared.stateid.Stateid.Stateid, Stateid.{stateid, stateid_of, stateids}, StateOwner.state_owner, ChannelAttrs.channel_attrs}
 use Rattle.nfs_compound.specs.ArgCodecs.{bitmap, attributes, gss_handles, sec_parms, sec_parms_arms, spell_sec_parms, FitsSecParms, all_sec_parms}
 use Rattle.nfs_compound.specs.Callback.{SecParms, AuthNone, Sys, RpcsecGss}
-use Rattle.nfs_xdr.specs.AuthSys.{auth_sys}
+use Rattle.nfs_xdr.specs.Spelling as spelling
+use Rattle.nfs_xdr.proofs.CodecLaws.{is_number, is_hyper, is_fixed, is_opaque, is_unbounded, is_then, is_as_type, is_optional, is_array, is_pieces, is_union}
+use Rattle.nfs_xdr.proofs.{CodecLaws.{is_arm, is_bare}, WordLaws.{is_at_most, is_raw}}
 
 pub is_stateid : IsCodec stateid
 unfolding stateid

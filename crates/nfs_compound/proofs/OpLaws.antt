@@ -1,25 +1,15 @@
 -- The table is a codec: each operation is read exactly where it is spelled.
-use Rattle.std.proofs.Common.{◌≡◌, ◌++◌, List, ℕ, Some, refl, append_assoc, arith}
-use Rattle.std.proofs.lemmas.List.{append-nil}
+use Rattle.std.proofs.{Common.{◌≡◌, ◌++◌, List, ℕ, Some, refl, append_assoc, arith}, lemmas.List.append-nil}
 use Rattle.nfs_xdr.specs.Spelling as spelling
-use Rattle.nfs_xdr.specs.Codec.{number, hyper, flag, opaque, unbounded}
-use Rattle.nfs_xdr.specs.Lawful.{IsCodec}
-use Rattle.nfs_xdr.specs.Combinators.{fixed}
-use Rattle.nfs_xdr.proofs.CodecLaws.{IsArm, is_number, is_hyper, is_flag, is_fixed, is_opaque, is_unbounded, is_arm, is_bare}
-use Rattle.nfs_xdr.proofs.WordLaws.{is_union_by}
-use Rattle.nfs_compound.specs.declared.op_num.OpNum.{OpNum}
-use Rattle.nfs_compound.specs.declared.op_num.OpNum.TheVariants as Num
-use Rattle.nfs_compound.specs.OpNum.{op_number, op_nums}
-use Rattle.nfs_compound.specs.Stateid.{stateid, stateids}
+use Rattle.nfs_xdr.specs.{Codec.{number, hyper, flag, opaque, unbounded}, Lawful.IsCodec, Combinators.fixed}
+use Rattle.nfs_xdr.proofs.{CodecLaws.{IsArm, is_number, is_hyper, is_flag, is_fixed, is_opaque, is_unbounded, is_arm, is_bare}, WordLaws.is_union_by}
+use Rattle.nfs_compound.specs.{declared.op_num.OpNum.OpNum, OpNum.{op_number, op_nums}, Stateid.{stateid, stateids}}
 use Rattle.nfs_compound.specs.ArgCodecs.{bitmap, attributes, lock_args, lock_t_args, lock_u_args, commit_args, read_args, write_args, set_attr_args}
 use Rattle.nfs_compound.specs.ArgCodecs.{create_args, read_dir_args, rename_args, secinfo_style, exchange_id_args, create_session_args, sequence_args}
-use Rattle.nfs_compound.specs.OpenCodecs.{open_args, open_downgrade_args, close_args}
-use Rattle.nfs_compound.specs.declared.op.Op.{Op}
-use Rattle.nfs_compound.specs.Arguments.{arguments}
-use Rattle.nfs_compound.specs.OpCodec.{op_at, op_codec}
+use Rattle.nfs_compound.specs.{OpenCodecs.{open_args, open_downgrade_args, close_args}, declared.op.Op.Op, Arguments.arguments, OpCodec.{op_at, op_codec}}
 use Rattle.nfs_compound.specs.Request.{spell_op, FitsOp}
-use Rattle.nfs_compound.proofs.OpNumLaws.{is_op_listing}
-use Rattle.nfs_compound.proofs.ItemLaws.{is_stateid, is_stateids, is_bitmap, is_attributes}
+use Rattle.nfs_compound.specs.declared.op_num.OpNum.TheVariants as Num
+use Rattle.nfs_compound.proofs.{OpNumLaws.is_op_listing, ItemLaws.{is_stateid, is_stateids, is_bitmap, is_attributes}}
 use Rattle.nfs_compound.proofs.ArgLaws.{is_close_args, is_commit_args, is_create_args, is_create_session_args, is_exchange_id_args, is_lock_args}
 use Rattle.nfs_compound.proofs.ArgLaws.{is_lock_t_args, is_lock_u_args, is_open_args, is_open_downgrade_args, is_read_args, is_read_dir_args, is_rename_args}
 use Rattle.nfs_compound.proofs.ArgLaws.{is_sequence_args, is_set_attr_args, is_write_args, is_secinfo_style}

@@ -1,9 +1,8 @@
 -- Each number is read as its own operation.
 use Rattle.std.proofs.Common.{◌≡◌, ◌≤◌, Some, refl, arith}
 use Rattle.nfs_xdr.specs.Lawful.{IsListing}
-use Rattle.nfs_compound.specs.declared.op_num.OpNum.{OpNum}
+use Rattle.nfs_compound.specs.{declared.op_num.OpNum.OpNum, OpNum.{op_number, op_nums, op_num}}
 use Rattle.nfs_compound.specs.declared.op_num.OpNum.TheVariants as Num
-use Rattle.nfs_compound.specs.OpNum.{op_number, op_nums, op_num}
 
 -- what holds of each number
 record IsNumber (op : OpNum) : Type 0 where

@@ -1,22 +1,15 @@
 -- Bytes are read as a request exactly where they are one, and refused exactly where they are garbage.
 use Rattle.std.proofs.Common.{◌≡◌, ◌⊎◌, ℕ, zero, suc, ◌≤◌, ◌<◌, ◌^◌, eqb, cond, List, [], ◌++◌, length, Option, Some, None, Result, Ok, Err, refl, sym, ap}
-use Rattle.std.proofs.Common.{subst, ◌∙◌, inl, inr, arith}
+use Rattle.std.proofs.{Common.{subst, ◌∙◌, inl, inr, arith}, lemmas.Bool.ne_eqb, lemmas.Option.same_Some}
 use Rattle.std.specs.Prelude.{IfOk, OnErr, MatchResult}
-use Rattle.std.proofs.lemmas.Bool.{ne_eqb}
-use Rattle.std.proofs.lemmas.Option.{same_Some}
 use Rattle.nfs_xdr.specs.Spelling as spelling
-use Rattle.nfs_xdr.specs.Reading.{◌>>=◌, number_at, opaque_at}
-use Rattle.nfs_xdr.specs.Codec.{opaque}
-use Rattle.nfs_xdr.specs.Lawful.{IsCodec}
+use Rattle.nfs_xdr.specs.{Reading.{◌>>=◌, number_at, opaque_at}, Codec.opaque, Lawful.IsCodec, Text.{IsBytes, uint32}}
 use Rattle.nfs_xdr.proofs.CodecLaws.{bind_some, is_number, is_opaque}
-use Rattle.nfs_compound.specs.declared.compound.Garbage.{Garbage}
-use Rattle.nfs_compound.specs.declared.op.Item.{Item}
-use Rattle.nfs_xdr.specs.Text as text
-use Rattle.nfs_xdr.specs.Text.{IsBytes, uint32}
+use Rattle.nfs_compound.specs.{declared.compound.Garbage.Garbage, declared.op.Item.Item}
 use Rattle.nfs_compound.specs.Request.{Request, IsHead, HasBody, IsRequest, IsGarbage, LacksTag, LacksMinor, LacksCount, SpoilsBody}
 use Rattle.nfs_compound.specs.ReadRequest.{items_at, request_at}
-use Rattle.nfs_compound.proofs.Walk.{request_from}
-use Rattle.nfs_compound.proofs.GrammarLaws.{none≢some, lacks_from, lacks_again, lists_from, lists_again, spoils_from, spoils_again}
+use Rattle.nfs_xdr.specs.Text as text
+use Rattle.nfs_compound.proofs.{Walk.request_from, GrammarLaws.{none≢some, lacks_from, lacks_again, lists_from, lists_again, spoils_from, spoils_again}}
 
 is_tag : IsCodec (opaque 1024)
 is_tag = is_opaque 1024 (omega arith)

@@ -1,17 +1,11 @@
 -- Going over the operations of a compound, as a loop does.
 use Rattle.std.proofs.Common.{◌≡◌, ℕ, zero, suc, ◌-◌, ◌+◌, ◌≤◌, ◌<◌, Bool, true, false, eqb, cond, List, [], ◌∷◌, length, Option, Some, None, refl, sym, ap}
-use Rattle.std.proofs.Common.{◌∙◌, arith}
-use Rattle.std.proofs.lemmas.Option.{same_Some}
+use Rattle.std.proofs.{Common.{◌∙◌, arith}, lemmas.Option.same_Some, lemmas.Bool.{eq-eqb, ne_eqb, false≢true}}
 use Rattle.nfs_xdr.proofs.CodecLaws.{bind_some}
 use Rattle.std.specs.Prelude.{is_some}
-use Rattle.std.proofs.lemmas.Bool.{eq-eqb, ne_eqb, false≢true}
 use Rattle.nfs_xdr.specs.Reading.{◌>>=◌, number_at, opaque_at}
-use Rattle.nfs_compound.specs.declared.op.Op.{Op}
-use Rattle.nfs_compound.specs.declared.op.Item.{Item}
-use Rattle.nfs_compound.specs.declared.op.Item.TheVariants.{Operation, Fault}
-use Rattle.nfs_compound.specs.OpCodec.{fault_at, op_at}
-use Rattle.nfs_compound.specs.OpNum.{op_num}
-use Rattle.nfs_compound.specs.ReadRequest.{is_fault, op_or_fault, item_at, in_front, first_of, items_at, items_left, request_at}
+use Rattle.nfs_compound.specs.{declared.op.Op.Op, declared.op.Item.Item, declared.op.Item.TheVariants.{Operation, Fault}, OpCodec.{fault_at, op_at}}
+use Rattle.nfs_compound.specs.{OpNum.op_num, ReadRequest.{is_fault, op_or_fault, item_at, in_front, first_of, items_at, items_left, request_at}}
 
 behind_fault : (x : Item) (items : Option (List Item)) → is_fault x ≡ true → is_some (in_front x items) ≡ true
 behind_fault (Operation op) items e = absurd cc

@@ -1,40 +1,27 @@
 -- Each operation is spelled as its text, and fits exactly where the text lets it.
-use Rattle.std.proofs.Common.{◌≡◌, ℕ, ◌<◌, ◌^◌, List, refl, sym, ◌∙◌, arith, ◌⊎◌, inl, inr, eqb}
+use Rattle.std.proofs.{Common.{◌≡◌, ℕ, ◌<◌, ◌^◌, List, refl, sym, ◌∙◌, arith, ◌⊎◌, inl, inr, eqb}, lemmas.Bool.{cases_Bool, eqb-true}}
 use Rattle.std.specs.Prelude.{IsTrue, ◌==◌, ◌||◌}
-use Rattle.std.proofs.lemmas.Bool.{cases_Bool, eqb-true}
 use Rattle.nfs_xdr.specs.Codec as codec
 use Rattle.nfs_xdr.specs.Combinators as combinators
-use Rattle.nfs_xdr.specs.Text.{array, optional, uint32}
-use Rattle.nfs_xdr.specs.Lawful.{IsCodec}
-use Rattle.nfs_xdr.specs.Time.{time}
+use Rattle.nfs_xdr.specs.{Text.{array, optional, uint32}, Lawful.IsCodec, Time.time}
 use Rattle.nfs_xdr.proofs.TextLaws.{Spells, arrays, optionals, numbers, credentials, read_as, is_read}
-use Rattle.nfs_compound.specs.Stateid.{stateid, stateids}
-use Rattle.nfs_compound.specs.StateOwner.{state_owner}
-use Rattle.nfs_compound.specs.ChannelAttrs.{channel_attrs}
+use Rattle.nfs_compound.specs.{Stateid.{stateid, stateids}, StateOwner.state_owner, ChannelAttrs.channel_attrs}
 use Rattle.nfs_compound.specs.ArgCodecs.{bitmap, attributes, gss_handles, all_sec_parms, impl_id, protected, exchange_id_args, create_session_args}
 use Rattle.nfs_compound.specs.ArgCodecs.{sequence_args, lock_type, open_to_lock_owner, exist_lock_owner, locker, lock_args, lock_t_args, lock_u_args}
 use Rattle.nfs_compound.specs.ArgCodecs.{commit_args, read_args, stable_how, write_args, set_attr_args, spec_data, create_type, create_args, read_dir_args}
-use Rattle.nfs_compound.specs.ArgCodecs.{rename_args, secinfo_style}
-use Rattle.nfs_compound.specs.ArgCodecs as callback
-use Rattle.nfs_compound.specs.Callback.{SecParms, AuthNone, Sys, RpcsecGss}
-use Rattle.nfs_compound.specs.declared.open_args.CreateHow.{CreateHow}
-use Rattle.nfs_compound.specs.declared.open_args.CreateHow.TheVariants.{Unchecked, Guarded, Exclusive, Exclusive41}
-use Rattle.nfs_compound.specs.declared.open_args.OpenHow.{OpenHow}
+use Rattle.nfs_compound.specs.{ArgCodecs.{rename_args, secinfo_style}, Callback.{SecParms, AuthNone, Sys, RpcsecGss}, declared.open_args.CreateHow.CreateHow}
+use Rattle.nfs_compound.specs.{declared.open_args.CreateHow.TheVariants.{Unchecked, Guarded, Exclusive, Exclusive41}, declared.open_args.OpenHow.OpenHow}
 use Rattle.nfs_compound.specs.declared.open_args.OpenHow.TheVariants.{NoCreate, Create}
 use Rattle.nfs_compound.specs.OpenCodecs.{create_how, open_how, open_claim, delegation_type, open_args, open_downgrade_args, close_args}
 use Rattle.nfs_compound.specs.declared.open_args.OpenClaim.{OpenClaim}
 use Rattle.nfs_compound.specs.declared.open_args.OpenClaim.TheVariants.{Null, Previous, DelegateCur, DelegatePrev, Fh, DelegCurFh, DelegPrevFh}
-use Rattle.nfs_compound.specs.declared.lock_args.Locker.{Locker}
-use Rattle.nfs_compound.specs.declared.lock_args.Locker.TheVariants.{OpenOwner, LockOwner}
-use Rattle.nfs_compound.specs.declared.name_args.CreateType.{CreateType}
-use Rattle.nfs_compound.specs.declared.name_args.CreateType.TheVariants.{Block, Character, Symlink, Other}
-use Rattle.nfs_compound.specs.declared.op.Op.{Op}
-use Rattle.nfs_compound.specs.Request.{spell_op, FitsOp}
-use Rattle.nfs_compound.specs.OpCodec.{op_codec}
+use Rattle.nfs_compound.specs.{declared.lock_args.Locker.Locker, declared.lock_args.Locker.TheVariants.{OpenOwner, LockOwner}}
+use Rattle.nfs_compound.specs.{declared.name_args.CreateType.CreateType, declared.name_args.CreateType.TheVariants.{Block, Character, Symlink, Other}}
+use Rattle.nfs_compound.specs.{declared.op.Op.Op, Request.{spell_op, FitsOp}, OpCodec.op_codec}
 use Rattle.nfs_compound.specs.Wire.{bitmap4, fattr4, state_owner4, stateid4, createtype4, locker4, createhow4, openflag4}
 use Rattle.nfs_compound.specs.Wire.{open_claim4, nfs_impl_id4, channel_attrs4, gss_cb_handles4, callback_sec_parms4, sec_parms, protected4, nfs_argop4}
-use Rattle.nfs_compound.proofs.ArgLaws.{is_protected}
-use Rattle.nfs_compound.proofs.OpLaws.{is_op}
+use Rattle.nfs_compound.specs.ArgCodecs as callback
+use Rattle.nfs_compound.proofs.{ArgLaws.is_protected, OpLaws.is_op}
 
 -- Structs and unions.
 

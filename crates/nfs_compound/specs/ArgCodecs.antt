@@ -1,45 +1,23 @@
 -- How the arguments of operations are spelled and read (RFC 5662).
-use Rattle.std.specs.Prelude.{ℕ, List, [], ◌∷◌, ◌++◌, Option, ◌≢◌, ◌<◌, ◌^◌, ◌==◌, ◌||◌}
-use Rattle.std.specs.Int.{w32, from_be_bytes}
+use Rattle.std.specs.{Prelude.{ℕ, List, [], ◌∷◌, ◌++◌, Option, ◌≢◌, ◌<◌, ◌^◌, ◌==◌, ◌||◌}, Int.{w32, from_be_bytes}}
 use Rattle.nfs_xdr.specs.Codec.{Codec, number, unbounded, ◌then◌, as_type, pieces, array, union, arm, bare, hyper, flag, opaque, only, led_by}
-use Rattle.nfs_xdr.specs.AuthSys.{auth_sys}
+use Rattle.nfs_xdr.specs.{AuthSys.auth_sys, Combinators.{raw, listed, fixed, union_or, optional}, Time.time, Limits.opaque_limit}
 use Rattle.nfs_xdr.specs.Spelling as spelling
-use Rattle.nfs_xdr.specs.Combinators.{raw, listed, fixed, union_or, optional}
-use Rattle.nfs_xdr.specs.Time.{time}
-use Rattle.nfs_xdr.specs.Limits.{opaque_limit}
-use Rattle.nfs_compound.specs.declared.attributes.Attributes.{Attributes}
-use Rattle.nfs_compound.specs.Callback.{GssHandles, SecParms, AuthNone, Sys, RpcsecGss}
-use Rattle.nfs_compound.specs.Enums.{stable_how_number, secinfo_style_number, lock_type_number}
-use Rattle.nfs_compound.specs.declared.file_args.Write.{Write}
-use Rattle.nfs_compound.specs.declared.file_args.SetAttr.{SetAttr}
-use Rattle.nfs_compound.specs.declared.file_args.Commit.{Commit}
-use Rattle.nfs_compound.specs.declared.file_args.Read.{Read}
-use Rattle.nfs_compound.specs.declared.file_args.StableHow.{StableHow}
+use Rattle.nfs_compound.specs.{declared.attributes.Attributes.Attributes, Callback.{GssHandles, SecParms, AuthNone, Sys, RpcsecGss}}
+use Rattle.nfs_compound.specs.{Enums.{stable_how_number, secinfo_style_number, lock_type_number}, declared.file_args.Write.Write}
+use Rattle.nfs_compound.specs.{declared.file_args.SetAttr.SetAttr, declared.file_args.Commit.Commit, declared.file_args.Read.Read}
+use Rattle.nfs_compound.specs.{declared.file_args.StableHow.StableHow, Stateid.stateid, declared.name_args.CreateType.CreateType}
+use Rattle.nfs_compound.specs.{declared.name_args.CreateType.TheVariants.{Block, Character, Symlink, Other}, declared.name_args.Create.Create}
+use Rattle.nfs_compound.specs.{declared.name_args.ReadDir.ReadDir, declared.name_args.Rename.Rename, declared.name_args.SpecData.SpecData}
+use Rattle.nfs_compound.specs.{declared.name_args.SecinfoStyle.SecinfoStyle, declared.lock_args.OpenToLockOwner.OpenToLockOwner}
+use Rattle.nfs_compound.specs.{declared.lock_args.Locker.Locker, declared.lock_args.Locker.TheVariants.{OpenOwner, LockOwner}, declared.lock_args.Lock.Lock}
+use Rattle.nfs_compound.specs.{declared.lock_args.LockT.LockT, declared.lock_args.LockType.LockType, declared.lock_args.ExistLockOwner.ExistLockOwner}
+use Rattle.nfs_compound.specs.{StateOwner.state_owner, declared.lock_args.LockU.LockU, declared.session_args.ImplId.ImplId}
+use Rattle.nfs_compound.specs.{declared.session_args.ExchangeId.ExchangeId, declared.session_args.CreateSession.CreateSession}
+use Rattle.nfs_compound.specs.{declared.session_args.Sequence.Sequence, ChannelAttrs.channel_attrs}
 use Rattle.nfs_compound.specs.declared.file_args.StableHow.TheVariants as StableHows
-use Rattle.nfs_compound.specs.Stateid.{stateid}
-use Rattle.nfs_compound.specs.declared.name_args.CreateType.{CreateType}
-use Rattle.nfs_compound.specs.declared.name_args.CreateType.TheVariants.{Block, Character, Symlink, Other}
-use Rattle.nfs_compound.specs.declared.name_args.Create.{Create}
-use Rattle.nfs_compound.specs.declared.name_args.ReadDir.{ReadDir}
-use Rattle.nfs_compound.specs.declared.name_args.Rename.{Rename}
-use Rattle.nfs_compound.specs.declared.name_args.SpecData.{SpecData}
-use Rattle.nfs_compound.specs.declared.name_args.SecinfoStyle.{SecinfoStyle}
 use Rattle.nfs_compound.specs.declared.name_args.SecinfoStyle.TheVariants as SecinfoStyles
-use Rattle.nfs_compound.specs.declared.lock_args.OpenToLockOwner.{OpenToLockOwner}
-use Rattle.nfs_compound.specs.declared.lock_args.Locker.{Locker}
-use Rattle.nfs_compound.specs.declared.lock_args.Locker.TheVariants.{OpenOwner, LockOwner}
-use Rattle.nfs_compound.specs.declared.lock_args.Lock.{Lock}
-use Rattle.nfs_compound.specs.declared.lock_args.LockT.{LockT}
-use Rattle.nfs_compound.specs.declared.lock_args.LockType.{LockType}
 use Rattle.nfs_compound.specs.declared.lock_args.LockType.TheVariants as LockTypes
-use Rattle.nfs_compound.specs.declared.lock_args.ExistLockOwner.{ExistLockOwner}
-use Rattle.nfs_compound.specs.StateOwner.{state_owner}
-use Rattle.nfs_compound.specs.declared.lock_args.LockU.{LockU}
-use Rattle.nfs_compound.specs.declared.session_args.ImplId.{ImplId}
-use Rattle.nfs_compound.specs.declared.session_args.ExchangeId.{ExchangeId}
-use Rattle.nfs_compound.specs.declared.session_args.CreateSession.{CreateSession}
-use Rattle.nfs_compound.specs.declared.session_args.Sequence.{Sequence}
-use Rattle.nfs_compound.specs.ChannelAttrs.{channel_attrs}
 
 -- the words of a mask; bit i of word w is attribute 32 w + i
 unfoldable pub bitmap : Codec (List ℕ)

@@ -1,14 +1,10 @@
 -- The table of arguments: how each operation is spelled behind its number (RFC 5662; RFC 8881 section 18).
-use Rattle.nfs_xdr.specs.Limits.{fhsize}
-use Rattle.nfs_xdr.specs.Codec.{Codec, number, hyper, flag, opaque, unbounded}
-use Rattle.nfs_xdr.specs.Combinators.{fixed, nothing}
-use Rattle.nfs_compound.specs.declared.op_num.OpNum.{OpNum}
-use Rattle.nfs_compound.specs.declared.op_num.OpNum.TheVariants as Num
-use Rattle.nfs_compound.specs.Stateid.{stateid, stateids}
+use Rattle.nfs_xdr.specs.{Limits.fhsize, Codec.{Codec, number, hyper, flag, opaque, unbounded}, Combinators.{fixed, nothing}}
+use Rattle.nfs_compound.specs.{declared.op_num.OpNum.OpNum, Stateid.{stateid, stateids}}
 use Rattle.nfs_compound.specs.ArgCodecs.{bitmap, attributes, lock_args, lock_t_args, lock_u_args, commit_args, read_args, write_args, set_attr_args}
 use Rattle.nfs_compound.specs.ArgCodecs.{create_args, read_dir_args, rename_args, secinfo_style, exchange_id_args, create_session_args, sequence_args}
-use Rattle.nfs_compound.specs.OpenCodecs.{open_args, open_downgrade_args, close_args}
-use Rattle.nfs_compound.specs.declared.op.Op.{Op}
+use Rattle.nfs_compound.specs.{OpenCodecs.{open_args, open_downgrade_args, close_args}, declared.op.Op.Op}
+use Rattle.nfs_compound.specs.declared.op_num.OpNum.TheVariants as Num
 
 -- An operation's arguments: its number, their format, and what they are.
 pub record Arguments : Type 1 where

@@ -1,6 +1,5 @@
 -- The attributes of a channel (channel_attrs4 of RFC 5662; RFC 8881 section 18.36.1).
-use Rattle.nfs_xdr.specs.Codec.{Codec, number, ◌then◌, as_type}
-use Rattle.nfs_xdr.specs.Combinators.{optional}
+use Rattle.nfs_xdr.specs.{Codec.{Codec, number, ◌then◌, as_type}, Combinators.optional}
 use Rattle.nfs_compound.specs.declared.channel_attrs.ChannelAttrs.{ChannelAttrs}
 
 -- an array of at most one number is spelled as an optional one

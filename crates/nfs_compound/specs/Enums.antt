@@ -1,12 +1,10 @@
 -- The number of each value of the enums that arguments and results have (RFC 5662).
 use Rattle.std.specs.Prelude.{ℕ}
-use Rattle.nfs_compound.specs.declared.file_args.StableHow.{StableHow}
-use Rattle.nfs_compound.specs.declared.file_args.StableHow.TheVariants as StableHows
-use Rattle.nfs_compound.specs.declared.lock_args.LockType.{LockType}
-use Rattle.nfs_compound.specs.declared.lock_args.LockType.TheVariants as LockTypes
-use Rattle.nfs_compound.specs.declared.name_args.SecinfoStyle.{SecinfoStyle}
-use Rattle.nfs_compound.specs.declared.name_args.SecinfoStyle.TheVariants as SecinfoStyles
+use Rattle.nfs_compound.specs.{declared.file_args.StableHow.StableHow, declared.lock_args.LockType.LockType, declared.name_args.SecinfoStyle.SecinfoStyle}
 use Rattle.nfs_compound.specs.declared.open_args.DelegationType.{DelegationType}
+use Rattle.nfs_compound.specs.declared.file_args.StableHow.TheVariants as StableHows
+use Rattle.nfs_compound.specs.declared.lock_args.LockType.TheVariants as LockTypes
+use Rattle.nfs_compound.specs.declared.name_args.SecinfoStyle.TheVariants as SecinfoStyles
 use Rattle.nfs_compound.specs.declared.open_args.DelegationType.TheVariants as Delegations
 
 -- nfs_lock_type4 (RFC 8881 section 18.10)

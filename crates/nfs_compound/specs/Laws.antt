@@ -1,8 +1,7 @@
 -- The laws of the arguments of a compound (RFC 8881 section 16.2): each list of bytes is a request or garbage and never both, and it is one request at most.
 use Rattle.std.specs.Prelude.{◌≡◌, ◌↔◌, ℕ, ◌⊎◌, List, Some, None}
 use Rattle.nfs_xdr.specs.Text.{IsBytes}
-use Rattle.nfs_compound.specs.Request.{Request, IsRequest, IsGarbage}
-use Rattle.nfs_compound.specs.ReadRequest.{request_at}
+use Rattle.nfs_compound.specs.{Request.{Request, IsRequest, IsGarbage}, ReadRequest.request_at}
 
 abbrev pub HasOneReading : Type 0
 HasOneReading = (bytes : List ℕ) → IsBytes bytes → ((r : Request) × IsRequest bytes r) ⊎ IsGarbage bytes

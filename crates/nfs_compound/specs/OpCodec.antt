@@ -1,22 +1,14 @@
 -- How an operation is read behind its number, and which fault stands where none is read.
 use Rattle.std.specs.Prelude.{ℕ, ◌&&◌, List, Option, Some, None, nat_le, is_some, if◌then◌else◌}
-use Rattle.nfs_xdr.specs.Limits.{fhsize}
-use Rattle.nfs_xdr.specs.Codec.{Codec, number, hyper, flag, opaque, unbounded, arm, bare}
-use Rattle.nfs_xdr.specs.Combinators.{fixed, union_by}
-use Rattle.nfs_xdr.specs.declared.status.Status.{Status}
-use Rattle.nfs_xdr.specs.declared.status.Status.TheVariants.{Inval, NotSupp, BadXdr, OpIllegal}
-use Rattle.nfs_compound.specs.Request.{spell_op, FitsOp}
-use Rattle.nfs_compound.specs.declared.op_num.OpNum.{OpNum}
-use Rattle.nfs_compound.specs.declared.op_num.OpNum.TheVariants as Num
-use Rattle.nfs_compound.specs.OpNum.{op_number, op_nums, op_num, first_op, last_op, op_illegal}
+use Rattle.nfs_xdr.specs.{Limits.fhsize, Codec.{Codec, number, hyper, flag, opaque, unbounded, arm, bare}, Combinators.{fixed, union_by}}
+use Rattle.nfs_xdr.specs.{declared.status.Status.Status, declared.status.Status.TheVariants.{Inval, NotSupp, BadXdr, OpIllegal}}
+use Rattle.nfs_compound.specs.{Request.{spell_op, FitsOp}, declared.op_num.OpNum.OpNum, OpNum.{op_number, op_nums, op_num, first_op, last_op, op_illegal}}
 use Rattle.nfs_compound.specs.Stateid.{stateid, stateids}
 use Rattle.nfs_compound.specs.ArgCodecs.{bitmap, attributes, lock_args, lock_t_args, lock_u_args, commit_args, read_args, write_args, set_attr_args}
 use Rattle.nfs_compound.specs.ArgCodecs.{create_args, read_dir_args, rename_args, secinfo_style, exchange_id_args, protected, create_session_args}
-use Rattle.nfs_compound.specs.ArgCodecs.{sequence_args}
-use Rattle.nfs_compound.specs.OpenCodecs.{open_args, open_downgrade_args, close_args}
-use Rattle.nfs_compound.specs.declared.op.Op.{Op}
-use Rattle.nfs_compound.specs.declared.op.Item.{Item}
+use Rattle.nfs_compound.specs.{ArgCodecs.sequence_args, OpenCodecs.{open_args, open_downgrade_args, close_args}, declared.op.Op.Op, declared.op.Item.Item}
 use Rattle.nfs_compound.specs.declared.op.Item.TheVariants.{Fault}
+use Rattle.nfs_compound.specs.declared.op_num.OpNum.TheVariants as Num
 
 -- The same, read behind the number.
 unfoldable pub op_at : OpNum → List ℕ → Option (Op × List ℕ)

@@ -1,24 +1,14 @@
 -- How the arguments of OPEN, OPEN_DOWNGRADE and CLOSE are spelled and read (RFC 5662).
 use Rattle.std.specs.Prelude.{ℕ, List, [], ◌∷◌, ◌++◌, Option}
 use Rattle.nfs_xdr.specs.Spelling as spelling
-use Rattle.nfs_xdr.specs.Codec.{Codec, ◌then◌, union, arm, bare, number, unbounded, as_type}
-use Rattle.nfs_xdr.specs.Combinators.{fixed, listed}
-use Rattle.nfs_compound.specs.Enums.{delegation_number}
-use Rattle.nfs_compound.specs.declared.open_args.CreateHow.{CreateHow}
-use Rattle.nfs_compound.specs.declared.open_args.CreateHow.TheVariants.{Unchecked, Guarded, Exclusive, Exclusive41}
-use Rattle.nfs_compound.specs.declared.open_args.OpenHow.{OpenHow}
-use Rattle.nfs_compound.specs.declared.open_args.OpenHow.TheVariants.{NoCreate, Create}
-use Rattle.nfs_compound.specs.declared.open_args.OpenClaim.{OpenClaim}
-use Rattle.nfs_compound.specs.declared.open_args.OpenClaim.TheVariants.{Null}
-use Rattle.nfs_compound.specs.declared.open_args.OpenClaim.TheVariants.{Previous, DelegateCur, DelegatePrev, Fh, DelegCurFh, DelegPrevFh}
-use Rattle.nfs_compound.specs.declared.open_args.Open.{Open}
-use Rattle.nfs_compound.specs.ArgCodecs.{attributes}
-use Rattle.nfs_compound.specs.declared.open_args.DelegationType.{DelegationType}
+use Rattle.nfs_xdr.specs.{Codec.{Codec, ◌then◌, union, arm, bare, number, unbounded, as_type}, Combinators.{fixed, listed}}
+use Rattle.nfs_compound.specs.{Enums.delegation_number, declared.open_args.CreateHow.CreateHow}
+use Rattle.nfs_compound.specs.{declared.open_args.CreateHow.TheVariants.{Unchecked, Guarded, Exclusive, Exclusive41}, declared.open_args.OpenHow.OpenHow}
+use Rattle.nfs_compound.specs.{declared.open_args.OpenHow.TheVariants.{NoCreate, Create}, declared.open_args.OpenClaim.OpenClaim}
+use Rattle.nfs_compound.specs.declared.open_args.OpenClaim.TheVariants.{Null, Previous, DelegateCur, DelegatePrev, Fh, DelegCurFh, DelegPrevFh}
+use Rattle.nfs_compound.specs.{declared.open_args.Open.Open, ArgCodecs.attributes, declared.open_args.DelegationType.DelegationType, Stateid.stateid}
+use Rattle.nfs_compound.specs.{StateOwner.state_owner, declared.open_args.OpenDowngrade.OpenDowngrade, declared.open_args.Close.Close}
 use Rattle.nfs_compound.specs.declared.open_args.DelegationType.TheVariants as Delegations
-use Rattle.nfs_compound.specs.Stateid.{stateid}
-use Rattle.nfs_compound.specs.StateOwner.{state_owner}
-use Rattle.nfs_compound.specs.declared.open_args.OpenDowngrade.{OpenDowngrade}
-use Rattle.nfs_compound.specs.declared.open_args.Close.{Close}
 
 abbrev pub spell_create_how : CreateHow → List ℕ
 spell_create_how (Unchecked a) = spelling.number 0 ++ attributes.spell a

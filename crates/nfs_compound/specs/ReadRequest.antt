@@ -1,14 +1,9 @@
 -- Reading the arguments of a compound step by step from the front. That it gives the requests, and nothing for garbage,
 -- is a law (Laws).
 use Rattle.std.specs.Prelude.{ℕ, zero, suc, ◌==◌, List, [], ◌∷◌, length, Option, Some, None, Bool, true, false, if◌then◌else◌}
-use Rattle.nfs_xdr.specs.Reading.{◌>>=◌, number_at, opaque_at}
-use Rattle.nfs_xdr.specs.Limits.{opaque_limit}
-use Rattle.nfs_compound.specs.declared.op.Op.{Op}
-use Rattle.nfs_compound.specs.declared.op.Item.{Item}
-use Rattle.nfs_compound.specs.declared.op.Item.TheVariants.{Operation, Fault}
-use Rattle.nfs_compound.specs.OpNum.{op_num}
-use Rattle.nfs_compound.specs.OpCodec.{op_at, fault_at}
-use Rattle.nfs_compound.specs.Request.{Request}
+use Rattle.nfs_xdr.specs.{Reading.{◌>>=◌, number_at, opaque_at}, Limits.opaque_limit}
+use Rattle.nfs_compound.specs.{declared.op.Op.Op, declared.op.Item.Item, declared.op.Item.TheVariants.{Operation, Fault}, OpNum.op_num}
+use Rattle.nfs_compound.specs.{OpCodec.{op_at, fault_at}, Request.Request}
 
 abbrev pub is_fault : Item → Bool
 is_fault (Operation op) = false

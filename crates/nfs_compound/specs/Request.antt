@@ -1,16 +1,9 @@
 -- The arguments of a compound (RFC 8881 section 16.2): which bytes are a request, and which are garbage.
 use Rattle.std.specs.Prelude.{◌≡◌, ◌≢◌, ℕ, zero, suc, ◌<◌, ◌≤◌, ◌^◌, ◌⊎◌, List, [], ◌∷◌, ◌++◌}
 use Rattle.nfs_xdr.specs.Spelling as spelling
-use Rattle.nfs_xdr.specs.Limits.{opaque_limit}
-use Rattle.nfs_xdr.specs.declared.status.Status.TheVariants.{Inval, NotSupp, BadXdr, OpIllegal}
-use Rattle.nfs_compound.specs.declared.op_num.OpNum.{OpNum}
-use Rattle.nfs_compound.specs.declared.op_num.OpNum.TheVariants.{ExchangeId}
-use Rattle.nfs_compound.specs.OpNum.{op_number, first_op, last_op, op_illegal}
-use Rattle.nfs_compound.specs.declared.op.Op.{Op}
-use Rattle.nfs_compound.specs.declared.op.Item.{Item}
-use Rattle.nfs_compound.specs.declared.op.Item.TheVariants.{Operation, Fault}
-use Rattle.nfs_xdr.specs.Text.{uint32, opaque, Begins, Lacks}
-use Rattle.nfs_compound.specs.Wire.{protected4, nfs_argop4}
+use Rattle.nfs_xdr.specs.{Limits.opaque_limit, declared.status.Status.TheVariants.{Inval, NotSupp, BadXdr, OpIllegal}, Text.{uint32, opaque, Begins, Lacks}}
+use Rattle.nfs_compound.specs.{declared.op_num.OpNum.OpNum, declared.op_num.OpNum.TheVariants.ExchangeId, OpNum.{op_number, first_op, last_op, op_illegal}}
+use Rattle.nfs_compound.specs.{declared.op.Op.Op, declared.op.Item.Item, declared.op.Item.TheVariants.{Operation, Fault}, Wire.{protected4, nfs_argop4}}
 use Rattle.nfs_compound.specs.Arguments.{arguments}
 
 -- A request: the bytes that it is spelled by, its tag, minor version and declared count, and what is left of its list.

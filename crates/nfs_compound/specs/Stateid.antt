@@ -1,8 +1,6 @@
 -- Stateids (stateid4 of RFC 5662; RFC 8881 section 8.2.2).
-use Rattle.std.specs.Prelude.{ℕ, List, take, drop}
-use Rattle.std.specs.Int.{w32, from_be_bytes}
-use Rattle.nfs_xdr.specs.Codec.{Codec, number, ◌then◌, as_type, pieces}
-use Rattle.nfs_xdr.specs.Combinators.{fixed}
+use Rattle.std.specs.{Prelude.{ℕ, List, take, drop}, Int.{w32, from_be_bytes}}
+use Rattle.nfs_xdr.specs.{Codec.{Codec, number, ◌then◌, as_type, pieces}, Combinators.fixed}
 use Rattle.nfs_compound.specs.declared.stateid.Stateid.{Stateid}
 
 unfoldable pub stateid : Codec Stateid

@@ -2,27 +2,17 @@
 -- under its type, and nfs_argop4 with the fields of each operation on its line.
 use Rattle.std.specs.Prelude.{◌≡◌, ◌≢◌, ℕ, ◌<◌, ◌^◌, ◌⊎◌, List}
 use Rattle.nfs_xdr.specs.Spelling as spelling
-use Rattle.nfs_xdr.specs.Text.{Text, ◌then◌, void, uint32, uint64, bool, enum, fixed, opaque, array, optional, most}
-use Rattle.nfs_xdr.specs.Limits.{fhsize, opaque_limit}
-use Rattle.nfs_compound.specs.declared.stateid.Stateid.{Stateid}
-use Rattle.nfs_compound.specs.declared.channel_attrs.ChannelAttrs.{ChannelAttrs}
-use Rattle.nfs_compound.specs.declared.state_owner.StateOwner.{StateOwner}
-use Rattle.nfs_compound.specs.declared.attributes.Attributes.{Attributes}
-use Rattle.nfs_compound.specs.Enums.{secinfo_style_number, lock_type_number, delegation_number, stable_how_number}
-use Rattle.nfs_compound.specs.declared.name_args.CreateType.{CreateType}
-use Rattle.nfs_compound.specs.declared.name_args.CreateType.TheVariants.{Block, Character, Symlink, Other}
-use Rattle.nfs_compound.specs.declared.lock_args.Locker.{Locker}
-use Rattle.nfs_compound.specs.declared.lock_args.Locker.TheVariants.{OpenOwner, LockOwner}
-use Rattle.nfs_compound.specs.declared.open_args.CreateHow.{CreateHow}
-use Rattle.nfs_compound.specs.declared.open_args.CreateHow.TheVariants.{Unchecked, Guarded, Exclusive, Exclusive41}
-use Rattle.nfs_compound.specs.declared.open_args.OpenHow.{OpenHow}
-use Rattle.nfs_compound.specs.declared.open_args.OpenHow.TheVariants.{NoCreate, Create}
+use Rattle.nfs_xdr.specs.{Text.{Text, ◌then◌, void, uint32, uint64, bool, enum, fixed, opaque, array, optional, most}, Limits.{fhsize, opaque_limit}}
+use Rattle.nfs_xdr.specs.Wire.{authsys_parms, nfstime4}
+use Rattle.nfs_compound.specs.{declared.stateid.Stateid.Stateid, declared.channel_attrs.ChannelAttrs.ChannelAttrs, declared.state_owner.StateOwner.StateOwner}
+use Rattle.nfs_compound.specs.{declared.attributes.Attributes.Attributes, Enums.{secinfo_style_number, lock_type_number, delegation_number, stable_how_number}}
+use Rattle.nfs_compound.specs.{declared.name_args.CreateType.CreateType, declared.name_args.CreateType.TheVariants.{Block, Character, Symlink, Other}}
+use Rattle.nfs_compound.specs.{declared.lock_args.Locker.Locker, declared.lock_args.Locker.TheVariants.{OpenOwner, LockOwner}}
+use Rattle.nfs_compound.specs.{declared.open_args.CreateHow.CreateHow, declared.open_args.CreateHow.TheVariants.{Unchecked, Guarded, Exclusive, Exclusive41}}
+use Rattle.nfs_compound.specs.{declared.open_args.OpenHow.OpenHow, declared.open_args.OpenHow.TheVariants.{NoCreate, Create}}
 use Rattle.nfs_compound.specs.declared.open_args.OpenClaim.{OpenClaim}
 use Rattle.nfs_compound.specs.declared.open_args.OpenClaim.TheVariants.{Null, Previous, DelegateCur, DelegatePrev, Fh, DelegCurFh, DelegPrevFh}
-use Rattle.nfs_compound.specs.declared.session_args.ImplId.{ImplId}
-use Rattle.nfs_compound.specs.Callback.{GssHandles, SecParms, AuthNone, Sys, RpcsecGss}
-use Rattle.nfs_xdr.specs.Wire.{authsys_parms, nfstime4}
-use Rattle.nfs_compound.specs.declared.op.Op.{Op}
+use Rattle.nfs_compound.specs.{declared.session_args.ImplId.ImplId, Callback.{GssHandles, SecParms, AuthNone, Sys, RpcsecGss}, declared.op.Op.Op}
 
 -- RFC 8881 section 3.
 

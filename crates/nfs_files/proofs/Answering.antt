@@ -1,13 +1,9 @@
 -- What the tree refuses, said of what it would have done otherwise.
-use Rattle.std.proofs.Common.{◌≡◌, ◌⊎◌, true, false, Option, Some, refl, sym, subst, inl, inr}
+use Rattle.std.proofs.{Common.{◌≡◌, ◌⊎◌, true, false, Option, Some, refl, sym, subst, inl, inr}, lemmas.Bool.{false≢true}}
 use Rattle.std.specs.Prelude.{Err}
-use Rattle.std.proofs.lemmas.Bool.{false≢true}
-use Rattle.nfs_tree.specs.declared.fault.TreeFault.{TreeFault}
+use Rattle.nfs_tree.specs.{declared.fault.TreeFault.TreeFault, Files.Files, Calls.{does_unless, DoesOrWants}}
 use Rattle.nfs_tree.specs.declared.fault.TreeFault.TheVariants as F
-use Rattle.nfs_tree.specs.Files.{Files}
-use Rattle.nfs_tree.specs.Calls.{does_unless, DoesOrWants}
-use Rattle.nfs_names.specs.Faults.{status_of}
-use Rattle.nfs_names.specs.Outcome.{is_delay}
+use Rattle.nfs_names.specs.{Faults.status_of, Outcome.is_delay}
 use Rattle.nfs_names.proofs.Faulted.{Wants, Other}
 
 -- a refusal of the tree leaves it, whatever would have been answered

@@ -1,30 +1,17 @@
 -- COMMIT, READ and WRITE: the results that they may have.
-use Rattle.std.proofs.Common.{◌≡◌, ℕ, ◌≤◌, length, refl, arith, inl, inr}
+use Rattle.std.proofs.{Common.{◌≡◌, ℕ, ◌≤◌, length, refl, arith, inl, inr}, lemmas.Bool.{cases_Bool, ltb-false}, lemmas.List.length-append}
 use Rattle.std.specs.Prelude.{nat_lt, replicate}
-use Rattle.std.proofs.lemmas.Bool.{cases_Bool, ltb-false}
-use Rattle.std.proofs.lemmas.List.{length-append}
-use Rattle.nfs_xdr.specs.Spelling.{number}
-use Rattle.nfs_xdr.specs.declared.time.Time.{Time}
+use Rattle.nfs_xdr.specs.{Spelling.number, declared.time.Time.Time}
 use Rattle.nfs_xdr.proofs.Putting.{length_number}
 use Rattle.nfs_compound.specs.declared.op_num.OpNum.TheVariants as Num
-use Rattle.nfs_compound.specs.declared.file_args.Commit.{Commit}
-use Rattle.nfs_compound.specs.declared.file_args.Read.{Read}
-use Rattle.nfs_compound.specs.declared.file_args.Write.{Write}
+use Rattle.nfs_compound.specs.{declared.file_args.Commit.Commit, declared.file_args.Read.Read, declared.file_args.Write.Write}
 use Rattle.nfs_compound.specs.declared.op.Item.TheVariants.{Operation}
 use Rattle.nfs_compound.specs.declared.op.Op.TheVariants as Op
 use Rattle.nfs_results.specs.Largest.{given}
-use Rattle.nfs_names.specs.declared.context.Context.{Context}
-use Rattle.nfs_names.specs.State.{State}
-use Rattle.nfs_names.specs.Checks.{current}
-use Rattle.nfs_names.proofs.Bounds.{IsAnswer}
-use Rattle.nfs_names.proofs.NameLaws.{current_refuses}
-use Rattle.nfs_names.proofs.Refusing.{refuses_checked, answers_with}
-use Rattle.nfs_files.specs.Bytes.{file_checks, writable}
-use Rattle.nfs_files.specs.Commit.{write_verifier, commit}
-use Rattle.nfs_files.specs.Read.{read}
-use Rattle.nfs_files.specs.Write.{last_checks, write}
-use Rattle.nfs_files.proofs.ReadBytes.{few_given}
-use Rattle.nfs_files.proofs.Seats.{readable_refuses, writable_refuses}
+use Rattle.nfs_names.specs.{declared.context.Context.Context, State.State, Checks.current}
+use Rattle.nfs_names.proofs.{Bounds.IsAnswer, NameLaws.current_refuses, Refusing.{refuses_checked, answers_with}}
+use Rattle.nfs_files.specs.{Bytes.{file_checks, writable}, Commit.{write_verifier, commit}, Read.read, Write.{last_checks, write}}
+use Rattle.nfs_files.proofs.{ReadBytes.few_given, Seats.{readable_refuses, writable_refuses}}
 
 -- a write verifier has 8 bytes
 verifier_length : (s : State) → length (write_verifier s) ≡ 8

@@ -1,17 +1,12 @@
 -- The change of one object, through each change of a tree.
 use Rattle.std.proofs.Common.{◌≡◌, ◌≢◌, ℕ, ◌+◌, true, false, cond, not, List, [], map, Option, Some, None, refl, sym, ◌∙◌, ap, subst, inl, inr}
-use Rattle.std.specs.Prelude.{◌==◌, option_map, is_some, if◌then◌else◌}
-use Rattle.std.specs.Option.{option_map_or}
 use Rattle.std.proofs.lemmas.Bool.{cases_Bool, cases_eq, eq-eqb, ne_eqb, eqb-true, false≢true}
+use Rattle.std.specs.{Prelude.{◌==◌, option_map, is_some, if◌then◌else◌}, Option.option_map_or}
 use Rattle.nfs_xdr.specs.declared.time.Time.{Time}
 use Rattle.nfs_xdr.proofs.Lists.{find_in, find_past, find_push_some}
-use Rattle.nfs_tree.specs.declared.sets.Sets.{Sets}
-use Rattle.nfs_tree.specs.declared.stored.Stored.{Stored}
-use Rattle.nfs_tree.specs.Object.{modified, no_sets}
+use Rattle.nfs_tree.specs.{declared.sets.Sets.Sets, declared.stored.Stored.Stored, Object.{modified, no_sets}}
 use Rattle.nfs_tree.specs.Files.{Files, stored_in, is_there, change_of, change_at, with_changed, with_entries_changed, with_links_changed, named}
-use Rattle.nfs_tree.specs.Create.{New, with_new, new_object, data_of}
-use Rattle.nfs_tree.specs.Names.{with_link, without_name, Move, replaced_object, with_moved}
-use Rattle.nfs_tree.specs.Bytes.{with_bytes}
+use Rattle.nfs_tree.specs.{Create.{New, with_new, new_object, data_of}, Names.{with_link, without_name, Move, replaced_object, with_moved}, Bytes.with_bytes}
 use Rattle.nfs_tree.proofs.Objects.{keeps_changed, stored_map}
 use Rattle.nfs_names.specs.State.{State, is_used, without_unused}
 

@@ -1,70 +1,38 @@
 -- What an operation reports of a directory's change is so, and one that changes an object raises its change.
 use Rattle.std.proofs.Common.{◌≡◌, ◌≢◌, inl, inr, ℕ, ◌+◌, ◌<◌, Bool, true, false, List, Option, Some, None, refl, sym, ◌∙◌, ap, subst, arith}
-use Rattle.std.specs.Prelude.{◌==◌, ◌&&◌, ◌||◌, Result, Ok, option_map, unwrap_or, is_some, if◌then◌else◌}
-use Rattle.std.specs.Option.{option_map_or}
 use Rattle.std.proofs.lemmas.Bool.{cases_Bool, and_parts, eqb-true, not-false, false≢true}
-use Rattle.nfs_xdr.specs.Checks.{first_fault}
-use Rattle.nfs_xdr.specs.declared.status.Status.{Status}
-use Rattle.nfs_xdr.specs.declared.time.Time.{Time}
+use Rattle.std.specs.{Prelude.{◌==◌, ◌&&◌, ◌||◌, Result, Ok, option_map, unwrap_or, is_some, if◌then◌else◌}, Option.option_map_or}
+use Rattle.nfs_xdr.specs.{Checks.first_fault, declared.status.Status.Status, declared.time.Time.Time}
 use Rattle.nfs_xdr.proofs.Checks.{all_passed}
-use Rattle.nfs_compound.specs.declared.name_args.Create.{Create}
-use Rattle.nfs_compound.specs.declared.name_args.Rename.{Rename}
-use Rattle.nfs_compound.specs.declared.open_args.Open.{Open}
-use Rattle.nfs_compound.specs.declared.file_args.Write.{Write}
+use Rattle.nfs_compound.specs.{declared.name_args.Create.Create, declared.name_args.Rename.Rename, declared.open_args.Open.Open, declared.file_args.Write.Write}
 use Rattle.nfs_compound.specs.declared.file_args.SetAttr.{SetAttr}
 use Rattle.nfs_compound.specs.declared.op.Op.TheVariants as Op
 use Rattle.nfs_compound.specs.declared.op_num.OpNum.TheVariants as Num
-use Rattle.nfs_results.specs.declared.res.ChangeInfo.{ChangeInfo}
-use Rattle.nfs_results.specs.declared.res.CreateOk.{CreateOk}
-use Rattle.nfs_results.specs.declared.res.OpenOk.{OpenOk}
-use Rattle.nfs_results.specs.declared.res.RenameOk.{RenameOk}
-use Rattle.nfs_results.specs.declared.res.Res.TheVariants as Res
+use Rattle.nfs_results.specs.{declared.res.ChangeInfo.ChangeInfo, declared.res.CreateOk.CreateOk, declared.res.OpenOk.OpenOk, declared.res.RenameOk.RenameOk}
 use Rattle.nfs_results.specs.Results.{spell_result, status_of_result}
-use Rattle.nfs_tree.specs.declared.object.FileType.{FileType}
-use Rattle.nfs_tree.specs.declared.object.FileType.TheVariants.{Regular, Directory, Link}
-use Rattle.nfs_tree.specs.declared.stored.Stored.{Stored}
-use Rattle.nfs_tree.specs.declared.row.Row.{Row}
-use Rattle.nfs_tree.specs.Object.{is_directory, is_regular, no_sets}
+use Rattle.nfs_results.specs.declared.res.Res.TheVariants as Res
+use Rattle.nfs_tree.specs.{declared.object.FileType.FileType, declared.object.FileType.TheVariants.{Regular, Directory, Link}, declared.stored.Stored.Stored}
+use Rattle.nfs_tree.specs.{declared.row.Row.Row, Object.{is_directory, is_regular, no_sets}}
 use Rattle.nfs_tree.specs.Files.{Files, root, stored_in, is_there, is_directory_at, change_of, entry, has_name, has_entries, named, lookup, raised, stays, with_changed}
-use Rattle.nfs_tree.specs.Bytes.{has_bytes, written, resized, with_written, with_resized}
-use Rattle.nfs_tree.specs.Calls.{is_regular_at}
-use Rattle.nfs_tree.specs.Create.{with_new}
+use Rattle.nfs_tree.specs.{Bytes.{has_bytes, written, resized, with_written, with_resized}, Calls.is_regular_at, Create.with_new}
 use Rattle.nfs_tree.specs.Names.{Move, link_checks, rename_checks, moves, replaced_object, is_unlike, is_in_the_way, with_link, without_name, with_moved}
 use Rattle.nfs_tree.specs.TreeInvariants.{IsTree}
-use Rattle.nfs_tree.proofs.Objects.{stored_within}
-use Rattle.nfs_tree.proofs.Trees.{remove_granted, has_one, apart}
-use Rattle.nfs_attrs.specs.declared.wanted.Wanted.{Wanted}
-use Rattle.nfs_attrs.specs.Mask.{mask_of, trimmed_words}
+use Rattle.nfs_tree.proofs.{Objects.stored_within, Trees.{remove_granted, has_one, apart}}
+use Rattle.nfs_attrs.specs.{declared.wanted.Wanted.Wanted, Mask.{mask_of, trimmed_words}}
 use Rattle.nfs_opens.specs.Opening.{opens}
-use Rattle.nfs_names.specs.declared.context.Context.{Context}
-use Rattle.nfs_names.specs.declared.context.Saved.{Saved}
-use Rattle.nfs_names.specs.declared.node.Node.{Node}
+use Rattle.nfs_names.specs.{declared.context.Context.Context, declared.context.Saved.Saved, declared.node.Node.Node, State.{with_tree, without_unused}}
+use Rattle.nfs_names.specs.{Checks.{node_at, current, both, saved_object}, Create.{attributes_in, change_info, new_of, sets_of, create}, Link.link}
+use Rattle.nfs_names.specs.{Outcome.{Outcome, checked, is_ok}, Remove.remove, Rename.{move_of, rename, without_replaced}}
 use Rattle.nfs_names.specs.State as store
-use Rattle.nfs_names.specs.State.{with_tree, without_unused}
-use Rattle.nfs_names.specs.Checks.{node_at, current, both, saved_object}
-use Rattle.nfs_names.specs.Create.{attributes_in, change_info, new_of, sets_of, create}
-use Rattle.nfs_names.specs.Link.{link}
-use Rattle.nfs_names.specs.Outcome.{Outcome, checked, is_ok}
-use Rattle.nfs_names.specs.Remove.{remove}
-use Rattle.nfs_names.specs.Rename.{move_of, rename, without_replaced}
-use Rattle.nfs_names.proofs.Found.{came, ok_is, checked_ok, current_is}
-use Rattle.nfs_names.proofs.NameLaws.{current_refuses, by_create, by_link, by_remove, by_rename}
-use Rattle.nfs_names.proofs.Ones.{by_delay}
+use Rattle.nfs_names.proofs.{Found.{came, ok_is, checked_ok, current_is}, NameLaws.{current_refuses, by_create, by_link, by_remove, by_rename}, Ones.by_delay}
 use Rattle.nfs_names.proofs.Refusing.{refuses_checked}
-use Rattle.nfs_files.specs.declared.opening.Found.{Found}
-use Rattle.nfs_files.specs.declared.opening.Found.TheVariants.{There, Absent}
-use Rattle.nfs_files.specs.Bytes.{writable}
-use Rattle.nfs_files.specs.Open as of_open
-use Rattle.nfs_files.specs.Operation.{grows}
-use Rattle.nfs_files.specs.SetAttr as of_set
-use Rattle.nfs_files.specs.StateIds.{wire_id}
-use Rattle.nfs_files.specs.Write as of_write
-use Rattle.nfs_files.proofs.OpenAnswers.{open_refuses, asked_regular}
-use Rattle.nfs_files.proofs.Outcomes.{one_or_delay}
-use Rattle.nfs_files.proofs.Seats.{writable_refuses}
-use Rattle.nfs_files.proofs.SetAnswers.{asked_refuses}
-use Rattle.nfs_files.proofs.WrittenOps.{current_number, writable_at}
+use Rattle.nfs_files.specs.{declared.opening.Found.Found, declared.opening.Found.TheVariants.{There, Absent}, Bytes.writable, Operation.grows, StateIds.wire_id}
 use Rattle.nfs_files.specs.FileImage.{claimed, is_number, asks_empty}
+use Rattle.nfs_files.specs.Open as of_open
+use Rattle.nfs_files.specs.SetAttr as of_set
+use Rattle.nfs_files.specs.Write as of_write
+use Rattle.nfs_files.proofs.{OpenAnswers.{open_refuses, asked_regular}, Outcomes.one_or_delay, Seats.writable_refuses, SetAnswers.asked_refuses}
+use Rattle.nfs_files.proofs.WrittenOps.{current_number, writable_at}
 use Rattle.nfs_files.proofs.ChangesAt.{At, at_now, change_is, at_here, bytes_here, bytes_other, unused_at, new_at, link_at, without_at, source_at, target_at}
 use Rattle.nfs_files.proofs.FileOps.{by_granted, Is, open_is, setting_is}
 

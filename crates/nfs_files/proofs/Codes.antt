@@ -1,23 +1,15 @@
 -- The statuses of stateids, put one behind the other.
 use Rattle.std.proofs.Common.{◌≡◌, ℕ, ◌+◌, ◌*◌, ◌/◌, ◌%◌, ◌<◌, ◌≤◌, List, [], ◌∷◌, ◌++◌, length, map, take, get_or, refl, sym, ◌∙◌, ap, subst, arith}
+use Rattle.std.proofs.{lemmas.List.{length-append, length-map, take_all}, lemmas.List.Folds.length-flat_map-take}
 use Rattle.std.specs.List.{flat_map}
-use Rattle.std.proofs.lemmas.List.{length-append, length-map, take_all}
-use Rattle.std.proofs.lemmas.List.Folds.{length-flat_map-take}
-use Rattle.nfs_xdr.specs.Spelling.{number}
-use Rattle.nfs_xdr.specs.SheetState.{SheetState, HasRoom, Puts}
-use Rattle.nfs_xdr.specs.declared.status.Status.TheVariants.{Nfs4Ok}
+use Rattle.nfs_xdr.specs.{Spelling.number, SheetState.{SheetState, HasRoom, Puts}, declared.status.Status.TheVariants.Nfs4Ok}
 use Rattle.nfs_xdr.proofs.Putting.{length_number, puts_then}
 use Rattle.nfs_compound.specs.declared.op_num.OpNum.TheVariants as Num
-use Rattle.nfs_compound.specs.OpNum.{op_number}
-use Rattle.nfs_compound.specs.declared.stateid.Stateid.{Stateid}
-use Rattle.nfs_compound.specs.Stateid.{stateid_of}
+use Rattle.nfs_compound.specs.{OpNum.op_number, declared.stateid.Stateid.Stateid, Stateid.stateid_of}
 use Rattle.nfs_results.specs.declared.res.Res.TheVariants as Res
-use Rattle.nfs_results.specs.Results.{spell_result, head}
-use Rattle.nfs_results.specs.Straight.{test_stateid_head}
-use Rattle.nfs_results.proofs.Lengths.{length_head}
-use Rattle.nfs_results.proofs.StraightLaws.{test_stateid_in_parts}
-use Rattle.nfs_names.specs.declared.context.Context.{Context}
-use Rattle.nfs_names.specs.State.{State}
+use Rattle.nfs_results.specs.{Results.{spell_result, head}, Straight.test_stateid_head}
+use Rattle.nfs_results.proofs.{Lengths.length_head, StraightLaws.test_stateid_in_parts}
+use Rattle.nfs_names.specs.{declared.context.Context.Context, State.State}
 use Rattle.nfs_files.specs.TestStateid.{code}
 
 -- the codes of stateids as they are spelled

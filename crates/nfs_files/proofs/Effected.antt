@@ -1,78 +1,36 @@
 -- Each operation on open files had effects that fit, or none: the one walk over the operations.
 use Rattle.std.proofs.Common.{◌≡◌, ℕ, suc, ◌+◌, Bool, true, false, Option, Some, None, [], ◌∷◌, refl, sym, ◌∙◌, ap, subst, inl, inr}
-use Rattle.std.specs.Prelude.{◌==◌, ◌&&◌, Ok}
 use Rattle.std.proofs.lemmas.Bool.{cases_Bool, eqb-true, eqb-false}
-use Rattle.nfs_xdr.specs.Checks.{first_fault}
-use Rattle.nfs_xdr.specs.Tables.{In}
-use Rattle.nfs_xdr.specs.declared.time.Time.{Time}
-use Rattle.nfs_xdr.proofs.Lists.{find_in}
-use Rattle.nfs_xdr.proofs.Tables.{in_once}
-use Rattle.nfs_compound.specs.Arguments.{arguments}
+use Rattle.std.specs.Prelude.{◌==◌, ◌&&◌, Ok}
+use Rattle.nfs_xdr.specs.{Checks.first_fault, Tables.In, declared.time.Time.Time}
+use Rattle.nfs_xdr.proofs.{Lists.find_in, Tables.in_once}
+use Rattle.nfs_compound.specs.{Arguments.arguments, declared.stateid.Stateid.Stateid, declared.open_args.Close.Close}
+use Rattle.nfs_compound.specs.{declared.open_args.OpenDowngrade.OpenDowngrade, declared.lock_args.LockU.LockU, declared.lock_args.Lock.Lock}
+use Rattle.nfs_compound.specs.{declared.file_args.Write.Write, declared.file_args.SetAttr.SetAttr, declared.open_args.Open.Open, declared.op.Op.Op}
+use Rattle.nfs_compound.specs.{declared.op.Item.Item, declared.op.Item.TheVariants.{Operation, Fault}}
 use Rattle.nfs_compound.specs.declared.op_num.OpNum.TheVariants as Num
-use Rattle.nfs_compound.specs.declared.stateid.Stateid.{Stateid}
-use Rattle.nfs_compound.specs.declared.open_args.Close.{Close}
-use Rattle.nfs_compound.specs.declared.open_args.OpenDowngrade.{OpenDowngrade}
-use Rattle.nfs_compound.specs.declared.lock_args.LockU.{LockU}
-use Rattle.nfs_compound.specs.declared.lock_args.Lock.{Lock}
-use Rattle.nfs_compound.specs.declared.file_args.Write.{Write}
-use Rattle.nfs_compound.specs.declared.file_args.SetAttr.{SetAttr}
-use Rattle.nfs_compound.specs.declared.open_args.Open.{Open}
-use Rattle.nfs_compound.specs.declared.op.Op.{Op}
-use Rattle.nfs_compound.specs.declared.op.Item.{Item}
-use Rattle.nfs_compound.specs.declared.op.Item.TheVariants.{Operation, Fault}
-use Rattle.nfs_results.specs.declared.res.Res.{Res}
+use Rattle.nfs_results.specs.{declared.res.Res.Res, Results.status_of_result}
 use Rattle.nfs_results.specs.declared.res.Res.TheVariants as Res
-use Rattle.nfs_results.specs.Results.{status_of_result}
-use Rattle.nfs_tree.specs.Object.{no_sets}
-use Rattle.nfs_tree.specs.Bytes.{has_bytes}
-use Rattle.nfs_tree.specs.Calls.{write_fault}
+use Rattle.nfs_tree.specs.{Object.no_sets, Bytes.has_bytes, Calls.write_fault}
 use Rattle.nfs_ranges.specs.declared.Held.{Held}
-use Rattle.nfs_opens.specs.declared.stateid.StateId.{StateId}
-use Rattle.nfs_opens.specs.declared.records.OpenState.{OpenState}
-use Rattle.nfs_opens.specs.declared.records.LockState.{LockState}
-use Rattle.nfs_opens.specs.StateId.{last_number}
-use Rattle.nfs_opens.specs.Table.{Table, open_at, lock_at}
-use Rattle.nfs_opens.specs.TableInvariants.{IsTable}
+use Rattle.nfs_opens.specs.{declared.stateid.StateId.StateId, declared.records.OpenState.OpenState, declared.records.LockState.LockState, StateId.last_number}
+use Rattle.nfs_opens.specs.{Table.{Table, open_at, lock_at}, TableInvariants.IsTable}
 use Rattle.nfs_opens.specs.Locking as locking
 use Rattle.nfs_opens.proofs.CallLaws.{IsLocked}
-use Rattle.nfs_names.specs.declared.context.Context.{Context}
-use Rattle.nfs_names.specs.declared.node.Node.{Node}
-use Rattle.nfs_names.specs.State.{State, with_tree}
-use Rattle.nfs_names.specs.Ending.{with_opens}
-use Rattle.nfs_names.specs.Faults.{status_of}
-use Rattle.nfs_names.specs.Outcome.{Outcome, checked, done, is_ok}
-use Rattle.nfs_names.specs.Checks.{current}
-use Rattle.nfs_names.proofs.Found.{checked_ok}
-use Rattle.nfs_names.proofs.Ones.{by_delay}
-use Rattle.nfs_names.proofs.Effects.{Makes}
-use Rattle.nfs_names.proofs.Rows.{none_mapped}
-use Rattle.nfs_files.specs.declared.opening.Found.{Found}
-use Rattle.nfs_files.specs.declared.opening.Found.TheVariants.{There, Absent}
-use Rattle.nfs_files.specs.declared.ranges.Wished.{Wished}
-use Rattle.nfs_files.specs.declared.setting.Setting.{Setting}
-use Rattle.nfs_files.specs.Bytes.{file_checks, readable, writable}
-use Rattle.nfs_files.specs.Operation.{grows}
-use Rattle.nfs_files.specs.Close.{close}
-use Rattle.nfs_files.specs.Commit.{write_verifier, commit}
-use Rattle.nfs_files.specs.FreeStateid.{free_stateid}
+use Rattle.nfs_names.specs.{declared.context.Context.Context, declared.node.Node.Node, State.{State, with_tree}, Ending.with_opens, Faults.status_of}
+use Rattle.nfs_names.specs.{Outcome.{Outcome, checked, done, is_ok}, Checks.current}
+use Rattle.nfs_names.proofs.{Found.checked_ok, Ones.by_delay, Effects.Makes, Rows.none_mapped}
+use Rattle.nfs_files.specs.{declared.opening.Found.Found, declared.opening.Found.TheVariants.{There, Absent}, declared.ranges.Wished.Wished}
+use Rattle.nfs_files.specs.{declared.setting.Setting.Setting, Bytes.{file_checks, readable, writable}, Operation.grows, Close.close}
+use Rattle.nfs_files.specs.{Commit.{write_verifier, commit}, FreeStateid.free_stateid, LockT.{tested, lock_t}, LockU.lock_u, OpenParts.tree_fault}
+use Rattle.nfs_files.specs.{OpenDowngrade.{bits, open_downgrade}, Read.{was_read, read}, TestStateid.test_stateid}
 use Rattle.nfs_files.specs.Lock as of_lock
-use Rattle.nfs_files.specs.LockT.{tested, lock_t}
-use Rattle.nfs_files.specs.LockU.{lock_u}
 use Rattle.nfs_files.specs.Open as of_open
-use Rattle.nfs_files.specs.OpenParts.{tree_fault}
-use Rattle.nfs_files.specs.OpenDowngrade.{bits, open_downgrade}
-use Rattle.nfs_files.specs.Read.{was_read, read}
 use Rattle.nfs_files.specs.SetAttr as of_set
 use Rattle.nfs_files.specs.SetAttrParts as set_parts
-use Rattle.nfs_files.specs.TestStateid.{test_stateid}
 use Rattle.nfs_files.specs.Write as of_write
-use Rattle.nfs_files.proofs.WriteRows.{write_found}
-use Rattle.nfs_files.proofs.SetRows.{set_found}
-use Rattle.nfs_files.proofs.OpenAnswers.{file_regular_behind}
-use Rattle.nfs_files.proofs.Granted.{tree_free}
-use Rattle.nfs_files.proofs.Opened.{shared_free}
-use Rattle.nfs_files.proofs.OthersTables.{OpensAreOf, LocksAreOf, lock_is_of}
-use Rattle.nfs_files.proofs.Outcomes.{one, one_or_delay, comes_to}
+use Rattle.nfs_files.proofs.{WriteRows.write_found, SetRows.set_found, OpenAnswers.file_regular_behind, Granted.tree_free, Opened.shared_free}
+use Rattle.nfs_files.proofs.{OthersTables.{OpensAreOf, LocksAreOf, lock_is_of}, Outcomes.{one, one_or_delay, comes_to}}
 use Rattle.nfs_files.proofs.OpensMoved.{answered, by_close, by_free, by_downgrade, by_lock, by_unlock}
 use Rattle.nfs_files.proofs.Wishes.{IsWish, wish_is, wish_range, lock_wish, unlock_wish}
 use Rattle.nfs_files.proofs.Effects.{Effect, Names, Writes, Resizes, Changes, Opens, Narrows, Closes, Locks, Begins, Unlocks, Frees, Fits, Cause, Caused, Did, OpensAs, behind, table_behind, opens_behind, kept}

@@ -2,55 +2,27 @@
 -- where each fits, what caused it, and which an operation had. A law over all operations is cases of effects.
 use Rattle.std.proofs.Common.{◌≡◌, ◌≢◌, ℕ, ◌+◌, ◌⊎◌, true, false, List, [], ◌∷◌, ◌++◌, Option, Some, None, refl, sym, subst}
 use Rattle.std.specs.Prelude.{Ok}
-use Rattle.nfs_xdr.specs.Checks.{first_fault}
-use Rattle.nfs_xdr.specs.Tables.{In}
-use Rattle.nfs_xdr.specs.declared.time.Time.{Time}
-use Rattle.nfs_xdr.specs.declared.status.Status.TheVariants.{Nfs4Ok}
-use Rattle.nfs_compound.specs.declared.file_args.SetAttr.{SetAttr}
-use Rattle.nfs_compound.specs.declared.file_args.Write.{Write}
-use Rattle.nfs_compound.specs.declared.op.Op.{Op}
-use Rattle.nfs_compound.specs.declared.open_args.Open.{Open}
+use Rattle.nfs_xdr.specs.{Checks.first_fault, Tables.In, declared.time.Time.Time, declared.status.Status.TheVariants.Nfs4Ok}
+use Rattle.nfs_compound.specs.{declared.file_args.SetAttr.SetAttr, declared.file_args.Write.Write, declared.op.Op.Op, declared.open_args.Open.Open}
 use Rattle.nfs_compound.specs.declared.open_args.OpenDowngrade.{OpenDowngrade}
-use Rattle.nfs_results.specs.declared.res.OpenOk.{OpenOk}
-use Rattle.nfs_results.specs.declared.res.Res.{Res}
+use Rattle.nfs_results.specs.{declared.res.OpenOk.OpenOk, declared.res.Res.Res, Results.status_of_result}
 use Rattle.nfs_results.specs.declared.res.Res.TheVariants as Res
-use Rattle.nfs_results.specs.Results.{status_of_result}
-use Rattle.nfs_tree.specs.declared.sets.Sets.{Sets}
-use Rattle.nfs_tree.specs.Files.{with_changed}
-use Rattle.nfs_tree.specs.Bytes.{has_bytes, with_written, with_resized}
-use Rattle.nfs_tree.specs.Calls.{is_regular_at, write_fault, resize_fault}
-use Rattle.nfs_tree.specs.TreeInvariants.{IsTree}
+use Rattle.nfs_tree.specs.{declared.sets.Sets.Sets, Files.with_changed, Bytes.{has_bytes, with_written, with_resized}}
+use Rattle.nfs_tree.specs.{Calls.{is_regular_at, write_fault, resize_fault}, TreeInvariants.IsTree}
 use Rattle.nfs_ranges.specs.Holders.{holding, cleared, holds_any}
-use Rattle.nfs_opens.specs.declared.share.Share.{Share}
-use Rattle.nfs_opens.specs.declared.records.LockState.{LockState}
-use Rattle.nfs_opens.specs.declared.records.OpenState.{OpenState}
-use Rattle.nfs_opens.specs.declared.locking.Wish.{Wish}
-use Rattle.nfs_opens.specs.StateId.{last_number}
-use Rattle.nfs_opens.specs.Holding.{on_file}
-use Rattle.nfs_opens.specs.Table.{Table, Asked, open_at, lock_at, with_open, with_lock}
-use Rattle.nfs_opens.specs.TableInvariants.{IsTable}
-use Rattle.nfs_opens.specs.Calls.{open_fault}
-use Rattle.nfs_opens.specs.Opening.{opens, narrows, is_narrower}
-use Rattle.nfs_opens.specs.Closing.{without_open, without_lock}
-use Rattle.nfs_opens.specs.Locking.{lock_judged, raised}
-use Rattle.nfs_names.specs.declared.context.Context.{Context}
-use Rattle.nfs_names.specs.declared.node.Node.{Node}
-use Rattle.nfs_names.specs.Checks.{current}
-use Rattle.nfs_names.specs.Ending.{with_opens}
-use Rattle.nfs_names.specs.Outcome.{Outcome, is_ok}
+use Rattle.nfs_opens.specs.{declared.share.Share.Share, declared.records.LockState.LockState, declared.records.OpenState.OpenState, declared.locking.Wish.Wish}
+use Rattle.nfs_opens.specs.{StateId.last_number, Holding.on_file, Table.{Table, Asked, open_at, lock_at, with_open, with_lock}, TableInvariants.IsTable}
+use Rattle.nfs_opens.specs.{Calls.open_fault, Opening.{opens, narrows, is_narrower}, Closing.{without_open, without_lock}, Locking.{lock_judged, raised}}
+use Rattle.nfs_names.specs.{declared.context.Context.Context, declared.node.Node.Node, Checks.current, Ending.with_opens, Outcome.{Outcome, is_ok}}
 use Rattle.nfs_names.specs.State.{State, with_tree, without_unused}
 use Rattle.nfs_names.proofs.Effects as names
 use Rattle.nfs_names.proofs.Untouched.{unused_opens, opens_kept}
-use Rattle.nfs_files.specs.Bytes.{writable}
+use Rattle.nfs_files.specs.{Bytes.writable, declared.opening.Found.Found, declared.opening.Found.TheVariants.There, declared.setting.Setting.Setting}
 use Rattle.nfs_files.specs.Open as of_open
 use Rattle.nfs_files.specs.SetAttr as of_set
 use Rattle.nfs_files.specs.Write as of_write
-use Rattle.nfs_files.specs.declared.opening.Found.{Found}
-use Rattle.nfs_files.specs.declared.opening.Found.TheVariants.{There}
-use Rattle.nfs_files.specs.declared.setting.Setting.{Setting}
 use Rattle.nfs_files.proofs.Inside as inside
-use Rattle.nfs_files.proofs.OthersTables.{OpensAreOf, LocksAreOf}
-use Rattle.nfs_files.proofs.Wishes.{IsRange}
+use Rattle.nfs_files.proofs.{OthersTables.{OpensAreOf, LocksAreOf}, Wishes.IsRange}
 
 -- Bytes are written, cut or lengthened; attributes are set. An open comes or is joined, is narrowed, or goes with its locks and with a file that
 -- nothing else uses. A lock state holds more bytes, comes with its first ones, holds fewer, or goes.

@@ -1,26 +1,19 @@
 -- A file is as its image says, through each change of a tree.
 use Rattle.std.proofs.Common.{◌≡◌, ◌≢◌, ℕ, ◌+◌, ◌-◌, ◌≤◌, ◌<◌, Bool, true, false, cond, not, ltb, List, [], length, map, take, drop, get_or, Option, Some, None, refl, sym, ◌∙◌, ap, subst, arith, inl, inr}
-use Rattle.std.specs.Prelude.{◌==◌, ◌&&◌, nat_lt, filter, option_map, min, max, replicate, if◌then◌else◌}
-use Rattle.std.specs.List.{range_with_len}
 use Rattle.std.proofs.lemmas.Bool.{cases_Bool, cases_eq, eq-eqb, ne_eqb, eqb-true, ltb-true, ltb-false, and_parts}
 use Rattle.std.proofs.lemmas.List.{length-take, length-drop, get_or-take, get_or-drop, get_or_past, get_or-replicate, length-replicate}
-use Rattle.std.proofs.lemmas.List.FromFn.{get_or-map-range_with_len, length-map-range_with_len}
-use Rattle.std.proofs.lemmas.Grind.{same_number_lists}
+use Rattle.std.proofs.{lemmas.List.FromFn.{get_or-map-range_with_len, length-map-range_with_len}, lemmas.Grind.same_number_lists}
+use Rattle.std.specs.{Prelude.{◌==◌, ◌&&◌, nat_lt, filter, option_map, min, max, replicate, if◌then◌else◌}, List.range_with_len}
 use Rattle.nfs_xdr.specs.declared.time.Time.{Time}
 use Rattle.nfs_xdr.proofs.Lists.{find_in, find_past, find_out, find_push_other}
 use Rattle.nfs_results.specs.Largest.{given}
-use Rattle.nfs_tree.specs.declared.sets.Sets.{Sets}
-use Rattle.nfs_tree.specs.declared.stored.Stored.{Stored}
-use Rattle.nfs_tree.specs.Object.{changed, modified, no_sets}
+use Rattle.nfs_tree.specs.{declared.sets.Sets.Sets, declared.stored.Stored.Stored, Object.{changed, modified, no_sets}}
 use Rattle.nfs_tree.specs.Files.{Files, stored_in, change_at, with_changed, with_entries_changed, with_links_changed, named, lookup}
-use Rattle.nfs_tree.specs.Create.{New, with_new, new_object, data_of}
-use Rattle.nfs_tree.specs.Names.{with_link, without_name, Move, replaced_object, with_both_changed, with_moved}
+use Rattle.nfs_tree.specs.{Create.{New, with_new, new_object, data_of}, Names.{with_link, without_name, Move, replaced_object, with_both_changed, with_moved}}
 use Rattle.nfs_tree.specs.Bytes.{written_byte, written, resized, with_bytes, with_written, with_resized}
 use Rattle.nfs_tree.proofs.Objects.{keeps_changed, stored_map}
 use Rattle.nfs_names.specs.State as store
-use Rattle.nfs_names.specs.State.{with_tree, is_used, without_unused}
-use Rattle.nfs_names.specs.Ending.{with_opens, table_staying, staying}
-use Rattle.nfs_names.specs.Rename.{without_replaced}
+use Rattle.nfs_names.specs.{State.{with_tree, is_used, without_unused}, Ending.{with_opens, table_staying, staying}, Rename.without_replaced}
 use Rattle.nfs_names.proofs.Effects as names_effects
 use Rattle.nfs_names.proofs.Effects.{Makes, Links, Removes, Moves}
 use Rattle.nfs_files.specs.FileImage.{Image, unwritten, byte_over, cut_to, bytes_read}

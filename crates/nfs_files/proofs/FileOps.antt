@@ -1,88 +1,45 @@
 -- A file is as its image says, through each operation.
 use Rattle.std.proofs.Common.{◌≡◌, ℕ, ◌+◌, Bool, true, false, cond, eqb, List, [], Option, Some, None, refl, sym, ◌∙◌, ap, subst, arith, inl, inr}
-use Rattle.std.specs.Prelude.{◌==◌, ◌&&◌, Result, Ok, Err, is_some, option_map, unwrap_or, map, replicate, if◌then◌else◌}
-use Rattle.std.specs.Option.{option_map_or, ForSome}
 use Rattle.std.proofs.lemmas.Bool.{cases_Bool, cases_eq, eq-eqb, ne_eqb, not-false, false≢true}
-use Rattle.nfs_xdr.specs.declared.time.Time.{Time}
-use Rattle.nfs_xdr.specs.declared.status.Status.{Status}
-use Rattle.nfs_xdr.specs.declared.status.Status.TheVariants.{Inval, Delay}
-use Rattle.nfs_xdr.proofs.Checks.{all_passed}
-use Rattle.nfs_xdr.proofs.Lists.{find_push_none, find_push_other}
-use Rattle.nfs_compound.specs.Arguments.{arguments}
-use Rattle.nfs_compound.specs.declared.lock_args.Lock as locks
-use Rattle.nfs_compound.specs.declared.lock_args.LockU.{LockU}
-use Rattle.nfs_compound.specs.declared.file_args.Write.{Write}
-use Rattle.nfs_compound.specs.declared.file_args.SetAttr.{SetAttr}
-use Rattle.nfs_compound.specs.declared.open_args.Open.{Open}
-use Rattle.nfs_compound.specs.declared.open_args.Close.{Close}
-use Rattle.nfs_compound.specs.declared.open_args.OpenHow.{OpenHow}
+use Rattle.std.specs.{Prelude.{◌==◌, ◌&&◌, Result, Ok, Err, is_some, option_map, unwrap_or, map, replicate, if◌then◌else◌}, Option.{option_map_or, ForSome}}
+use Rattle.nfs_xdr.specs.{declared.time.Time.Time, declared.status.Status.Status, declared.status.Status.TheVariants.{Inval, Delay}}
+use Rattle.nfs_xdr.proofs.{Checks.all_passed, Lists.{find_push_none, find_push_other}}
+use Rattle.nfs_compound.specs.{Arguments.arguments, declared.lock_args.LockU.LockU, declared.file_args.Write.Write, declared.file_args.SetAttr.SetAttr}
+use Rattle.nfs_compound.specs.{declared.open_args.Open.Open, declared.open_args.Close.Close, declared.open_args.OpenHow.OpenHow}
 use Rattle.nfs_compound.specs.declared.open_args.OpenHow.TheVariants.{NoCreate, Create}
-use Rattle.nfs_compound.specs.declared.open_args.CreateHow.TheVariants.{Unchecked, Guarded, Exclusive, Exclusive41}
-use Rattle.nfs_compound.specs.declared.open_args.OpenClaim.{OpenClaim}
+use Rattle.nfs_compound.specs.{declared.open_args.CreateHow.TheVariants.{Unchecked, Guarded, Exclusive, Exclusive41}, declared.open_args.OpenClaim.OpenClaim}
 use Rattle.nfs_compound.specs.declared.open_args.OpenClaim.TheVariants.{Null, Previous, DelegateCur, DelegatePrev, Fh, DelegCurFh, DelegPrevFh}
-use Rattle.nfs_compound.specs.declared.open_args.OpenDowngrade.{OpenDowngrade}
-use Rattle.nfs_compound.specs.declared.stateid.Stateid.{Stateid}
-use Rattle.nfs_compound.specs.declared.op_num.OpNum.{OpNum}
+use Rattle.nfs_compound.specs.{declared.open_args.OpenDowngrade.OpenDowngrade, declared.stateid.Stateid.Stateid, declared.op_num.OpNum.OpNum, OpNum.op_number}
+use Rattle.nfs_compound.specs.{declared.op.Op.Op, declared.op.Item.Item, declared.op.Item.TheVariants.{Operation, Fault}}
+use Rattle.nfs_compound.specs.declared.lock_args.Lock as locks
 use Rattle.nfs_compound.specs.declared.op_num.OpNum.TheVariants as Num
-use Rattle.nfs_compound.specs.OpNum.{op_number}
-use Rattle.nfs_compound.specs.declared.op.Op.{Op}
-use Rattle.nfs_compound.specs.declared.op.Item.{Item}
-use Rattle.nfs_compound.specs.declared.op.Item.TheVariants.{Operation, Fault}
 use Rattle.nfs_results.specs.declared.res.Res.TheVariants as Res
 use Rattle.nfs_results.specs.Results.{status_of_result, refusal}
 use Rattle.nfs_ranges.specs.declared.Held.{Held}
-use Rattle.nfs_tree.specs.declared.object.Object.{Object}
-use Rattle.nfs_tree.specs.declared.stored.Stored.{Stored}
-use Rattle.nfs_tree.specs.declared.sets.Sets.{Sets}
-use Rattle.nfs_tree.specs.Object.{is_directory, modified, no_sets}
+use Rattle.nfs_tree.specs.{declared.object.Object.Object, declared.stored.Stored.Stored, declared.sets.Sets.Sets, Object.{is_directory, modified, no_sets}}
 use Rattle.nfs_tree.specs.Files.{Files, stored_in, object_at, is_there, is_directory_at, lookup, change_at, with_entries_changed}
-use Rattle.nfs_tree.specs.Bytes.{has_bytes, resized, with_bytes, with_resized}
-use Rattle.nfs_tree.specs.Create.{File, with_new, new_object}
+use Rattle.nfs_tree.specs.{Bytes.{has_bytes, resized, with_bytes, with_resized}, Create.{File, with_new, new_object}}
 use Rattle.nfs_tree.proofs.Objects.{keeps_changed, stored_map}
 use Rattle.nfs_attrs.specs.declared.wanted.Wanted.{Wanted}
 use Rattle.nfs_opens.specs.Closing as closing
 use Rattle.nfs_opens.specs.Locking as locking
-use Rattle.nfs_names.specs.declared.context.Context.{Context}
-use Rattle.nfs_names.specs.declared.node.Node.{Node}
-use Rattle.nfs_names.specs.declared.making.Making.{Making}
-use Rattle.nfs_names.specs.State.{State}
-use Rattle.nfs_names.specs.Ending.{with_opens}
-use Rattle.nfs_names.specs.Outcome.{Outcome, answers, checked, refuses, is_ok}
-use Rattle.nfs_names.specs.Checks.{node_as, node_at, current}
-use Rattle.nfs_names.specs.Create.{attributes_in}
+use Rattle.nfs_names.specs.{declared.context.Context.Context, declared.node.Node.Node, declared.making.Making.Making, State.State, Ending.with_opens}
+use Rattle.nfs_names.specs.{Outcome.{Outcome, answers, checked, refuses, is_ok}, Checks.{node_as, node_at, current}, Create.attributes_in}
 use Rattle.nfs_names.specs.Operation as names
-use Rattle.nfs_names.proofs.Found.{came, ok_is, checked_ok, current_is}
-use Rattle.nfs_names.proofs.NameLaws.{current_refuses}
-use Rattle.nfs_names.proofs.Ones.{by_delay, each_of}
-use Rattle.nfs_names.proofs.Refusing.{IsRefusal, Refuses, refuses_checked}
+use Rattle.nfs_names.proofs.{Found.{came, ok_is, checked_ok, current_is}, NameLaws.current_refuses, Ones.{by_delay, each_of}}
+use Rattle.nfs_names.proofs.{Refusing.{IsRefusal, Refuses, refuses_checked}, Effected.kept_item}
 use Rattle.nfs_names.proofs.Effects as names_effects
-use Rattle.nfs_names.proofs.Effected.{kept_item}
-use Rattle.nfs_files.specs.declared.opening.Found.{Found}
-use Rattle.nfs_files.specs.declared.opening.Found.TheVariants.{There, Absent}
-use Rattle.nfs_files.specs.declared.setting.Setting.{Setting}
-use Rattle.nfs_files.specs.Bytes.{writable}
-use Rattle.nfs_files.specs.Operation.{grows}
-use Rattle.nfs_files.specs.Close.{close}
-use Rattle.nfs_files.specs.Commit.{commit}
-use Rattle.nfs_files.specs.FreeStateid.{free_stateid}
-use Rattle.nfs_files.specs.Lock as of_lock
-use Rattle.nfs_files.specs.LockT.{tested, lock_t}
-use Rattle.nfs_files.specs.LockU.{lock_u}
-use Rattle.nfs_files.specs.Open as of_open
-use Rattle.nfs_files.specs.Open.{makes, access_of, place_checks, there_checks, absent_checks, cuts, by_handle}
-use Rattle.nfs_files.specs.OpenDowngrade.{open_downgrade}
-use Rattle.nfs_files.specs.Read.{read}
-use Rattle.nfs_files.specs.SetAttr as of_set
+use Rattle.nfs_files.specs.{declared.opening.Found.Found, declared.opening.Found.TheVariants.{There, Absent}, declared.setting.Setting.Setting, Bytes.writable}
+use Rattle.nfs_files.specs.{Operation.grows, Close.close, Commit.commit, FreeStateid.free_stateid, LockT.{tested, lock_t}, LockU.lock_u}
+use Rattle.nfs_files.specs.{Open.{makes, access_of, place_checks, there_checks, absent_checks, cuts, by_handle}, OpenDowngrade.open_downgrade, Read.read}
 use Rattle.nfs_files.specs.TestStateid.{test_stateid}
-use Rattle.nfs_files.specs.Write as of_write
-use Rattle.nfs_files.proofs.Outcomes.{one, comes_to, one_or_delay}
-use Rattle.nfs_files.proofs.OpenAnswers.{open_refuses}
-use Rattle.nfs_files.proofs.OpensMoved.{by_close, by_free, by_downgrade, by_lock, by_unlock}
-use Rattle.nfs_files.proofs.Passing.{if_passed_ok, mapped_came}
-use Rattle.nfs_files.proofs.Seats.{writable_refuses}
-use Rattle.nfs_files.proofs.SetAnswers.{asked_refuses}
-use Rattle.nfs_files.proofs.WrittenOps.{current_number, writable_at}
 use Rattle.nfs_files.specs.FileImage.{Image, unwritten, written_over, cut_to, size_in, new_size, old_size, asks_empty, claimed, is_number, left_of}
+use Rattle.nfs_files.specs.Lock as of_lock
+use Rattle.nfs_files.specs.Open as of_open
+use Rattle.nfs_files.specs.SetAttr as of_set
+use Rattle.nfs_files.specs.Write as of_write
+use Rattle.nfs_files.proofs.{Outcomes.{one, comes_to, one_or_delay}, OpenAnswers.open_refuses, OpensMoved.{by_close, by_free, by_downgrade, by_lock, by_unlock}}
+use Rattle.nfs_files.proofs.{Passing.{if_passed_ok, mapped_came}, Seats.writable_refuses, SetAnswers.asked_refuses, WrittenOps.{current_number, writable_at}}
 use Rattle.nfs_files.proofs.FileImages.{IsOf, Has, unwritten_is, has_new, has_changed, has_written, has_resized, has_unused, has_effect}
 
 -- what is left behind an outcome of this status

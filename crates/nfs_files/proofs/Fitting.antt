@@ -1,17 +1,11 @@
 -- What is put fits.
-use Rattle.std.proofs.Common.{◌≡◌, ℕ, ◌+◌, ◌≤◌, length, Option, Some, None, sym, subst, arith}
-use Rattle.std.proofs.lemmas.List.{length-take}
+use Rattle.std.proofs.{Common.{◌≡◌, ℕ, ◌+◌, ◌≤◌, length, Option, Some, None, sym, subst, arith}, lemmas.List.length-take}
 use Rattle.nfs_xdr.specs.SheetState.{SheetState, HasRoom}
-use Rattle.nfs_results.specs.declared.res.Res.{Res}
-use Rattle.nfs_results.specs.declared.res.Denied.{Denied}
-use Rattle.nfs_results.specs.Results.{spell_result, operation_of}
-use Rattle.nfs_results.specs.ResultCodec.{HasArrays}
-use Rattle.nfs_results.specs.Largest.{largest_of}
+use Rattle.nfs_results.specs.{declared.res.Res.Res, declared.res.Denied.Denied, Results.{spell_result, operation_of}, ResultCodec.HasArrays, Largest.largest_of}
 use Rattle.nfs_results.specs.MayAnswer.{HasSizes}
 use Rattle.nfs_results.proofs.Lengths.{behind_within, length_spelled}
 use Rattle.nfs_ranges.specs.declared.Held.{Held}
-use Rattle.nfs_opens.specs.declared.records.LockState.{LockState}
-use Rattle.nfs_opens.specs.Table.{Table, lock_at}
+use Rattle.nfs_opens.specs.{declared.records.LockState.LockState, Table.{Table, lock_at}}
 use Rattle.nfs_files.specs.Denied.{holder, denied}
 
 pub room_for : (r : Res) (sheet : SheetState) (n : ℕ) → HasArrays r → HasSizes 0 r

@@ -1,45 +1,24 @@
 -- OPEN: where its own checks pass, the tree refuses nothing; and what the code looks at in their place.
 use Rattle.std.proofs.Common.{◌≡◌, ℕ, Bool, true, false, cond, not, List, [], ◌∷◌, ◌++◌, Option, Some, None, refl, sym, ◌∙◌, ap, subst}
-use Rattle.std.specs.Prelude.{Ok, Err, ◌==◌, ◌&&◌, is_some, option_map}
-use Rattle.std.specs.Option.{option_map_or}
 use Rattle.std.proofs.lemmas.Bool.{and_parts, not-false, false≢true}
-use Rattle.nfs_xdr.specs.Checks.{first_fault}
+use Rattle.std.specs.{Prelude.{Ok, Err, ◌==◌, ◌&&◌, is_some, option_map}, Option.option_map_or}
+use Rattle.nfs_xdr.specs.{Checks.first_fault, declared.status.Status.Status, declared.status.Status.TheVariants.{Inval, ShareDenied, ServerFault}}
 use Rattle.nfs_xdr.proofs.Checks.{all_passed}
-use Rattle.nfs_xdr.specs.declared.status.Status.{Status}
-use Rattle.nfs_xdr.specs.declared.status.Status.TheVariants.{Inval, ShareDenied, ServerFault}
-use Rattle.nfs_compound.specs.declared.open_args.Open.{Open}
-use Rattle.nfs_compound.specs.declared.open_args.OpenClaim.{OpenClaim}
+use Rattle.nfs_compound.specs.{declared.open_args.Open.Open, declared.open_args.OpenClaim.OpenClaim}
 use Rattle.nfs_compound.specs.declared.open_args.OpenClaim.TheVariants.{Null, Previous, DelegateCur, DelegatePrev, Fh, DelegCurFh, DelegPrevFh}
-use Rattle.nfs_tree.specs.declared.object.FileType.{FileType}
+use Rattle.nfs_tree.specs.{declared.object.FileType.FileType, declared.row.Row.Row, declared.stored.Stored.Stored, Object.{is_directory, is_regular}}
+use Rattle.nfs_tree.specs.{Files.{Files, is_name, stored_in, is_there, is_directory_at, can_change, entry, has_name, lookup}, Calls.is_regular_at}
+use Rattle.nfs_tree.specs.{TreeInvariants.IsTree, declared.fault.TreeFault.TreeFault}
 use Rattle.nfs_tree.specs.declared.object.FileType.TheVariants as Kind
-use Rattle.nfs_tree.specs.declared.row.Row.{Row}
-use Rattle.nfs_tree.specs.declared.stored.Stored.{Stored}
-use Rattle.nfs_tree.specs.Object.{is_directory, is_regular}
-use Rattle.nfs_tree.specs.Files.{Files, is_name, stored_in, is_there, is_directory_at, can_change, entry, has_name, lookup}
-use Rattle.nfs_tree.specs.Calls.{is_regular_at}
-use Rattle.nfs_tree.specs.TreeInvariants.{IsTree}
-use Rattle.nfs_names.specs.declared.context.Context.{Context}
-use Rattle.nfs_names.specs.declared.node.Node.{Node}
-use Rattle.nfs_names.specs.declared.making.Making.{Making}
-use Rattle.nfs_names.specs.State.{State}
-use Rattle.nfs_names.specs.Outcome.{mapped, checked}
-use Rattle.nfs_names.specs.Checks.{node_at, current}
-use Rattle.nfs_names.specs.Create.{attributes_in}
-use Rattle.nfs_names.specs.Faults.{status_of, by_tree}
-use Rattle.nfs_names.proofs.Rows.{fault_map}
-use Rattle.nfs_tree.specs.declared.fault.TreeFault.{TreeFault}
-use Rattle.nfs_names.specs.StoreInvariants.{IsStore}
+use Rattle.nfs_names.specs.{declared.context.Context.Context, declared.node.Node.Node, declared.making.Making.Making, State.State, Outcome.{mapped, checked}}
+use Rattle.nfs_names.specs.{Checks.{node_at, current}, Create.attributes_in, Faults.{status_of, by_tree}, StoreInvariants.IsStore}
+use Rattle.nfs_names.proofs.{Rows.fault_map, Found.{IsHeld, current_is, checked_ok, came, ok_is, short_name, or_fault, first_append}}
 use Rattle.nfs_opens.specs.StateId.{last_number}
-use Rattle.nfs_names.proofs.Found.{IsHeld, current_is, checked_ok, came, ok_is, short_name, or_fault, first_append}
-use Rattle.nfs_files.specs.declared.opening.Found.{Found}
-use Rattle.nfs_files.specs.declared.opening.Found.TheVariants.{There, Absent}
+use Rattle.nfs_files.specs.{declared.opening.Found.Found, declared.opening.Found.TheVariants.{There, Absent}}
 use Rattle.nfs_files.specs.Open.{makes, name_of, argument_checks, place_checks, absent_checks, there_checks, cuts, found_by}
-use Rattle.nfs_files.specs.Open.{by_name, by_handle, by_claim, asked_for, tree_checks, last_checks}
+use Rattle.nfs_files.specs.{Open.{by_name, by_handle, by_claim, asked_for, tree_checks, last_checks}, OpenParts.{tree_fault, room_checks, can_enter}}
 use Rattle.nfs_files.specs.OpenParts as part
-use Rattle.nfs_files.specs.OpenParts.{tree_fault, room_checks, can_enter}
-use Rattle.nfs_files.proofs.Opened.{shared_same, rooms_free}
-use Rattle.nfs_files.proofs.Passing.{mapped_came}
-use Rattle.nfs_files.proofs.OpenAnswers.{asked_regular}
+use Rattle.nfs_files.proofs.{Opened.{shared_same, rooms_free}, Passing.mapped_came, OpenAnswers.asked_regular}
 
 -- a file that is there, and is no directory
 file_there : (o : Option Stored) → option_map_or (λ (s : Stored). is_regular s.object.kind) o false ≡ true

@@ -2,28 +2,15 @@
 use Rattle.std.specs.Prelude.{◌≡◌, ◌≢◌, ℕ, ◌≤◌, Bool, true, Some, Ok}
 use Rattle.nfs_xdr.specs.declared.time.Time.{Time}
 use Rattle.nfs_compound.specs.declared.lock_args.Lock as args
-use Rattle.nfs_compound.specs.declared.lock_args.LockU.{LockU}
-use Rattle.nfs_compound.specs.declared.open_args.Close.{Close}
-use Rattle.nfs_compound.specs.declared.op.Item.{Item}
-use Rattle.nfs_compound.specs.declared.op.Item.TheVariants.{Operation}
+use Rattle.nfs_compound.specs.{declared.lock_args.LockU.LockU, declared.open_args.Close.Close, declared.op.Item.Item, declared.op.Item.TheVariants.Operation}
 use Rattle.nfs_compound.specs.declared.op.Op.{Op}
-use Rattle.nfs_opens.specs.declared.records.LockState.{LockState}
-use Rattle.nfs_opens.specs.declared.stateid.StateId.{StateId}
-use Rattle.nfs_opens.specs.declared.stateid.CurrentSeqid.TheVariants.{Own}
-use Rattle.nfs_opens.specs.declared.locking.Wish.{Wish}
-use Rattle.nfs_opens.specs.TableInvariants.{IsTable}
-use Rattle.nfs_opens.specs.Table.{Table, lock_at}
-use Rattle.nfs_opens.specs.Locking.{unlock}
+use Rattle.nfs_opens.specs.{declared.records.LockState.LockState, declared.stateid.StateId.StateId, declared.stateid.CurrentSeqid.TheVariants.Own}
+use Rattle.nfs_opens.specs.{declared.locking.Wish.Wish, TableInvariants.IsTable, Table.{Table, lock_at}, Locking.unlock}
 use Rattle.nfs_opens.specs.Closing as opens
 use Rattle.nfs_results.specs.Results.{status_of_result}
-use Rattle.nfs_names.specs.declared.context.Context.{Context}
-use Rattle.nfs_names.specs.State.{State}
-use Rattle.nfs_names.specs.Outcome.{is_ok}
-use Rattle.nfs_files.specs.Target.{target}
-use Rattle.nfs_files.specs.Lock.{locking, locks_as}
-use Rattle.nfs_files.specs.LockU.{unlocking}
+use Rattle.nfs_names.specs.{declared.context.Context.Context, State.State, Outcome.is_ok}
+use Rattle.nfs_files.specs.{Target.target, Lock.{locking, locks_as}, LockU.unlocking, LockTold.{LockTold, IsBeside, IsAlike, Stands, Clashes}}
 use Rattle.nfs_files.proofs.Outcomes.{one_or_delay, comes_to}
-use Rattle.nfs_files.specs.LockTold.{LockTold, IsBeside, IsAlike, Stands, Clashes}
 
 -- a LOCK that is granted: lock state n holds the bytes of the wish from now on
 pub record Locks (s : State) (x : Context) (op : Op) (n : ℕ) (w : Wish) : Type 0 where

@@ -2,10 +2,7 @@
 use Rattle.std.proofs.Common.{◌≡◌, ℕ, true, false, cond, List, map, Option, Some, None, refl, ◌∙◌, ap}
 use Rattle.std.specs.Prelude.{◌==◌, option_map, if◌then◌else◌}
 use Rattle.nfs_xdr.specs.declared.time.Time.{Time}
-use Rattle.nfs_tree.specs.declared.sets.Sets.{Sets}
-use Rattle.nfs_tree.specs.declared.stored.Stored.{Stored}
-use Rattle.nfs_tree.specs.Bytes.{with_bytes}
-use Rattle.nfs_tree.specs.Files.{stored_in}
+use Rattle.nfs_tree.specs.{declared.sets.Sets.Sets, declared.stored.Stored.Stored, Bytes.with_bytes, Files.stored_in}
 use Rattle.nfs_tree.proofs.Objects.{stored_map}
 use Rattle.nfs_names.proofs.StoreInvariants.{kind_in}
 

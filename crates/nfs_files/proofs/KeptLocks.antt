@@ -1,27 +1,14 @@
 -- A lock that was told stays through each operation that spares it, and whoever clashes with it is refused.
 use Rattle.std.proofs.Common.{◌≡◌, ◌≢◌, ℕ, suc, ◌+◌, ◌<◌, ◌≤◌, true, false, cond, eqb, not, [], ◌∷◌, ◌++◌, Option, Some, None, refl, sym, ◌∙◌, ap, subst, arith, inl, inr}
-use Rattle.std.specs.Prelude.{◌==◌, ◌^◌, if◌then◌else◌, filter}
 use Rattle.std.proofs.lemmas.Bool.{cases_Bool, cases_eq, cases_lt, eq-eqb, ne_eqb, eqb-true, leb-true, and_parts}
+use Rattle.std.specs.Prelude.{◌==◌, ◌^◌, if◌then◌else◌, filter}
 use Rattle.nfs_xdr.specs.Tables.{In}
-use Rattle.nfs_xdr.proofs.Lists.{stays_in, push_in, map_in, any_in, find_in}
-use Rattle.nfs_xdr.proofs.Tables.{in_once, in_bounds}
-use Rattle.nfs_ranges.specs.declared.Kind.{Kind}
-use Rattle.nfs_ranges.specs.Holders.{Holders, holding, cleared, holds_any, is_within}
-use Rattle.nfs_ranges.specs.Told.{meets}
-use Rattle.nfs_ranges.specs.Facts.{Tells}
-use Rattle.nfs_ranges.proofs.CanonicalLemmas.{within_is}
-use Rattle.nfs_opens.specs.declared.records.LockState.{LockState}
-use Rattle.nfs_opens.specs.declared.stateid.StateId.{StateId}
-use Rattle.nfs_opens.specs.declared.locking.Wish.{Wish}
-use Rattle.nfs_opens.specs.Holding.{FileHolders, on_file}
-use Rattle.nfs_opens.specs.Table.{Table, lock_at, with_lock}
-use Rattle.nfs_opens.specs.TableInvariants.{IsTable}
-use Rattle.nfs_opens.specs.Closing.{stands, not_under, without_open, without_lock}
-use Rattle.nfs_opens.specs.Locking.{raised}
-use Rattle.nfs_ranges.proofs.HolderLemmas.{unmet}
-use Rattle.nfs_opens.proofs.LockLemmas.{holds_none}
-use Rattle.nfs_opens.proofs.StepLemmas.{judged_tells}
-use Rattle.nfs_opens.proofs.CallLaws.{IsLocked}
+use Rattle.nfs_xdr.proofs.{Lists.{stays_in, push_in, map_in, any_in, find_in}, Tables.{in_once, in_bounds}}
+use Rattle.nfs_ranges.specs.{declared.Kind.Kind, Holders.{Holders, holding, cleared, holds_any, is_within}, Told.meets, Facts.Tells}
+use Rattle.nfs_ranges.proofs.{CanonicalLemmas.within_is, HolderLemmas.unmet}
+use Rattle.nfs_opens.specs.{declared.records.LockState.LockState, declared.stateid.StateId.StateId, declared.locking.Wish.Wish, Holding.{FileHolders, on_file}}
+use Rattle.nfs_opens.specs.{Table.{Table, lock_at, with_lock}, TableInvariants.IsTable, Closing.{stands, not_under, without_open, without_lock}, Locking.raised}
+use Rattle.nfs_opens.proofs.{LockLemmas.holds_none, StepLemmas.judged_tells, CallLaws.IsLocked}
 use Rattle.nfs_files.specs.LockTold.{LockTold, IsBeside, IsAlike, Stands, Clashes}
 
 -- bytes

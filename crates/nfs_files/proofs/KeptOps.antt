@@ -6,24 +6,16 @@ use Rattle.nfs_compound.specs.declared.lock_args.Lock as args
 use Rattle.nfs_compound.specs.declared.op_num.OpNum.TheVariants as Num
 use Rattle.nfs_compound.specs.declared.op.Op.{Op}
 use Rattle.nfs_ranges.specs.Holders.{holding, cleared}
-use Rattle.nfs_opens.specs.declared.records.OpenState.{OpenState}
-use Rattle.nfs_opens.specs.Table.{Table, Asked, with_open}
-use Rattle.nfs_opens.specs.TableInvariants.{IsTable}
+use Rattle.nfs_opens.specs.{declared.records.OpenState.OpenState, Table.{Table, Asked, with_open}, TableInvariants.IsTable}
 use Rattle.nfs_opens.specs.Opening as opening
-use Rattle.nfs_results.specs.declared.res.Res.{Res}
-use Rattle.nfs_results.specs.Results.{status_of_result}
-use Rattle.nfs_names.specs.declared.context.Context.{Context}
-use Rattle.nfs_names.specs.State.{State}
-use Rattle.nfs_names.specs.Outcome.{answers, is_ok}
+use Rattle.nfs_results.specs.{declared.res.Res.Res, Results.status_of_result}
+use Rattle.nfs_names.specs.{declared.context.Context.Context, State.State, Outcome.{answers, is_ok}}
 use Rattle.nfs_files.specs.Lock as of_lock
 use Rattle.nfs_files.specs.LockTold.{LockTold, Stands}
-use Rattle.nfs_files.proofs.Outcomes.{one, comes_to}
-use Rattle.nfs_files.proofs.OpensMoved.{lock_is}
-use Rattle.nfs_files.proofs.Wishes.{wish_range, lock_wish}
+use Rattle.nfs_files.proofs.{Outcomes.{one, comes_to}, OpensMoved.lock_is, Wishes.{wish_range, lock_wish}}
 use Rattle.nfs_files.proofs.Inside.{Spares, SparedLocksStay, ClashesAreNotGranted}
 use Rattle.nfs_files.proofs.KeptLocks.{stands_by, stands_closed, stands_freed, stands_raised, stands_first, held_alike, outside, cleared_other, refused}
-use Rattle.nfs_files.proofs.Effects.{Effect, Opens, Narrows, Closes, Locks, Begins, Unlocks, Frees, Caused, table_behind}
-use Rattle.nfs_files.proofs.Effected.{caused_opens}
+use Rattle.nfs_files.proofs.{Effects.{Effect, Opens, Narrows, Closes, Locks, Begins, Unlocks, Frees, Caused, table_behind}, Effected.caused_opens}
 
 -- OPEN moves no lock state
 opened_stands : (k : LockTold) (t : Table) (a : Asked) (o : Option OpenState) → Stands k t → Stands k (opening.opens_by t a o).after

@@ -1,24 +1,13 @@
 -- A LOCK of a new lock owner that is granted names a lock state of that owner.
 use Rattle.std.proofs.Common.{◌≡◌, inl, inr, ℕ, suc, ◌+◌, Bool, true, false, cond, not, List, Option, Some, None, refl, sym, ◌∙◌, ap, subst, arith}
+use Rattle.std.proofs.{lemmas.Bool.and_parts, lemmas.Slice.Eq.bytes_eq-Decides}
 use Rattle.std.specs.Prelude.{◌==◌, Ok, ok_or}
-use Rattle.std.proofs.lemmas.Bool.{and_parts}
-use Rattle.std.proofs.lemmas.Slice.Eq.{bytes_eq-Decides}
-use Rattle.nfs_xdr.specs.Tables.{In}
-use Rattle.nfs_xdr.proofs.Lists.{find_in, in_push, in_map}
-use Rattle.nfs_xdr.proofs.Tables.{in_bounds, in_once}
-use Rattle.nfs_xdr.specs.declared.status.Status.TheVariants.{BadStateId, ServerFault}
-use Rattle.nfs_opens.specs.declared.judging.Sort.TheVariants.{OpenOnly}
-use Rattle.nfs_opens.specs.declared.locking.OpenFault.TheVariants.{Refused}
-use Rattle.nfs_opens.specs.declared.locking.Wish.{Wish}
-use Rattle.nfs_opens.specs.declared.records.LockState.{LockState}
-use Rattle.nfs_opens.specs.declared.share.Share.{Share}
-use Rattle.nfs_opens.specs.declared.stateid.StateId.{StateId}
-use Rattle.nfs_opens.specs.Judging.{judge}
-use Rattle.nfs_opens.specs.Locking.{is_locker, state_of, raised, access_in, lock_judged, lock_as, lock_first, lock_by_owner, lock_under}
-use Rattle.nfs_opens.specs.StateId.{last_number}
-use Rattle.nfs_opens.specs.Steps.{require, map_err}
-use Rattle.nfs_opens.specs.Table.{Table, lock_at}
-use Rattle.nfs_opens.specs.TableInvariants.{IsTable}
+use Rattle.nfs_xdr.specs.{Tables.In, declared.status.Status.TheVariants.{BadStateId, ServerFault}}
+use Rattle.nfs_xdr.proofs.{Lists.{find_in, in_push, in_map}, Tables.{in_bounds, in_once}}
+use Rattle.nfs_opens.specs.{declared.judging.Sort.TheVariants.OpenOnly, declared.locking.OpenFault.TheVariants.Refused, declared.locking.Wish.Wish}
+use Rattle.nfs_opens.specs.{declared.records.LockState.LockState, declared.share.Share.Share, declared.stateid.StateId.StateId, Judging.judge}
+use Rattle.nfs_opens.specs.{Locking.{is_locker, state_of, raised, access_in, lock_judged, lock_as, lock_first, lock_by_owner, lock_under}, StateId.last_number}
+use Rattle.nfs_opens.specs.{Steps.{require, map_err}, Table.{Table, lock_at}, TableInvariants.IsTable}
 use Rattle.nfs_opens.proofs.CallLaws.{came, ok_is}
 
 raised_same : (b : Bool) (l : LockState) → ((cond b (raised l) l).owner ≡ l.owner) × ((cond b (raised l) l).number ≡ l.number)

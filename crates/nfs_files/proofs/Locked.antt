@@ -1,26 +1,16 @@
 -- What LOCK comes to where the table of opens refused it.
 use Rattle.std.proofs.Common.{◌≡◌, true, refl, sym, ◌∙◌, ap, subst}
 use Rattle.std.specs.Prelude.{Result, Err}
-use Rattle.nfs_xdr.specs.SheetState.{SheetState, Puts}
-use Rattle.nfs_xdr.specs.declared.status.Status.{Status}
+use Rattle.nfs_xdr.specs.{SheetState.{SheetState, Puts}, declared.status.Status.Status}
 use Rattle.nfs_xdr.specs.declared.status.Status.TheVariants as S
 use Rattle.nfs_compound.specs.declared.op_num.OpNum.TheVariants as Num
-use Rattle.nfs_results.specs.declared.res.Res.{Res}
-use Rattle.nfs_results.specs.Results.{spell_result, status_of_result}
+use Rattle.nfs_results.specs.{declared.res.Res.Res, Results.{spell_result, status_of_result}}
 use Rattle.nfs_ranges.specs.declared.Held.{Held}
-use Rattle.nfs_opens.specs.declared.stateid.StateId.{StateId}
-use Rattle.nfs_opens.specs.declared.locking.OpenFault.{OpenFault}
+use Rattle.nfs_opens.specs.{declared.stateid.StateId.StateId, declared.locking.OpenFault.OpenFault, Table.Table, Calls.LocksOrWants}
 use Rattle.nfs_opens.specs.declared.locking.OpenFault.TheVariants as F
-use Rattle.nfs_opens.specs.Table.{Table}
-use Rattle.nfs_opens.specs.Calls.{LocksOrWants}
 use Rattle.nfs_opens.proofs.CallLaws.{refused_is}
-use Rattle.nfs_names.specs.declared.context.Context.{Context}
-use Rattle.nfs_names.specs.State.{State}
-use Rattle.nfs_names.specs.Comes.{Comes}
-use Rattle.nfs_names.specs.Outcome.{Outcome, or_delay, is_delay}
-use Rattle.nfs_names.specs.Ending.{with_opens}
-use Rattle.nfs_files.specs.Denied.{denied}
-use Rattle.nfs_files.specs.Lock.{locked}
+use Rattle.nfs_names.specs.{declared.context.Context.Context, State.State, Comes.Comes, Outcome.{Outcome, or_delay, is_delay}, Ending.with_opens}
+use Rattle.nfs_files.specs.{Denied.denied, Lock.locked}
 use Rattle.nfs_files.proofs.Refused.{told_with, refused_outcome, lock_tells, ok_locked}
 
 comes : (s : State) (x : Context) (o : Outcome) (answer : Status) (r : Res) (old new : SheetState) (after : Table)

@@ -1,58 +1,29 @@
 -- OPEN: the results that it may have, and what it leaves.
 use Rattle.std.proofs.Common.{◌≡◌, ℕ, ◌+◌, ◌≤◌, Bool, true, false, cond, List, [], ◌∷◌, ◌++◌, length, Option, Some, None, refl, sym, ◌∙◌, ap, subst, arith}
-use Rattle.std.specs.Prelude.{◌==◌, Result, Ok, Err}
-use Rattle.std.specs.Option.{option_map_or}
-use Rattle.std.proofs.lemmas.Bool.{eqb-true, eq-eqb, false≢true}
-use Rattle.std.proofs.lemmas.List.{length-append}
-use Rattle.nfs_xdr.specs.Checks.{first_fault}
-use Rattle.nfs_xdr.specs.Tables.{In, IsRising}
-use Rattle.nfs_xdr.proofs.Checks.{all_passed}
-use Rattle.nfs_xdr.proofs.Lists.{find_in, none_in, last_in}
-use Rattle.nfs_xdr.proofs.Tables.{in_once}
-use Rattle.nfs_xdr.specs.Spelling.{number, hyper}
-use Rattle.nfs_xdr.specs.declared.time.Time.{Time}
-use Rattle.nfs_xdr.specs.declared.status.Status.{Status}
+use Rattle.std.proofs.{lemmas.Bool.{eqb-true, eq-eqb, false≢true}, lemmas.List.length-append}
+use Rattle.std.specs.{Prelude.{◌==◌, Result, Ok, Err}, Option.option_map_or}
+use Rattle.nfs_xdr.specs.{Checks.first_fault, Tables.{In, IsRising}, Spelling.{number, hyper}, declared.time.Time.Time, declared.status.Status.Status}
+use Rattle.nfs_xdr.proofs.{Checks.all_passed, Lists.{find_in, none_in, last_in}, Tables.in_once, Putting.{length_number, length_hyper}}
 use Rattle.nfs_xdr.specs.declared.status.Status.TheVariants as S
-use Rattle.nfs_xdr.proofs.Putting.{length_number, length_hyper}
 use Rattle.nfs_compound.specs.declared.op_num.OpNum.TheVariants as Num
-use Rattle.nfs_compound.specs.declared.open_args.Open.{Open}
-use Rattle.nfs_compound.specs.declared.open_args.OpenClaim.{OpenClaim}
+use Rattle.nfs_compound.specs.{declared.open_args.Open.Open, declared.open_args.OpenClaim.OpenClaim}
 use Rattle.nfs_compound.specs.declared.open_args.OpenClaim.TheVariants.{Null, Previous, DelegateCur, DelegatePrev, Fh, DelegCurFh, DelegPrevFh}
 use Rattle.nfs_compound.specs.declared.op.Item.TheVariants.{Operation}
 use Rattle.nfs_compound.specs.declared.op.Op.TheVariants as Op
-use Rattle.nfs_tree.specs.declared.stored.Stored.{Stored}
-use Rattle.nfs_tree.specs.Object.{is_regular, no_sets}
-use Rattle.nfs_tree.specs.Files.{Files, root, stored_in, lookup, with_entries_changed}
-use Rattle.nfs_tree.specs.Calls.{is_regular_at}
-use Rattle.nfs_tree.specs.Create.{data_of, new_object}
-use Rattle.nfs_tree.specs.Bytes.{resized, with_resized}
-use Rattle.nfs_tree.specs.TreeInvariants.{IsTree}
-use Rattle.nfs_opens.specs.declared.stateid.StateId.{StateId}
-use Rattle.nfs_opens.specs.Opening.{opens}
-use Rattle.nfs_names.specs.declared.context.Context.{Context}
-use Rattle.nfs_names.specs.declared.node.Node.{Node}
-use Rattle.nfs_names.specs.declared.making.Making.{Making}
-use Rattle.nfs_names.specs.State.{State}
-use Rattle.nfs_names.specs.Outcome.{mapped, checked}
-use Rattle.nfs_names.specs.Checks.{node_at, current}
+use Rattle.nfs_tree.specs.{declared.stored.Stored.Stored, Object.{is_regular, no_sets}, Files.{Files, root, stored_in, lookup, with_entries_changed}}
+use Rattle.nfs_tree.specs.{Calls.is_regular_at, Create.{data_of, new_object}, Bytes.{resized, with_resized}, TreeInvariants.IsTree}
+use Rattle.nfs_opens.specs.{declared.stateid.StateId.StateId, Opening.opens}
+use Rattle.nfs_names.specs.{declared.context.Context.Context, declared.node.Node.Node, declared.making.Making.Making, State.State, Outcome.{mapped, checked}}
+use Rattle.nfs_names.specs.{Checks.{node_at, current}, Create.attributes_in}
 use Rattle.nfs_attrs.specs.Mask.{mask_of}
-use Rattle.nfs_names.specs.Create.{attributes_in}
-use Rattle.nfs_names.proofs.Bounds.{IsAnswer}
-use Rattle.nfs_names.proofs.NameLaws.{node_refuses, current_refuses, wanted_refuses}
-use Rattle.nfs_names.proofs.Found.{IsHeld, current_is, checked_ok, came, ok_is}
+use Rattle.nfs_names.proofs.{Bounds.IsAnswer, NameLaws.{node_refuses, current_refuses, wanted_refuses}, Found.{IsHeld, current_is, checked_ok, came, ok_is}}
 use Rattle.nfs_names.proofs.StoreInvariants.{regular_same}
 use Rattle.nfs_names.proofs.Refusing.{Refuses, refusal_by, all_refuse, refuses_checked, refuses_mapped, refuses_then, err_refuses, ok_refuses, answers_with}
 use Rattle.nfs_names.proofs.Masks.{few_words}
-use Rattle.nfs_files.specs.declared.opening.Found.{Found}
-use Rattle.nfs_files.specs.declared.opening.Found.TheVariants.{There, Absent}
-use Rattle.nfs_files.specs.StateIds.{wire_id}
-use Rattle.nfs_files.specs.Bytes.{file_checks}
+use Rattle.nfs_files.specs.{declared.opening.Found.Found, declared.opening.Found.TheVariants.{There, Absent}, StateIds.wire_id, Bytes.file_checks}
 use Rattle.nfs_files.specs.Open.{makes, argument_checks, place_checks, absent_checks, there_checks, cuts, found_by}
 use Rattle.nfs_files.specs.Open.{by_name, by_handle, by_claim, asked_for, file_of, asking, last_checks, new_of, sets_of, tree_of, set_of, open_file}
-use Rattle.nfs_files.proofs.Passing.{mapped_came}
-use Rattle.nfs_files.proofs.Seats.{by_bool}
-use Rattle.nfs_files.proofs.SetRows.{file_regular}
-use Rattle.nfs_files.proofs.Keeping.{kind_bytes}
+use Rattle.nfs_files.proofs.{Passing.mapped_came, Seats.by_bool, SetRows.file_regular, Keeping.kind_bytes}
 
 -- refusals
 found_by_refuses : (s : State) (x : Context) (o : Open) (m : Making) (n : Option ℕ) → Refuses (found_by s x o m n)

@@ -1,26 +1,16 @@
 -- What an OPEN does to the rows of the tree: it leaves them, or puts one more under the name that it claims.
 use Rattle.std.proofs.Common.{◌≡◌, ℕ, ◌+◌, Bool, true, false, cond, List, [], ◌∷◌, ◌++◌, Option, Some, None, refl, sym, ◌∙◌, ap}
 use Rattle.std.specs.Prelude.{Ok, Err}
-use Rattle.nfs_xdr.specs.declared.time.Time.{Time}
-use Rattle.nfs_xdr.specs.declared.status.Status.TheVariants.{Inval}
-use Rattle.nfs_compound.specs.declared.open_args.Open.{Open}
-use Rattle.nfs_compound.specs.declared.open_args.OpenClaim.{OpenClaim}
+use Rattle.nfs_xdr.specs.{declared.time.Time.Time, declared.status.Status.TheVariants.Inval}
+use Rattle.nfs_compound.specs.{declared.open_args.Open.Open, declared.open_args.OpenClaim.OpenClaim}
 use Rattle.nfs_compound.specs.declared.open_args.OpenClaim.TheVariants.{Null, Previous, DelegateCur, DelegatePrev, Fh, DelegCurFh, DelegPrevFh}
-use Rattle.nfs_tree.specs.declared.row.Row.{Row}
-use Rattle.nfs_tree.specs.Files.{lookup}
-use Rattle.nfs_names.specs.declared.context.Context.{Context}
-use Rattle.nfs_names.specs.declared.node.Node.{Node}
-use Rattle.nfs_names.specs.declared.making.Making.{Making}
-use Rattle.nfs_names.specs.State.{State}
-use Rattle.nfs_names.specs.Checks.{node_at, current}
-use Rattle.nfs_names.specs.Create.{attributes_in}
-use Rattle.nfs_names.specs.Outcome.{checked}
+use Rattle.nfs_tree.specs.{declared.row.Row.Row, Files.lookup}
+use Rattle.nfs_names.specs.{declared.context.Context.Context, declared.node.Node.Node, declared.making.Making.Making, State.State, Checks.{node_at, current}}
+use Rattle.nfs_names.specs.{Create.attributes_in, Outcome.checked}
 use Rattle.nfs_names.proofs.Found.{came, ok_is, checked_ok}
-use Rattle.nfs_files.specs.declared.opening.Found.{Found}
-use Rattle.nfs_files.specs.declared.opening.Found.TheVariants.{There, Absent}
+use Rattle.nfs_files.specs.{declared.opening.Found.Found, declared.opening.Found.TheVariants.{There, Absent}}
 use Rattle.nfs_files.specs.Open as of_open
-use Rattle.nfs_files.proofs.Passing.{mapped_came}
-use Rattle.nfs_files.proofs.WrittenOps.{current_number}
+use Rattle.nfs_files.proofs.{Passing.mapped_came, WrittenOps.current_number}
 
 pub data OpensRows (s : State) (x : Context) (o : Open) (rows : List Row) : Type 0 where
   Kept : rows ≡ s.tree.rows → OpensRows s x o rows

@@ -1,33 +1,17 @@
 -- OPEN: which opens there are of which file, and what they refuse.
 use Rattle.std.proofs.Common.{◌≡◌, ℕ, ◌+◌, ◌<◌, ◌≤◌, Bool, true, false, List, [], ◌∷◌, ◌++◌, Option, Some, None, refl, sym, ◌∙◌, ap, inl, inr, arith}
-use Rattle.std.specs.Prelude.{Result, Ok, Err, ◌==◌, ◌&&◌, is_some, is_none, find}
-use Rattle.std.specs.List.{list_any}
-use Rattle.std.specs.Option.{option_map_or}
 use Rattle.std.proofs.lemmas.Bool.{cases_Bool, or_parts, false≢true}
-use Rattle.nfs_xdr.specs.Checks.{first_fault, judged}
-use Rattle.nfs_xdr.specs.declared.status.Status.{Status}
-use Rattle.nfs_xdr.specs.declared.status.Status.TheVariants.{ShareDenied, ServerFault}
+use Rattle.std.specs.{Prelude.{Result, Ok, Err, ◌==◌, ◌&&◌, is_some, is_none, find}, List.list_any, Option.option_map_or}
+use Rattle.nfs_xdr.specs.{Checks.{first_fault, judged}, declared.status.Status.Status, declared.status.Status.TheVariants.{ShareDenied, ServerFault}}
 use Rattle.nfs_compound.specs.declared.open_args.Open.{Open}
-use Rattle.nfs_tree.specs.declared.stored.Stored.{Stored}
-use Rattle.nfs_tree.specs.Object.{is_regular}
-use Rattle.nfs_tree.specs.Files.{Files, root, stored_in, is_there}
-use Rattle.nfs_tree.specs.TreeInvariants.{IsTree}
+use Rattle.nfs_tree.specs.{declared.stored.Stored.Stored, Object.is_regular, Files.{Files, root, stored_in, is_there}, TreeInvariants.IsTree}
 use Rattle.nfs_tree.proofs.Objects.{stored_within}
-use Rattle.nfs_opens.specs.declared.records.OpenState.{OpenState}
-use Rattle.nfs_opens.specs.StateId.{last_number}
-use Rattle.nfs_opens.specs.Table.{Asked, is_own, clashes_with}
-use Rattle.nfs_opens.specs.Opening.{own_open}
-use Rattle.nfs_opens.specs.Calls.{open_fault}
-use Rattle.nfs_names.specs.declared.context.Context.{Context}
-use Rattle.nfs_names.specs.State.{State, is_open}
-use Rattle.nfs_names.specs.StoreInvariants.{IsStore}
-use Rattle.nfs_names.specs.Faults.{by_tree}
+use Rattle.nfs_opens.specs.{declared.records.OpenState.OpenState, StateId.last_number, Table.{Asked, is_own, clashes_with}, Opening.own_open, Calls.open_fault}
+use Rattle.nfs_names.specs.{declared.context.Context.Context, State.{State, is_open}, StoreInvariants.IsStore, Faults.by_tree}
 use Rattle.nfs_names.proofs.Found.{or_fault, first_append}
-use Rattle.nfs_files.specs.declared.opening.Found.{Found}
-use Rattle.nfs_files.specs.declared.opening.Found.TheVariants.{There, Absent}
-use Rattle.nfs_files.specs.Open.{asking, file_of, tree_checks, last_checks}
-use Rattle.nfs_files.specs.OpenParts as part
+use Rattle.nfs_files.specs.{declared.opening.Found.Found, declared.opening.Found.TheVariants.{There, Absent}, Open.{asking, file_of, tree_checks, last_checks}}
 use Rattle.nfs_files.specs.OpenParts.{room_checks, number_of}
+use Rattle.nfs_files.specs.OpenParts as part
 
 regular_there : (o : Option Stored) → option_map_or (λ (s : Stored). is_regular s.object.kind) o false ≡ true → is_some o ≡ true
 regular_there None e = absurd (false≢true e)

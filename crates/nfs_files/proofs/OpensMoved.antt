@@ -2,42 +2,22 @@
 use Rattle.std.proofs.Common.{◌≡◌, refl, sym, subst}
 use Rattle.std.specs.Prelude.{Result, Ok, Err}
 use Rattle.nfs_xdr.specs.declared.status.Status.{Status}
-use Rattle.nfs_compound.specs.declared.lock_args.Lock.{Lock}
-use Rattle.nfs_compound.specs.declared.lock_args.Locker.TheVariants.{LockOwner, OpenOwner}
-use Rattle.nfs_compound.specs.declared.lock_args.Locker.{Locker}
-use Rattle.nfs_compound.specs.declared.op_num.OpNum.{OpNum}
-use Rattle.nfs_compound.specs.declared.op_num.OpNum.TheVariants as Num
-use Rattle.nfs_compound.specs.declared.stateid.Stateid.{Stateid}
-use Rattle.nfs_compound.specs.declared.lock_args.LockU.{LockU}
-use Rattle.nfs_compound.specs.declared.open_args.Close.{Close}
+use Rattle.nfs_compound.specs.{declared.lock_args.Lock.Lock, declared.lock_args.Locker.TheVariants.{LockOwner, OpenOwner}, declared.lock_args.Locker.Locker}
+use Rattle.nfs_compound.specs.{declared.op_num.OpNum.OpNum, declared.stateid.Stateid.Stateid, declared.lock_args.LockU.LockU, declared.open_args.Close.Close}
 use Rattle.nfs_compound.specs.declared.open_args.OpenDowngrade.{OpenDowngrade}
+use Rattle.nfs_compound.specs.declared.op_num.OpNum.TheVariants as Num
 use Rattle.nfs_results.specs.declared.res.Res.TheVariants as Res
 use Rattle.nfs_ranges.specs.declared.Held.{Held}
-use Rattle.nfs_opens.specs.declared.stateid.StateId.{StateId}
-use Rattle.nfs_opens.specs.declared.stateid.CurrentSeqid.TheVariants.{Any, Own}
-use Rattle.nfs_opens.specs.declared.locking.Wish.{Wish}
-use Rattle.nfs_opens.specs.declared.locking.OpenFault.{OpenFault}
+use Rattle.nfs_opens.specs.{declared.stateid.StateId.StateId, declared.stateid.CurrentSeqid.TheVariants.{Any, Own}, declared.locking.Wish.Wish}
+use Rattle.nfs_opens.specs.{declared.locking.OpenFault.OpenFault, Table.{Table, with_open}, Locking.unlock, Steps.map_err}
 use Rattle.nfs_opens.specs.declared.locking.OpenFault.TheVariants as F
-use Rattle.nfs_opens.specs.Table.{Table, with_open}
 use Rattle.nfs_opens.specs.Closing as closing
 use Rattle.nfs_opens.specs.Opening as opening
-use Rattle.nfs_opens.specs.Locking.{unlock}
 use Rattle.nfs_opens.proofs.CallLaws.{IsClosed, closed_is, IsFreed, freed_is, IsNarrowed, narrowed_is, IsLocked, under_is, known_is, IsUnlocked, unlocked_is, unmapped}
-use Rattle.nfs_opens.specs.Steps.{map_err}
-use Rattle.nfs_names.specs.declared.context.Context.{Context}
-use Rattle.nfs_names.specs.State.{State}
-use Rattle.nfs_names.specs.Ending.{with_opens}
-use Rattle.nfs_names.specs.Outcome.{Outcome, done, refuses, answers}
-use Rattle.nfs_files.specs.declared.ranges.Wished.{Wished}
-use Rattle.nfs_files.specs.declared.target.Target.{Target}
-use Rattle.nfs_files.specs.StateIds.{meant}
-use Rattle.nfs_files.specs.Target.{target}
-use Rattle.nfs_files.specs.Denied.{denied, status_of}
-use Rattle.nfs_files.specs.Close.{closed, closes, close}
-use Rattle.nfs_files.specs.FreeStateid.{frees, free_stateid}
-use Rattle.nfs_files.specs.Lock.{locking, locks_as, locked, locks, lock}
-use Rattle.nfs_files.specs.LockU.{unlocking, unlocked, unlocks, lock_u}
-use Rattle.nfs_files.specs.OpenDowngrade.{bits, narrowing, narrowed, narrows, open_downgrade}
+use Rattle.nfs_names.specs.{declared.context.Context.Context, State.State, Ending.with_opens, Outcome.{Outcome, done, refuses, answers}}
+use Rattle.nfs_files.specs.{declared.ranges.Wished.Wished, declared.target.Target.Target, StateIds.meant, Target.target, Denied.{denied, status_of}}
+use Rattle.nfs_files.specs.{Close.{closed, closes, close}, FreeStateid.{frees, free_stateid}, Lock.{locking, locks_as, locked, locks, lock}}
+use Rattle.nfs_files.specs.{LockU.{unlocking, unlocked, unlocks, lock_u}, OpenDowngrade.{bits, narrowing, narrowed, narrows, open_downgrade}}
 
 -- what an operation comes to, by what was found
 pub answered : {A : Type 0} (P : Outcome → Type 0) (s : State) (x : Context) (op : OpNum) (v : Result A Status) (f : A → Outcome)

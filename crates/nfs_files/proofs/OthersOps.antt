@@ -1,25 +1,18 @@
 -- An operation of one client leaves another what it has.
-use Rattle.std.proofs.Common.{◌≡◌, ◌≢◌, ℕ, ◌+◌, Bool, eqb, Option, Some, None, refl, sym, ◌∙◌, inl, inr}
-use Rattle.std.proofs.lemmas.Bool.{cases_Bool, eqb-true, and_parts}
+use Rattle.std.proofs.{Common.{◌≡◌, ◌≢◌, ℕ, ◌+◌, Bool, eqb, Option, Some, None, refl, sym, ◌∙◌, inl, inr}, lemmas.Bool.{cases_Bool, eqb-true, and_parts}}
 use Rattle.nfs_xdr.specs.declared.time.Time.{Time}
 use Rattle.nfs_xdr.proofs.Lists.{find_in}
 use Rattle.nfs_compound.specs.declared.op.Item.{Item}
 use Rattle.nfs_ranges.specs.Holders.{Holders, holding, cleared}
-use Rattle.nfs_opens.specs.declared.records.OpenState.{OpenState}
-use Rattle.nfs_opens.specs.declared.locking.Wish.{Wish}
-use Rattle.nfs_opens.specs.Holding.{FileHolders, on_file}
-use Rattle.nfs_opens.specs.Table.{Table, Asked, is_own}
+use Rattle.nfs_opens.specs.{declared.records.OpenState.OpenState, declared.locking.Wish.Wish, Holding.{FileHolders, on_file}, Table.{Table, Asked, is_own}}
 use Rattle.nfs_opens.specs.TableInvariants.{IsTable}
 use Rattle.nfs_opens.specs.Opening as opening
 use Rattle.nfs_opens.specs.Locking as locking
-use Rattle.nfs_names.specs.declared.context.Context.{Context}
-use Rattle.nfs_names.specs.State.{State}
-use Rattle.nfs_files.proofs.Outcomes.{comes_to}
-use Rattle.nfs_files.proofs.KeptLocks.{held_other, cleared_other}
-use Rattle.nfs_files.specs.Own.{HasAsBefore}
+use Rattle.nfs_names.specs.{declared.context.Context.Context, State.State}
+use Rattle.nfs_files.proofs.{Outcomes.comes_to, KeptLocks.{held_other, cleared_other}}
 use Rattle.nfs_files.proofs.OthersTables.{same, open_is_of, open_changed, lock_changed, open_new, lock_new, open_gone, lock_gone, both}
-use Rattle.nfs_files.proofs.Effects.{Effect, Opens, Narrows, Closes, Locks, Begins, Unlocks, Frees, Fits, table_behind}
-use Rattle.nfs_files.proofs.Effected.{kept_opens}
+use Rattle.nfs_files.proofs.{Effects.{Effect, Opens, Narrows, Closes, Locks, Begins, Unlocks, Frees, Fits, table_behind}, Effected.kept_opens}
+use Rattle.nfs_files.specs.Own.{HasAsBefore}
 
 -- bytes of one lock state move, and none of another's
 moved_apart : (held : FileHolders) (file n : ℕ) (g : Holders → Holders) → ((h : Holders) (s b : ℕ) → s ≢ n → g h s b ≡ h s b)

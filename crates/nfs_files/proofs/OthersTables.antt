@@ -1,16 +1,11 @@
 -- What a change to the opens and lock states of one client leaves to another client.
 use Rattle.std.proofs.Common.{◌≡◌, ◌≢◌, ℕ, suc, ◌+◌, Bool, true, false, cond, not, List, [], ◌∷◌, ◌++◌, map, refl, sym, ◌∙◌, ap, subst, arith, inl, inr}
-use Rattle.std.specs.Prelude.{◌==◌, filter, if◌then◌else◌}
 use Rattle.std.proofs.lemmas.Bool.{cases_Bool, eq-eqb, eqb-true, ne_eqb}
+use Rattle.std.specs.Prelude.{◌==◌, filter, if◌then◌else◌}
 use Rattle.nfs_xdr.specs.Tables.{In}
-use Rattle.nfs_xdr.proofs.Lists.{in_filter, stays_in, any_in, filter_past}
-use Rattle.nfs_xdr.proofs.Tables.{in_bounds, in_once}
-use Rattle.nfs_opens.specs.declared.records.OpenState.{OpenState}
-use Rattle.nfs_opens.specs.declared.records.LockState.{LockState}
-use Rattle.nfs_opens.specs.Holding.{FileHolders}
-use Rattle.nfs_opens.specs.Table.{Table, with_open, with_lock}
-use Rattle.nfs_opens.specs.TableInvariants.{IsTable}
-use Rattle.nfs_opens.specs.Closing.{stands, not_under, without_open, without_lock}
+use Rattle.nfs_xdr.proofs.{Lists.{in_filter, stays_in, any_in, filter_past}, Tables.{in_bounds, in_once}}
+use Rattle.nfs_opens.specs.{declared.records.OpenState.OpenState, declared.records.LockState.LockState, Holding.FileHolders}
+use Rattle.nfs_opens.specs.{Table.{Table, with_open, with_lock}, TableInvariants.IsTable, Closing.{stands, not_under, without_open, without_lock}}
 use Rattle.nfs_names.specs.Ending.{table_staying}
 use Rattle.nfs_files.specs.Own.{HasAsBefore}
 

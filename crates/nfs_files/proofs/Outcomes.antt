@@ -1,18 +1,11 @@
 -- The outcome of each operation on open files. What is none of these is taken for a refusal that changes nothing, so that laws over all
 -- operations need not tell them apart.
 use Rattle.std.proofs.Common.{◌≡◌, Bool, Option, Some, None, subst}
-use Rattle.std.specs.Prelude.{◌&&◌}
-use Rattle.std.specs.Option.{ForSome, option_map, unwrap_or}
-use Rattle.nfs_xdr.specs.declared.time.Time.{Time}
-use Rattle.nfs_xdr.specs.declared.status.Status.TheVariants.{NotSupp}
-use Rattle.nfs_compound.specs.Arguments.{arguments}
-use Rattle.nfs_compound.specs.declared.op.Op.{Op}
-use Rattle.nfs_compound.specs.declared.op.Item.{Item}
-use Rattle.nfs_compound.specs.declared.op.Item.TheVariants.{Operation, Fault}
+use Rattle.std.specs.{Prelude.{◌&&◌}, Option.{ForSome, option_map, unwrap_or}}
+use Rattle.nfs_xdr.specs.{declared.time.Time.Time, declared.status.Status.TheVariants.NotSupp}
+use Rattle.nfs_compound.specs.{Arguments.arguments, declared.op.Op.Op, declared.op.Item.Item, declared.op.Item.TheVariants.{Operation, Fault}}
 use Rattle.nfs_results.specs.declared.res.Res.TheVariants as Res
-use Rattle.nfs_names.specs.declared.context.Context.{Context}
-use Rattle.nfs_names.specs.State.{State}
-use Rattle.nfs_names.specs.Outcome.{Outcome, refuses, or_delay}
+use Rattle.nfs_names.specs.{declared.context.Context.Context, State.State, Outcome.{Outcome, refuses, or_delay}}
 use Rattle.nfs_files.specs.Operation as table
 pub use Rattle.nfs_files.specs.Operation.{grows}
 

@@ -1,25 +1,14 @@
 -- Whose opens an operation on open files can move: those of its own client, and OPEN and CLOSE alone move them.
-use Rattle.std.proofs.Common.{◌≡◌, ◌≢◌, ℕ, Bool, true, false, cond, List, [], ◌∷◌, refl, sym, ◌∙◌, ap, inl, inr}
-use Rattle.std.specs.Prelude.{◌==◌, if◌then◌else◌, filter}
-use Rattle.std.specs.List.{list_any}
-use Rattle.std.proofs.lemmas.Bool.{cases_Bool}
+use Rattle.std.proofs.{Common.{◌≡◌, ◌≢◌, ℕ, Bool, true, false, cond, List, [], ◌∷◌, refl, sym, ◌∙◌, ap, inl, inr}, lemmas.Bool.cases_Bool}
+use Rattle.std.specs.{Prelude.{◌==◌, if◌then◌else◌, filter}, List.list_any}
 use Rattle.nfs_xdr.specs.declared.time.Time.{Time}
 use Rattle.nfs_xdr.proofs.Lists.{any_map}
-use Rattle.nfs_compound.specs.declared.op.Op.{Op}
-use Rattle.nfs_compound.specs.declared.op.Item.{Item}
-use Rattle.nfs_compound.specs.declared.op.Item.TheVariants.{Operation}
-use Rattle.nfs_opens.specs.declared.records.OpenState.{OpenState}
-use Rattle.nfs_opens.specs.Opening.{narrows}
-use Rattle.nfs_opens.specs.Table.{Table}
-use Rattle.nfs_opens.specs.TableInvariants.{IsTable}
+use Rattle.nfs_compound.specs.{declared.op.Op.Op, declared.op.Item.Item, declared.op.Item.TheVariants.Operation}
+use Rattle.nfs_opens.specs.{declared.records.OpenState.OpenState, Opening.narrows, Table.Table, TableInvariants.IsTable}
 use Rattle.nfs_results.specs.declared.res.Res.{Res}
-use Rattle.nfs_names.specs.declared.context.Context.{Context}
-use Rattle.nfs_names.specs.State.{State}
-use Rattle.nfs_files.proofs.Outcomes.{comes_to}
-use Rattle.nfs_files.proofs.Effects.{Effect, Opens, Narrows, Closes, Caused, table_behind}
-use Rattle.nfs_files.proofs.Effected.{caused_opens, same_client}
-use Rattle.nfs_files.proofs.OthersOps.{item_apart}
-use Rattle.nfs_files.proofs.TableSteps.{table_item}
+use Rattle.nfs_names.specs.{declared.context.Context.Context, State.State}
+use Rattle.nfs_files.proofs.{Outcomes.comes_to, Effects.{Effect, Opens, Narrows, Closes, Caused, table_behind}, Effected.{caused_opens, same_client}}
+use Rattle.nfs_files.proofs.{OthersOps.item_apart, TableSteps.table_item}
 
 -- these clients have an open where they had one, and the table is one still
 pub record Spares (spared : ℕ → Type 0) (t u : Table) : Type 0 where

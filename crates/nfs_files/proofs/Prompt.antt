@@ -1,23 +1,12 @@
 -- What answers no NFS4ERR_DELAY: checks of which none does, and what is made of them; and the operations on names.
 use Rattle.std.proofs.Common.{◌≡◌, Bool, true, false, not, List, [], ◌∷◌, Option, Some, None, refl, sym, ◌∙◌, ap, inl, inr}
-use Rattle.std.specs.Prelude.{◌&&◌, Result, Ok, Err, IfSome}
 use Rattle.std.proofs.lemmas.Bool.{cases_Bool, and_parts}
-use Rattle.nfs_xdr.specs.Checks.{first_fault}
-use Rattle.nfs_xdr.specs.declared.time.Time.{Time}
-use Rattle.nfs_xdr.specs.declared.status.Status.{Status}
-use Rattle.nfs_compound.specs.OpNum.{op_number}
-use Rattle.nfs_compound.specs.declared.op_num.OpNum.{OpNum}
-use Rattle.nfs_compound.specs.declared.op.Op.{Op}
+use Rattle.std.specs.Prelude.{◌&&◌, Result, Ok, Err, IfSome}
+use Rattle.nfs_xdr.specs.{Checks.first_fault, declared.time.Time.Time, declared.status.Status.Status}
+use Rattle.nfs_compound.specs.{OpNum.op_number, declared.op_num.OpNum.OpNum, declared.op.Op.Op}
 use Rattle.nfs_results.specs.Results.{status_of_result}
-use Rattle.nfs_names.specs.declared.context.Context.{Context}
-use Rattle.nfs_names.specs.State.{State}
-use Rattle.nfs_names.specs.Outcome.{Outcome, answers, is_delay}
-use Rattle.nfs_names.specs.Checks.{current}
-use Rattle.nfs_names.specs.Operation.{one}
-use Rattle.nfs_names.proofs.Bounds.{Answers, answers_one}
-use Rattle.nfs_names.proofs.Faulted.{status_of_refusal}
-use Rattle.nfs_names.proofs.NameLaws.{current_refuses}
-use Rattle.nfs_names.proofs.Refusing.{Refuses}
+use Rattle.nfs_names.specs.{declared.context.Context.Context, State.State, Outcome.{Outcome, answers, is_delay}, Checks.current, Operation.one}
+use Rattle.nfs_names.proofs.{Bounds.{Answers, answers_one}, Faulted.status_of_refusal, NameLaws.current_refuses, Refusing.Refuses}
 
 -- what all checks answer passes a test, and so does what the first that fails does
 abbrev pub all_pass : {F : Type 0} → (F → Bool) → List (Bool × F) → Bool

@@ -1,70 +1,34 @@
 -- The operations on open files answer fails NFS4ERR_DELAY where memory is not refused.
 use Rattle.std.proofs.Common.{◌≡◌, ℕ, Bool, true, false, cond, not, List, Option, Some, None, refl, ◌∙◌, ap}
 use Rattle.std.specs.Prelude.{◌==◌, Result, Ok, Err, ok_or}
-use Rattle.nfs_xdr.specs.declared.time.Time.{Time}
-use Rattle.nfs_xdr.specs.declared.status.Status.{Status}
+use Rattle.nfs_xdr.specs.{declared.time.Time.Time, declared.status.Status.Status}
 use Rattle.nfs_xdr.specs.declared.status.Status.TheVariants.{BadStateId, NotSupp, OpenMode, ServerFault}
-use Rattle.nfs_compound.specs.Arguments.{arguments}
-use Rattle.nfs_compound.specs.declared.lock_args.Lock.{Lock}
-use Rattle.nfs_compound.specs.declared.lock_args.Locker.TheVariants.{LockOwner, OpenOwner}
-use Rattle.nfs_compound.specs.declared.lock_args.Locker.{Locker}
-use Rattle.nfs_compound.specs.OpNum.{op_number}
+use Rattle.nfs_compound.specs.{Arguments.arguments, declared.lock_args.Lock.Lock, declared.lock_args.Locker.TheVariants.{LockOwner, OpenOwner}}
+use Rattle.nfs_compound.specs.{declared.lock_args.Locker.Locker, OpNum.op_number, declared.stateid.Stateid.Stateid, declared.open_args.Close.Close}
+use Rattle.nfs_compound.specs.{declared.open_args.OpenDowngrade.OpenDowngrade, declared.lock_args.LockU.LockU, declared.op.Op.Op}
 use Rattle.nfs_compound.specs.declared.op_num.OpNum.TheVariants as Num
-use Rattle.nfs_compound.specs.declared.stateid.Stateid.{Stateid}
-use Rattle.nfs_compound.specs.declared.open_args.Close.{Close}
-use Rattle.nfs_compound.specs.declared.open_args.OpenDowngrade.{OpenDowngrade}
-use Rattle.nfs_compound.specs.declared.lock_args.LockU.{LockU}
-use Rattle.nfs_compound.specs.declared.op.Op.{Op}
 use Rattle.nfs_results.specs.Results.{status_of_result}
 use Rattle.nfs_ranges.specs.declared.Held.{Held}
-use Rattle.nfs_opens.specs.declared.share.Share.{Share}
-use Rattle.nfs_opens.specs.declared.stateid.StateId.{StateId}
-use Rattle.nfs_opens.specs.declared.stateid.CurrentSeqid.TheVariants.{Any, Own}
-use Rattle.nfs_opens.specs.declared.records.LockState.{LockState}
-use Rattle.nfs_opens.specs.declared.judging.Seat.{Seat}
-use Rattle.nfs_opens.specs.declared.judging.Sort.{Sort}
-use Rattle.nfs_opens.specs.declared.judging.Sort.TheVariants.{OpenOnly, LockOnly}
-use Rattle.nfs_opens.specs.declared.locking.Wish.{Wish}
-use Rattle.nfs_opens.specs.declared.locking.OpenFault.{OpenFault}
+use Rattle.nfs_opens.specs.{declared.share.Share.Share, declared.stateid.StateId.StateId, declared.stateid.CurrentSeqid.TheVariants.{Any, Own}}
+use Rattle.nfs_opens.specs.{declared.records.LockState.LockState, declared.judging.Seat.Seat, declared.judging.Sort.Sort}
+use Rattle.nfs_opens.specs.{declared.judging.Sort.TheVariants.{OpenOnly, LockOnly}, declared.locking.Wish.Wish, declared.locking.OpenFault.OpenFault}
+use Rattle.nfs_opens.specs.{StateId.last_number, Table.{Table, lock_at}, Judging.judge, Steps.{◌>>=◌, require, map_err}}
 use Rattle.nfs_opens.specs.declared.locking.OpenFault.TheVariants as F
-use Rattle.nfs_opens.specs.StateId.{last_number}
-use Rattle.nfs_opens.specs.Table.{Table, lock_at}
-use Rattle.nfs_opens.specs.Judging.{judge}
 use Rattle.nfs_opens.specs.Closing as closing
 use Rattle.nfs_opens.specs.Opening as opening
 use Rattle.nfs_opens.specs.Locking as locking
-use Rattle.nfs_names.specs.declared.context.Context.{Context}
-use Rattle.nfs_names.specs.State.{State}
-use Rattle.nfs_names.specs.Outcome.{checked, is_delay}
-use Rattle.nfs_names.specs.Checks.{current}
-use Rattle.nfs_names.proofs.Faulted.{status_of_refusal}
-use Rattle.nfs_files.specs.Bytes.{seat, writable, file_checks}
-use Rattle.nfs_files.specs.StateIds.{meant}
-use Rattle.nfs_files.specs.Target.{target}
-use Rattle.nfs_files.specs.Ranges.{wished}
-use Rattle.nfs_files.specs.Denied.{status_of}
-use Rattle.nfs_files.proofs.Outcomes.{one}
-use Rattle.nfs_files.specs.Close.{closes, close}
-use Rattle.nfs_files.specs.Commit.{commit}
-use Rattle.nfs_files.specs.FreeStateid.{frees, free_stateid}
-use Rattle.nfs_files.specs.Lock as of_lock
-use Rattle.nfs_files.specs.LockT.{tested, lock_t}
-use Rattle.nfs_files.specs.LockU.{unlocking, unlocks, lock_u}
-use Rattle.nfs_files.specs.Open as of_open
-use Rattle.nfs_files.specs.OpenDowngrade.{bits, narrowing, narrows, open_downgrade}
-use Rattle.nfs_files.specs.Read.{read}
-use Rattle.nfs_files.specs.SetAttr as of_set
-use Rattle.nfs_files.specs.SetAttr.{set_attr}
-use Rattle.nfs_files.specs.TestStateid.{test_stateid}
+use Rattle.nfs_names.specs.{declared.context.Context.Context, State.State, Outcome.{checked, is_delay}, Checks.current}
+use Rattle.nfs_names.proofs.{Faulted.status_of_refusal, NameLaws.current_refuses, Refusing.refuses_checked}
+use Rattle.nfs_files.specs.{Bytes.{seat, writable, file_checks}, StateIds.meant, Target.target, Ranges.wished, Denied.status_of, Close.{closes, close}}
+use Rattle.nfs_files.specs.{Commit.commit, FreeStateid.{frees, free_stateid}, LockT.{tested, lock_t}, LockU.{unlocking, unlocks, lock_u}}
+use Rattle.nfs_files.specs.{OpenDowngrade.{bits, narrowing, narrows, open_downgrade}, Read.read, SetAttr.set_attr, TestStateid.test_stateid}
 use Rattle.nfs_files.specs.Write.{last_checks, write}
-use Rattle.nfs_names.proofs.NameLaws.{current_refuses}
-use Rattle.nfs_names.proofs.Refusing.{refuses_checked}
-use Rattle.nfs_files.proofs.Prompt.{IsPrompt, err_prompt, ok_prompt, own_prompt, answered_prompt}
-use Rattle.nfs_files.proofs.OpenAnswers.{open_refuses}
-use Rattle.nfs_files.proofs.Seats.{meant_refuses, judge_refuses, readable_refuses, writable_refuses}
-use Rattle.nfs_files.proofs.SetAnswers.{asked_refuses as set_refuses}
+use Rattle.nfs_files.proofs.{Outcomes.one, Prompt.{IsPrompt, err_prompt, ok_prompt, own_prompt, answered_prompt}, OpenAnswers.open_refuses}
+use Rattle.nfs_files.proofs.{Seats.{meant_refuses, judge_refuses, readable_refuses, writable_refuses}, SetAnswers.{asked_refuses as set_refuses}}
 use Rattle.nfs_files.proofs.StateAnswers.{target_refuses, close_refuses, free_refuses, downgrade_refuses, narrowing_refuses, wished_refuses, wished_by_refuses, unlock_refuses}
-use Rattle.nfs_opens.specs.Steps.{◌>>=◌, require, map_err}
+use Rattle.nfs_files.specs.Lock as of_lock
+use Rattle.nfs_files.specs.Open as of_open
+use Rattle.nfs_files.specs.SetAttr as of_set
 
 -- Locks.
 

@@ -1,29 +1,18 @@
 -- READ: the bytes that are given, and whether they end where the file does.
 use Rattle.std.proofs.Common.{◌≡◌, ℕ, ◌+◌, ◌-◌, ◌<◌, ◌≤◌, Bool, List, [], ◌++◌, length, take, drop, Option, Some, None, refl, sym, ◌∙◌, ap, subst, arith, inl}
-use Rattle.std.proofs.Common.{inr}
-use Rattle.std.specs.Prelude.{Ok, nat_le, ◌||◌, ◌==◌, min}
-use Rattle.std.specs.Option.{option_map_or}
-use Rattle.std.proofs.lemmas.Bool.{cases_Bool, leb-true, leb-false, le-leb, false_from_ne_true}
+use Rattle.std.proofs.{Common.inr, lemmas.Bool.{cases_Bool, leb-true, leb-false, le-leb, false_from_ne_true}}
 use Rattle.std.proofs.lemmas.List.{length-append, length-take, length-drop}
+use Rattle.std.specs.{Prelude.{Ok, nat_le, ◌||◌, ◌==◌, min}, Option.option_map_or}
 use Rattle.nfs_xdr.specs.Spelling.{flag, opaque, padding}
 use Rattle.nfs_compound.specs.declared.file_args.Read.{Read}
-use Rattle.nfs_results.specs.Items.{read_ok}
-use Rattle.nfs_results.specs.Largest.{given}
+use Rattle.nfs_results.specs.{Items.read_ok, Largest.given}
 use Rattle.nfs_results.specs.declared.res.Res.TheVariants as Res
 use Rattle.nfs_results.proofs.Lengths.{behind_within}
-use Rattle.nfs_tree.specs.declared.object.Object.{Object}
-use Rattle.nfs_tree.specs.declared.stored.Stored.{Stored}
-use Rattle.nfs_tree.specs.Files.{Files, stored_in, object_at, data_at}
-use Rattle.nfs_tree.specs.TreeInvariants.{IsTree}
+use Rattle.nfs_tree.specs.{declared.object.Object.Object, declared.stored.Stored.Stored, Files.{Files, stored_in, object_at, data_at}, TreeInvariants.IsTree}
 use Rattle.nfs_xdr.proofs.Lists.{find_in}
-use Rattle.nfs_names.specs.declared.context.Context.{Context}
-use Rattle.nfs_names.specs.declared.node.Node.{Node}
-use Rattle.nfs_names.specs.State.{State}
-use Rattle.nfs_names.specs.Outcome.{checked}
-use Rattle.nfs_names.specs.Checks.{current}
+use Rattle.nfs_names.specs.{declared.context.Context.Context, declared.node.Node.Node, State.State, Outcome.checked, Checks.current}
 use Rattle.nfs_names.proofs.Found.{current_is, checked_ok}
-use Rattle.nfs_files.specs.Bytes.{file_checks, reading, may_use, readable}
-use Rattle.nfs_files.specs.Read.{bytes_of, was_read}
+use Rattle.nfs_files.specs.{Bytes.{file_checks, reading, may_use, readable}, Read.{bytes_of, was_read}}
 use Rattle.nfs_files.proofs.Passing.{if_passed_ok}
 
 -- what is reported of an object's size is the number of its bytes

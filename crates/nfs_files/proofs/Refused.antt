@@ -1,29 +1,17 @@
 -- What the table of opens refuses leaves it as it was, and what is answered then.
-use Rattle.std.proofs.Common.{◌≡◌, ◌⊎◌, ℕ, Bool, true, false, cond, eqb, not, [], refl, sym, ◌∙◌, ap, subst, inl, inr}
+use Rattle.std.proofs.{Common.{◌≡◌, ◌⊎◌, ℕ, Bool, true, false, cond, eqb, not, [], refl, sym, ◌∙◌, ap, subst, inl, inr}, lemmas.Bool.eqb-true}
 use Rattle.std.specs.Prelude.{Result, Ok, Err, ◌&&◌, IsOk}
-use Rattle.std.proofs.lemmas.Bool.{eqb-true}
-use Rattle.nfs_xdr.specs.Status.{status_number}
-use Rattle.nfs_xdr.specs.declared.status.Status.{Status}
+use Rattle.nfs_xdr.specs.{Status.status_number, declared.status.Status.Status}
 use Rattle.nfs_xdr.specs.declared.status.Status.TheVariants as S
-use Rattle.nfs_compound.specs.declared.op_num.OpNum.{OpNum}
-use Rattle.nfs_compound.specs.OpNum.{op_number}
-use Rattle.nfs_results.specs.declared.res.Res.{Res}
-use Rattle.nfs_results.specs.Results.{refusal, status_of_result}
-use Rattle.nfs_opens.specs.declared.stateid.StateId.{StateId}
-use Rattle.nfs_opens.specs.declared.locking.OpenFault.{OpenFault}
+use Rattle.nfs_compound.specs.{declared.op_num.OpNum.OpNum, OpNum.op_number}
+use Rattle.nfs_results.specs.{declared.res.Res.Res, Results.{refusal, status_of_result}}
+use Rattle.nfs_opens.specs.{declared.stateid.StateId.StateId, declared.locking.OpenFault.OpenFault, Table.{Table, answer_of, table_after}, Steps.map_err}
 use Rattle.nfs_opens.specs.declared.locking.OpenFault.TheVariants as F
-use Rattle.nfs_opens.specs.Table.{Table, answer_of, table_after}
 use Rattle.nfs_opens.proofs.CallLaws.{did_is, refused_is}
 use Rattle.nfs_compound.specs.declared.op_num.OpNum.TheVariants as Num
 use Rattle.nfs_opens.specs.Calls as calls
-use Rattle.nfs_opens.specs.Steps.{map_err}
-use Rattle.nfs_names.specs.declared.context.Context.{Context}
-use Rattle.nfs_names.specs.State.{State}
-use Rattle.nfs_names.specs.Outcome.{Outcome, refuses, answers, or_delay, is_ok, is_delay}
-use Rattle.nfs_names.specs.Ending.{with_opens}
-use Rattle.nfs_files.specs.Denied.{status_of}
-use Rattle.nfs_files.specs.Lock.{locked}
-use Rattle.nfs_files.specs.LockU.{unlocked}
+use Rattle.nfs_names.specs.{declared.context.Context.Context, State.State, Outcome.{Outcome, refuses, answers, or_delay, is_ok, is_delay}, Ending.with_opens}
+use Rattle.nfs_files.specs.{Denied.status_of, Lock.locked, LockU.unlocked}
 
 -- the outcome of a refusal that the code made
 abbrev pub told_with : State → Context → Res → Table → Outcome

@@ -1,28 +1,17 @@
 -- What stateids are refused with.
 use Rattle.std.proofs.Common.{◌≡◌, ℕ, Bool, true, false, cond, Option, Some, None, refl}
 use Rattle.std.specs.Prelude.{Result, Ok, Err}
-use Rattle.nfs_xdr.specs.declared.status.Status.{Status}
+use Rattle.nfs_xdr.specs.{declared.status.Status.Status, Checks.first_fault}
 use Rattle.nfs_xdr.specs.declared.status.Status.TheVariants as S
-use Rattle.nfs_xdr.specs.Checks.{first_fault}
 use Rattle.nfs_compound.specs.declared.stateid.Stateid.{Stateid}
-use Rattle.nfs_opens.specs.declared.stateid.StateId.{StateId}
-use Rattle.nfs_opens.specs.declared.stateid.CurrentSeqid.{CurrentSeqid}
-use Rattle.nfs_opens.specs.declared.stateid.CurrentSeqid.TheVariants.{Any}
-use Rattle.nfs_opens.specs.declared.judging.Seat.{Seat}
-use Rattle.nfs_opens.specs.declared.judging.Seat.TheVariants.{Anonymous, ReadBypass, Open, Lock}
-use Rattle.nfs_opens.specs.declared.judging.Sort.{Sort}
-use Rattle.nfs_opens.specs.declared.judging.Sort.TheVariants.{OpenOnly, LockOnly, Either}
-use Rattle.nfs_opens.specs.declared.share.Share.{Share}
-use Rattle.nfs_opens.specs.StateId.{is_current, with_seqid, is_anonymous, is_bypass}
-use Rattle.nfs_opens.specs.Table.{Table}
+use Rattle.nfs_opens.specs.{declared.stateid.StateId.StateId, declared.stateid.CurrentSeqid.CurrentSeqid, declared.stateid.CurrentSeqid.TheVariants.Any}
+use Rattle.nfs_opens.specs.{declared.judging.Seat.Seat, declared.judging.Seat.TheVariants.{Anonymous, ReadBypass, Open, Lock}, declared.judging.Sort.Sort}
+use Rattle.nfs_opens.specs.{declared.judging.Sort.TheVariants.{OpenOnly, LockOnly, Either}, declared.share.Share.Share}
+use Rattle.nfs_opens.specs.{StateId.{is_current, with_seqid, is_anonymous, is_bypass}, Table.Table}
 use Rattle.nfs_opens.specs.Judging.{judge_checks, seated, judge_named, special, judge, named}
-use Rattle.nfs_names.specs.declared.context.Context.{Context}
-use Rattle.nfs_names.specs.declared.node.Node.{Node}
-use Rattle.nfs_names.specs.State.{State}
-use Rattle.nfs_names.specs.Outcome.{passed, checked}
+use Rattle.nfs_names.specs.{declared.context.Context.Context, declared.node.Node.Node, State.State, Outcome.{passed, checked}}
 use Rattle.nfs_names.proofs.Refusing.{Refuses, refusal_by, all_refuse, err_refuses, ok_refuses, refuses_checked, refuses_then}
-use Rattle.nfs_files.specs.StateIds.{state_id, meant}
-use Rattle.nfs_files.specs.Bytes.{file_checks, seat, reading, writing, seat_checks, may_use, readable, writable}
+use Rattle.nfs_files.specs.{StateIds.{state_id, meant}, Bytes.{file_checks, seat, reading, writing, seat_checks, may_use, readable, writable}}
 use Rattle.nfs_files.proofs.Passing.{if_passed_refuses}
 
 pub bad : {A : Type 0} → Refuses {A = A} (Err S.BadStateId)

@@ -1,27 +1,16 @@
 -- SETATTR: the results that it may have.
-use Rattle.std.proofs.Common.{refl}
+use Rattle.std.proofs.Common.{refl, ℕ, Option, Some, None, arith}
 use Rattle.std.specs.Prelude.{Ok}
 use Rattle.nfs_xdr.specs.declared.time.Time.{Time}
-use Rattle.std.proofs.Common.{ℕ, Option, Some, None, arith}
 use Rattle.nfs_compound.specs.declared.op_num.OpNum.TheVariants as Num
-use Rattle.nfs_compound.specs.declared.stateid.Stateid.{Stateid}
-use Rattle.nfs_compound.specs.declared.file_args.SetAttr.{SetAttr}
-use Rattle.nfs_compound.specs.declared.op.Item.TheVariants.{Operation}
+use Rattle.nfs_compound.specs.{declared.stateid.Stateid.Stateid, declared.file_args.SetAttr.SetAttr, declared.op.Item.TheVariants.Operation}
 use Rattle.nfs_compound.specs.declared.op.Op.TheVariants as Op
 use Rattle.nfs_attrs.specs.Mask.{mask_of}
-use Rattle.nfs_names.specs.declared.context.Context.{Context}
-use Rattle.nfs_names.specs.declared.node.Node.{Node}
-use Rattle.nfs_names.specs.State.{State}
-use Rattle.nfs_names.specs.Checks.{current}
-use Rattle.nfs_names.specs.Create.{attributes_in}
-use Rattle.nfs_names.proofs.Bounds.{IsAnswer}
-use Rattle.nfs_names.proofs.NameLaws.{current_refuses, wanted_refuses}
-use Rattle.nfs_names.proofs.Refusing.{Refuses, refuses_checked, refuses_then, ok_refuses, answers_with}
-use Rattle.nfs_files.specs.declared.setting.Setting.{Setting}
-use Rattle.nfs_names.proofs.Masks.{few_words}
-use Rattle.nfs_files.specs.SetAttr.{setting, owner_checks, sized_by, sized, asked_for, last_checks, set_attr}
-use Rattle.nfs_files.proofs.Passing.{if_passed_refuses}
-use Rattle.nfs_files.proofs.Seats.{writable_refuses}
+use Rattle.nfs_names.specs.{declared.context.Context.Context, declared.node.Node.Node, State.State, Checks.current, Create.attributes_in}
+use Rattle.nfs_names.proofs.{Bounds.IsAnswer, NameLaws.{current_refuses, wanted_refuses}}
+use Rattle.nfs_names.proofs.{Refusing.{Refuses, refuses_checked, refuses_then, ok_refuses, answers_with}, Masks.few_words}
+use Rattle.nfs_files.specs.{declared.setting.Setting.Setting, SetAttr.{setting, owner_checks, sized_by, sized, asked_for, last_checks, set_attr}}
+use Rattle.nfs_files.proofs.{Passing.if_passed_refuses, Seats.writable_refuses}
 
 sized_refuses : (s : State) (x : Context) (given : Stateid) (d : Node) (o : Option ℕ) → Refuses (sized_by s x given d o)
 sized_refuses s x given d None = ok_refuses d

@@ -1,41 +1,22 @@
 -- SETATTR: the tree's own checks are its last ones.
 use Rattle.std.proofs.Common.{◌≡◌, ℕ, inl, inr, Bool, true, false, not, List, [], ◌∷◌, Option, Some, None, refl, sym, ◌∙◌, ap, subst}
-use Rattle.std.specs.Prelude.{Result, Ok, option_map, nat_lt, ◌&&◌}
-use Rattle.std.specs.Option.{option_map_or}
 use Rattle.std.proofs.lemmas.Bool.{cases_Bool, false≢true}
-use Rattle.nfs_xdr.specs.Checks.{first_fault}
+use Rattle.std.specs.{Prelude.{Result, Ok, option_map, nat_lt, ◌&&◌}, Option.option_map_or}
+use Rattle.nfs_xdr.specs.{Checks.first_fault, declared.time.Time.Time, declared.status.Status.Status}
 use Rattle.nfs_xdr.proofs.Checks.{all_passed}
-use Rattle.nfs_xdr.specs.declared.time.Time.{Time}
-use Rattle.nfs_xdr.specs.declared.status.Status.{Status}
 use Rattle.nfs_compound.specs.declared.op_num.OpNum.TheVariants as Num
-use Rattle.nfs_compound.specs.declared.stateid.Stateid.{Stateid}
-use Rattle.nfs_compound.specs.declared.file_args.SetAttr.{SetAttr}
-use Rattle.nfs_tree.specs.declared.fault.TreeFault.{TreeFault}
+use Rattle.nfs_compound.specs.{declared.stateid.Stateid.Stateid, declared.file_args.SetAttr.SetAttr}
+use Rattle.nfs_tree.specs.{declared.fault.TreeFault.TreeFault, declared.object.FileType.FileType, declared.object.Object.Object, declared.stored.Stored.Stored}
+use Rattle.nfs_tree.specs.{Object.{is_directory, is_regular}, Files.{Files, most_bytes, stored_in, is_there, is_directory_at, can_change}, Calls.is_regular_at}
 use Rattle.nfs_tree.specs.declared.fault.TreeFault.TheVariants as F
-use Rattle.nfs_tree.specs.declared.object.FileType.{FileType}
 use Rattle.nfs_tree.specs.declared.object.FileType.TheVariants as Kind
-use Rattle.nfs_tree.specs.declared.object.Object.{Object}
-use Rattle.nfs_tree.specs.declared.stored.Stored.{Stored}
-use Rattle.nfs_tree.specs.Object.{is_directory, is_regular}
-use Rattle.nfs_tree.specs.Files.{Files, most_bytes, stored_in, is_there, is_directory_at, can_change}
-use Rattle.nfs_tree.specs.Calls.{is_regular_at}
 use Rattle.nfs_attrs.specs.declared.wanted.Wanted.{Wanted}
-use Rattle.nfs_names.specs.declared.context.Context.{Context}
-use Rattle.nfs_names.specs.declared.node.Node.{Node}
-use Rattle.nfs_names.specs.State.{State}
-use Rattle.nfs_names.specs.Faults.{status_of}
-use Rattle.nfs_names.specs.Outcome.{refuses, checked}
-use Rattle.nfs_names.specs.Checks.{current}
-use Rattle.nfs_names.specs.Create.{wanted_of, attributes_in}
-use Rattle.nfs_names.specs.Lookup.{is_link}
-use Rattle.nfs_names.proofs.Found.{IsHeld, current_is, checked_ok, came, ok_is}
-use Rattle.nfs_names.proofs.Rows.{fault_map}
-use Rattle.nfs_names.proofs.Faulted.{by_last, by_refusal}
-use Rattle.nfs_files.specs.declared.setting.Setting.{Setting}
-use Rattle.nfs_files.specs.Bytes.{file_checks, writing, may_use, writable}
+use Rattle.nfs_names.specs.{declared.context.Context.Context, declared.node.Node.Node, State.State, Faults.status_of, Outcome.{refuses, checked}}
+use Rattle.nfs_names.specs.{Checks.current, Create.{wanted_of, attributes_in}, Lookup.is_link}
+use Rattle.nfs_names.proofs.{Found.{IsHeld, current_is, checked_ok, came, ok_is}, Rows.fault_map, Faulted.{by_last, by_refusal}}
+use Rattle.nfs_files.specs.{declared.setting.Setting.Setting, Bytes.{file_checks, writing, may_use, writable}}
+use Rattle.nfs_files.specs.{SetAttr.{setting, owner_checks, sized, sized_by, asked_for, gives_some, last_checks, was_set, set_attr}, SetAttrParts.tree_fault}
 use Rattle.nfs_files.specs.SetAttr as of_set
-use Rattle.nfs_files.specs.SetAttr.{setting, owner_checks, sized, sized_by, asked_for, gives_some, last_checks, was_set, set_attr}
-use Rattle.nfs_files.specs.SetAttrParts.{tree_fault}
 use Rattle.nfs_files.proofs.Passing.{if_passed_ok}
 
 kind_regular : (k : FileType) → is_directory k ≡ false → is_link k ≡ false → is_regular k ≡ true

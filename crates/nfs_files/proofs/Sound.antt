@@ -1,34 +1,17 @@
 -- Each operation on open files leaves a tree that is one, and a store that is one.
-use Rattle.std.proofs.Common.{◌≡◌, ◌≢◌, ℕ, Bool, true, false, cond, not, List, [], ◌∷◌, map, refl, sym, ◌∙◌, ap, inl, inr}
-use Rattle.std.specs.Prelude.{◌==◌, ◌||◌, filter, if◌then◌else◌}
-use Rattle.std.specs.List.{list_any}
-use Rattle.std.proofs.lemmas.Bool.{cases_Bool, eqb-true}
-use Rattle.nfs_xdr.specs.Tables.{In}
-use Rattle.nfs_xdr.specs.declared.time.Time.{Time}
+use Rattle.std.proofs.{Common.{◌≡◌, ◌≢◌, ℕ, Bool, true, false, cond, not, List, [], ◌∷◌, map, refl, sym, ◌∙◌, ap, inl, inr}, lemmas.Bool.{cases_Bool, eqb-true}}
+use Rattle.std.specs.{Prelude.{◌==◌, ◌||◌, filter, if◌then◌else◌}, List.list_any}
+use Rattle.nfs_xdr.specs.{Tables.In, declared.time.Time.Time}
 use Rattle.nfs_xdr.proofs.Lists.{in_any, any_in, stays_in, in_filter}
 use Rattle.nfs_compound.specs.declared.op.Item.{Item}
-use Rattle.nfs_tree.specs.Object.{no_sets}
-use Rattle.nfs_tree.specs.Files.{root, has_row, with_changed}
-use Rattle.nfs_tree.specs.Bytes.{written, resized, with_written, with_resized}
-use Rattle.nfs_tree.specs.TreeInvariants.{IsTree}
-use Rattle.nfs_tree.proofs.Trees.{tree_changed}
-use Rattle.nfs_tree.proofs.Sized.{tree_written, tree_resized}
-use Rattle.nfs_opens.specs.declared.share.Share.{Share}
-use Rattle.nfs_opens.specs.declared.records.OpenState.{OpenState}
-use Rattle.nfs_opens.specs.Table.{Table}
-use Rattle.nfs_opens.specs.TableInvariants.{IsTable}
-use Rattle.nfs_opens.specs.Opening.{narrows}
+use Rattle.nfs_tree.specs.{Object.no_sets, Files.{root, has_row, with_changed}, Bytes.{written, resized, with_written, with_resized}, TreeInvariants.IsTree}
+use Rattle.nfs_tree.proofs.{Trees.tree_changed, Sized.{tree_written, tree_resized}}
+use Rattle.nfs_opens.specs.{declared.share.Share.Share, declared.records.OpenState.OpenState, Table.Table, TableInvariants.IsTable, Opening.narrows}
 use Rattle.nfs_opens.specs.Closing.{without_open}
-use Rattle.nfs_names.specs.declared.context.Context.{Context}
-use Rattle.nfs_names.specs.State.{State}
-use Rattle.nfs_names.specs.Ending.{with_opens}
-use Rattle.nfs_names.specs.StoreInvariants.{IsStore, IsStoreBut}
-use Rattle.nfs_names.proofs.StoreInvariants.{rooted, unused_empty, store_by, store_without, kind_changed}
+use Rattle.nfs_names.specs.{declared.context.Context.Context, State.State, Ending.with_opens, StoreInvariants.{IsStore, IsStoreBut}}
+use Rattle.nfs_names.proofs.{StoreInvariants.{rooted, unused_empty, store_by, store_without, kind_changed}, Sound.{IsSound, tree_unused}}
 use Rattle.nfs_names.proofs.Sound as names
-use Rattle.nfs_names.proofs.Sound.{IsSound, tree_unused}
-use Rattle.nfs_files.proofs.Outcomes.{comes_to}
-use Rattle.nfs_files.proofs.Storing.{used_open, store_opened}
-use Rattle.nfs_files.proofs.Keeping.{kind_bytes}
+use Rattle.nfs_files.proofs.{Outcomes.comes_to, Storing.{used_open, store_opened}, Keeping.kind_bytes}
 use Rattle.nfs_files.proofs.Effects.{Effect, Names, Writes, Resizes, Changes, Opens, Narrows, Closes, Fits, IsClosing, behind, table_behind}
 use Rattle.nfs_files.proofs.Effected.{kept_item}
 

@@ -1,25 +1,13 @@
 -- Ranges that reach the last byte.
 use Rattle.std.proofs.Common.{◌≡◌, ℕ, ◌+◌, ◌-◌, Bool, true, false, cond, eqb, ltb, not, [], ◌∷◌, refl, ◌∙◌, ap, subst, arith}
-use Rattle.std.specs.Prelude.{Result, Ok, Err, ◌&&◌, ◌==◌, nat_lt}
 use Rattle.std.proofs.lemmas.Bool.{eqb-false, ne_eqb, ltb-false}
-use Rattle.nfs_xdr.specs.Checks.{first_fault}
-use Rattle.nfs_xdr.specs.declared.status.Status.{Status}
-use Rattle.nfs_xdr.specs.declared.status.Status.TheVariants.{Inval}
-use Rattle.nfs_compound.specs.declared.stateid.Stateid.{Stateid}
-use Rattle.nfs_compound.specs.declared.lock_args.LockType.{LockType}
-use Rattle.nfs_opens.specs.declared.locking.Wish.{Wish}
-use Rattle.nfs_opens.specs.declared.stateid.StateId.{StateId}
-use Rattle.nfs_opens.specs.declared.stateid.CurrentSeqid.TheVariants.{Any}
-use Rattle.nfs_opens.specs.Calls.{is_whole}
-use Rattle.nfs_names.specs.declared.context.Context.{Context}
-use Rattle.nfs_names.specs.declared.node.Node.{Node}
-use Rattle.nfs_names.specs.State.{State}
+use Rattle.std.specs.Prelude.{Result, Ok, Err, ◌&&◌, ◌==◌, nat_lt}
+use Rattle.nfs_xdr.specs.{Checks.first_fault, declared.status.Status.Status, declared.status.Status.TheVariants.Inval}
+use Rattle.nfs_compound.specs.{declared.stateid.Stateid.Stateid, declared.lock_args.LockType.LockType}
+use Rattle.nfs_opens.specs.{declared.locking.Wish.Wish, declared.stateid.StateId.StateId, declared.stateid.CurrentSeqid.TheVariants.Any, Calls.is_whole}
+use Rattle.nfs_names.specs.{declared.context.Context.Context, declared.node.Node.Node, State.State, Outcome.{passed, mapped}}
 use Rattle.nfs_names.proofs.Found.{came}
-use Rattle.nfs_names.specs.Outcome.{passed, mapped}
-use Rattle.nfs_files.specs.declared.ranges.Wished.{Wished}
-use Rattle.nfs_files.specs.StateIds.{meant}
-use Rattle.nfs_files.specs.Target.{the_file}
-use Rattle.nfs_files.specs.Ranges.{all_ones, last_of, range, wish, wished, wished_by}
+use Rattle.nfs_files.specs.{declared.ranges.Wished.Wished, StateIds.meant, Target.the_file, Ranges.{all_ones, last_of, range, wish, wished, wished_by}}
 
 -- what a range that passes its two checks is
 record Passed (empty over : Bool) (last l : ℕ) : Type 0 where

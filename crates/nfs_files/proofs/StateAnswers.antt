@@ -1,57 +1,32 @@
 -- CLOSE, FREE_STATEID, LOCKU and OPEN_DOWNGRADE: the results that they may have.
-use Rattle.std.proofs.Common.{◌≡◌, ℕ, length, Option, Some, None, refl, arith}
+use Rattle.std.proofs.{Common.{◌≡◌, ℕ, length, Option, Some, None, refl, arith}, lemmas.List.length-append}
 use Rattle.std.specs.Prelude.{Result, Ok, Err, ok_or, not}
-use Rattle.std.proofs.lemmas.List.{length-append}
-use Rattle.nfs_xdr.specs.Spelling.{number, hyper}
-use Rattle.nfs_xdr.specs.declared.status.Status.{Status}
+use Rattle.nfs_xdr.specs.{Spelling.{number, hyper}, declared.status.Status.Status}
 use Rattle.nfs_xdr.specs.declared.status.Status.TheVariants as S
 use Rattle.nfs_xdr.proofs.Putting.{length_number, length_hyper}
 use Rattle.nfs_compound.specs.declared.op_num.OpNum.TheVariants as Num
-use Rattle.nfs_compound.specs.declared.stateid.Stateid.{Stateid}
-use Rattle.nfs_compound.specs.declared.open_args.Close.{Close}
-use Rattle.nfs_compound.specs.declared.open_args.OpenDowngrade.{OpenDowngrade}
-use Rattle.nfs_compound.specs.declared.lock_args.LockType.{LockType}
-use Rattle.nfs_compound.specs.declared.lock_args.LockU.{LockU}
-use Rattle.nfs_compound.specs.declared.op.Item.TheVariants.{Operation}
+use Rattle.nfs_compound.specs.{declared.stateid.Stateid.Stateid, declared.open_args.Close.Close, declared.open_args.OpenDowngrade.OpenDowngrade}
+use Rattle.nfs_compound.specs.{declared.lock_args.LockType.LockType, declared.lock_args.LockU.LockU, declared.op.Item.TheVariants.Operation}
 use Rattle.nfs_compound.specs.declared.op.Op.TheVariants as Op
 use Rattle.nfs_results.specs.declared.res.Res.TheVariants as Res
 use Rattle.nfs_ranges.specs.Holders.{holds_any}
-use Rattle.nfs_opens.specs.declared.share.Share.{Share}
-use Rattle.nfs_opens.specs.declared.stateid.StateId.{StateId}
-use Rattle.nfs_opens.specs.declared.stateid.CurrentSeqid.{CurrentSeqid}
-use Rattle.nfs_opens.specs.declared.stateid.CurrentSeqid.TheVariants.{Own, Any}
-use Rattle.nfs_opens.specs.declared.judging.Seat.{Seat}
+use Rattle.nfs_opens.specs.{declared.share.Share.Share, declared.stateid.StateId.StateId, declared.stateid.CurrentSeqid.CurrentSeqid}
+use Rattle.nfs_opens.specs.{declared.stateid.CurrentSeqid.TheVariants.{Own, Any}, declared.judging.Seat.Seat}
+use Rattle.nfs_opens.specs.{declared.judging.Sort.TheVariants.{OpenOnly, LockOnly, Either}, declared.locking.Wish.Wish, Steps.{◌>>=◌, require, map_err}}
+use Rattle.nfs_opens.specs.{Table.{Table, open_at, lock_at}, Judging.judge}
 use Rattle.nfs_opens.specs.declared.judging.Seat.TheVariants as Seats
-use Rattle.nfs_opens.specs.declared.judging.Sort.TheVariants.{OpenOnly, LockOnly, Either}
-use Rattle.nfs_opens.specs.declared.locking.Wish.{Wish}
-use Rattle.nfs_opens.specs.Steps.{◌>>=◌, require, map_err}
-use Rattle.nfs_opens.specs.Table.{Table, open_at, lock_at}
 use Rattle.nfs_opens.specs.declared.locking.OpenFault.TheVariants as F
-use Rattle.nfs_files.specs.declared.ranges.Wished.{Wished}
-use Rattle.nfs_files.specs.Denied.{status_of}
-use Rattle.nfs_opens.specs.Judging.{judge}
+use Rattle.nfs_files.specs.{declared.ranges.Wished.Wished, Denied.status_of, declared.target.Target.Target, StateIds.{meant, wire_id}, Bytes.file_checks}
+use Rattle.nfs_files.specs.{Target.{the_file, target}, Ranges.{range_checks, last_of, range, wish, wished, wished_by}, Close.{closed, closes, close}}
+use Rattle.nfs_files.specs.{FreeStateid.{frees, free_stateid}, LockU.{unlocking, unlocked, unlocks, lock_u}}
+use Rattle.nfs_files.specs.OpenDowngrade.{bit_checks, bits, narrowing, narrowed, narrows, open_downgrade}
 use Rattle.nfs_opens.specs.Closing as closing
 use Rattle.nfs_opens.specs.Opening as opening
 use Rattle.nfs_opens.specs.Locking as locking
-use Rattle.nfs_names.specs.declared.context.Context.{Context}
-use Rattle.nfs_names.specs.State.{State}
-use Rattle.nfs_names.specs.Outcome.{done}
-use Rattle.nfs_names.specs.Checks.{current}
-use Rattle.nfs_names.proofs.Bounds.{IsAnswer}
-use Rattle.nfs_names.proofs.NameLaws.{current_refuses}
+use Rattle.nfs_names.specs.{declared.context.Context.Context, State.State, Outcome.done, Checks.current, Ending.with_opens}
+use Rattle.nfs_names.proofs.{Bounds.IsAnswer, NameLaws.current_refuses}
 use Rattle.nfs_names.proofs.Refusing.{Refuses, refusal_by, refuses_checked, refuses_mapped, refuses_then, there_refuses, held_refuses, answers_with, err_refuses, ok_refuses}
-use Rattle.nfs_files.specs.declared.target.Target.{Target}
-use Rattle.nfs_files.specs.StateIds.{meant, wire_id}
-use Rattle.nfs_files.specs.Bytes.{file_checks}
-use Rattle.nfs_names.specs.Ending.{with_opens}
-use Rattle.nfs_files.specs.Target.{the_file, target}
-use Rattle.nfs_files.specs.Ranges.{range_checks, last_of, range, wish, wished, wished_by}
-use Rattle.nfs_files.specs.Close.{closed, closes, close}
-use Rattle.nfs_files.specs.FreeStateid.{frees, free_stateid}
-use Rattle.nfs_files.specs.LockU.{unlocking, unlocked, unlocks, lock_u}
-use Rattle.nfs_files.specs.OpenDowngrade.{bit_checks, bits, narrowing, narrowed, narrows, open_downgrade}
-use Rattle.nfs_files.proofs.Passing.{if_passed_refuses}
-use Rattle.nfs_files.proofs.Seats.{bad, meant_refuses, judge_refuses}
+use Rattle.nfs_files.proofs.{Passing.if_passed_refuses, Seats.{bad, meant_refuses, judge_refuses}}
 
 -- the file and the stateid
 pub the_file_refuses : (s : State) (x : Context) → Refuses (the_file s x)

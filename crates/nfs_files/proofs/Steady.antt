@@ -1,33 +1,20 @@
 -- What no operation changes: how long a lease lasts. And numbers of opens and lock states stay below 2^64, since none is given behind the last.
-use Rattle.std.proofs.Common.{◌≡◌, ℕ, ◌≤◌, Bool, eqb, Option, Some, None, refl, ◌∙◌, ap, arith, inl, inr}
-use Rattle.std.specs.Prelude.{is_none}
-use Rattle.std.specs.Option.{ForSome}
-use Rattle.std.specs.List.{list_any}
-use Rattle.std.proofs.lemmas.Bool.{cases_Bool, eqb-false}
+use Rattle.std.proofs.{Common.{◌≡◌, ℕ, ◌≤◌, Bool, eqb, Option, Some, None, refl, ◌∙◌, ap, arith, inl, inr}, lemmas.Bool.{cases_Bool, eqb-false}}
+use Rattle.std.specs.{Prelude.is_none, Option.ForSome, List.list_any}
 use Rattle.nfs_xdr.specs.declared.time.Time.{Time}
 use Rattle.nfs_compound.specs.declared.op.Item.{Item}
-use Rattle.nfs_tree.specs.Files.{lookup as looked_up, named}
-use Rattle.nfs_tree.specs.Names.{with_moved, without_name}
-use Rattle.nfs_opens.specs.declared.records.OpenState.{OpenState}
-use Rattle.nfs_opens.specs.StateId.{last_number}
-use Rattle.nfs_opens.specs.Table.{Table, Asked, clashes_with}
+use Rattle.nfs_tree.specs.{Files.{lookup as looked_up, named}, Names.{with_moved, without_name}}
+use Rattle.nfs_opens.specs.{declared.records.OpenState.OpenState, StateId.last_number, Table.{Table, Asked, clashes_with}, TableInvariants.IsTable}
 use Rattle.nfs_opens.specs.Closing as closing
 use Rattle.nfs_opens.specs.Opening as opening
 use Rattle.nfs_opens.specs.Calls as calls
 use Rattle.nfs_opens.proofs.StepLemmas.{number_left}
-use Rattle.nfs_names.specs.declared.context.Context.{Context}
-use Rattle.nfs_names.specs.State.{State, is_used, without_unused, with_tree}
-use Rattle.nfs_opens.specs.TableInvariants.{IsTable}
-use Rattle.nfs_names.specs.Ending.{with_opens}
+use Rattle.nfs_names.specs.{declared.context.Context.Context, State.{State, is_used, without_unused, with_tree}, Ending.with_opens, Rename.without_replaced}
 use Rattle.nfs_names.specs.Operation as names
-use Rattle.nfs_names.specs.Rename.{without_replaced}
-use Rattle.nfs_files.proofs.Outcomes.{comes_to}
-use Rattle.nfs_names.proofs.Ones.{each_of}
+use Rattle.nfs_files.proofs.{Outcomes.comes_to, Effects.{Effect, Names, Opens, Begins, Closes, Fits, behind, table_behind}, Effected.{kept_item, kept_opens}}
+use Rattle.nfs_names.proofs.{Ones.each_of, Effects.{Removes, Moves}}
 use Rattle.nfs_names.proofs.Effects as names_effects
-use Rattle.nfs_names.proofs.Effects.{Removes, Moves}
 use Rattle.nfs_names.proofs.Effected as names_effected
-use Rattle.nfs_files.proofs.Effects.{Effect, Names, Opens, Begins, Closes, Fits, behind, table_behind}
-use Rattle.nfs_files.proofs.Effected.{kept_item, kept_opens}
 
 -- no number behind the last that there can be was given
 abbrev pub Few : Table → Type 0

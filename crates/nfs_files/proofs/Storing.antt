@@ -1,15 +1,10 @@
 -- OPEN keeps what every store keeps.
 use Rattle.std.proofs.Common.{◌≡◌, ◌⊎◌, ℕ, Bool, true, false, cond, List, [], ◌∷◌, ◌++◌, map, Option, Some, None, refl, sym, ◌∙◌, ap, inl, inr}
-use Rattle.std.specs.Prelude.{◌==◌, ◌||◌, if◌then◌else◌}
-use Rattle.std.specs.List.{list_any}
 use Rattle.std.proofs.lemmas.Bool.{eqb-true, false≢true}
-use Rattle.nfs_tree.specs.Files.{Files, root, has_row}
-use Rattle.nfs_tree.specs.Calls.{is_regular_at}
-use Rattle.nfs_opens.specs.declared.records.OpenState.{OpenState}
-use Rattle.nfs_opens.specs.Table.{Table, Asked}
-use Rattle.nfs_opens.specs.Opening.{own_open, joins, new_open, opens_by, opens}
-use Rattle.nfs_names.specs.State.{State, with_tree}
-use Rattle.nfs_names.specs.StoreInvariants.{IsStore}
+use Rattle.std.specs.{Prelude.{◌==◌, ◌||◌, if◌then◌else◌}, List.list_any}
+use Rattle.nfs_tree.specs.{Files.{Files, root, has_row}, Calls.is_regular_at}
+use Rattle.nfs_opens.specs.{declared.records.OpenState.OpenState, Table.{Table, Asked}, Opening.{own_open, joins, new_open, opens_by, opens}}
+use Rattle.nfs_names.specs.{State.{State, with_tree}, StoreInvariants.IsStore}
 
 abbrev pub open_in : List OpenState → ℕ → Bool
 open_in xs n = list_any (λ o. o.file == n) xs

@@ -1,36 +1,19 @@
 -- LOCK, LOCKT and TEST_STATEID: how long their results are.
 use Rattle.std.proofs.Common.{◌≡◌, ◌+◌, ◌≤◌, Bool, true, false, cond, List, length, Option, Some, None, refl, ap, subst, arith}
-use Rattle.std.specs.Prelude.{Result, Ok, Err, ◌&&◌}
 use Rattle.std.proofs.lemmas.List.{length-append, length-map}
-use Rattle.nfs_xdr.specs.SheetState.{SheetState, Puts}
-use Rattle.nfs_xdr.specs.declared.status.Status.{Status}
-use Rattle.nfs_xdr.specs.declared.status.Status.TheVariants.{Delay}
-use Rattle.nfs_compound.specs.declared.op_num.OpNum.{OpNum}
+use Rattle.std.specs.Prelude.{Result, Ok, Err, ◌&&◌}
+use Rattle.nfs_xdr.specs.{SheetState.{SheetState, Puts}, declared.status.Status.Status, declared.status.Status.TheVariants.Delay}
+use Rattle.nfs_compound.specs.{declared.op_num.OpNum.OpNum, declared.stateid.Stateid.Stateid, OpNum.op_number, declared.lock_args.Lock.Lock}
+use Rattle.nfs_compound.specs.{declared.lock_args.LockT.LockT, declared.op.Op.Op, declared.op.Item.TheVariants.Operation}
 use Rattle.nfs_compound.specs.declared.op_num.OpNum.TheVariants as Num
-use Rattle.nfs_compound.specs.declared.stateid.Stateid.{Stateid}
-use Rattle.nfs_compound.specs.OpNum.{op_number}
-use Rattle.nfs_compound.specs.declared.lock_args.Lock.{Lock}
-use Rattle.nfs_compound.specs.declared.lock_args.LockT.{LockT}
-use Rattle.nfs_compound.specs.declared.op.Op.{Op}
-use Rattle.nfs_compound.specs.declared.op.Item.TheVariants.{Operation}
-use Rattle.nfs_results.specs.declared.res.Res.{Res}
-use Rattle.nfs_results.specs.Results.{spell_result, operation_of, refusal, status_of_result}
-use Rattle.nfs_results.specs.ResultCodec.{HasArrays}
-use Rattle.nfs_results.specs.Largest.{largest, largest_of, number_of, asked}
-use Rattle.nfs_results.specs.MayAnswer.{HasSizes}
+use Rattle.nfs_results.specs.{declared.res.Res.Res, Results.{spell_result, operation_of, refusal, status_of_result}, ResultCodec.HasArrays}
+use Rattle.nfs_results.specs.{Largest.{largest, largest_of, number_of, asked}, MayAnswer.HasSizes}
 use Rattle.nfs_results.proofs.Lengths.{behind_within, length_spelled}
 use Rattle.nfs_ranges.specs.declared.Held.{Held}
 use Rattle.nfs_opens.specs.Locking.{test_lock}
-use Rattle.nfs_names.specs.declared.context.Context.{Context}
-use Rattle.nfs_names.specs.State.{State}
-use Rattle.nfs_names.specs.Outcome.{Outcome, refuses, answers, or_delay, is_ok}
-use Rattle.nfs_files.specs.Ranges.{wished}
-use Rattle.nfs_files.specs.Lock.{lock}
-use Rattle.nfs_files.specs.LockT.{tested, lock_t}
-use Rattle.nfs_files.specs.TestStateid.{code, test_stateid}
-use Rattle.nfs_files.proofs.Fitting.{few_denied}
-use Rattle.nfs_files.proofs.StateAnswers.{length_id}
-use Rattle.nfs_files.proofs.OpensMoved.{by_lock}
+use Rattle.nfs_names.specs.{declared.context.Context.Context, State.State, Outcome.{Outcome, refuses, answers, or_delay, is_ok}}
+use Rattle.nfs_files.specs.{Ranges.wished, Lock.lock, LockT.{tested, lock_t}, TestStateid.{code, test_stateid}}
+use Rattle.nfs_files.proofs.{Fitting.few_denied, StateAnswers.length_id, OpensMoved.by_lock}
 
 -- a result of the operation, of the sizes that this server's have
 pub record IsShort (op : Op) (r : Res) : Type 0 where

@@ -1,39 +1,23 @@
 -- What each effect keeps of the table of opens.
 use Rattle.std.proofs.Common.{◌≡◌, ◌⊎◌, ℕ, suc, ◌+◌, ◌<◌, Bool, true, false, cond, eqb, List, [], ◌∷◌, ◌++◌, Option, Some, None, refl, sym, ◌∙◌, ap, subst, arith, inl, inr}
-use Rattle.std.specs.Prelude.{◌==◌, Ok, filter}
-use Rattle.std.specs.List.{list_any}
-use Rattle.std.proofs.Math.Path.{fun_ext}
-use Rattle.std.proofs.lemmas.Bool.{cases_Bool, eqb-true}
+use Rattle.std.proofs.{Math.Path.fun_ext, lemmas.Bool.{cases_Bool, eqb-true}}
+use Rattle.std.specs.{Prelude.{◌==◌, Ok, filter}, List.list_any}
 use Rattle.nfs_xdr.specs.declared.time.Time.{Time}
-use Rattle.nfs_xdr.proofs.Lists.{find_in, in_filter, stays_in, in_push, push_in}
-use Rattle.nfs_xdr.proofs.Tables.{IsRising-filter, IsRising-push, IsRising-upto}
+use Rattle.nfs_xdr.proofs.{Lists.{find_in, in_filter, stays_in, in_push, push_in}, Tables.{IsRising-filter, IsRising-push, IsRising-upto}}
 use Rattle.nfs_compound.specs.declared.op.Item.{Item}
-use Rattle.nfs_ranges.specs.Holders.{Holders, holding}
-use Rattle.nfs_opens.specs.declared.share.Share.{Share}
-use Rattle.nfs_opens.specs.declared.records.OpenState.{OpenState}
-use Rattle.nfs_opens.specs.declared.records.LockState.{LockState}
-use Rattle.nfs_opens.specs.declared.locking.Wish.{Wish}
-use Rattle.nfs_opens.specs.Holding.{FileHolders, on_file}
+use Rattle.nfs_ranges.specs.{Holders.{Holders, holding}, declared.Kind.Kind}
+use Rattle.nfs_opens.specs.{declared.share.Share.Share, declared.records.OpenState.OpenState, declared.records.LockState.LockState, declared.locking.Wish.Wish}
+use Rattle.nfs_opens.specs.{Holding.{FileHolders, on_file}, Closing.held_within, Locking.lock_judged}
+use Rattle.nfs_opens.specs.{Table.{Table, Asked, open_at, lock_at, with_lock, clashes_with}, TableInvariants.IsTable}
 use Rattle.nfs_opens.specs.Closing as closing
-use Rattle.nfs_opens.specs.Closing.{held_within}
 use Rattle.nfs_opens.specs.Locking as locking
-use Rattle.nfs_opens.specs.Locking.{lock_judged}
 use Rattle.nfs_opens.specs.Opening as opening
-use Rattle.nfs_opens.specs.Table.{Table, Asked, open_at, lock_at, with_lock, clashes_with}
-use Rattle.nfs_opens.specs.TableInvariants.{IsTable}
-use Rattle.nfs_opens.proofs.HolderLemmas.{IsFewer, fewer_keeps}
-use Rattle.nfs_opens.proofs.TableLemmas.{table_opened, table_closed, holders_left, KeepsBytes, table_raised}
+use Rattle.nfs_opens.proofs.{HolderLemmas.{IsFewer, fewer_keeps}, TableLemmas.{table_opened, table_closed, holders_left, KeepsBytes, table_raised}}
 use Rattle.nfs_opens.proofs.StepLemmas.{table_join, table_narrow, no_clash_asked, free_keeps, table_locked, table_unlocked, table_first, judged_tells}
 use Rattle.nfs_opens.proofs.CallLaws.{first_state}
-use Rattle.nfs_ranges.specs.declared.Kind.{Kind}
-use Rattle.nfs_names.specs.declared.context.Context.{Context}
-use Rattle.nfs_names.specs.Ending.{table_staying}
-use Rattle.nfs_names.specs.State.{State}
-use Rattle.nfs_files.proofs.KeptLocks.{within_not, held_other}
-use Rattle.nfs_files.proofs.Outcomes.{comes_to}
-use Rattle.nfs_files.proofs.Wishes.{IsRange}
-use Rattle.nfs_files.proofs.Effects.{Effect, Opens, Narrows, Closes, Locks, Begins, Unlocks, Frees, Fits, table_behind}
-use Rattle.nfs_files.proofs.Effected.{kept_opens}
+use Rattle.nfs_names.specs.{declared.context.Context.Context, Ending.table_staying, State.State}
+use Rattle.nfs_files.proofs.{KeptLocks.{within_not, held_other}, Outcomes.comes_to, Wishes.IsRange}
+use Rattle.nfs_files.proofs.{Effects.{Effect, Opens, Narrows, Closes, Locks, Begins, Unlocks, Frees, Fits, table_behind}, Effected.kept_opens}
 
 no_bytes : (h : Holders) (n : ℕ) (kind : Kind) (first last : ℕ) → last < first → holding h n kind first last ≡ h
 no_bytes h n kind first last empty =

@@ -1,68 +1,33 @@
 -- A LOCK, LOCKU or CLOSE is granted where it answers NFS4_OK and a stateid, and answers so where it is granted; the stateid of LOCK and of LOCKU
 -- names the lock state.
 use Rattle.std.proofs.Common.{◌≡◌, ◌⊎◌, ℕ, suc, ◌+◌, ◌≤◌, Bool, true, false, cond, List, ◌++◌, length, drop, get_or, refl, sym, ◌∙◌, ap, subst, arith, inl, inr}
-use Rattle.std.specs.Prelude.{◌==◌, ◌&&◌, Result, Ok, Err}
-use Rattle.std.specs.Int.{w64, from_be_bytes}
-use Rattle.std.proofs.lemmas.Bool.{cases_Bool, eqb-true, eqb-false}
-use Rattle.std.proofs.lemmas.List.{drop_at, length-append}
-use Rattle.std.proofs.lemmas.Nat.{from_be_bytes-to_be_bytes_8}
-use Rattle.nfs_xdr.specs.Tables.{In}
-use Rattle.nfs_xdr.specs.Spelling.{number, hyper}
-use Rattle.nfs_xdr.specs.declared.time.Time.{Time}
-use Rattle.nfs_xdr.specs.declared.status.Status.{Status}
+use Rattle.std.proofs.{lemmas.Bool.{cases_Bool, eqb-true, eqb-false}, lemmas.List.{drop_at, length-append}, lemmas.Nat.from_be_bytes-to_be_bytes_8}
+use Rattle.std.specs.{Prelude.{◌==◌, ◌&&◌, Result, Ok, Err}, Int.{w64, from_be_bytes}}
+use Rattle.nfs_xdr.specs.{Tables.In, Spelling.{number, hyper}, declared.time.Time.Time, declared.status.Status.Status}
 use Rattle.nfs_xdr.specs.declared.status.Status.TheVariants.{Nfs4Ok, Delay}
-use Rattle.nfs_xdr.proofs.Lists.{find_in, in_map, in_push}
-use Rattle.nfs_xdr.proofs.Tables.{in_bounds, in_once}
-use Rattle.nfs_compound.specs.declared.lock_args.Lock.{Lock}
-use Rattle.nfs_compound.specs.declared.lock_args.Locker.{Locker}
-use Rattle.nfs_compound.specs.Stateid.{stateid}
-use Rattle.nfs_compound.specs.declared.lock_args.LockU.{LockU}
-use Rattle.nfs_compound.specs.declared.lock_args.LockType.{LockType}
-use Rattle.nfs_compound.specs.declared.open_args.Close.{Close}
-use Rattle.nfs_compound.specs.declared.op_num.OpNum.{OpNum}
+use Rattle.nfs_xdr.proofs.{Lists.{find_in, in_map, in_push}, Tables.{in_bounds, in_once}}
+use Rattle.nfs_compound.specs.{declared.lock_args.Lock.Lock, declared.lock_args.Locker.Locker, Stateid.stateid, declared.lock_args.LockU.LockU}
+use Rattle.nfs_compound.specs.{declared.lock_args.LockType.LockType, declared.open_args.Close.Close, declared.op_num.OpNum.OpNum, OpNum.op_number}
 use Rattle.nfs_compound.specs.declared.op_num.OpNum.TheVariants as Num
-use Rattle.nfs_compound.specs.OpNum.{op_number}
 use Rattle.nfs_compound.specs.declared.op.Op.TheVariants as Op
 use Rattle.nfs_results.specs.declared.res.Denied as result
-use Rattle.nfs_results.specs.declared.res.Res.{Res}
-use Rattle.nfs_results.specs.Results.{spell_result, refusal, done_head, status_of_result}
+use Rattle.nfs_results.specs.{declared.res.Res.Res, Results.{spell_result, refusal, done_head, status_of_result}}
 use Rattle.nfs_results.proofs.Lengths.{length_head, length_spelled}
-use Rattle.nfs_opens.specs.declared.stateid.StateId.{StateId}
-use Rattle.nfs_opens.specs.declared.stateid.CurrentSeqid.TheVariants.{Own}
-use Rattle.nfs_opens.specs.declared.records.LockState.{LockState}
-use Rattle.nfs_opens.specs.declared.locking.Wish.{Wish}
-use Rattle.nfs_opens.specs.declared.locking.OpenFault.{OpenFault}
+use Rattle.nfs_opens.specs.{declared.stateid.StateId.StateId, declared.stateid.CurrentSeqid.TheVariants.Own, declared.records.LockState.LockState}
+use Rattle.nfs_opens.specs.{declared.locking.Wish.Wish, declared.locking.OpenFault.OpenFault, StateId.last_number, Table.Table, TableInvariants.IsTable}
+use Rattle.nfs_opens.specs.Locking.{raised}
 use Rattle.nfs_opens.specs.declared.locking.OpenFault.TheVariants as F
-use Rattle.nfs_opens.specs.StateId.{last_number}
-use Rattle.nfs_opens.specs.Table.{Table}
-use Rattle.nfs_opens.specs.TableInvariants.{IsTable}
 use Rattle.nfs_opens.specs.Closing as closing
 use Rattle.nfs_opens.specs.Locking as locking
-use Rattle.nfs_opens.specs.Locking.{raised}
 use Rattle.nfs_opens.proofs.CallLaws.{first_state, IsLocked, IsUnlocked, unlocked_is}
-use Rattle.nfs_files.proofs.OpensMoved.{lock_is}
-use Rattle.nfs_files.proofs.Refused.{unlocked_by}
-use Rattle.nfs_names.specs.declared.context.Context.{Context}
-use Rattle.nfs_names.specs.State.{State}
-use Rattle.nfs_names.specs.Outcome.{Outcome, answers, mapped, is_ok, or_delay}
+use Rattle.nfs_files.proofs.{OpensMoved.lock_is, Refused.unlocked_by, Wishes.{wish_is, lock_wish, unlock_wish}, Outcomes.{one, one_or_delay}}
+use Rattle.nfs_files.proofs.{Inside.{Locks, Unlocks, Closes}, KeptOps.{lock_ok, clashing}, ToldLocks.{granted_held, left_by}, Steady.Few}
+use Rattle.nfs_names.specs.{declared.context.Context.Context, State.State, Outcome.{Outcome, answers, mapped, is_ok, or_delay}}
 use Rattle.nfs_names.proofs.Found.{came, ok_is}
-use Rattle.nfs_files.specs.declared.ranges.Wished.{Wished}
-use Rattle.nfs_files.specs.declared.target.Target.{Target}
-use Rattle.nfs_files.specs.StateIds.{wire_id, meant}
-use Rattle.nfs_files.specs.Target.{target, the_file}
-use Rattle.nfs_files.specs.Ranges.{wish, wished}
-use Rattle.nfs_files.specs.Operation.{grows}
-use Rattle.nfs_files.proofs.Wishes.{wish_is, lock_wish, unlock_wish}
-use Rattle.nfs_files.proofs.Outcomes.{one, one_or_delay}
-use Rattle.nfs_files.specs.Close.{spent, closes, close, closed}
+use Rattle.nfs_files.specs.{declared.ranges.Wished.Wished, declared.target.Target.Target, StateIds.{wire_id, meant}, Target.{target, the_file}}
+use Rattle.nfs_files.specs.{Ranges.{wish, wished}, Operation.grows, Close.{spent, closes, close, closed}, LockU.{unlocking, unlocks, lock_u}}
+use Rattle.nfs_files.specs.{LockTold.{Names, LockTold}, Laws.{ClashesAreRefused, ToldLocksAreHeld}}
 use Rattle.nfs_files.specs.Lock as of_lock
-use Rattle.nfs_files.specs.LockU.{unlocking, unlocks, lock_u}
-use Rattle.nfs_files.specs.LockTold.{Names, LockTold}
-use Rattle.nfs_files.proofs.Inside.{Locks, Unlocks, Closes}
-use Rattle.nfs_files.specs.Laws.{ClashesAreRefused, ToldLocksAreHeld}
-use Rattle.nfs_files.proofs.KeptOps.{lock_ok, clashing}
-use Rattle.nfs_files.proofs.ToldLocks.{granted_held, left_by}
-use Rattle.nfs_files.proofs.Steady.{Few}
 
 -- The spelling of a stateid behind NFS4_OK.
 

@@ -1,33 +1,22 @@
 -- A LOCK that is granted leaves the lock that it tells.
-use Rattle.std.proofs.Common.{◌≡◌, ℕ, ◌+◌, ◌≤◌, Bool, true, false, Some, refl, sym, ◌∙◌, ap, subst, arith, inl, inr}
+use Rattle.std.proofs.{Common.{◌≡◌, ℕ, ◌+◌, ◌≤◌, Bool, true, false, Some, refl, sym, ◌∙◌, ap, subst, arith, inl, inr}, lemmas.Bool.{eq-eqb, eqb-true}}
 use Rattle.std.specs.Prelude.{◌==◌, ◌&&◌, Ok}
-use Rattle.std.proofs.lemmas.Bool.{eq-eqb, eqb-true}
 use Rattle.nfs_xdr.specs.declared.time.Time.{Time}
 use Rattle.nfs_xdr.proofs.Lists.{find_in}
 use Rattle.nfs_compound.specs.declared.lock_args.Lock as args
 use Rattle.nfs_compound.specs.Arguments.{arguments}
 use Rattle.nfs_compound.specs.declared.op_num.OpNum.TheVariants as Num
 use Rattle.nfs_compound.specs.declared.op.Op.TheVariants as Op
-use Rattle.nfs_ranges.specs.declared.Kind.{Kind}
-use Rattle.nfs_ranges.specs.Holders.{holding, is_within}
+use Rattle.nfs_ranges.specs.{declared.Kind.Kind, Holders.{holding, is_within}}
 use Rattle.nfs_ranges.proofs.CanonicalLemmas.{within_is}
-use Rattle.nfs_opens.specs.declared.stateid.StateId.{StateId}
-use Rattle.nfs_opens.specs.declared.records.LockState.{LockState}
-use Rattle.nfs_opens.specs.declared.locking.Wish.{Wish}
-use Rattle.nfs_opens.specs.Holding.{FileHolders, on_file}
+use Rattle.nfs_opens.specs.{declared.stateid.StateId.StateId, declared.records.LockState.LockState, declared.locking.Wish.Wish, Holding.{FileHolders, on_file}}
 use Rattle.nfs_opens.specs.Table.{Table}
 use Rattle.nfs_results.specs.Results.{status_of_result}
-use Rattle.nfs_names.specs.declared.context.Context.{Context}
-use Rattle.nfs_names.specs.State.{State}
-use Rattle.nfs_names.specs.Outcome.{is_ok, or_delay, answers}
-use Rattle.nfs_files.specs.Operation.{grows}
-use Rattle.nfs_files.proofs.Outcomes.{one, one_or_delay}
+use Rattle.nfs_names.specs.{declared.context.Context.Context, State.State, Outcome.{is_ok, or_delay, answers}}
+use Rattle.nfs_files.specs.{Operation.grows, LockTold.{LockTold, IsHeld}}
+use Rattle.nfs_files.proofs.{Outcomes.{one, one_or_delay}, Inside.ToldLocksStand, OpensMoved.lock_is, KeptOps.lock_ok}
 use Rattle.nfs_files.specs.Lock as of_lock
-use Rattle.nfs_files.specs.LockTold.{LockTold, IsHeld}
-use Rattle.nfs_files.proofs.Inside.{ToldLocksStand}
 use Rattle.nfs_opens.proofs.CallLaws.{IsLocked}
-use Rattle.nfs_files.proofs.OpensMoved.{lock_is}
-use Rattle.nfs_files.proofs.KeptOps.{lock_ok}
 
 -- what a lock state has just locked it holds
 held_now : (held : FileHolders) (file n : ℕ) (kind : Kind) (first last f s b : ℕ) → f ≡ file → n ≡ s → is_within first last b ≡ true

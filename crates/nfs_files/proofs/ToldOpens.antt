@@ -1,78 +1,39 @@
 -- What an operation leaves of an open that was told, and what an OPEN that answers its stateid did.
 use Rattle.std.proofs.Common.{◌≡◌, ◌≢◌, ℕ, suc, ◌+◌, ◌≤◌, Bool, true, false, cond, not, List, [], ◌∷◌, ◌++◌, length, take, drop, map, Option, Some, None, refl, sym, ◌∙◌, ap, subst, arith, inl, inr}
-use Rattle.std.specs.Prelude.{◌==◌, ◌&&◌, ◌||◌, nat_le, option_map, is_none, bytes_eq, Result, Ok, Err, if◌then◌else◌}
-use Rattle.std.specs.List.{list_any}
-use Rattle.std.specs.Int.{w64, from_be_bytes}
-use Rattle.std.proofs.lemmas.Bool.{cases_Bool, cases_eq, eq-eqb, ne_eqb, eqb-true, eqb-false, and_parts, le-leb, true≢false}
-use Rattle.std.proofs.lemmas.Slice.Eq.{bytes_eq-Decides}
+use Rattle.std.proofs.{lemmas.Bool.{cases_Bool, cases_eq, eq-eqb, ne_eqb, eqb-true, eqb-false, and_parts, le-leb, true≢false}, lemmas.Slice.Eq.bytes_eq-Decides}
 use Rattle.std.proofs.lemmas.Nat.{from_be_bytes-to_be_bytes_8}
-use Rattle.nfs_xdr.specs.Spelling.{number, hyper}
-use Rattle.nfs_xdr.specs.Tables.{In}
-use Rattle.nfs_xdr.specs.declared.time.Time.{Time}
-use Rattle.nfs_xdr.specs.declared.status.Status.{Status}
+use Rattle.std.specs.{Prelude.{◌==◌, ◌&&◌, ◌||◌, nat_le, option_map, is_none, bytes_eq, Result, Ok, Err, if◌then◌else◌}, List.list_any}
+use Rattle.std.specs.Int.{w64, from_be_bytes}
+use Rattle.nfs_xdr.specs.{Spelling.{number, hyper}, Tables.In, declared.time.Time.Time, declared.status.Status.Status}
 use Rattle.nfs_xdr.specs.declared.status.Status.TheVariants.{Inval, Delay}
-use Rattle.nfs_xdr.proofs.Checks.{all_passed}
-use Rattle.nfs_xdr.proofs.Lists.{find_in, none_any, map_in, push_in, last_in, stays_in, find_push_none}
-use Rattle.nfs_xdr.proofs.Tables.{in_bounds}
-use Rattle.nfs_compound.specs.declared.open_args.Open.{Open}
-use Rattle.nfs_compound.specs.declared.open_args.OpenClaim.{OpenClaim}
-use Rattle.nfs_compound.specs.declared.open_args.OpenClaim.TheVariants.{Null, Fh}
-use Rattle.nfs_compound.specs.Stateid.{stateid}
-use Rattle.nfs_compound.specs.declared.op_num.OpNum.{OpNum}
+use Rattle.nfs_xdr.proofs.{Checks.all_passed, Lists.{find_in, none_any, map_in, push_in, last_in, stays_in, find_push_none}, Tables.in_bounds}
+use Rattle.nfs_compound.specs.{declared.open_args.Open.Open, declared.open_args.OpenClaim.OpenClaim, declared.open_args.OpenClaim.TheVariants.{Null, Fh}}
+use Rattle.nfs_compound.specs.{Stateid.stateid, declared.op_num.OpNum.OpNum, OpNum.op_number, declared.open_args.OpenDowngrade.OpenDowngrade, declared.op.Op.Op}
+use Rattle.nfs_compound.specs.{declared.op.Item.Item, declared.op.Item.TheVariants.Operation}
 use Rattle.nfs_compound.specs.declared.op_num.OpNum.TheVariants as Num
-use Rattle.nfs_compound.specs.OpNum.{op_number}
-use Rattle.nfs_compound.specs.declared.open_args.OpenDowngrade.{OpenDowngrade}
-use Rattle.nfs_compound.specs.declared.op.Op.{Op}
-use Rattle.nfs_compound.specs.declared.op.Item.{Item}
-use Rattle.nfs_compound.specs.declared.op.Item.TheVariants.{Operation}
-use Rattle.nfs_results.specs.declared.res.ChangeInfo.{ChangeInfo}
-use Rattle.nfs_results.specs.Items.{open_ok}
-use Rattle.nfs_results.specs.declared.res.Res.{Res}
+use Rattle.nfs_results.specs.{declared.res.ChangeInfo.ChangeInfo, Items.open_ok, declared.res.Res.Res, Results.{spell_result, done_head, status_of_result}}
 use Rattle.nfs_results.specs.declared.res.Res.TheVariants as Res
-use Rattle.nfs_results.specs.Results.{spell_result, done_head, status_of_result}
 use Rattle.nfs_results.proofs.Lengths.{length_spelled}
-use Rattle.nfs_tree.specs.declared.object.Object.{Object}
-use Rattle.nfs_tree.specs.declared.row.Row.{Row}
-use Rattle.nfs_tree.specs.declared.sets.Sets.{Sets}
-use Rattle.nfs_tree.specs.Create.{New, with_new}
+use Rattle.nfs_tree.specs.{declared.object.Object.Object, declared.row.Row.Row, declared.sets.Sets.Sets, Create.{New, with_new}}
 use Rattle.nfs_tree.specs.Files.{Files, object_at, is_entry, entry, lookup}
 use Rattle.nfs_tree.proofs.RowsKept.{entry_self}
-use Rattle.nfs_opens.specs.declared.share.Share.{Share}
-use Rattle.nfs_opens.specs.declared.stateid.StateId.{StateId}
-use Rattle.nfs_opens.specs.declared.records.OpenState.{OpenState}
-use Rattle.nfs_opens.specs.Share.{meets, joined}
-use Rattle.nfs_opens.specs.StateId.{last_number}
-use Rattle.nfs_opens.specs.Table.{Table, Asked, is_own, is_owners, clashes_with, with_open}
-use Rattle.nfs_opens.specs.Calls.{open_fault, open_checks}
+use Rattle.nfs_opens.specs.{declared.share.Share.Share, declared.stateid.StateId.StateId, declared.records.OpenState.OpenState, Share.{meets, joined}}
+use Rattle.nfs_opens.specs.{StateId.last_number, Table.{Table, Asked, is_own, is_owners, clashes_with, with_open}, Calls.{open_fault, open_checks}}
 use Rattle.nfs_opens.specs.TableInvariants.{IsTable}
 use Rattle.nfs_opens.specs.Closing as closing
 use Rattle.nfs_opens.specs.Opening as opening
-use Rattle.nfs_names.specs.declared.context.Context.{Context}
-use Rattle.nfs_names.specs.declared.node.Node.{Node}
-use Rattle.nfs_names.specs.declared.making.Making.{Making}
-use Rattle.nfs_names.specs.State.{State}
-use Rattle.nfs_names.specs.Checks.{node_as, node_at, current}
-use Rattle.nfs_names.specs.Create.{attributes_in}
-use Rattle.nfs_names.specs.Outcome.{Outcome, refuses, checked, mapped, or_delay, is_ok}
+use Rattle.nfs_names.specs.{declared.context.Context.Context, declared.node.Node.Node, declared.making.Making.Making, State.State}
+use Rattle.nfs_names.specs.{Checks.{node_as, node_at, current}, Create.attributes_in, Outcome.{Outcome, refuses, checked, mapped, or_delay, is_ok}}
 use Rattle.nfs_names.proofs.Found.{came, checked_ok, ok_is}
-use Rattle.nfs_files.specs.declared.target.Target.{Target}
-use Rattle.nfs_files.specs.declared.opening.Found.{Found}
-use Rattle.nfs_files.specs.declared.opening.Found.TheVariants.{There, Absent}
-use Rattle.nfs_files.specs.StateIds.{wire_id}
-use Rattle.nfs_files.proofs.Outcomes.{one_or_delay, comes_to}
-use Rattle.nfs_files.specs.Open as of_open
-use Rattle.nfs_files.specs.Open.{access_of, deny_of}
-use Rattle.nfs_files.specs.OpenDowngrade.{bits, narrowed, open_downgrade}
+use Rattle.nfs_files.specs.{declared.target.Target.Target, declared.opening.Found.Found, declared.opening.Found.TheVariants.{There, Absent}, StateIds.wire_id}
+use Rattle.nfs_files.specs.{Open.{access_of, deny_of}, OpenDowngrade.{bits, narrowed, open_downgrade}}
 use Rattle.nfs_files.specs.OpenTold.{names_open, OpenTold, Bits, bits_with, bits_had, bits_behind, IsOpenWith, named_in, claimed, forbids}
 use Rattle.nfs_files.specs.OpenLaws.{IsToldOpen, ToldOpensStand, ForbiddenOpensAreRefused}
-use Rattle.nfs_files.proofs.Inside.{Closes}
+use Rattle.nfs_files.proofs.{Outcomes.{one_or_delay, comes_to}, Inside.Closes, OpensMoved.{answered, by_downgrade}, Effects.{Effect, Caused, table_behind}}
+use Rattle.nfs_files.proofs.{Effected.caused_opens, Opened.shared_free, Steady.Few}
+use Rattle.nfs_files.specs.Open as of_open
 use Rattle.nfs_opens.proofs.CallLaws.{IsNarrowed}
-use Rattle.nfs_files.proofs.OpensMoved.{answered, by_downgrade}
 use Rattle.nfs_files.proofs.Effects as effects
-use Rattle.nfs_files.proofs.Effects.{Effect, Caused, table_behind}
-use Rattle.nfs_files.proofs.Effected.{caused_opens}
-use Rattle.nfs_files.proofs.Opened.{shared_free}
-use Rattle.nfs_files.proofs.Steady.{Few}
 
 -- What moves no bits.
 

@@ -1,23 +1,14 @@
 -- What a state keeps; the end of clients leaves a tree that is one.
 use Rattle.std.proofs.Common.{◌≡◌, ℕ, ◌+◌, Bool, true, false, List, [], ◌∷◌, Option, refl, sym, ◌∙◌, ap, subst, inl, inr, arith}
-use Rattle.std.specs.Prelude.{◌==◌, ◌||◌, filter, is_some}
-use Rattle.std.specs.Option.{option_map_or}
 use Rattle.std.proofs.lemmas.Bool.{cases_Bool, eq-eqb, eqb-true}
-use Rattle.nfs_xdr.specs.Tables.{In}
-use Rattle.nfs_xdr.specs.declared.time.Time.{Time}
-use Rattle.nfs_xdr.proofs.Lists.{any_in, in_filter, length_filter}
-use Rattle.nfs_xdr.proofs.Tables.{IsRising-filter}
-use Rattle.nfs_tree.specs.declared.stored.Stored.{Stored}
-use Rattle.nfs_tree.specs.declared.row.Row.{Row}
-use Rattle.nfs_tree.specs.Object.{is_directory}
-use Rattle.nfs_tree.specs.Files.{root, has_row, stored_in, is_there, is_directory_at}
-use Rattle.nfs_tree.specs.Create.{new_tree}
-use Rattle.nfs_tree.specs.TreeInvariants.{IsTree, IsSized}
+use Rattle.std.specs.{Prelude.{◌==◌, ◌||◌, filter, is_some}, Option.option_map_or}
+use Rattle.nfs_xdr.specs.{Tables.In, declared.time.Time.Time}
+use Rattle.nfs_xdr.proofs.{Lists.{any_in, in_filter, length_filter}, Tables.IsRising-filter}
+use Rattle.nfs_tree.specs.{declared.stored.Stored.Stored, declared.row.Row.Row, Object.is_directory}
+use Rattle.nfs_tree.specs.{Files.{root, has_row, stored_in, is_there, is_directory_at}, Create.new_tree, TreeInvariants.{IsTree, IsSized}}
 use Rattle.nfs_tree.proofs.RowsKept.{rows_same}
 use Rattle.nfs_opens.specs.TableInvariants.{IsTable}
-use Rattle.nfs_names.specs.State.{State, is_open, is_used}
-use Rattle.nfs_names.specs.StoreInvariants.{IsStore, IsRooted}
-use Rattle.nfs_names.specs.Ending.{with_opens, table_staying, only_used, staying}
+use Rattle.nfs_names.specs.{State.{State, is_open, is_used}, StoreInvariants.{IsStore, IsRooted}, Ending.{with_opens, table_staying, only_used, staying}}
 use Rattle.nfs_names.proofs.StoreInvariants.{rooted}
 use Rattle.nfs_files.proofs.Steady.{Few}
 

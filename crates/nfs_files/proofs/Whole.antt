@@ -1,37 +1,19 @@
 -- What every operation keeps: its result is one that it may have, and the store stays one.
 use Rattle.std.proofs.Common.{◌≡◌, Bool, true, false, cond, Option, refl, subst, arith}
-use Rattle.std.specs.Prelude.{◌&&◌, IfSome}
-use Rattle.std.specs.Option.{ForSome}
-use Rattle.nfs_xdr.specs.declared.time.Time.{Time}
-use Rattle.nfs_xdr.specs.declared.status.Status.TheVariants.{Delay}
-use Rattle.nfs_compound.specs.declared.op_num.OpNum.{OpNum}
-use Rattle.nfs_compound.specs.declared.op_num.OpNum.TheVariants as Num
-use Rattle.nfs_compound.specs.OpNum.{op_number}
-use Rattle.nfs_compound.specs.declared.op.Op.{Op}
-use Rattle.nfs_compound.specs.declared.op.Item.{Item}
+use Rattle.std.specs.{Prelude.{◌&&◌, IfSome}, Option.ForSome}
+use Rattle.nfs_xdr.specs.{declared.time.Time.Time, declared.status.Status.TheVariants.Delay}
+use Rattle.nfs_compound.specs.{declared.op_num.OpNum.OpNum, OpNum.op_number, declared.op.Op.Op, declared.op.Item.Item}
 use Rattle.nfs_compound.specs.declared.op.Item.TheVariants.{Operation, Fault}
-use Rattle.nfs_results.specs.declared.res.Res.{Res}
-use Rattle.nfs_results.specs.Results.{refusal, status_of_result}
-use Rattle.nfs_names.specs.declared.context.Context.{Context}
+use Rattle.nfs_compound.specs.declared.op_num.OpNum.TheVariants as Num
+use Rattle.nfs_results.specs.{declared.res.Res.Res, Results.{refusal, status_of_result}}
+use Rattle.nfs_names.specs.{declared.context.Context.Context, State.State, StoreInvariants.IsStore, Outcome.{Outcome, refuses, or_delay, is_ok}}
 use Rattle.nfs_opens.specs.TableInvariants.{IsTable}
-use Rattle.nfs_names.specs.State.{State}
-use Rattle.nfs_names.specs.StoreInvariants.{IsStore}
-use Rattle.nfs_names.specs.Outcome.{Outcome, refuses, or_delay, is_ok}
-use Rattle.nfs_tree.specs.TreeInvariants.{IsTree}
+use Rattle.nfs_tree.specs.{TreeInvariants.IsTree, Bytes.has_bytes}
 use Rattle.nfs_names.proofs.Bounds.{IsAnswer}
 use Rattle.nfs_files.specs.Operation as table
-use Rattle.nfs_files.specs.Operation.{grows}
-use Rattle.nfs_files.proofs.Outcomes.{for_each}
-use Rattle.nfs_tree.specs.Bytes.{has_bytes}
-use Rattle.nfs_files.specs.Open.{open_file}
-use Rattle.nfs_files.specs.Write.{write}
-use Rattle.nfs_files.specs.LockU.{lock_u, wants_memory}
-use Rattle.nfs_files.specs.SetAttr.{set_attr}
-use Rattle.nfs_files.proofs.SetAnswers.{may_set_attr}
-use Rattle.nfs_files.proofs.StateAnswers.{may_close, may_free, may_lock_u, may_downgrade}
-use Rattle.nfs_files.proofs.ByteAnswers.{may_commit, may_write_bytes}
-use Rattle.nfs_files.proofs.OpenAnswers.{may_open}
-use Rattle.nfs_files.proofs.Sound.{sound_item}
+use Rattle.nfs_files.specs.{Operation.grows, Open.open_file, Write.write, LockU.{lock_u, wants_memory}, SetAttr.set_attr}
+use Rattle.nfs_files.proofs.{Outcomes.for_each, SetAnswers.may_set_attr, StateAnswers.{may_close, may_free, may_lock_u, may_downgrade}}
+use Rattle.nfs_files.proofs.{ByteAnswers.{may_commit, may_write_bytes}, OpenAnswers.may_open, Sound.sound_item}
 
 delay_may : (b : Bool) (s : State) (x : Context) (op : OpNum) (o : Outcome) (P : Res → Type 0)
     → P o.result → P (refusal (op_number op) Delay) → P (or_delay b s x op o).result

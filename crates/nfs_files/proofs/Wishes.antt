@@ -1,27 +1,15 @@
 -- The wish of a LOCK or a LOCKU that passed its checks: whose it is, and which bytes it is for.
 use Rattle.std.proofs.Common.{◌≡◌, ◌≢◌, ◌⊎◌, ℕ, ◌+◌, ◌-◌, ◌<◌, ◌≤◌, Bool, true, false, cond, not, [], ◌∷◌, refl, sym, ◌∙◌, ap, subst, arith, inl, inr}
-use Rattle.std.specs.Prelude.{◌==◌, ◌&&◌, ◌^◌, nat_lt, Result, Ok, Err}
 use Rattle.std.proofs.lemmas.Bool.{cases_eq, cases_lt, eqb-false, ltb-false}
-use Rattle.nfs_xdr.specs.Checks.{first_fault}
-use Rattle.nfs_xdr.specs.declared.status.Status.{Status}
-use Rattle.nfs_xdr.specs.declared.status.Status.TheVariants.{Inval}
-use Rattle.nfs_compound.specs.declared.lock_args.Lock.{Lock}
-use Rattle.nfs_compound.specs.declared.lock_args.LockType.{LockType}
-use Rattle.nfs_compound.specs.declared.lock_args.LockU.{LockU}
+use Rattle.std.specs.Prelude.{◌==◌, ◌&&◌, ◌^◌, nat_lt, Result, Ok, Err}
+use Rattle.nfs_xdr.specs.{Checks.first_fault, declared.status.Status.Status, declared.status.Status.TheVariants.Inval}
+use Rattle.nfs_compound.specs.{declared.lock_args.Lock.Lock, declared.lock_args.LockType.LockType, declared.lock_args.LockU.LockU}
 use Rattle.nfs_compound.specs.declared.stateid.Stateid.{Stateid}
-use Rattle.nfs_opens.specs.declared.locking.Wish.{Wish}
-use Rattle.nfs_opens.specs.declared.stateid.CurrentSeqid.TheVariants.{Any}
-use Rattle.nfs_opens.specs.declared.stateid.StateId.{StateId}
-use Rattle.nfs_names.specs.declared.context.Context.{Context}
-use Rattle.nfs_names.specs.Outcome.{checked, mapped, passed}
-use Rattle.nfs_names.specs.State.{State}
+use Rattle.nfs_opens.specs.{declared.locking.Wish.Wish, declared.stateid.CurrentSeqid.TheVariants.Any, declared.stateid.StateId.StateId}
+use Rattle.nfs_names.specs.{declared.context.Context.Context, Outcome.{checked, mapped, passed}, State.State}
 use Rattle.nfs_names.proofs.Found.{came, checked_ok}
-use Rattle.nfs_files.specs.declared.ranges.Wished.{Wished}
-use Rattle.nfs_files.specs.StateIds.{meant}
-use Rattle.nfs_files.specs.Target.{the_file}
-use Rattle.nfs_files.specs.Ranges.{all_ones, range, wish, wished, wished_by}
-use Rattle.nfs_files.specs.Lock.{reclaim_checks, stateid_in, locking}
-use Rattle.nfs_files.specs.LockU.{unlocking}
+use Rattle.nfs_files.specs.{declared.ranges.Wished.Wished, StateIds.meant, Target.the_file, Ranges.{all_ones, range, wish, wished, wished_by}}
+use Rattle.nfs_files.specs.{Lock.{reclaim_checks, stateid_in, locking}, LockU.unlocking}
 
 -- what was asked for as a wish
 pub record IsWish (x : Context) (offset size : ℕ) (w : Wish) : Type 0 where

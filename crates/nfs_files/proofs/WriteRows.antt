@@ -1,27 +1,16 @@
 -- WRITE: the tree's own checks are its last ones.
 use Rattle.std.proofs.Common.{◌≡◌, Bool, false, not, List, [], ◌∷◌, length, Some, None, refl, sym, ◌∙◌, ap}
 use Rattle.std.specs.Prelude.{Ok, option_map, nat_lt, ◌+◌, ◌&&◌}
-use Rattle.nfs_xdr.specs.Checks.{first_fault}
+use Rattle.nfs_xdr.specs.{Checks.first_fault, declared.time.Time.Time}
 use Rattle.nfs_xdr.proofs.Checks.{all_passed}
-use Rattle.nfs_xdr.specs.declared.time.Time.{Time}
 use Rattle.nfs_compound.specs.declared.op_num.OpNum.TheVariants as Num
 use Rattle.nfs_compound.specs.declared.file_args.Write.{Write}
-use Rattle.nfs_tree.specs.declared.fault.TreeFault.{TreeFault}
-use Rattle.nfs_tree.specs.declared.fault.TreeFault.TheVariants as F
-use Rattle.nfs_tree.specs.Bytes.{has_bytes}
-use Rattle.nfs_tree.specs.Calls.{write_fault, is_regular_at}
+use Rattle.nfs_tree.specs.{declared.fault.TreeFault.TreeFault, Bytes.has_bytes, Calls.{write_fault, is_regular_at}}
 use Rattle.nfs_tree.specs.Files.{most_bytes, is_there, is_directory_at, can_change}
-use Rattle.nfs_names.specs.declared.context.Context.{Context}
-use Rattle.nfs_names.specs.declared.node.Node.{Node}
-use Rattle.nfs_names.specs.State.{State}
-use Rattle.nfs_names.specs.Faults.{status_of}
-use Rattle.nfs_names.specs.Outcome.{refuses}
-use Rattle.nfs_names.specs.Checks.{current}
-use Rattle.nfs_names.proofs.Found.{IsHeld, current_is}
-use Rattle.nfs_names.proofs.Rows.{fault_map}
-use Rattle.nfs_names.proofs.Faulted.{by_last, by_refusal}
-use Rattle.nfs_files.specs.Bytes.{file_checks, writable}
-use Rattle.nfs_files.specs.Write.{last_checks, was_written, write}
+use Rattle.nfs_tree.specs.declared.fault.TreeFault.TheVariants as F
+use Rattle.nfs_names.specs.{declared.context.Context.Context, declared.node.Node.Node, State.State, Faults.status_of, Outcome.refuses, Checks.current}
+use Rattle.nfs_names.proofs.{Found.{IsHeld, current_is}, Rows.fault_map, Faulted.{by_last, by_refusal}}
+use Rattle.nfs_files.specs.{Bytes.{file_checks, writable}, Write.{last_checks, was_written, write}}
 use Rattle.nfs_files.proofs.SetRows.{file_regular, writable_ok}
 
 write_rows : (s : State) (w : Write) (d : Node) → IsHeld s.tree d → first_fault (file_checks d) ≡ None

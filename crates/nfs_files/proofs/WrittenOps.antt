@@ -1,71 +1,37 @@
 -- A byte that lasts, through each operation.
 use Rattle.std.proofs.Common.{◌≡◌, ℕ, ◌+◌, ◌<◌, ◌≤◌, ◌⊎◌, ◌^◌, Bool, true, false, cond, ltb, List, ◌++◌, length, Option, Some, None, refl, sym, ◌∙◌, ap, subst, arith, inl, inr}
-use Rattle.std.specs.Prelude.{◌==◌, ◌&&◌, Result, Ok, Err}
-use Rattle.std.specs.Int.{w32, from_be_bytes}
-use Rattle.std.specs.Option.{option_map_or}
-use Rattle.std.proofs.lemmas.Bool.{cases_Bool, and_parts, eqb-true, ltb-true, ltb-false, false≢true}
-use Rattle.std.proofs.lemmas.Nat.{from_be_bytes-to_be_bytes_4}
-use Rattle.nfs_xdr.specs.Checks.{first_fault}
-use Rattle.nfs_xdr.specs.Spelling.{number}
-use Rattle.nfs_xdr.specs.declared.time.Time.{Time}
-use Rattle.nfs_xdr.specs.declared.status.Status.{Status}
-use Rattle.nfs_xdr.specs.declared.status.Status.TheVariants.{Inval}
-use Rattle.nfs_xdr.proofs.Checks.{all_passed}
-use Rattle.nfs_xdr.proofs.Putting.{length_number}
-use Rattle.nfs_compound.specs.declared.attributes.Attributes.{Attributes}
-use Rattle.nfs_compound.specs.declared.file_args.Write.{Write}
-use Rattle.nfs_compound.specs.declared.file_args.SetAttr.{SetAttr}
-use Rattle.nfs_compound.specs.declared.open_args.Open.{Open}
-use Rattle.nfs_compound.specs.declared.open_args.OpenHow.{OpenHow}
-use Rattle.nfs_compound.specs.declared.open_args.OpenHow.TheVariants.{NoCreate, Create}
-use Rattle.nfs_compound.specs.declared.open_args.CreateHow.TheVariants.{Unchecked, Guarded, Exclusive, Exclusive41}
-use Rattle.nfs_compound.specs.declared.open_args.OpenClaim.{OpenClaim}
+use Rattle.std.proofs.{lemmas.Bool.{cases_Bool, and_parts, eqb-true, ltb-true, ltb-false, false≢true}, lemmas.Nat.from_be_bytes-to_be_bytes_4}
+use Rattle.std.specs.{Prelude.{◌==◌, ◌&&◌, Result, Ok, Err}, Int.{w32, from_be_bytes}, Option.option_map_or}
+use Rattle.nfs_xdr.specs.{Checks.first_fault, Spelling.number, declared.time.Time.Time, declared.status.Status.Status, declared.status.Status.TheVariants.Inval}
+use Rattle.nfs_xdr.proofs.{Checks.all_passed, Putting.length_number}
+use Rattle.nfs_compound.specs.{declared.attributes.Attributes.Attributes, declared.file_args.Write.Write, declared.file_args.SetAttr.SetAttr}
+use Rattle.nfs_compound.specs.{declared.open_args.Open.Open, declared.open_args.OpenHow.OpenHow, declared.open_args.OpenHow.TheVariants.{NoCreate, Create}}
+use Rattle.nfs_compound.specs.{declared.open_args.CreateHow.TheVariants.{Unchecked, Guarded, Exclusive, Exclusive41}, declared.open_args.OpenClaim.OpenClaim}
 use Rattle.nfs_compound.specs.declared.open_args.OpenClaim.TheVariants.{Null, Previous, DelegateCur, DelegatePrev, Fh, DelegCurFh, DelegPrevFh}
-use Rattle.nfs_compound.specs.declared.op_num.OpNum.{OpNum}
-use Rattle.nfs_compound.specs.declared.stateid.Stateid.{Stateid}
-use Rattle.nfs_compound.specs.declared.op_num.OpNum.TheVariants as Num
-use Rattle.nfs_compound.specs.declared.op.Op.{Op}
-use Rattle.nfs_compound.specs.declared.op.Item.{Item}
+use Rattle.nfs_compound.specs.{declared.op_num.OpNum.OpNum, declared.stateid.Stateid.Stateid, declared.op.Op.Op, declared.op.Item.Item}
 use Rattle.nfs_compound.specs.declared.op.Item.TheVariants.{Operation}
+use Rattle.nfs_compound.specs.declared.op_num.OpNum.TheVariants as Num
 use Rattle.nfs_results.specs.Items as item
-use Rattle.nfs_results.specs.declared.res.Res.{Res}
+use Rattle.nfs_results.specs.{declared.res.Res.Res, declared.res.WriteOk.WriteOk, Results.{spell_result, done_head}}
 use Rattle.nfs_results.specs.declared.res.Res.TheVariants as Res
-use Rattle.nfs_results.specs.declared.res.WriteOk.{WriteOk}
-use Rattle.nfs_results.specs.Results.{spell_result, done_head}
-use Rattle.nfs_tree.specs.declared.object.Object.{Object}
-use Rattle.nfs_tree.specs.Files.{object_at, lookup as looked_up, named}
-use Rattle.nfs_tree.specs.Bytes.{has_bytes}
-use Rattle.nfs_tree.specs.Names.{with_moved, without_name}
+use Rattle.nfs_tree.specs.{declared.object.Object.Object, Files.{object_at, lookup as looked_up, named}, Bytes.has_bytes, Names.{with_moved, without_name}}
 use Rattle.nfs_attrs.specs.declared.wanted.Wanted.{Wanted}
 use Rattle.nfs_opens.specs.Closing as closing
-use Rattle.nfs_names.specs.declared.context.Context.{Context}
-use Rattle.nfs_names.specs.declared.node.Node.{Node}
-use Rattle.nfs_names.specs.declared.making.Making.{Making}
-use Rattle.nfs_names.specs.State.{State, with_tree, is_used, without_unused}
-use Rattle.nfs_names.specs.Ending.{with_opens, staying}
-use Rattle.nfs_names.specs.Outcome.{Outcome, answers, checked, refuses}
-use Rattle.nfs_names.specs.Checks.{node_as, node_at, current}
-use Rattle.nfs_names.specs.Create.{attributes_in}
-use Rattle.nfs_names.specs.Rename.{without_replaced}
-use Rattle.nfs_names.proofs.Found.{came, ok_is, checked_ok}
+use Rattle.nfs_names.specs.{declared.context.Context.Context, declared.node.Node.Node, declared.making.Making.Making}
+use Rattle.nfs_names.specs.{State.{State, with_tree, is_used, without_unused}, Ending.{with_opens, staying}, Outcome.{Outcome, answers, checked, refuses}}
+use Rattle.nfs_names.specs.{Checks.{node_as, node_at, current}, Create.attributes_in, Rename.without_replaced}
+use Rattle.nfs_names.proofs.{Found.{came, ok_is, checked_ok}, Ones.each_of, Effects.{Makes, Links, Removes, Moves}, Effected.kept_item}
 use Rattle.nfs_names.specs.Operation as names
-use Rattle.nfs_names.proofs.Ones.{each_of}
 use Rattle.nfs_names.proofs.Effects as names_effects
-use Rattle.nfs_names.proofs.Effects.{Makes, Links, Removes, Moves}
-use Rattle.nfs_names.proofs.Effected.{kept_item}
-use Rattle.nfs_files.specs.declared.opening.Found.TheVariants.{There, Absent}
-use Rattle.nfs_files.specs.declared.setting.Setting.{Setting}
+use Rattle.nfs_files.specs.{declared.opening.Found.TheVariants.{There, Absent}, declared.setting.Setting.Setting}
 use Rattle.nfs_files.specs.Bytes.{file_checks, writing, may_use, writable}
-use Rattle.nfs_files.proofs.Outcomes.{comes_to}
-use Rattle.nfs_files.proofs.Effects.{Effect, Names, Writes, Resizes, Changes, Closes, SetsOf, OpensEmpty, Caused, behind}
-use Rattle.nfs_files.proofs.Effected.{caused_item}
+use Rattle.nfs_files.specs.{Open.{makes, access_of, place_checks, there_checks, absent_checks, cuts, by_handle}, Written.{Byte, Lasts, Spares, NamesLeaveBytes}}
+use Rattle.nfs_files.proofs.{Outcomes.comes_to, Effects.{Effect, Names, Writes, Resizes, Changes, Closes, SetsOf, OpensEmpty, Caused, behind}}
+use Rattle.nfs_files.proofs.{Effected.caused_item, Passing.{if_passed_ok, mapped_came}}
+use Rattle.nfs_files.proofs.WrittenTrees.{lasts_new, lasts_link, lasts_without, lasts_moved, lasts_rest, lasts_forget, lasts_changed, lasts_written, lasts_resized}
 use Rattle.nfs_files.specs.Open as of_open
-use Rattle.nfs_files.specs.Open.{makes, access_of, place_checks, there_checks, absent_checks, cuts, by_handle}
 use Rattle.nfs_files.specs.SetAttr as of_set
 use Rattle.nfs_files.specs.Write as of_write
-use Rattle.nfs_files.specs.Written.{Byte, Lasts, Spares, NamesLeaveBytes}
-use Rattle.nfs_files.proofs.Passing.{if_passed_ok, mapped_came}
-use Rattle.nfs_files.proofs.WrittenTrees.{lasts_new, lasts_link, lasts_without, lasts_moved, lasts_rest, lasts_forget, lasts_changed, lasts_written, lasts_resized}
 
 -- an object that goes for want of use
 lasts_unused : (b : Byte) (s : State) (n : ℕ) → Lasts b s.tree → Lasts b (without_unused s n).tree

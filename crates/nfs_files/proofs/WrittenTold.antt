@@ -1,48 +1,26 @@
 -- What a WRITE leaves of its own, and what a READ is given.
 use Rattle.std.proofs.Common.{◌≡◌, ◌⊎◌, ℕ, ◌+◌, ◌-◌, ◌≤◌, ◌<◌, ◌^◌, Bool, true, false, List, ◌++◌, length, take, drop, get_or, Option, Some, None, refl, sym, ◌∙◌, ap, subst, arith, inl, inr}
-use Rattle.std.specs.Prelude.{◌&&◌, nat_lt, Ok}
-use Rattle.std.specs.Int.{w32, from_be_bytes}
-use Rattle.std.proofs.lemmas.Bool.{cases_Bool, ltb-false}
-use Rattle.std.proofs.lemmas.List.{take_at, drop_at, length-append, length-take, length-drop, get_or-take, get_or-drop}
-use Rattle.nfs_xdr.specs.Checks.{first_fault}
-use Rattle.nfs_xdr.specs.Spelling.{number, flag, fixed, opaque}
-use Rattle.nfs_xdr.specs.declared.time.Time.{Time}
-use Rattle.nfs_xdr.specs.declared.status.Status.{Status}
+use Rattle.std.proofs.{lemmas.Bool.{cases_Bool, ltb-false}, lemmas.List.{take_at, drop_at, length-append, length-take, length-drop, get_or-take, get_or-drop}}
+use Rattle.std.specs.{Prelude.{◌&&◌, nat_lt, Ok}, Int.{w32, from_be_bytes}}
+use Rattle.nfs_xdr.specs.{Checks.first_fault, Spelling.{number, flag, fixed, opaque}, declared.time.Time.Time, declared.status.Status.Status}
 use Rattle.nfs_xdr.specs.declared.status.Status.TheVariants.{Nfs4Ok, Delay}
 use Rattle.nfs_xdr.proofs.Putting.{length_number}
-use Rattle.nfs_compound.specs.declared.file_args.Write.{Write}
-use Rattle.nfs_compound.specs.declared.file_args.Read.{Read}
-use Rattle.nfs_compound.specs.declared.op_num.OpNum.{OpNum}
-use Rattle.nfs_compound.specs.declared.op_num.OpNum.TheVariants as Num
-use Rattle.nfs_compound.specs.OpNum.{op_number}
+use Rattle.nfs_compound.specs.{declared.file_args.Write.Write, declared.file_args.Read.Read, declared.op_num.OpNum.OpNum, OpNum.op_number}
 use Rattle.nfs_compound.specs.declared.op.Item.{Item}
+use Rattle.nfs_compound.specs.declared.op_num.OpNum.TheVariants as Num
 use Rattle.nfs_compound.specs.declared.op.Op.TheVariants as Op
 use Rattle.nfs_results.specs.Items as item
-use Rattle.nfs_results.specs.Largest.{given}
-use Rattle.nfs_results.specs.declared.res.Res.{Res}
-use Rattle.nfs_results.specs.declared.res.ReadOk.{ReadOk}
-use Rattle.nfs_results.specs.Results.{spell_result, done_head}
+use Rattle.nfs_results.specs.{Largest.given, declared.res.Res.Res, declared.res.ReadOk.ReadOk, Results.{spell_result, done_head}}
 use Rattle.nfs_results.proofs.Lengths.{length_head, length_spelled}
-use Rattle.nfs_tree.specs.Files.{root, is_there, data_at}
-use Rattle.nfs_tree.specs.TreeInvariants.{IsTree}
-use Rattle.nfs_tree.specs.Bytes.{has_bytes}
+use Rattle.nfs_tree.specs.{Files.{root, is_there, data_at}, TreeInvariants.IsTree, Bytes.has_bytes}
 use Rattle.nfs_tree.proofs.Objects.{stored_within}
-use Rattle.nfs_names.specs.declared.context.Context.{Context}
-use Rattle.nfs_names.specs.declared.node.Node.{Node}
-use Rattle.nfs_names.specs.State.{State}
-use Rattle.nfs_names.specs.Outcome.{Outcome, checked}
-use Rattle.nfs_names.specs.Checks.{current}
-use Rattle.nfs_names.proofs.Found.{checked_ok, current_is}
-use Rattle.nfs_files.specs.Bytes.{file_checks, reading, may_use, readable, writable}
-use Rattle.nfs_files.proofs.Outcomes.{one_or_delay, comes_to}
+use Rattle.nfs_names.specs.{declared.context.Context.Context, declared.node.Node.Node, State.State, Outcome.{Outcome, checked}, Checks.current}
+use Rattle.nfs_names.proofs.{Found.{checked_ok, current_is}, Ones.by_delay}
+use Rattle.nfs_files.specs.{Bytes.{file_checks, reading, may_use, readable, writable}, Written.{Byte, StandsIn, Lasts, Writes, bytes_in, Reads, GivesIt}}
+use Rattle.nfs_files.proofs.{Outcomes.{one_or_delay, comes_to}, Passing.if_passed_ok, ReadBytes.few_given, WrittenTrees.lasts_over}
+use Rattle.nfs_files.proofs.WrittenOps.{by_found, current_number, writable_at, number_back, write_spelled, few_written}
 use Rattle.nfs_files.specs.Read as of_read
 use Rattle.nfs_files.specs.Write as of_write
-use Rattle.nfs_names.proofs.Ones.{by_delay}
-use Rattle.nfs_files.specs.Written.{Byte, StandsIn, Lasts, Writes, bytes_in, Reads, GivesIt}
-use Rattle.nfs_files.proofs.Passing.{if_passed_ok}
-use Rattle.nfs_files.proofs.ReadBytes.{few_given}
-use Rattle.nfs_files.proofs.WrittenTrees.{lasts_over}
-use Rattle.nfs_files.proofs.WrittenOps.{by_found, current_number, writable_at, number_back, write_spelled, few_written}
 
 some_same : (o : Option ℕ) (m n : ℕ) → o ≡ Some m → o ≡ Some n → m ≡ n
 some_same o m n e f = (let same : Some m ≡ Some n = sym e ∙ f in cc)

@@ -1,25 +1,13 @@
 -- Whether bytes of a file may be read or changed by a stateid (RFC 8881 sections 8.2.3, 9.1.2 and 9.7).
-use Rattle.std.specs.Prelude.{◌==◌, ◌&&◌, Bool, true, false, not, List, [], ◌∷◌, Some, Result, Ok, Err}
-use Rattle.std.specs.List.{list_any}
-use Rattle.nfs_xdr.specs.declared.status.Status.{Status}
-use Rattle.nfs_xdr.specs.declared.status.Status.TheVariants.{IsDir, Symlink, Locked, OpenMode}
+use Rattle.std.specs.{Prelude.{◌==◌, ◌&&◌, Bool, true, false, not, List, [], ◌∷◌, Some, Result, Ok, Err}, List.list_any}
+use Rattle.nfs_xdr.specs.{declared.status.Status.Status, declared.status.Status.TheVariants.{IsDir, Symlink, Locked, OpenMode}}
 use Rattle.nfs_compound.specs.declared.stateid.Stateid.{Stateid}
 use Rattle.nfs_tree.specs.Object.{is_directory}
-use Rattle.nfs_opens.specs.declared.stateid.CurrentSeqid.TheVariants.{Any}
-use Rattle.nfs_opens.specs.declared.judging.Seat.{Seat}
-use Rattle.nfs_opens.specs.declared.judging.Seat.TheVariants.{Anonymous, ReadBypass, Open, Lock}
-use Rattle.nfs_opens.specs.declared.judging.Sort.TheVariants.{Either}
-use Rattle.nfs_opens.specs.declared.share.Share.{Share}
-use Rattle.nfs_opens.specs.Share.{meets, is_part}
-use Rattle.nfs_opens.specs.Judging.{judge}
+use Rattle.nfs_opens.specs.{declared.stateid.CurrentSeqid.TheVariants.Any, declared.judging.Seat.Seat}
+use Rattle.nfs_opens.specs.{declared.judging.Seat.TheVariants.{Anonymous, ReadBypass, Open, Lock}, declared.judging.Sort.TheVariants.Either}
+use Rattle.nfs_opens.specs.{declared.share.Share.Share, Share.{meets, is_part}, Judging.judge, Steps.{◌>>=◌}}
 use Rattle.nfs_attrs.specs.declared.permission.Want.{Want}
-use Rattle.nfs_opens.specs.Steps.{◌>>=◌}
-use Rattle.nfs_names.specs.declared.context.Context.{Context}
-use Rattle.nfs_names.specs.declared.node.Node.{Node}
-use Rattle.nfs_names.specs.State.{State}
-use Rattle.nfs_names.specs.Outcome.{checked, mapped}
-use Rattle.nfs_names.specs.Checks.{denied}
-use Rattle.nfs_names.specs.Lookup.{is_link}
+use Rattle.nfs_names.specs.{declared.context.Context.Context, declared.node.Node.Node, State.State, Outcome.{checked, mapped}, Checks.denied, Lookup.is_link}
 use Rattle.nfs_files.specs.StateIds.{meant}
 
 -- a file alone has bytes

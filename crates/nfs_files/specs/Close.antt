@@ -1,19 +1,13 @@
 -- CLOSE (RFC 8881 section 18.2): an open goes, with its lock states and the bytes that they hold, and a file without a row goes with
 -- its last open.
 use Rattle.std.specs.Prelude.{ℕ, replicate}
-use Rattle.nfs_compound.specs.declared.stateid.Stateid.{Stateid}
-use Rattle.nfs_compound.specs.declared.open_args.Close.{Close}
+use Rattle.nfs_compound.specs.{declared.stateid.Stateid.Stateid, declared.open_args.Close.Close}
 use Rattle.nfs_compound.specs.declared.op_num.OpNum.TheVariants as Num
 use Rattle.nfs_results.specs.declared.res.Res.TheVariants as Res
-use Rattle.nfs_opens.specs.declared.stateid.CurrentSeqid.TheVariants.{Own}
-use Rattle.nfs_opens.specs.Table.{Table}
+use Rattle.nfs_opens.specs.{declared.stateid.CurrentSeqid.TheVariants.Own, Table.Table}
 use Rattle.nfs_opens.specs.Closing as opens
-use Rattle.nfs_names.specs.declared.context.Context.{Context}
-use Rattle.nfs_names.specs.State.{State, without_unused}
-use Rattle.nfs_names.specs.Outcome.{Outcome, answers}
-use Rattle.nfs_files.specs.declared.target.Target.{Target}
-use Rattle.nfs_names.specs.Ending.{with_opens}
-use Rattle.nfs_files.specs.Target.{target, with_stateid}
+use Rattle.nfs_names.specs.{declared.context.Context.Context, State.{State, without_unused}, Outcome.{Outcome, answers}, Ending.with_opens}
+use Rattle.nfs_files.specs.{declared.target.Target.Target, Target.{target, with_stateid}}
 
 -- what is left of the stateid: no operation takes it
 abbrev pub spent : Stateid

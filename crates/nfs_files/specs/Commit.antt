@@ -3,10 +3,7 @@ use Rattle.std.specs.Prelude.{ℕ, List, ◌++◌, replicate}
 use Rattle.nfs_xdr.specs.Spelling.{number}
 use Rattle.nfs_compound.specs.declared.op_num.OpNum.TheVariants as Num
 use Rattle.nfs_results.specs.declared.res.Res.TheVariants as Res
-use Rattle.nfs_names.specs.declared.context.Context.{Context}
-use Rattle.nfs_names.specs.State.{State}
-use Rattle.nfs_names.specs.Outcome.{Outcome, done, checked, answers}
-use Rattle.nfs_names.specs.Checks.{current}
+use Rattle.nfs_names.specs.{declared.context.Context.Context, State.State, Outcome.{Outcome, done, checked, answers}, Checks.current}
 use Rattle.nfs_files.specs.Bytes.{file_checks}
 
 -- the server's instance and four zero bytes (this server's profile)

@@ -1,19 +1,14 @@
 -- The lock that is reported with NFS4ERR_DENIED (LOCK4denied, RFC 8881 section 18.10.2).
 use Rattle.std.specs.Prelude.{ℕ, suc, ◌-◌, ◌==◌, [], take, Option, Some, None, if◌then◌else◌}
-use Rattle.nfs_xdr.specs.declared.status.Status.{Status}
+use Rattle.nfs_xdr.specs.{declared.status.Status.Status, Limits.opaque_limit}
 use Rattle.nfs_xdr.specs.declared.status.Status.TheVariants as S
-use Rattle.nfs_xdr.specs.Limits.{opaque_limit}
-use Rattle.nfs_compound.specs.declared.state_owner.StateOwner.{StateOwner}
-use Rattle.nfs_compound.specs.declared.lock_args.LockType.{LockType}
+use Rattle.nfs_compound.specs.{declared.state_owner.StateOwner.StateOwner, declared.lock_args.LockType.LockType}
 use Rattle.nfs_compound.specs.declared.lock_args.LockType.TheVariants as LockTypes
 use Rattle.nfs_results.specs.declared.res.Denied as result
-use Rattle.nfs_ranges.specs.declared.Kind.{Kind}
+use Rattle.nfs_ranges.specs.{declared.Kind.Kind, declared.Held.Held}
 use Rattle.nfs_ranges.specs.declared.Kind.TheVariants as Kinds
-use Rattle.nfs_ranges.specs.declared.Held.{Held}
-use Rattle.nfs_opens.specs.declared.records.LockState.{LockState}
-use Rattle.nfs_opens.specs.declared.locking.OpenFault.{OpenFault}
-use Rattle.nfs_opens.specs.declared.locking.OpenFault.TheVariants.{Refused, Denied, Memory}
-use Rattle.nfs_opens.specs.Table.{Table, lock_at}
+use Rattle.nfs_opens.specs.{declared.records.LockState.LockState, declared.locking.OpenFault.OpenFault}
+use Rattle.nfs_opens.specs.{declared.locking.OpenFault.TheVariants.{Refused, Denied, Memory}, Table.{Table, lock_at}}
 use Rattle.nfs_files.specs.Ranges.{all_ones}
 
 abbrev pub type_of : Kind → LockType

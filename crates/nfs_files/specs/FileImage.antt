@@ -1,26 +1,16 @@
 -- What a file has, by what was asked and answered: the bytes that were written, and zero where nobody wrote one (RFC 8881 sections 18.16, 18.22, 18.30 and 18.32).
 use Rattle.std.specs.Prelude.{ℕ, ◌+◌, ◌-◌, ◌==◌, ◌&&◌, nat_lt, nat_le, min, max, Bool, false, not, List, ◌++◌, length, map, slice_index_or, if◌then◌else◌}
-use Rattle.std.specs.Prelude.{Option, Some, None, Result, Ok, Err}
-use Rattle.std.specs.List.{range_with_len}
-use Rattle.std.specs.Option.{option_map_or}
-use Rattle.nfs_xdr.specs.Spelling.{flag, opaque}
-use Rattle.nfs_xdr.specs.declared.status.Status.{Status}
-use Rattle.nfs_compound.specs.declared.open_args.Open.{Open}
-use Rattle.nfs_compound.specs.declared.open_args.OpenHow.{OpenHow}
-use Rattle.nfs_compound.specs.declared.open_args.OpenHow.TheVariants.{Create}
-use Rattle.nfs_compound.specs.declared.open_args.CreateHow.TheVariants.{Unchecked}
-use Rattle.nfs_compound.specs.declared.open_args.OpenClaim.{OpenClaim}
-use Rattle.nfs_compound.specs.declared.open_args.OpenClaim.TheVariants.{Null}
-use Rattle.nfs_compound.specs.declared.op.Item.{Item}
-use Rattle.nfs_compound.specs.declared.op.Item.TheVariants.{Operation}
+use Rattle.std.specs.{Prelude.{Option, Some, None, Result, Ok, Err}, List.range_with_len, Option.option_map_or}
+use Rattle.nfs_xdr.specs.{Spelling.{flag, opaque}, declared.status.Status.Status}
+use Rattle.nfs_compound.specs.{declared.open_args.Open.Open, declared.open_args.OpenHow.OpenHow, declared.open_args.OpenHow.TheVariants.Create}
+use Rattle.nfs_compound.specs.{declared.open_args.CreateHow.TheVariants.Unchecked, declared.open_args.OpenClaim.OpenClaim}
+use Rattle.nfs_compound.specs.{declared.open_args.OpenClaim.TheVariants.Null, declared.op.Item.Item, declared.op.Item.TheVariants.Operation}
 use Rattle.nfs_compound.specs.declared.op.Op.TheVariants as Op
 use Rattle.nfs_compound.specs.declared.op_num.OpNum.TheVariants as Num
-use Rattle.nfs_results.specs.Largest.{given}
-use Rattle.nfs_results.specs.Results.{done_head}
+use Rattle.nfs_results.specs.{Largest.given, Results.done_head}
 use Rattle.nfs_tree.specs.Files.{Files, lookup}
 use Rattle.nfs_attrs.specs.declared.wanted.Wanted.{Wanted}
-use Rattle.nfs_names.specs.declared.context.Context.{Context}
-use Rattle.nfs_names.specs.Create.{attributes_in}
+use Rattle.nfs_names.specs.{declared.context.Context.Context, Create.attributes_in}
 use Rattle.nfs_files.specs.Open.{makes, access_of}
 
 -- how many bytes a file has, and the byte at each place: zero where nobody wrote one, and past the end

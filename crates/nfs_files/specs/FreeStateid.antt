@@ -2,14 +2,10 @@
 use Rattle.nfs_compound.specs.declared.stateid.Stateid.{Stateid}
 use Rattle.nfs_compound.specs.declared.op_num.OpNum.TheVariants as Num
 use Rattle.nfs_results.specs.declared.res.Res.TheVariants as Res
-use Rattle.nfs_opens.specs.declared.stateid.StateId.{StateId}
-use Rattle.nfs_opens.specs.declared.stateid.CurrentSeqid.TheVariants.{Any}
+use Rattle.nfs_opens.specs.{declared.stateid.StateId.StateId, declared.stateid.CurrentSeqid.TheVariants.Any}
 use Rattle.nfs_opens.specs.Closing as opens
-use Rattle.nfs_names.specs.declared.context.Context.{Context}
-use Rattle.nfs_names.specs.State.{State}
-use Rattle.nfs_names.specs.Outcome.{Outcome, done, answers}
+use Rattle.nfs_names.specs.{declared.context.Context.Context, State.State, Outcome.{Outcome, done, answers}, Ending.with_opens}
 use Rattle.nfs_files.specs.StateIds.{meant}
-use Rattle.nfs_names.specs.Ending.{with_opens}
 
 abbrev pub frees : State → Context → StateId → Outcome
 frees s x id = answers s x Num.FreeStateid (opens.free s.opens id x.client) (λ did. done (with_opens s did.1) x Res.FreeStateid)

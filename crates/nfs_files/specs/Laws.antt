@@ -1,26 +1,14 @@
 -- Laws of one operation on open files: what OPEN leaves of the tree, and what a LOCK tells by its answer (RFC 8881 sections 18.10 and 18.16).
-use Rattle.std.specs.Prelude.{◌≡◌, ◌≢◌, ℕ, ◌≤◌, Bool, Some, Ok}
-use Rattle.std.specs.Option.{ForSome}
+use Rattle.std.specs.{Prelude.{◌≡◌, ◌≢◌, ℕ, ◌≤◌, Bool, Some, Ok}, Option.ForSome}
 use Rattle.nfs_xdr.specs.declared.time.Time.{Time}
 use Rattle.nfs_compound.specs.declared.lock_args.Lock as args
-use Rattle.nfs_compound.specs.declared.open_args.Open.{Open}
-use Rattle.nfs_compound.specs.declared.op.Item.{Item}
+use Rattle.nfs_compound.specs.{declared.open_args.Open.Open, declared.op.Item.Item}
 use Rattle.nfs_compound.specs.declared.op_num.OpNum.TheVariants as Num
 use Rattle.nfs_results.specs.Results.{spell_result}
 use Rattle.nfs_tree.specs.TreeInvariants.{IsTree}
-use Rattle.nfs_opens.specs.declared.locking.Wish.{Wish}
-use Rattle.nfs_opens.specs.TableInvariants.{IsTable}
-use Rattle.nfs_opens.specs.StateId.{last_number}
-use Rattle.nfs_names.specs.declared.context.Context.{Context}
-use Rattle.nfs_names.specs.Outcome.{or_delay}
-use Rattle.nfs_names.specs.State.{State}
-use Rattle.nfs_names.specs.StoreInvariants.{IsStore}
-use Rattle.nfs_files.specs.Open.{open_file}
-use Rattle.nfs_files.specs.Lock.{lock}
-use Rattle.nfs_files.specs.Operation.{comes_to}
-use Rattle.nfs_files.specs.Ranges.{wished}
-use Rattle.nfs_files.specs.Own.{HasAsBefore}
-use Rattle.nfs_files.specs.LockTold.{Names, LockTold, Stands, Clashes}
+use Rattle.nfs_opens.specs.{declared.locking.Wish.Wish, TableInvariants.IsTable, StateId.last_number}
+use Rattle.nfs_names.specs.{declared.context.Context.Context, Outcome.or_delay, State.State, StoreInvariants.IsStore}
+use Rattle.nfs_files.specs.{Open.open_file, Lock.lock, Operation.comes_to, Ranges.wished, Own.HasAsBefore, LockTold.{Names, LockTold, Stands, Clashes}}
 
 -- OPEN leaves a tree that is one.
 abbrev pub OpensLeaveTrees : Type 0

@@ -1,28 +1,14 @@
 -- LOCK (RFC 8881 section 18.10): a lock owner holds bytes of a file, if no other one's lock is in the way.
 use Rattle.std.specs.Prelude.{Bool, List, [], ◌∷◌, Result, Ok, Err}
-use Rattle.nfs_xdr.specs.declared.status.Status.{Status}
-use Rattle.nfs_xdr.specs.declared.status.Status.TheVariants.{NoGrace}
-use Rattle.nfs_compound.specs.declared.stateid.Stateid.{Stateid}
-use Rattle.nfs_compound.specs.declared.op_num.OpNum.TheVariants as Num
-use Rattle.nfs_compound.specs.declared.lock_args.Lock.{Lock}
-use Rattle.nfs_compound.specs.declared.lock_args.Locker.TheVariants.{LockOwner, OpenOwner}
+use Rattle.nfs_xdr.specs.{declared.status.Status.Status, declared.status.Status.TheVariants.NoGrace}
+use Rattle.nfs_compound.specs.{declared.stateid.Stateid.Stateid, declared.lock_args.Lock.Lock, declared.lock_args.Locker.TheVariants.{LockOwner, OpenOwner}}
 use Rattle.nfs_compound.specs.declared.lock_args.Locker.{Locker}
+use Rattle.nfs_compound.specs.declared.op_num.OpNum.TheVariants as Num
 use Rattle.nfs_results.specs.declared.res.Res.TheVariants as Res
-use Rattle.nfs_opens.specs.declared.stateid.StateId.{StateId}
-use Rattle.nfs_opens.specs.declared.locking.Wish.{Wish}
-use Rattle.nfs_opens.specs.declared.locking.OpenFault.{OpenFault}
-use Rattle.nfs_opens.specs.declared.locking.OpenFault.TheVariants.{Denied}
-use Rattle.nfs_opens.specs.Table.{Table}
-use Rattle.nfs_opens.specs.Locking.{lock_under, lock_known}
-use Rattle.nfs_names.specs.declared.context.Context.{Context}
-use Rattle.nfs_names.specs.State.{State}
-use Rattle.nfs_names.specs.Outcome.{Outcome, done, refuses, checked, answers}
-use Rattle.nfs_files.specs.declared.ranges.Wished.{Wished}
-use Rattle.nfs_files.specs.StateIds.{wire_id}
-use Rattle.nfs_names.specs.Ending.{with_opens}
-use Rattle.nfs_files.specs.Target.{with_stateid}
-use Rattle.nfs_files.specs.Ranges.{wished, wished_by}
-use Rattle.nfs_files.specs.Denied.{denied, status_of}
+use Rattle.nfs_opens.specs.{declared.stateid.StateId.StateId, declared.locking.Wish.Wish, declared.locking.OpenFault.OpenFault}
+use Rattle.nfs_opens.specs.{declared.locking.OpenFault.TheVariants.Denied, Table.Table, Locking.{lock_under, lock_known}}
+use Rattle.nfs_names.specs.{declared.context.Context.Context, State.State, Outcome.{Outcome, done, refuses, checked, answers}, Ending.with_opens}
+use Rattle.nfs_files.specs.{declared.ranges.Wished.Wished, StateIds.wire_id, Target.with_stateid, Ranges.{wished, wished_by}, Denied.{denied, status_of}}
 
 -- there is nothing to reclaim
 abbrev pub reclaim_checks : Lock → Wish → List (Bool × Status)

@@ -5,11 +5,8 @@ use Rattle.nfs_compound.specs.declared.lock_args.LockT as args
 use Rattle.nfs_results.specs.declared.res.Res.TheVariants as Res
 use Rattle.nfs_ranges.specs.declared.Held.{Held}
 use Rattle.nfs_opens.specs.Locking.{test_lock}
-use Rattle.nfs_names.specs.declared.context.Context.{Context}
-use Rattle.nfs_names.specs.State.{State}
-use Rattle.nfs_names.specs.Outcome.{Outcome, done, answers}
-use Rattle.nfs_files.specs.Ranges.{wished}
-use Rattle.nfs_files.specs.Denied.{denied}
+use Rattle.nfs_names.specs.{declared.context.Context.Context, State.State, Outcome.{Outcome, done, answers}}
+use Rattle.nfs_files.specs.{Ranges.wished, Denied.denied}
 
 abbrev pub tested : State → Context → Option Held → Outcome
 tested s x None = done s x Res.LockT

@@ -1,14 +1,10 @@
 -- A lock that was told to its owner, and what clashes with it (RFC 8881 sections 8.2 and 9.1).
-use Rattle.std.specs.Prelude.{◌≡◌, ◌≢◌, ◌⊎◌, ℕ, ◌<◌, ◌≤◌, true, List, ◌++◌, length, drop, Some}
-use Rattle.std.specs.Int.{w64, from_be_bytes}
+use Rattle.std.specs.{Prelude.{◌≡◌, ◌≢◌, ◌⊎◌, ℕ, ◌<◌, ◌≤◌, true, List, ◌++◌, length, drop, Some}, Int.{w64, from_be_bytes}}
 use Rattle.nfs_xdr.specs.Tables.{In}
 use Rattle.nfs_compound.specs.declared.op_num.OpNum.{OpNum}
 use Rattle.nfs_results.specs.Results.{done_head}
-use Rattle.nfs_ranges.specs.declared.Kind.{Kind}
-use Rattle.nfs_ranges.specs.Told.{meets}
-use Rattle.nfs_opens.specs.declared.records.LockState.{LockState}
-use Rattle.nfs_opens.specs.declared.locking.Wish.{Wish}
-use Rattle.nfs_opens.specs.Table.{Table}
+use Rattle.nfs_ranges.specs.{declared.Kind.Kind, Told.meets}
+use Rattle.nfs_opens.specs.{declared.records.LockState.LockState, declared.locking.Wish.Wish, Table.Table}
 
 -- An operation's result says NFS4_OK and gives a stateid: the last 8 of its 16 bytes are the number of the open or lock state that it names.
 pub record Names (op : OpNum) (result : List ℕ) (n : ℕ) : Type 0 where

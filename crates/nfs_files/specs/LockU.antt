@@ -4,19 +4,9 @@ use Rattle.nfs_xdr.specs.declared.status.Status.{Status}
 use Rattle.nfs_compound.specs.declared.lock_args.LockU.{LockU}
 use Rattle.nfs_compound.specs.declared.op_num.OpNum.TheVariants as Num
 use Rattle.nfs_results.specs.declared.res.Res.TheVariants as Res
-use Rattle.nfs_opens.specs.declared.stateid.StateId.{StateId}
-use Rattle.nfs_opens.specs.Table.{Table}
-use Rattle.nfs_opens.specs.Locking.{unlock}
-use Rattle.nfs_opens.specs.Steps.{map_err}
-use Rattle.nfs_names.specs.declared.context.Context.{Context}
-use Rattle.nfs_names.specs.State.{State}
-use Rattle.nfs_names.specs.Outcome.{Outcome, answers}
-use Rattle.nfs_files.specs.declared.ranges.Wished.{Wished}
-use Rattle.nfs_files.specs.StateIds.{wire_id}
-use Rattle.nfs_names.specs.Ending.{with_opens}
-use Rattle.nfs_files.specs.Target.{with_stateid}
-use Rattle.nfs_files.specs.Ranges.{all_ones, wished, wished_by}
-use Rattle.nfs_files.specs.Denied.{status_of}
+use Rattle.nfs_opens.specs.{declared.stateid.StateId.StateId, Table.Table, Locking.unlock, Steps.map_err}
+use Rattle.nfs_names.specs.{declared.context.Context.Context, State.State, Outcome.{Outcome, answers}, Ending.with_opens}
+use Rattle.nfs_files.specs.{declared.ranges.Wished.Wished, StateIds.wire_id, Target.with_stateid, Ranges.{all_ones, wished, wished_by}, Denied.status_of}
 
 abbrev pub unlocking : State → Context → LockU → Result Wished Status
 unlocking s x a = wished_by x a.lock_stateid (wished s x a.locktype a.offset a.length)

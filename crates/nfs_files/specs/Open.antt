@@ -1,51 +1,25 @@
 -- OPEN (RFC 8881 section 18.16): a file is opened, and is made where that is asked for and the name is free.
 use Rattle.std.specs.Prelude.{ℕ, ◌+◌, ◌==◌, ◌%◌, ◌&&◌, Bool, true, false, not, List, [], ◌∷◌, ◌++◌, bytes_eq, Option, Some, None, is_none}
-use Rattle.std.specs.Prelude.{unwrap_or, Result, Ok, Err, if◌then◌else◌}
-use Rattle.std.specs.List.{list_any}
-use Rattle.std.specs.Option.{option_map_or}
-use Rattle.nfs_xdr.specs.declared.time.Time.{Time}
-use Rattle.nfs_xdr.specs.declared.status.Status.{Status}
+use Rattle.std.specs.{Prelude.{unwrap_or, Result, Ok, Err, if◌then◌else◌}, List.list_any, Option.option_map_or}
+use Rattle.nfs_xdr.specs.{declared.time.Time.Time, declared.status.Status.Status}
 use Rattle.nfs_xdr.specs.declared.status.Status.TheVariants.{Inval, NoGrace, NotSupp, NoEnt, Exist, ShareDenied, ServerFault}
 use Rattle.nfs_compound.specs.declared.op_num.OpNum.TheVariants as Num
-use Rattle.nfs_compound.specs.declared.attributes.Attributes.{Attributes}
-use Rattle.nfs_compound.specs.declared.open_args.Open.{Open}
-use Rattle.nfs_compound.specs.declared.open_args.OpenHow.{OpenHow}
+use Rattle.nfs_compound.specs.{declared.attributes.Attributes.Attributes, declared.open_args.Open.Open, declared.open_args.OpenHow.OpenHow}
 use Rattle.nfs_compound.specs.declared.open_args.OpenHow.TheVariants.{NoCreate, Create}
-use Rattle.nfs_compound.specs.declared.open_args.CreateHow.TheVariants.{Unchecked, Guarded, Exclusive, Exclusive41}
-use Rattle.nfs_compound.specs.declared.open_args.OpenClaim.{OpenClaim}
+use Rattle.nfs_compound.specs.{declared.open_args.CreateHow.TheVariants.{Unchecked, Guarded, Exclusive, Exclusive41}, declared.open_args.OpenClaim.OpenClaim}
 use Rattle.nfs_compound.specs.declared.open_args.OpenClaim.TheVariants.{Null, Previous, Fh}
 use Rattle.nfs_results.specs.declared.res.ChangeInfo.{ChangeInfo}
 use Rattle.nfs_results.specs.declared.res.Res.TheVariants as Res
-use Rattle.nfs_tree.specs.declared.sets.Sets.{Sets}
-use Rattle.nfs_tree.specs.Object.{no_sets}
-use Rattle.nfs_tree.specs.declared.fault.TreeFault.{TreeFault}
-use Rattle.nfs_tree.specs.declared.fault.TreeFault.TheVariants.{Counter}
-use Rattle.nfs_tree.specs.Files.{Files, lookup, can_change, raised, stays}
-use Rattle.nfs_tree.specs.Create.{New, File, create_checks, with_new}
-use Rattle.nfs_tree.specs.Bytes.{with_resized}
-use Rattle.nfs_attrs.specs.declared.wanted.Wanted.{Wanted}
-use Rattle.nfs_attrs.specs.Mask.{mask_of, trimmed_words}
-use Rattle.nfs_attrs.specs.Setting.{make_checks}
-use Rattle.nfs_attrs.specs.Permissions.{execute, write}
-use Rattle.nfs_opens.specs.declared.share.Share.{Share}
-use Rattle.nfs_opens.specs.Share.{neither, share_of}
-use Rattle.nfs_opens.specs.StateId.{last_number}
-use Rattle.nfs_opens.specs.Table.{Asked, clashes_with}
-use Rattle.nfs_opens.specs.Opening.{own_open, opens}
+use Rattle.nfs_tree.specs.{declared.sets.Sets.Sets, Object.no_sets, declared.fault.TreeFault.TreeFault, declared.fault.TreeFault.TheVariants.Counter}
+use Rattle.nfs_tree.specs.{Files.{Files, lookup, can_change, raised, stays}, Create.{New, File, create_checks, with_new}, Bytes.with_resized}
+use Rattle.nfs_attrs.specs.{declared.wanted.Wanted.Wanted, Mask.{mask_of, trimmed_words}, Setting.make_checks, Permissions.{execute, write}}
+use Rattle.nfs_opens.specs.{declared.share.Share.Share, Share.{neither, share_of}, StateId.last_number, Table.{Asked, clashes_with}, Opening.{own_open, opens}}
 use Rattle.nfs_opens.specs.Steps.{◌>>=◌}
-use Rattle.nfs_names.specs.declared.context.Context.{Context}
-use Rattle.nfs_names.specs.declared.node.Node.{Node}
-use Rattle.nfs_names.specs.declared.making.Making.{Making}
-use Rattle.nfs_names.specs.State.{State}
-use Rattle.nfs_names.specs.Outcome.{Outcome, checked, mapped, answers}
-use Rattle.nfs_names.specs.Checks.{node_at, current, no_directory, denied, name_checks}
-use Rattle.nfs_names.specs.Create.{attributes_in, change_info}
-use Rattle.nfs_names.specs.Faults.{by_tree}
+use Rattle.nfs_names.specs.{declared.context.Context.Context, declared.node.Node.Node, declared.making.Making.Making, State.State}
+use Rattle.nfs_names.specs.{Outcome.{Outcome, checked, mapped, answers}, Checks.{node_at, current, no_directory, denied, name_checks}}
+use Rattle.nfs_names.specs.{Create.{attributes_in, change_info}, Faults.by_tree}
 use Rattle.nfs_names.specs.Create as create
-use Rattle.nfs_files.specs.declared.opening.Found.{Found}
-use Rattle.nfs_files.specs.declared.opening.Found.TheVariants.{There, Absent}
-use Rattle.nfs_files.specs.StateIds.{wire_id}
-use Rattle.nfs_files.specs.Bytes.{file_checks, want_of}
+use Rattle.nfs_files.specs.{declared.opening.Found.Found, declared.opening.Found.TheVariants.{There, Absent}, StateIds.wire_id, Bytes.{file_checks, want_of}}
 
 -- The two low bits of the access asked for: those above them wish for delegations, and none is given.
 abbrev pub access_of : Open → Share

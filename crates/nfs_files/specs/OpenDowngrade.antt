@@ -1,27 +1,14 @@
 -- OPEN_DOWNGRADE (RFC 8881 section 18.18): an open has less access and denies less from now on.
 use Rattle.std.specs.Prelude.{ℕ, Bool, List, [], ◌∷◌, Result, Some, is_none, unwrap_or}
-use Rattle.nfs_xdr.specs.declared.status.Status.{Status}
-use Rattle.nfs_xdr.specs.declared.status.Status.TheVariants.{Inval}
+use Rattle.nfs_xdr.specs.{declared.status.Status.Status, declared.status.Status.TheVariants.Inval}
 use Rattle.nfs_compound.specs.declared.open_args.OpenDowngrade.{OpenDowngrade}
 use Rattle.nfs_compound.specs.declared.op_num.OpNum.TheVariants as Num
 use Rattle.nfs_results.specs.declared.res.Res.TheVariants as Res
-use Rattle.nfs_opens.specs.declared.share.Share.{Share}
-use Rattle.nfs_opens.specs.declared.stateid.StateId.{StateId}
-use Rattle.nfs_opens.specs.declared.stateid.CurrentSeqid.TheVariants.{Own}
-use Rattle.nfs_opens.specs.declared.judging.Seat.{Seat}
-use Rattle.nfs_opens.specs.declared.judging.Sort.TheVariants.{OpenOnly}
-use Rattle.nfs_opens.specs.Share.{neither, share_of}
-use Rattle.nfs_opens.specs.Table.{Table}
-use Rattle.nfs_opens.specs.Judging.{judge}
+use Rattle.nfs_opens.specs.{declared.share.Share.Share, declared.stateid.StateId.StateId, declared.stateid.CurrentSeqid.TheVariants.Own}
+use Rattle.nfs_opens.specs.{declared.judging.Seat.Seat, declared.judging.Sort.TheVariants.OpenOnly, Share.{neither, share_of}, Table.Table, Judging.judge}
 use Rattle.nfs_opens.specs.Opening as opens
-use Rattle.nfs_names.specs.declared.context.Context.{Context}
-use Rattle.nfs_names.specs.State.{State}
-use Rattle.nfs_names.specs.Outcome.{Outcome, checked, answers}
-use Rattle.nfs_files.specs.declared.target.Target.{Target}
-use Rattle.nfs_files.specs.Bytes.{if_passed}
-use Rattle.nfs_files.specs.StateIds.{wire_id}
-use Rattle.nfs_names.specs.Ending.{with_opens}
-use Rattle.nfs_files.specs.Target.{target, with_stateid}
+use Rattle.nfs_names.specs.{declared.context.Context.Context, State.State, Outcome.{Outcome, checked, answers}, Ending.with_opens}
+use Rattle.nfs_files.specs.{declared.target.Target.Target, Bytes.if_passed, StateIds.wire_id, Target.{target, with_stateid}}
 
 -- no open has bits above the two
 abbrev pub bit_checks : OpenDowngrade → Seat → List (Bool × Status)

@@ -4,14 +4,9 @@ use Rattle.nfs_xdr.specs.declared.time.Time.{Time}
 use Rattle.nfs_compound.specs.declared.open_args.Open.{Open}
 use Rattle.nfs_compound.specs.declared.op_num.OpNum.TheVariants as Num
 use Rattle.nfs_results.specs.Results.{spell_result}
-use Rattle.nfs_opens.specs.TableInvariants.{IsTable}
-use Rattle.nfs_opens.specs.Opening.{own_open}
-use Rattle.nfs_opens.specs.StateId.{last_number}
-use Rattle.nfs_names.specs.declared.context.Context.{Context}
-use Rattle.nfs_names.specs.Outcome.{or_delay}
-use Rattle.nfs_names.specs.State.{State}
-use Rattle.nfs_files.specs.Open.{asking, open_file}
-use Rattle.nfs_files.specs.OpenTold.{names_open, OpenTold, Bits, bits_with, bits_had, IsOpenWith, claimed, forbids}
+use Rattle.nfs_opens.specs.{TableInvariants.IsTable, Opening.own_open, StateId.last_number}
+use Rattle.nfs_names.specs.{declared.context.Context.Context, Outcome.or_delay, State.State}
+use Rattle.nfs_files.specs.{Open.{asking, open_file}, OpenTold.{names_open, OpenTold, Bits, bits_with, bits_had, IsOpenWith, claimed, forbids}}
 
 -- the claim leads to the file, and the open stands, with the bits that were asked for, joined to what its owner had of the file
 pub record IsToldOpen (s : State) (x : Context) (a : Open) (n : ℕ) (left : State) (file : ℕ) : Type 0 where

@@ -2,24 +2,16 @@
 -- where memory is refused.
 use Rattle.std.specs.Prelude.{◌≡◌, ◌==◌, ◌&&◌, ℕ, Bool, true, not, List, [], ◌∷◌, ◌++◌, Option, None, is_none, unwrap_or, length, nat_lt, nat_le, Result, Ok, Err, if◌then◌else◌}
 use Rattle.std.specs.List.{list_any}
-use Rattle.nfs_xdr.specs.declared.time.Time.{Time}
-use Rattle.nfs_xdr.specs.declared.status.Status.{Status}
+use Rattle.nfs_xdr.specs.{declared.time.Time.Time, declared.status.Status.Status}
 use Rattle.nfs_xdr.specs.declared.status.Status.TheVariants.{Delay, FBig, NoSpc, ShareDenied, ServerFault}
 use Rattle.nfs_compound.specs.declared.open_args.Open.{Open}
 use Rattle.nfs_results.specs.declared.res.OpenOk.{OpenOk}
 use Rattle.nfs_results.specs.declared.res.Res.TheVariants as Res
-use Rattle.nfs_tree.specs.Files.{Files, most_bytes, most_objects, last_count, can_change}
-use Rattle.nfs_tree.specs.declared.fault.TreeFault.{TreeFault}
+use Rattle.nfs_tree.specs.{Files.{Files, most_bytes, most_objects, last_count, can_change}, declared.fault.TreeFault.TreeFault}
 use Rattle.nfs_tree.specs.Calls.{resize_fault, create_fault, Did, does_unless}
-use Rattle.nfs_opens.specs.StateId.{last_number}
-use Rattle.nfs_opens.specs.Table.{clashes_with}
-use Rattle.nfs_opens.specs.Opening.{own_open}
-use Rattle.nfs_names.specs.declared.context.Context.{Context}
-use Rattle.nfs_names.specs.State.{State}
-use Rattle.nfs_names.specs.Outcome.{Outcome}
-use Rattle.nfs_files.specs.declared.opening.Found.{Found}
-use Rattle.nfs_files.specs.declared.opening.Found.TheVariants.{There, Absent}
-use Rattle.nfs_files.specs.Open.{asking, file_of, tree_of, name_of, new_of}
+use Rattle.nfs_opens.specs.{StateId.last_number, Table.clashes_with, Opening.own_open}
+use Rattle.nfs_names.specs.{declared.context.Context.Context, State.State, Outcome.Outcome}
+use Rattle.nfs_files.specs.{declared.opening.Found.Found, declared.opening.Found.TheVariants.{There, Absent}, Open.{asking, file_of, tree_of, name_of, new_of}}
 
 -- what the tree itself refuses
 abbrev pub tree_fault : Files → Open → Found → Option TreeFault

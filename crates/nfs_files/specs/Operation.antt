@@ -1,24 +1,11 @@
 -- The operations on open files, one line each, and what want of memory makes of them. The others are none of these.
 use Rattle.std.specs.Prelude.{Bool, true, false, Option, Some, None}
 use Rattle.nfs_xdr.specs.declared.time.Time.{Time}
-use Rattle.nfs_compound.specs.declared.op.Op.{Op}
-use Rattle.nfs_compound.specs.declared.op.Item.{Item}
+use Rattle.nfs_compound.specs.{declared.op.Op.Op, declared.op.Item.Item}
 use Rattle.nfs_tree.specs.Bytes.{has_bytes}
-use Rattle.nfs_names.specs.declared.context.Context.{Context}
-use Rattle.nfs_names.specs.State.{State}
-use Rattle.nfs_names.specs.Outcome.{Outcome, by_table}
-use Rattle.nfs_files.specs.Close.{close}
-use Rattle.nfs_files.specs.Commit.{commit}
-use Rattle.nfs_files.specs.FreeStateid.{free_stateid}
-use Rattle.nfs_files.specs.Lock.{lock}
-use Rattle.nfs_files.specs.LockT.{lock_t}
-use Rattle.nfs_files.specs.LockU.{lock_u, wants_memory}
-use Rattle.nfs_files.specs.Open.{open_file}
-use Rattle.nfs_files.specs.OpenDowngrade.{open_downgrade}
-use Rattle.nfs_files.specs.Read.{read}
-use Rattle.nfs_files.specs.SetAttr.{set_attr}
-use Rattle.nfs_files.specs.TestStateid.{test_stateid}
-use Rattle.nfs_files.specs.Write.{write}
+use Rattle.nfs_names.specs.{declared.context.Context.Context, State.State, Outcome.{Outcome, by_table}}
+use Rattle.nfs_files.specs.{Close.close, Commit.commit, FreeStateid.free_stateid, Lock.lock, LockT.lock_t, LockU.{lock_u, wants_memory}, Open.open_file}
+use Rattle.nfs_files.specs.{OpenDowngrade.open_downgrade, Read.read, SetAttr.set_attr, TestStateid.test_stateid, Write.write}
 
 -- what an operation comes to, at a moment
 abbrev pub one : State → Context → Time → Op → Option Outcome

@@ -1,9 +1,7 @@
 -- What a client has open and locked: its opens, its lock states and the bytes that these hold (RFC 8881 sections 8.2, 9.1 and 9.7).
 use Rattle.std.specs.Prelude.{◌≡◌, ℕ, ◌==◌, List, filter}
 use Rattle.nfs_xdr.specs.Tables.{In}
-use Rattle.nfs_opens.specs.declared.records.OpenState.{OpenState}
-use Rattle.nfs_opens.specs.declared.records.LockState.{LockState}
-use Rattle.nfs_opens.specs.Table.{Table}
+use Rattle.nfs_opens.specs.{declared.records.OpenState.OpenState, declared.records.LockState.LockState, Table.Table}
 
 abbrev pub opens_of : ℕ → Table → List OpenState
 opens_of client t = filter (λ o. o.client == client) t.opens

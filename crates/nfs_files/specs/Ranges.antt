@@ -1,22 +1,13 @@
 -- The bytes that LOCK, LOCKT and LOCKU are for, and how they are to be locked (RFC 8881 sections 18.10.3, 18.11.3 and 18.12.3).
 use Rattle.std.specs.Prelude.{ℕ, ◌+◌, ◌-◌, ◌==◌, Bool, not, ◌&&◌, List, [], ◌∷◌, nat_lt, Result, if◌then◌else◌}
-use Rattle.nfs_xdr.specs.Checks.{first_fault}
-use Rattle.nfs_xdr.specs.declared.status.Status.{Status}
-use Rattle.nfs_xdr.specs.declared.status.Status.TheVariants.{Inval}
-use Rattle.nfs_compound.specs.declared.stateid.Stateid.{Stateid}
-use Rattle.nfs_compound.specs.declared.lock_args.LockType.{LockType}
+use Rattle.nfs_xdr.specs.{Checks.first_fault, declared.status.Status.Status, declared.status.Status.TheVariants.Inval}
+use Rattle.nfs_compound.specs.{declared.stateid.Stateid.Stateid, declared.lock_args.LockType.LockType}
 use Rattle.nfs_compound.specs.declared.lock_args.LockType.TheVariants as LockTypes
 use Rattle.nfs_ranges.specs.declared.Kind.{Kind}
 use Rattle.nfs_ranges.specs.declared.Kind.TheVariants as Kinds
-use Rattle.nfs_opens.specs.declared.locking.Wish.{Wish}
-use Rattle.nfs_opens.specs.declared.stateid.CurrentSeqid.TheVariants.{Any}
-use Rattle.nfs_opens.specs.Steps.{◌>>=◌}
-use Rattle.nfs_names.specs.declared.context.Context.{Context}
-use Rattle.nfs_names.specs.State.{State}
-use Rattle.nfs_names.specs.Outcome.{passed, mapped}
-use Rattle.nfs_files.specs.declared.ranges.Wished.{Wished}
-use Rattle.nfs_files.specs.StateIds.{meant}
-use Rattle.nfs_files.specs.Target.{the_file}
+use Rattle.nfs_opens.specs.{declared.locking.Wish.Wish, declared.stateid.CurrentSeqid.TheVariants.Any, Steps.{◌>>=◌}}
+use Rattle.nfs_names.specs.{declared.context.Context.Context, State.State, Outcome.{passed, mapped}}
+use Rattle.nfs_files.specs.{declared.ranges.Wished.Wished, StateIds.meant, Target.the_file}
 
 -- the last byte that there can be; as a length, up to that byte
 abbrev pub all_ones : ℕ

@@ -2,15 +2,10 @@
 use Rattle.std.specs.Prelude.{ℕ, ◌+◌, List, length, nat_le}
 use Rattle.nfs_compound.specs.declared.op_num.OpNum.TheVariants as Num
 use Rattle.nfs_compound.specs.declared.file_args.Read.{Read}
-use Rattle.nfs_results.specs.Largest.{given}
-use Rattle.nfs_results.specs.declared.res.ReadOk.{ReadOk}
+use Rattle.nfs_results.specs.{Largest.given, declared.res.ReadOk.ReadOk}
 use Rattle.nfs_results.specs.declared.res.Res.TheVariants as Res
 use Rattle.nfs_tree.specs.Bytes.{part}
-use Rattle.nfs_names.specs.declared.context.Context.{Context}
-use Rattle.nfs_names.specs.declared.node.Node.{Node}
-use Rattle.nfs_names.specs.State.{State}
-use Rattle.nfs_names.specs.Outcome.{Outcome, done, answers}
-use Rattle.nfs_names.specs.Checks.{current}
+use Rattle.nfs_names.specs.{declared.context.Context.Context, declared.node.Node.Node, State.State, Outcome.{Outcome, done, answers}, Checks.current}
 use Rattle.nfs_files.specs.Bytes.{readable}
 
 -- the file's bytes in the range, of which not too many are given at once

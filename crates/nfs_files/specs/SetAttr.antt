@@ -1,27 +1,15 @@
 -- SETATTR (RFC 8881 section 18.30): attributes of an object are set, all that are given or none.
 use Rattle.std.specs.Prelude.{ℕ, ◌||◌, ◌&&◌, Bool, false, not, List, [], ◌∷◌, nat_lt, Option, Some, None, Result, Ok, is_some, option_map, if◌then◌else◌}
-use Rattle.nfs_xdr.specs.declared.time.Time.{Time}
-use Rattle.nfs_xdr.specs.declared.status.Status.{Status}
-use Rattle.nfs_xdr.specs.declared.status.Status.TheVariants.{Nfs4Ok, FBig, ServerFault}
+use Rattle.nfs_xdr.specs.{declared.time.Time.Time, declared.status.Status.Status, declared.status.Status.TheVariants.{Nfs4Ok, FBig, ServerFault}}
 use Rattle.nfs_compound.specs.declared.op_num.OpNum.TheVariants as Num
-use Rattle.nfs_compound.specs.declared.stateid.Stateid.{Stateid}
-use Rattle.nfs_compound.specs.declared.file_args.SetAttr.{SetAttr}
+use Rattle.nfs_compound.specs.{declared.stateid.Stateid.Stateid, declared.file_args.SetAttr.SetAttr}
 use Rattle.nfs_results.specs.declared.res.Res.TheVariants as Res
-use Rattle.nfs_tree.specs.declared.sets.Sets.{Sets}
-use Rattle.nfs_tree.specs.Files.{Files, most_bytes, can_change, with_changed}
-use Rattle.nfs_tree.specs.Bytes.{with_resized}
-use Rattle.nfs_attrs.specs.declared.wanted.Wanted.{Wanted}
-use Rattle.nfs_attrs.specs.Mask.{mask_of, trimmed_words}
-use Rattle.nfs_attrs.specs.Setting.{set_checks}
+use Rattle.nfs_tree.specs.{declared.sets.Sets.Sets, Files.{Files, most_bytes, can_change, with_changed}, Bytes.with_resized}
+use Rattle.nfs_attrs.specs.{declared.wanted.Wanted.Wanted, Mask.{mask_of, trimmed_words}, Setting.set_checks}
 use Rattle.nfs_opens.specs.Steps.{◌>>=◌}
-use Rattle.nfs_names.specs.declared.context.Context.{Context}
-use Rattle.nfs_names.specs.declared.node.Node.{Node}
-use Rattle.nfs_names.specs.State.{State, with_tree}
-use Rattle.nfs_names.specs.Outcome.{Outcome, checked, answers}
-use Rattle.nfs_names.specs.Checks.{current}
-use Rattle.nfs_names.specs.Create.{attributes_in, time_of}
-use Rattle.nfs_files.specs.declared.setting.Setting.{Setting}
-use Rattle.nfs_files.specs.Bytes.{if_passed, writable}
+use Rattle.nfs_names.specs.{declared.context.Context.Context, declared.node.Node.Node, State.{State, with_tree}, Outcome.{Outcome, checked, answers}}
+use Rattle.nfs_names.specs.{Checks.current, Create.{attributes_in, time_of}}
+use Rattle.nfs_files.specs.{declared.setting.Setting.Setting, Bytes.{if_passed, writable}}
 
 -- first the attributes are read, then it is looked at whether the caller may set them ..
 abbrev pub owner_checks : Context → Setting → List (Bool × Status)

@@ -1,12 +1,9 @@
 -- SETATTR's change of the tree, which only contracts inside the crate cite.
 use Rattle.std.specs.Prelude.{ℕ, Option, Some, None, if◌then◌else◌}
 use Rattle.nfs_xdr.specs.declared.time.Time.{Time}
-use Rattle.nfs_tree.specs.Files.{Files}
-use Rattle.nfs_tree.specs.declared.fault.TreeFault.{TreeFault}
-use Rattle.nfs_tree.specs.Calls.{Did, does_unless, resize_fault, set_fault}
+use Rattle.nfs_tree.specs.{Files.Files, declared.fault.TreeFault.TreeFault, Calls.{Did, does_unless, resize_fault, set_fault}}
 use Rattle.nfs_attrs.specs.declared.wanted.Wanted.{Wanted}
-use Rattle.nfs_files.specs.declared.setting.Setting.{Setting}
-use Rattle.nfs_files.specs.SetAttr.{gives_some, with_set}
+use Rattle.nfs_files.specs.{declared.setting.Setting.Setting, SetAttr.{gives_some, with_set}}
 
 -- what the tree itself refuses
 abbrev pub tree_fault : Files → ℕ → Wanted → Option ℕ → Option TreeFault

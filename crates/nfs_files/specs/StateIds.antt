@@ -1,12 +1,8 @@
 -- Stateids on the wire, and which state one stands for (RFC 8881 sections 8.2.2 and 8.2.3).
-use Rattle.std.specs.Prelude.{◌++◌, take, drop, Result}
-use Rattle.std.specs.Int.{w32, w64, from_be_bytes}
-use Rattle.nfs_xdr.specs.Spelling.{number, hyper}
-use Rattle.nfs_xdr.specs.declared.status.Status.{Status}
+use Rattle.std.specs.{Prelude.{◌++◌, take, drop, Result}, Int.{w32, w64, from_be_bytes}}
+use Rattle.nfs_xdr.specs.{Spelling.{number, hyper}, declared.status.Status.Status}
 use Rattle.nfs_compound.specs.declared.stateid.Stateid.{Stateid}
-use Rattle.nfs_opens.specs.declared.stateid.StateId.{StateId}
-use Rattle.nfs_opens.specs.declared.stateid.CurrentSeqid.{CurrentSeqid}
-use Rattle.nfs_opens.specs.StateId.{resolved}
+use Rattle.nfs_opens.specs.{declared.stateid.StateId.StateId, declared.stateid.CurrentSeqid.CurrentSeqid, StateId.resolved}
 use Rattle.nfs_names.specs.declared.context.Context.{Context}
 
 -- what stands behind the seqid is the server's instance and the number of an open or a lock state

@@ -3,16 +3,9 @@
 use Rattle.std.specs.Prelude.{Result}
 use Rattle.nfs_xdr.specs.declared.status.Status.{Status}
 use Rattle.nfs_compound.specs.declared.stateid.Stateid.{Stateid}
-use Rattle.nfs_opens.specs.declared.stateid.CurrentSeqid.{CurrentSeqid}
-use Rattle.nfs_opens.specs.Steps.{◌>>=◌}
-use Rattle.nfs_names.specs.declared.context.Context.{Context}
-use Rattle.nfs_names.specs.declared.node.Node.{Node}
-use Rattle.nfs_names.specs.State.{State}
-use Rattle.nfs_names.specs.Outcome.{checked, mapped}
-use Rattle.nfs_names.specs.Checks.{current}
-use Rattle.nfs_files.specs.declared.target.Target.{Target}
-use Rattle.nfs_files.specs.Bytes.{file_checks}
-use Rattle.nfs_files.specs.StateIds.{meant}
+use Rattle.nfs_opens.specs.{declared.stateid.CurrentSeqid.CurrentSeqid, Steps.{◌>>=◌}}
+use Rattle.nfs_names.specs.{declared.context.Context.Context, declared.node.Node.Node, State.State, Outcome.{checked, mapped}, Checks.current}
+use Rattle.nfs_files.specs.{declared.target.Target.Target, Bytes.file_checks, StateIds.meant}
 
 -- the current filehandle's object, which must be a file
 unfoldable pub the_file : State → Context → Result Node Status

@@ -1,19 +1,11 @@
 -- TEST_STATEID (RFC 8881 section 18.48): of each stateid whether it names a state of the client now.
 use Rattle.std.specs.Prelude.{ℕ, List, map, None, Result, Ok, Err, if◌then◌else◌}
-use Rattle.nfs_xdr.specs.Status.{status_number}
-use Rattle.nfs_xdr.specs.declared.status.Status.{Status}
-use Rattle.nfs_xdr.specs.declared.status.Status.TheVariants.{Nfs4Ok, BadStateId}
+use Rattle.nfs_xdr.specs.{Status.status_number, declared.status.Status.Status, declared.status.Status.TheVariants.{Nfs4Ok, BadStateId}}
 use Rattle.nfs_compound.specs.declared.stateid.Stateid.{Stateid}
 use Rattle.nfs_results.specs.declared.res.Res.TheVariants as Res
-use Rattle.nfs_opens.specs.declared.stateid.StateId.{StateId}
-use Rattle.nfs_opens.specs.declared.judging.Seat.{Seat}
-use Rattle.nfs_opens.specs.declared.judging.Seat.TheVariants.{Anonymous, ReadBypass, Open, Lock}
-use Rattle.nfs_opens.specs.declared.judging.Sort.TheVariants.{Either}
-use Rattle.nfs_opens.specs.StateId.{is_current}
-use Rattle.nfs_opens.specs.Judging.{judge}
-use Rattle.nfs_names.specs.declared.context.Context.{Context}
-use Rattle.nfs_names.specs.State.{State}
-use Rattle.nfs_names.specs.Outcome.{Outcome, done}
+use Rattle.nfs_opens.specs.{declared.stateid.StateId.StateId, declared.judging.Seat.Seat, declared.judging.Seat.TheVariants.{Anonymous, ReadBypass, Open, Lock}}
+use Rattle.nfs_opens.specs.{declared.judging.Sort.TheVariants.Either, StateId.is_current, Judging.judge}
+use Rattle.nfs_names.specs.{declared.context.Context.Context, State.State, Outcome.{Outcome, done}}
 use Rattle.nfs_files.specs.StateIds.{state_id}
 
 -- special stateids name no state

@@ -1,22 +1,14 @@
 -- WRITE (RFC 8881 section 18.32): bytes are written over those of a file. A gap behind its old end is zeros.
 use Rattle.std.specs.Prelude.{◌+◌, ◌&&◌, Bool, not, List, [], ◌∷◌, length, nat_lt, if◌then◌else◌}
-use Rattle.nfs_xdr.specs.declared.time.Time.{Time}
-use Rattle.nfs_xdr.specs.declared.status.Status.{Status}
-use Rattle.nfs_xdr.specs.declared.status.Status.TheVariants.{FBig, ServerFault}
+use Rattle.nfs_xdr.specs.{declared.time.Time.Time, declared.status.Status.Status, declared.status.Status.TheVariants.{FBig, ServerFault}}
 use Rattle.nfs_compound.specs.declared.op_num.OpNum.TheVariants as Num
-use Rattle.nfs_compound.specs.declared.file_args.StableHow.TheVariants.{FileSync}
-use Rattle.nfs_compound.specs.declared.file_args.Write.{Write}
+use Rattle.nfs_compound.specs.{declared.file_args.StableHow.TheVariants.FileSync, declared.file_args.Write.Write}
 use Rattle.nfs_results.specs.declared.res.WriteOk.{WriteOk}
 use Rattle.nfs_results.specs.declared.res.Res.TheVariants as Res
-use Rattle.nfs_tree.specs.Files.{Files, most_bytes, can_change}
-use Rattle.nfs_tree.specs.Bytes.{has_bytes, with_written}
-use Rattle.nfs_names.specs.declared.context.Context.{Context}
-use Rattle.nfs_names.specs.declared.node.Node.{Node}
-use Rattle.nfs_names.specs.State.{State, with_tree}
-use Rattle.nfs_names.specs.Outcome.{Outcome, checked, answers}
+use Rattle.nfs_tree.specs.{Files.{Files, most_bytes, can_change}, Bytes.{has_bytes, with_written}}
+use Rattle.nfs_names.specs.{declared.context.Context.Context, declared.node.Node.Node, State.{State, with_tree}, Outcome.{Outcome, checked, answers}}
 use Rattle.nfs_names.specs.Checks.{current}
-use Rattle.nfs_files.specs.Bytes.{writable}
-use Rattle.nfs_files.specs.Commit.{write_verifier}
+use Rattle.nfs_files.specs.{Bytes.writable, Commit.write_verifier}
 
 -- no bytes change nothing, at whatever offset
 abbrev pub last_checks : State → Write → Node → List (Bool × Status)

@@ -1,34 +1,21 @@
 -- A byte of a file that was written: by which operation it is told, which reads it, and which changes it, by what was asked and what was answered
 -- (RFC 8881 sections 18.16, 18.22, 18.30 and 18.32).
-use Rattle.std.specs.Prelude.{◌≡◌, ◌⊎◌, ℕ, Bool, ◌+◌, ◌-◌, ◌≤◌, ◌<◌, true, List, [], ◌∷◌, ◌++◌, length, take, drop, slice_index_or, Some, Ok}
-use Rattle.std.specs.Option.{ForSome}
+use Rattle.std.specs.{Prelude.{◌≡◌, ◌⊎◌, ℕ, Bool, ◌+◌, ◌-◌, ◌≤◌, ◌<◌, true, List, [], ◌∷◌, ◌++◌, length, take, drop, slice_index_or, Some, Ok}, Option.ForSome}
 use Rattle.std.specs.Int.{w32, from_be_bytes}
 use Rattle.nfs_xdr.specs.declared.time.Time.{Time}
-use Rattle.nfs_compound.specs.declared.attributes.Attributes.{Attributes}
-use Rattle.nfs_compound.specs.declared.open_args.Open.{Open}
-use Rattle.nfs_compound.specs.declared.open_args.OpenHow.TheVariants.{Create}
-use Rattle.nfs_compound.specs.declared.open_args.CreateHow.TheVariants.{Unchecked}
-use Rattle.nfs_compound.specs.declared.open_args.OpenClaim.TheVariants.{Null}
-use Rattle.nfs_compound.specs.declared.file_args.Write.{Write}
-use Rattle.nfs_compound.specs.declared.file_args.SetAttr.{SetAttr}
-use Rattle.nfs_compound.specs.declared.file_args.Read.{Read}
-use Rattle.nfs_compound.specs.declared.op.Item.{Item}
+use Rattle.nfs_compound.specs.{declared.attributes.Attributes.Attributes, declared.open_args.Open.Open, declared.open_args.OpenHow.TheVariants.Create}
+use Rattle.nfs_compound.specs.{declared.open_args.CreateHow.TheVariants.Unchecked, declared.open_args.OpenClaim.TheVariants.Null}
+use Rattle.nfs_compound.specs.{declared.file_args.Write.Write, declared.file_args.SetAttr.SetAttr, declared.file_args.Read.Read, declared.op.Item.Item}
 use Rattle.nfs_compound.specs.declared.op.Item.TheVariants.{Operation}
 use Rattle.nfs_compound.specs.declared.op.Op.TheVariants as Op
 use Rattle.nfs_compound.specs.declared.op_num.OpNum.TheVariants as Num
-use Rattle.nfs_results.specs.Largest.{given}
-use Rattle.nfs_results.specs.declared.res.OpenOk.{OpenOk}
+use Rattle.nfs_results.specs.{Largest.given, declared.res.OpenOk.OpenOk, Results.{spell_result, done_head}}
 use Rattle.nfs_results.specs.declared.res.Res.TheVariants as Res
-use Rattle.nfs_results.specs.Results.{spell_result, done_head}
-use Rattle.nfs_tree.specs.Files.{Files, is_there, data_at, lookup}
-use Rattle.nfs_tree.specs.TreeInvariants.{IsTree}
+use Rattle.nfs_tree.specs.{Files.{Files, is_there, data_at, lookup}, TreeInvariants.IsTree}
 use Rattle.nfs_attrs.specs.declared.wanted.Wanted.{Wanted}
-use Rattle.nfs_names.specs.declared.context.Context.{Context}
-use Rattle.nfs_names.specs.State.{State}
-use Rattle.nfs_names.specs.Create.{attributes_in}
+use Rattle.nfs_names.specs.{declared.context.Context.Context, State.State, Create.attributes_in}
 use Rattle.nfs_names.specs.Operation as names
-use Rattle.nfs_files.specs.Open.{access_of}
-use Rattle.nfs_files.specs.Operation.{comes_to}
+use Rattle.nfs_files.specs.{Open.access_of, Operation.comes_to}
 
 -- a byte at a place of a file
 pub record Byte : Type 0 where

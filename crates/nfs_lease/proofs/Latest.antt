@@ -1,9 +1,7 @@
 -- No renewal is later than now, and what keeps it so.
-use Rattle.std.proofs.Common.{◌≡◌, ℕ, ◌≤◌, eqb, Option, Some, None, sym, subst, arith, inl, inr}
+use Rattle.std.proofs.{Common.{◌≡◌, ℕ, ◌≤◌, eqb, Option, Some, None, sym, subst, arith, inl, inr}, lemmas.Bool.cases_Bool}
 use Rattle.std.specs.Prelude.{option_map}
-use Rattle.std.proofs.lemmas.Bool.{cases_Bool}
-use Rattle.nfs_lease.specs.Renewals.{Book, no_leases, with_lease, with_renewal, without_lease}
-use Rattle.nfs_lease.specs.Queue.{IsLatest}
+use Rattle.nfs_lease.specs.{Renewals.{Book, no_leases, with_lease, with_renewal, without_lease}, Queue.IsLatest}
 
 pub latest_none : (lease now : ℕ) (b : Book) → b ≡ no_leases lease → IsLatest b now
 latest_none lease now b is = subst (λ b. IsLatest b now) (sym is) (record { each = λ client moment e. absurd cc })

@@ -1,13 +1,8 @@
 -- What each change of the queue does to the map that it stands for, and who is out at its end.
 use Rattle.std.proofs.Common.{◌≡◌, ℕ, suc, ◌+◌, ◌-◌, ◌<◌, ◌≤◌, Bool, true, false, cond, eqb, List, [], ◌∷◌, length, take, get_or, Option, Some, None, refl, sym}
-use Rattle.std.proofs.Common.{◌∙◌, ap, arith, inl, inr}
-use Rattle.std.specs.Prelude.{◌==◌, if◌then◌else◌, is_some, slice_get, nat_lt}
-use Rattle.std.specs.Option.{option_map_or}
-use Rattle.std.specs.Map.{lookup_entry, remove_entry, set_value}
-use Rattle.std.proofs.Math.Path.{fun_ext}
-use Rattle.std.proofs.lemmas.Option.{none-some, slice_get-get_or}
-use Rattle.std.proofs.lemmas.List.{take_all}
+use Rattle.std.proofs.{Common.{◌∙◌, ap, arith, inl, inr}, Math.Path.fun_ext, lemmas.Option.{none-some, slice_get-get_or}, lemmas.List.take_all}
 use Rattle.std.proofs.lemmas.Bool.{cases_Bool, cases_eq, ne_eqb, eq-eqb, eqb-true, le-ltb}
+use Rattle.std.specs.{Prelude.{◌==◌, if◌then◌else◌, is_some, slice_get, nat_lt}, Option.option_map_or, Map.{lookup_entry, remove_entry, set_value}}
 use Rattle.lru.specs.LruCache.{lru_cache, promoted, put_entries, last_entry}
 use Rattle.nfs_lease.specs.Renewals.{KeptLeases, renewed_in, leases_of, with_lease, with_renewal, without_lease, is_out}
 use Rattle.nfs_lease.specs.Queue.{IsNextOut, IsLatest, IsUpTo, IsQueue}

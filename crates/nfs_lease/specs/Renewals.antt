@@ -1,6 +1,5 @@
 -- Leases: when each client renewed its own last, and who has run out (RFC 8881 section 8.3; how long a lease lasts is this server's profile).
-use Rattle.std.specs.Prelude.{ℕ, ◌-◌, ◌==◌, nat_lt, Bool, false, Option, Some, None, List, option_map, if◌then◌else◌}
-use Rattle.std.specs.Map.{lookup}
+use Rattle.std.specs.{Prelude.{ℕ, ◌-◌, ◌==◌, nat_lt, Bool, false, Option, Some, None, List, option_map, if◌then◌else◌}, Map.lookup}
 
 -- what a table keeps, each client with the moment of its last renewal, the newest first; other crates see it through `leases_of` and `standing` alone
 pub record KeptLeases : Type 0 where

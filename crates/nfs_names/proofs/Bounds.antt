@@ -1,38 +1,17 @@
 -- The result of each operation is one that it may have: under its number, such as can be put, and within its size. None is NFS4ERR_DELAY.
-use Rattle.std.proofs.Common.{Bool, true, false, None, refl, arith, ◌≤◌, ◌≡◌}
+use Rattle.std.proofs.{Common.{Bool, true, false, None, refl, arith, ◌≤◌, ◌≡◌}, lemmas.Bool.ltb-false}
 use Rattle.std.specs.Prelude.{IfSome}
-use Rattle.std.proofs.lemmas.Bool.{ltb-false}
-use Rattle.nfs_xdr.specs.Checks.{first_fault}
+use Rattle.nfs_xdr.specs.{Checks.first_fault, declared.time.Time.Time}
 use Rattle.nfs_xdr.proofs.Checks.{all_passed}
-use Rattle.nfs_xdr.specs.declared.time.Time.{Time}
-use Rattle.nfs_compound.specs.declared.name_args.ReadDir.{ReadDir}
-use Rattle.nfs_compound.specs.declared.name_args.Rename.{Rename}
-use Rattle.nfs_compound.specs.declared.op.Item.{Item}
-use Rattle.nfs_compound.specs.declared.op.Item.TheVariants.{Operation}
-use Rattle.nfs_compound.specs.declared.op.Op.{Op}
-use Rattle.nfs_results.specs.declared.res.Res.{Res}
-use Rattle.nfs_results.specs.MayAnswer.{MayAnswer}
-use Rattle.nfs_results.specs.ResultCodec.{HasArrays}
-use Rattle.nfs_results.specs.Results.{status_of_result}
-use Rattle.nfs_tree.specs.Files.{most_text}
-use Rattle.nfs_tree.specs.Names.{moves}
-use Rattle.nfs_attrs.specs.Attributes.{readable}
-use Rattle.nfs_attrs.specs.Mask.{mask_of}
-use Rattle.nfs_attrs.proofs.Bounds.{attributes_within}
-use Rattle.nfs_attrs.proofs.Lengths.{length_handle}
-use Rattle.nfs_names.specs.declared.context.Context.{Context}
-use Rattle.nfs_names.specs.declared.node.Node.{Node}
-use Rattle.nfs_names.specs.declared.node.Pair.{Pair}
-use Rattle.nfs_names.specs.State.{State}
-use Rattle.nfs_names.specs.Outcome.{Outcome, is_delay}
-use Rattle.nfs_names.specs.Attributes.{about}
-use Rattle.nfs_names.specs.Operation.{one}
-use Rattle.nfs_names.specs.PutPubFh.{put_pub_fh}
-use Rattle.nfs_names.specs.PutRootFh.{put_root_fh}
-use Rattle.nfs_names.specs.ReadDir.{listing_checks}
-use Rattle.nfs_names.specs.Rename.{move_of, renamed}
-use Rattle.nfs_names.proofs.Listed.{listed_within}
-use Rattle.nfs_names.proofs.Masks.{few_words, at_most_three_words, part_few}
+use Rattle.nfs_compound.specs.{declared.name_args.ReadDir.ReadDir, declared.name_args.Rename.Rename, declared.op.Item.Item}
+use Rattle.nfs_compound.specs.{declared.op.Item.TheVariants.Operation, declared.op.Op.Op}
+use Rattle.nfs_results.specs.{declared.res.Res.Res, MayAnswer.MayAnswer, ResultCodec.HasArrays, Results.status_of_result}
+use Rattle.nfs_tree.specs.{Files.most_text, Names.moves}
+use Rattle.nfs_attrs.specs.{Attributes.readable, Mask.mask_of}
+use Rattle.nfs_attrs.proofs.{Bounds.attributes_within, Lengths.length_handle}
+use Rattle.nfs_names.specs.{declared.context.Context.Context, declared.node.Node.Node, declared.node.Pair.Pair, State.State, Outcome.{Outcome, is_delay}}
+use Rattle.nfs_names.specs.{Attributes.about, Operation.one, PutPubFh.put_pub_fh, PutRootFh.put_root_fh, ReadDir.listing_checks, Rename.{move_of, renamed}}
+use Rattle.nfs_names.proofs.{Listed.listed_within, Masks.{few_words, at_most_three_words, part_few}}
 use Rattle.nfs_names.proofs.NameLaws as law
 
 -- a result that the operation may have, whose arrays are as long as their types say

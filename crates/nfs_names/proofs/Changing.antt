@@ -1,36 +1,17 @@
 -- Operations that change the tree ask it last: what they come to by what was found before, and by what the tree refuses.
 use Rattle.std.proofs.Common.{◌≡◌, ℕ, List, Option, Some, None, refl, sym, ◌∙◌, ap}
 use Rattle.std.specs.Prelude.{Bool, Result, Ok, Err, not, is_some, option_map}
-use Rattle.nfs_xdr.specs.Checks.{first_fault, judged}
-use Rattle.nfs_xdr.specs.declared.time.Time.{Time}
-use Rattle.nfs_xdr.specs.declared.status.Status.{Status}
-use Rattle.nfs_xdr.specs.declared.status.Status.TheVariants.{Inval}
-use Rattle.nfs_compound.specs.declared.op_num.OpNum.{OpNum}
+use Rattle.nfs_xdr.specs.{Checks.{first_fault, judged}, declared.time.Time.Time, declared.status.Status.Status, declared.status.Status.TheVariants.Inval}
+use Rattle.nfs_compound.specs.{declared.op_num.OpNum.OpNum, declared.name_args.Create.Create, declared.name_args.Rename.Rename}
 use Rattle.nfs_compound.specs.declared.op_num.OpNum.TheVariants as Num
-use Rattle.nfs_compound.specs.declared.name_args.Create.{Create}
-use Rattle.nfs_compound.specs.declared.name_args.Rename.{Rename}
-use Rattle.nfs_tree.specs.declared.fault.TreeFault.{TreeFault}
-use Rattle.nfs_tree.specs.Create.{create_checks}
-use Rattle.nfs_tree.specs.Names.{link_checks, moves, remove_checks, rename_checks}
-use Rattle.nfs_attrs.specs.declared.wanted.Wanted.{Wanted}
-use Rattle.nfs_attrs.specs.Setting.{make_checks}
+use Rattle.nfs_tree.specs.{declared.fault.TreeFault.TreeFault, Create.create_checks, Names.{link_checks, moves, remove_checks, rename_checks}}
+use Rattle.nfs_attrs.specs.{declared.wanted.Wanted.Wanted, Setting.make_checks}
 use Rattle.nfs_opens.specs.Steps.{◌>>=◌, ◌>>◌, in_order, require}
-use Rattle.nfs_names.specs.declared.context.Context.{Context}
-use Rattle.nfs_names.specs.declared.making.Making.{Making}
-use Rattle.nfs_names.specs.declared.node.Node.{Node}
-use Rattle.nfs_names.specs.State.{State}
-use Rattle.nfs_names.specs.Faults.{status_of, by_tree}
-use Rattle.nfs_names.specs.Outcome.{Outcome, refuses, or_refusal}
-use Rattle.nfs_names.specs.Checks.{current, both}
-use Rattle.nfs_names.specs.Create.{attributes_in, create, new_of, place_checks}
-use Rattle.nfs_names.specs.Fronts.{creating, linking, removing, renaming}
-use Rattle.nfs_names.specs.Link.{link}
-use Rattle.nfs_names.specs.Remove.{remove}
+use Rattle.nfs_names.specs.{declared.context.Context.Context, declared.making.Making.Making, declared.node.Node.Node, State.State, Faults.{status_of, by_tree}}
+use Rattle.nfs_names.specs.{Outcome.{Outcome, refuses, or_refusal}, Checks.{current, both}, Create.{attributes_in, create, new_of, place_checks}}
+use Rattle.nfs_names.specs.{Fronts.{creating, linking, removing, renaming}, Link.link, Remove.remove, Rename.{move_of, renamed, rename}}
 use Rattle.nfs_names.specs.Rename as of_rename
-use Rattle.nfs_names.specs.Rename.{move_of, renamed, rename}
-use Rattle.nfs_names.proofs.Rows.{fault_map}
-use Rattle.nfs_names.proofs.Refusing.{Refuses, refuses_then, order_refuses, held_refuses, ok_refuses}
-use Rattle.nfs_names.proofs.Steps.{through}
+use Rattle.nfs_names.proofs.{Rows.fault_map, Refusing.{Refuses, refuses_then, order_refuses, held_refuses, ok_refuses}, Steps.through}
 use Rattle.nfs_names.proofs.NameLaws.{current_refuses, both_refuses, wanted_refuses, link_places, removed, linked, created}
 
 -- What is found before the tree is asked.

@@ -1,28 +1,14 @@
 -- Each operation on names comes to effects that fit, or to none: what every effect keeps, each operation keeps.
 use Rattle.std.proofs.Common.{◌≡◌, ◌+◌, Bool, true, false, None, refl}
 use Rattle.std.specs.Prelude.{◌&&◌, IfSome}
-use Rattle.nfs_xdr.specs.Checks.{first_fault}
-use Rattle.nfs_xdr.specs.declared.time.Time.{Time}
-use Rattle.nfs_compound.specs.declared.name_args.Rename.{Rename}
-use Rattle.nfs_compound.specs.Arguments.{arguments}
-use Rattle.nfs_compound.specs.declared.op.Op.{Op}
-use Rattle.nfs_compound.specs.declared.op.Item.{Item}
+use Rattle.nfs_xdr.specs.{Checks.first_fault, declared.time.Time.Time}
+use Rattle.nfs_compound.specs.{declared.name_args.Rename.Rename, Arguments.arguments, declared.op.Op.Op, declared.op.Item.Item}
 use Rattle.nfs_compound.specs.declared.op.Item.TheVariants.{Operation, Fault}
-use Rattle.nfs_tree.specs.Files.{root}
-use Rattle.nfs_tree.specs.Names.{rename_checks, moves}
-use Rattle.nfs_names.specs.declared.context.Context.{Context}
-use Rattle.nfs_names.specs.declared.node.Pair.{Pair}
-use Rattle.nfs_names.specs.State.{State}
-use Rattle.nfs_names.specs.Context.{at_object}
-use Rattle.nfs_names.specs.Outcome.{Outcome}
-use Rattle.nfs_names.specs.Operation.{one, grows, comes_to}
-use Rattle.nfs_names.specs.Create.{new_of, sets_of}
-use Rattle.nfs_names.specs.PutPubFh.{put_pub_fh}
-use Rattle.nfs_names.specs.PutRootFh.{put_root_fh}
-use Rattle.nfs_names.specs.Rename.{move_of, renamed}
+use Rattle.nfs_tree.specs.{Files.root, Names.{rename_checks, moves}}
+use Rattle.nfs_names.specs.{declared.context.Context.Context, declared.node.Pair.Pair, State.State, Context.at_object, Outcome.Outcome}
+use Rattle.nfs_names.specs.{Operation.{one, grows, comes_to}, Create.{new_of, sets_of}, PutPubFh.put_pub_fh, PutRootFh.put_root_fh, Rename.{move_of, renamed}}
 use Rattle.nfs_names.proofs.NameLaws as law
-use Rattle.nfs_names.proofs.Ones.{if_delayed}
-use Rattle.nfs_names.proofs.Effects.{Makes, Links, Removes, Moves, Kept}
+use Rattle.nfs_names.proofs.{Ones.if_delayed, Effects.{Makes, Links, Removes, Moves, Kept}}
 
 module _ (P : State → Context → Type 0) (kept : Kept P) where
   abbrev Q : Outcome → Type 0

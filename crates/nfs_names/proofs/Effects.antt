@@ -2,14 +2,9 @@
 -- holds behind each operation.
 use Rattle.std.proofs.Common.{◌≡◌, ℕ, true, List, None}
 use Rattle.nfs_xdr.specs.declared.time.Time.{Time}
-use Rattle.nfs_tree.specs.declared.sets.Sets.{Sets}
-use Rattle.nfs_tree.specs.Files.{lookup, named}
-use Rattle.nfs_tree.specs.Create.{New, with_new}
-use Rattle.nfs_tree.specs.Names.{Move, moves, with_link, without_name, with_moved}
+use Rattle.nfs_tree.specs.{declared.sets.Sets.Sets, Files.{lookup, named}, Create.{New, with_new}, Names.{Move, moves, with_link, without_name, with_moved}}
 use Rattle.nfs_tree.specs.Calls.{create_fault, link_fault, remove_fault, rename_fault}
-use Rattle.nfs_names.specs.declared.context.Context.{Context}
-use Rattle.nfs_names.specs.State.{State, with_tree, without_unused}
-use Rattle.nfs_names.specs.Rename.{without_replaced}
+use Rattle.nfs_names.specs.{declared.context.Context.Context, State.{State, with_tree, without_unused}, Rename.without_replaced}
 
 -- an object is made under a name; one gets a further name; a name goes, and what it named if nothing else uses it; an entry moves likewise
 pub data Effect : Type 0 where

@@ -1,25 +1,16 @@
 -- The end of a client: the objects go that only its opens keep, each at the first open of its file, and then its opens.
 use Rattle.std.proofs.Common.{◌≡◌, ℕ, ◌<◌, ◌≤◌, suc, ◌-◌, Bool, true, false, not, List, [], ◌∷◌, Option, Some, None, refl, sym, ◌∙◌, ap, subst, arith, inl, inr}
-use Rattle.std.specs.Prelude.{◌==◌, ◌||◌, ◌&&◌, nat_lt, filter, find, is_some}
-use Rattle.std.specs.List.{list_any}
-use Rattle.std.specs.Option.{option_map_or}
 use Rattle.std.proofs.lemmas.Bool.{cases_Bool, cases_eq, cases_lt, eqb-true, eq-eqb, ne_eqb, lt-ltb, false≢true}
+use Rattle.std.specs.{Prelude.{◌==◌, ◌||◌, ◌&&◌, nat_lt, filter, find, is_some}, List.list_any, Option.option_map_or}
 use Rattle.nfs_xdr.specs.Tables.{In}
-use Rattle.nfs_xdr.proofs.Lists.{stays_in, find_in, none_in, any_in, filter_all, find_out, none_found, some_or_none}
-use Rattle.nfs_xdr.proofs.Tables.{in_once, in_bounds}
-use Rattle.nfs_tree.specs.declared.stored.Stored.{Stored}
-use Rattle.nfs_tree.specs.Files.{root, stored_in, is_there, has_row}
-use Rattle.nfs_tree.specs.Names.{forget}
+use Rattle.nfs_xdr.proofs.{Lists.{stays_in, find_in, none_in, any_in, filter_all, find_out, none_found, some_or_none}, Tables.{in_once, in_bounds}}
+use Rattle.nfs_tree.specs.{declared.stored.Stored.Stored, Files.{root, stored_in, is_there, has_row}, Names.forget}
 use Rattle.nfs_tree.proofs.Objects.{stored_dropped}
-use Rattle.nfs_opens.specs.declared.records.OpenState.{OpenState}
-use Rattle.nfs_opens.specs.Table.{Table}
-use Rattle.nfs_opens.specs.TableInvariants.{IsTable}
+use Rattle.nfs_opens.specs.{declared.records.OpenState.OpenState, Table.Table, TableInvariants.IsTable}
 use Rattle.nfs_opens.proofs.IndexLemmas.{first_least, come_bounds}
-use Rattle.nfs_names.specs.State.{State, with_tree, is_open, is_used}
-use Rattle.nfs_names.specs.StoreInvariants.{IsRooted, IsStore}
+use Rattle.nfs_names.specs.{State.{State, with_tree, is_open, is_used}, StoreInvariants.{IsRooted, IsStore}}
 use Rattle.nfs_names.specs.Ending.{table_staying, with_opens, without_opens, without_own, staying}
-use Rattle.nfs_names.proofs.StoreInvariants.{rooted, rooted_without}
-use Rattle.nfs_names.proofs.Staying.{there_in, used_open, used_without, with_objects}
+use Rattle.nfs_names.proofs.{StoreInvariants.{rooted, rooted_without}, Staying.{there_in, used_open, used_without, with_objects}}
 
 abbrev pub others : ℕ → ℕ → Bool
 others client c = not (c == client)

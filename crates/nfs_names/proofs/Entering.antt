@@ -1,38 +1,19 @@
 -- Entries that fit, put one after another.
 use Rattle.std.proofs.Common.{◌≡◌, ℕ, suc, ◌+◌, ◌-◌, ◌<◌, ◌≤◌, Bool, true, false, cond, List, [], ◌∷◌, ◌++◌, length, map, Option, Some, None, refl, sym, ◌∙◌}
 use Rattle.std.proofs.Common.{ap, subst, inl, inr, arith, append_assoc}
-use Rattle.std.specs.Prelude.{nat_le, ◌==◌, is_some}
-use Rattle.std.specs.List.{flat_map}
 use Rattle.std.proofs.lemmas.Bool.{cases_Bool, leb-true, leb-false, le-leb, eq-eqb, ne_eqb, false_from_ne_true}
-use Rattle.nfs_xdr.specs.SheetState.{SheetState, Puts}
-use Rattle.nfs_results.specs.declared.res.Entry.{Entry}
-use Rattle.nfs_results.specs.Straight.{entry_text}
-use Rattle.nfs_xdr.specs.Spelling.{padding, opaque}
-use Rattle.nfs_xdr.proofs.Putting.{length_number, length_hyper}
-use Rattle.std.specs.Prelude.{filter, nat_lt, ◌&&◌, option_map}
-use Rattle.nfs_results.specs.Straight.{entry_head}
-use Rattle.nfs_results.specs.Items.{fattr}
-use Rattle.nfs_tree.specs.declared.object.Object.{Object}
-use Rattle.nfs_tree.specs.declared.row.Row.{Row}
-use Rattle.nfs_tree.specs.declared.stored.Stored.{Stored}
-use Rattle.nfs_tree.specs.TreeInvariants.{IsTree}
 use Rattle.std.proofs.lemmas.List.{length-replicate, length-append, append-nil, length-map}
-use Rattle.nfs_xdr.specs.Tables.{In}
-use Rattle.nfs_xdr.proofs.Lists.{in_map, in_filter}
-use Rattle.nfs_attrs.specs.declared.mask.Mask.{Mask}
-use Rattle.nfs_attrs.specs.Attributes.{values, readable, spell_attrs}
-use Rattle.nfs_names.specs.State.{State}
-use Rattle.nfs_names.specs.Attributes.{about}
-use Rattle.nfs_names.specs.ReadDir.{attributes_at, entry_of}
-use Rattle.nfs_names.proofs.Masks.{attributes_spelled}
+use Rattle.std.specs.{Prelude.{nat_le, ◌==◌, is_some, filter, nat_lt, ◌&&◌, option_map}, List.flat_map}
+use Rattle.nfs_xdr.specs.{SheetState.{SheetState, Puts}, Spelling.{padding, opaque}, Tables.In}
+use Rattle.nfs_results.specs.{declared.res.Entry.Entry, Straight.{entry_text, entry_head}, Items.fattr, Largest.given}
+use Rattle.nfs_xdr.proofs.{Putting.{length_number, length_hyper}, Lists.{in_map, in_filter}}
+use Rattle.nfs_tree.specs.{declared.object.Object.Object, declared.row.Row.Row, declared.stored.Stored.Stored, TreeInvariants.IsTree}
 use Rattle.nfs_tree.specs.Files.{Files, Listed, listed, listing, stored_in, is_there, object_at}
-use Rattle.nfs_names.specs.ReadDir.{longest, fits, fitting, left}
-use Rattle.nfs_names.specs.Lists.{PutsWithin}
-use Rattle.nfs_compound.specs.declared.name_args.ReadDir.{ReadDir}
-use Rattle.nfs_results.specs.Largest.{given}
-use Rattle.nfs_attrs.specs.Mask.{mask_of, common, spell_mask}
-use Rattle.nfs_attrs.specs.declared.about.About.{About}
+use Rattle.nfs_attrs.specs.{declared.mask.Mask.Mask, Attributes.{values, readable, spell_attrs}, Mask.{mask_of, common, spell_mask}, declared.about.About.About}
+use Rattle.nfs_names.specs.{State.State, Attributes.about, ReadDir.{attributes_at, entry_of, longest, fits, fitting, left}, Lists.PutsWithin}
 use Rattle.nfs_names.specs.declared.node.Node.{Node}
+use Rattle.nfs_names.proofs.Masks.{attributes_spelled}
+use Rattle.nfs_compound.specs.declared.name_args.ReadDir.{ReadDir}
 
 -- a front within so many bytes
 abbrev pub fits_in : ℕ → List Entry → Bool

@@ -1,24 +1,16 @@
 -- What the tree answers, under an operation's number.
 use Rattle.std.proofs.Common.{◌≡◌, ◌⊎◌, ℕ, Bool, true, false, cond, eqb, List, [], Option, Some, None, refl, sym, subst, ◌∙◌, ap, inl, inr}
+use Rattle.std.proofs.lemmas.Bool.{and_right}
 use Rattle.std.specs.Prelude.{Result, Ok, Err, IsOk, ◌&&◌}
-use Rattle.nfs_xdr.specs.Checks.{first_fault}
-use Rattle.nfs_xdr.specs.Status.{status_number}
-use Rattle.nfs_xdr.specs.declared.status.Status.{Status}
-use Rattle.nfs_xdr.specs.declared.status.Status.TheVariants.{Delay}
-use Rattle.nfs_compound.specs.declared.op_num.OpNum.{OpNum}
-use Rattle.nfs_compound.specs.OpNum.{op_number}
-use Rattle.nfs_results.specs.declared.res.Res.{Res}
-use Rattle.nfs_results.specs.Results.{status_of_result, refusal}
+use Rattle.nfs_xdr.specs.{Checks.first_fault, Status.status_number, declared.status.Status.Status, declared.status.Status.TheVariants.Delay}
+use Rattle.nfs_compound.specs.{declared.op_num.OpNum.OpNum, OpNum.op_number}
+use Rattle.nfs_results.specs.{declared.res.Res.Res, Results.{status_of_result, refusal}}
 use Rattle.nfs_tree.specs.declared.fault.TreeFault.{TreeFault}
 use Rattle.nfs_tree.specs.declared.fault.TreeFault.TheVariants.{NoEnt, Exist, NotDir, IsDir, NotEmpty, Inval, Fbig, NoSpc, Mlink, Counter, Memory}
-use Rattle.nfs_tree.specs.Files.{Files}
-use Rattle.nfs_tree.specs.Calls.{Did, does_unless, DoesOrWants}
-use Rattle.nfs_names.specs.declared.context.Context.{Context}
-use Rattle.nfs_names.specs.State.{State, with_tree}
-use Rattle.nfs_names.specs.Faults.{status_of}
-use Rattle.nfs_names.proofs.Refusing.{IsRefusal, Refuses}
-use Rattle.std.proofs.lemmas.Bool.{and_right}
+use Rattle.nfs_tree.specs.{Files.Files, Calls.{Did, does_unless, DoesOrWants}}
+use Rattle.nfs_names.specs.{declared.context.Context.Context, State.{State, with_tree}, Faults.status_of}
 use Rattle.nfs_names.specs.Outcome.{Outcome, refuses, passed, checked, answers, or_delay, is_ok, is_delay}
+use Rattle.nfs_names.proofs.Refusing.{IsRefusal, Refuses}
 
 pub does_ok : {A : Type 0} (t : Files) (fault : Option TreeFault) (answer a : A) (after : Files)
     → Ok a ≡ (does_unless t fault answer after).answer → (fault ≡ None) × (a ≡ answer)

@@ -1,19 +1,12 @@
 -- What is known of an object that was found under a filehandle, and of what passed its checks.
 use Rattle.std.proofs.Common.{◌≡◌, ℕ, ◌≤◌, Bool, true, false, cond, List, [], ◌∷◌, ◌++◌, length, Option, Some, None, refl, sym, ◌∙◌, ap, arith}
-use Rattle.std.specs.Prelude.{Result, Ok, Err, is_some, nat_lt, nat_le, ◌==◌, ◌&&◌}
-use Rattle.std.specs.Option.{option_map_or}
 use Rattle.std.proofs.lemmas.Bool.{and_from, ltb-false, lt-ltb, le-leb}
-use Rattle.nfs_xdr.specs.Checks.{first_fault, judged}
-use Rattle.nfs_xdr.specs.declared.status.Status.{Status}
-use Rattle.nfs_tree.specs.declared.object.Object.{Object}
-use Rattle.nfs_tree.specs.declared.stored.Stored.{Stored}
-use Rattle.nfs_tree.specs.Object.{is_directory}
+use Rattle.std.specs.{Prelude.{Result, Ok, Err, is_some, nat_lt, nat_le, ◌==◌, ◌&&◌}, Option.option_map_or}
+use Rattle.nfs_xdr.specs.{Checks.{first_fault, judged}, declared.status.Status.Status}
+use Rattle.nfs_tree.specs.{declared.object.Object.Object, declared.stored.Stored.Stored, Object.is_directory}
 use Rattle.nfs_tree.specs.Files.{Files, most_name, is_name, stored_in, object_at, is_there, is_directory_at}
 pub use Rattle.nfs_opens.proofs.CallLaws.{came, ok_is}
-use Rattle.nfs_names.specs.declared.context.Context.{Context}
-use Rattle.nfs_names.specs.declared.node.Node.{Node}
-use Rattle.nfs_names.specs.State.{State}
-use Rattle.nfs_names.specs.Outcome.{passed, checked}
+use Rattle.nfs_names.specs.{declared.context.Context.Context, declared.node.Node.Node, State.State, Outcome.{passed, checked}}
 use Rattle.nfs_names.specs.Checks.{node_as, node_at, current}
 
 passed_ok : {A : Type 0} (b a : A) (o : Option Status) → passed b o ≡ Ok a → (b ≡ a) × (o ≡ None)

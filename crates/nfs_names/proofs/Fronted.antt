@@ -1,36 +1,18 @@
 -- Operations and what the code finds for them first: that is their first steps.
 use Rattle.std.proofs.Common.{◌≡◌, ℕ, List, refl, sym, ◌∙◌, ap, subst}
 use Rattle.std.specs.Prelude.{Result, Ok, ok_or, not, is_some}
-use Rattle.nfs_xdr.specs.SheetState.{SheetState, Puts}
-use Rattle.nfs_xdr.specs.declared.status.Status.{Status}
-use Rattle.nfs_xdr.specs.declared.status.Status.TheVariants.{Inval, NoEnt}
-use Rattle.nfs_compound.specs.declared.name_args.Create.{Create}
-use Rattle.nfs_compound.specs.declared.op_num.OpNum.{OpNum}
+use Rattle.nfs_xdr.specs.{SheetState.{SheetState, Puts}, declared.status.Status.Status, declared.status.Status.TheVariants.{Inval, NoEnt}}
+use Rattle.nfs_compound.specs.{declared.name_args.Create.Create, declared.op_num.OpNum.OpNum, OpNum.op_number}
 use Rattle.nfs_compound.specs.declared.op_num.OpNum.TheVariants as Num
-use Rattle.nfs_compound.specs.OpNum.{op_number}
 use Rattle.nfs_results.specs.declared.res.Res.TheVariants as Res
 use Rattle.nfs_results.specs.Results.{refusal, spell_result}
-use Rattle.nfs_tree.specs.Bytes.{part}
-use Rattle.nfs_tree.specs.Files.{lookup as found, most_text}
-use Rattle.nfs_attrs.specs.Mask.{mask_of}
-use Rattle.nfs_attrs.specs.Setting.{make_checks}
+use Rattle.nfs_tree.specs.{Bytes.part, Files.{lookup as found, most_text}}
+use Rattle.nfs_attrs.specs.{Mask.mask_of, Setting.make_checks}
 use Rattle.nfs_opens.specs.Steps.{◌>>=◌, ◌>>◌, in_order, require}
-use Rattle.nfs_names.specs.declared.context.Context.{Context}
-use Rattle.nfs_names.specs.declared.making.Making.{Making}
-use Rattle.nfs_names.specs.declared.node.Node.{Node}
-use Rattle.nfs_names.specs.State.{State}
-use Rattle.nfs_names.specs.Context.{at_object}
-use Rattle.nfs_names.specs.Outcome.{Outcome, done, refuses, or_refusal}
-use Rattle.nfs_names.specs.Comes.{Comes}
-use Rattle.nfs_names.specs.Checks.{current}
-use Rattle.nfs_names.specs.Attributes.{attributes_of}
-use Rattle.nfs_names.specs.Create.{attributes_in}
-use Rattle.nfs_names.specs.Fronts.{creating, getting_attr, looking_up, placing, reading_link}
-use Rattle.nfs_names.specs.GetAttr.{get_attr}
-use Rattle.nfs_names.specs.Lookup.{lookup}
-use Rattle.nfs_names.specs.ReadLink.{read_link}
-use Rattle.nfs_names.proofs.Steps.{through}
-use Rattle.nfs_names.proofs.Faulted.{status_of_refusal}
+use Rattle.nfs_names.specs.{declared.context.Context.Context, declared.making.Making.Making, declared.node.Node.Node, State.State, Context.at_object}
+use Rattle.nfs_names.specs.{Outcome.{Outcome, done, refuses, or_refusal}, Comes.Comes, Checks.current, Attributes.attributes_of, Create.attributes_in}
+use Rattle.nfs_names.specs.{Fronts.{creating, getting_attr, looking_up, placing, reading_link}, GetAttr.get_attr, Lookup.lookup, ReadLink.read_link}
+use Rattle.nfs_names.proofs.{Steps.through, Faulted.status_of_refusal}
 
 -- what is wanted of an object that is to be made in a place
 abbrev pub wanting : Context → Create → Node → Result Making Status

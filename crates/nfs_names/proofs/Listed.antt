@@ -1,41 +1,22 @@
 -- A listing is put whole, or refused where no entry fits.
-use Rattle.std.proofs.Common.{◌≡◌, ℕ, ◌+◌, ◌<◌, ◌≤◌, Bool, true, false, List, [], ◌∷◌, ◌++◌, length, take, refl, sym, ◌∙◌, ap, subst, inl}
-use Rattle.std.proofs.Common.{inr, arith}
-use Rattle.std.specs.Prelude.{nat_lt, ◌==◌, Result, Ok, not}
-use Rattle.std.specs.List.{flat_map}
+use Rattle.std.proofs.Common.{◌≡◌, ℕ, ◌+◌, ◌<◌, ◌≤◌, Bool, true, false, List, [], ◌∷◌, ◌++◌, length, take, refl, sym, ◌∙◌, ap, subst, inl, inr, arith}
 use Rattle.std.proofs.lemmas.List.{length-append}
 use Rattle.std.proofs.lemmas.Bool.{cases_Bool, leb-true, le-leb, lt-ltb, eq-eqb, eqb-true, and_right, and_left, and_from, false_from_ne_true, false≢true}
-use Rattle.std.proofs.lemmas.Bool.{eqb-false}
+use Rattle.std.proofs.{lemmas.Bool.eqb-false, Math.Seq.take-append_seam}
+use Rattle.std.specs.{Prelude.{nat_lt, ◌==◌, Result, Ok, not}, List.flat_map}
 use Rattle.nfs_opens.specs.Steps.{◌>>=◌, ◌>>◌, require}
-use Rattle.nfs_xdr.specs.SheetState.{SheetState, Puts}
-use Rattle.nfs_xdr.specs.declared.status.Status.{Status}
-use Rattle.nfs_xdr.specs.declared.status.Status.TheVariants.{Nfs4Ok, TooSmall}
-use Rattle.nfs_compound.specs.declared.name_args.ReadDir.{ReadDir}
-use Rattle.nfs_results.specs.Largest.{given}
-use Rattle.nfs_results.specs.declared.res.Entry.{Entry}
-use Rattle.nfs_results.specs.declared.res.ReadDirOk.{ReadDirOk}
-use Rattle.nfs_results.specs.declared.res.Res.TheVariants as Res
-use Rattle.nfs_results.specs.Straight.{entry_head, entry_text, read_dir_head, list_end}
-use Rattle.nfs_results.specs.Items.{fattr}
-use Rattle.nfs_results.specs.Results.{spell_result, refusal, head}
-use Rattle.nfs_results.specs.Parts.{parts}
-use Rattle.nfs_results.proofs.Lengths.{length_head, length_spelled}
-use Rattle.nfs_results.proofs.StraightLaws.{read_dir_in_parts}
+use Rattle.nfs_xdr.specs.{SheetState.{SheetState, Puts}, declared.status.Status.Status, declared.status.Status.TheVariants.{Nfs4Ok, TooSmall}}
 use Rattle.nfs_xdr.specs.Spelling.{number, fixed}
+use Rattle.nfs_compound.specs.declared.name_args.ReadDir.{ReadDir}
+use Rattle.nfs_results.specs.{Largest.given, declared.res.Entry.Entry, declared.res.ReadDirOk.ReadDirOk}
+use Rattle.nfs_results.specs.{Straight.{entry_head, entry_text, read_dir_head, list_end}, Items.fattr, Results.{spell_result, refusal, head}, Parts.parts}
+use Rattle.nfs_results.specs.declared.res.Res.TheVariants as Res
+use Rattle.nfs_results.proofs.{Lengths.{length_head, length_spelled}, StraightLaws.read_dir_in_parts}
 use Rattle.nfs_xdr.proofs.Putting.{length_number, puts_then}
-use Rattle.std.proofs.Math.Seq.{take-append_seam}
 use Rattle.nfs_compound.specs.declared.op_num.OpNum.TheVariants as Num
-use Rattle.nfs_names.specs.declared.context.Context.{Context}
-use Rattle.nfs_names.specs.Comes.{Comes}
-use Rattle.nfs_names.specs.Outcome.{Outcome, done, or_refusal}
-use Rattle.nfs_names.specs.Checks.{current}
-use Rattle.nfs_names.specs.declared.node.Node.{Node}
-use Rattle.nfs_names.specs.State.{State}
-use Rattle.nfs_names.specs.Fronts.{reading_dir}
-use Rattle.nfs_names.specs.ReadDir.{longest, fits, fitting, left, zeros, fits_none, listed, read_dir}
-use Rattle.nfs_names.specs.Lists.{Lists}
-use Rattle.nfs_names.proofs.Steps.{through}
-use Rattle.nfs_names.proofs.Entering.{length_entry_head, given_least}
+use Rattle.nfs_names.specs.{declared.context.Context.Context, Comes.Comes, Outcome.{Outcome, done, or_refusal}, Checks.current, declared.node.Node.Node}
+use Rattle.nfs_names.specs.{State.State, Fronts.reading_dir, ReadDir.{longest, fits, fitting, left, zeros, fits_none, listed, read_dir}, Lists.Lists}
+use Rattle.nfs_names.proofs.{Steps.through, Entering.{length_entry_head, given_least}}
 
 longest_passes : {A : Type 0} (test : List A → Bool) (xs : List A) → test [] ≡ true → test (longest test xs) ≡ true
 longest_passes test [] e = e

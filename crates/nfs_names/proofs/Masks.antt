@@ -1,17 +1,11 @@
 -- What is reported of masks, and room for what is put part by part.
 use Rattle.std.proofs.Common.{◌≡◌, ℕ, suc, inl, inr, ◌+◌, ◌≤◌, true, false, cond, List, [], ◌∷◌, length, get_or, drop, refl, ◌∙◌, ap, arith}
+use Rattle.std.proofs.{lemmas.Bool.{ne_eqb, and_right, cases_Bool}, lemmas.List.{length-append, length-take}}
 use Rattle.std.specs.Prelude.{◌==◌, ◌&&◌}
-use Rattle.std.proofs.lemmas.Bool.{ne_eqb, and_right, cases_Bool}
-use Rattle.std.proofs.lemmas.List.{length-append, length-take}
-use Rattle.nfs_tree.specs.Files.{Files, data_at}
-use Rattle.nfs_tree.specs.Bytes.{part}
+use Rattle.nfs_tree.specs.{Files.{Files, data_at}, Bytes.part, declared.object.Object.Object}
 use Rattle.nfs_xdr.specs.SheetState.{SheetState, HasRoom, Puts}
-use Rattle.nfs_results.specs.AttrSet.{before, trimmed}
-use Rattle.nfs_results.specs.Items.{attr_set, fattr}
-use Rattle.nfs_tree.specs.declared.object.Object.{Object}
-use Rattle.nfs_attrs.specs.declared.about.About.{About}
-use Rattle.nfs_attrs.specs.declared.mask.Mask.{Mask}
-use Rattle.nfs_attrs.specs.Mask.{before_zero, without_last_zeros, trimmed_words, common}
+use Rattle.nfs_results.specs.{AttrSet.{before, trimmed}, Items.{attr_set, fattr}}
+use Rattle.nfs_attrs.specs.{declared.about.About.About, declared.mask.Mask.Mask, Mask.{before_zero, without_last_zeros, trimmed_words, common}}
 use Rattle.nfs_attrs.specs.Attributes.{readable, values, spell_attrs}
 
 same_before : (word : ℕ) (words : List ℕ) → before word words ≡ before_zero word words

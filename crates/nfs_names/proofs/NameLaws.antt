@@ -1,66 +1,30 @@
 -- What an operation on names found if it was done, and what it came to: a law for each. If it was refused, it was for a reason of its own.
 use Rattle.std.proofs.Common.{◌≡◌, ℕ, ◌+◌, Bool, true, List, [], ◌∷◌, Option, Some, None, refl}
 use Rattle.std.specs.Prelude.{◌==◌, Result, Ok, Err, not, is_some}
-use Rattle.nfs_xdr.specs.Checks.{first_fault}
-use Rattle.nfs_xdr.specs.declared.time.Time.{Time}
-use Rattle.nfs_xdr.specs.declared.status.Status.{Status}
+use Rattle.nfs_xdr.specs.{Checks.first_fault, declared.time.Time.Time, declared.status.Status.Status}
 use Rattle.nfs_xdr.specs.declared.status.Status.TheVariants.{IsDir, Symlink, Inval, Stale, NoEnt, BadHandle, NoFileHandle, WrongType, NotSame, Same, TooSmall}
-use Rattle.nfs_compound.specs.declared.op_num.OpNum.{OpNum}
-use Rattle.nfs_compound.specs.declared.op_num.OpNum.TheVariants as Num
-use Rattle.nfs_compound.specs.declared.attributes.Attributes.{Attributes}
-use Rattle.nfs_compound.specs.declared.name_args.Create.{Create}
-use Rattle.nfs_compound.specs.declared.name_args.ReadDir.{ReadDir}
-use Rattle.nfs_compound.specs.declared.name_args.Rename.{Rename}
-use Rattle.nfs_compound.specs.declared.name_args.SecinfoStyle.{SecinfoStyle}
+use Rattle.nfs_compound.specs.{declared.op_num.OpNum.OpNum, declared.attributes.Attributes.Attributes, declared.name_args.Create.Create}
+use Rattle.nfs_compound.specs.{declared.name_args.ReadDir.ReadDir, declared.name_args.Rename.Rename, declared.name_args.SecinfoStyle.SecinfoStyle}
 use Rattle.nfs_compound.specs.declared.name_args.SecinfoStyle.TheVariants.{CurrentFh, Parent}
+use Rattle.nfs_compound.specs.declared.op_num.OpNum.TheVariants as Num
 use Rattle.nfs_results.specs.declared.res.Res.TheVariants as Res
-use Rattle.nfs_tree.specs.declared.object.Object.{Object}
-use Rattle.nfs_tree.specs.Bytes.{part}
-use Rattle.nfs_tree.specs.Files.{most_text, raised, named, object_at, parent_in, lookup as found}
-use Rattle.nfs_tree.specs.Create.{create_checks, with_new}
-use Rattle.nfs_tree.specs.Names.{link_checks, with_link, moves, remove_checks, rename_checks, without_name}
+use Rattle.nfs_tree.specs.{declared.object.Object.Object, Bytes.part, Files.{most_text, raised, named, object_at, parent_in, lookup as found}}
+use Rattle.nfs_tree.specs.{Create.{create_checks, with_new}, Names.{link_checks, with_link, moves, remove_checks, rename_checks, without_name}}
 use Rattle.nfs_tree.specs.Object.{is_directory}
-use Rattle.nfs_attrs.specs.declared.handle.Handle.{Handle}
-use Rattle.nfs_attrs.specs.declared.wanted.AttrFault.{AttrFault}
+use Rattle.nfs_attrs.specs.{declared.handle.Handle.Handle, declared.wanted.AttrFault.AttrFault, declared.wanted.Wanted.Wanted, Handle.handle_of}
+use Rattle.nfs_attrs.specs.{Mask.{mask_of, asks_set_only, trimmed_words}, Permissions.{change, execute, judge_access}, Reading.fault_status}
+use Rattle.nfs_attrs.specs.{Setting.make_checks, Wire.nfs_fh4}
 use Rattle.nfs_attrs.specs.declared.wanted.AttrFault.TheVariants as F
-use Rattle.nfs_attrs.specs.declared.wanted.Wanted.{Wanted}
-use Rattle.nfs_attrs.specs.Handle.{handle_of}
-use Rattle.nfs_attrs.specs.Mask.{mask_of, asks_set_only, trimmed_words}
-use Rattle.nfs_attrs.specs.Permissions.{change, execute, judge_access}
-use Rattle.nfs_attrs.specs.Reading.{fault_status}
-use Rattle.nfs_attrs.specs.Setting.{make_checks}
-use Rattle.nfs_attrs.specs.Wire.{nfs_fh4}
 use Rattle.nfs_opens.specs.Steps.{map_err}
-use Rattle.nfs_names.specs.declared.context.Context.{Context}
-use Rattle.nfs_names.specs.declared.context.Saved.{Saved}
-use Rattle.nfs_names.specs.declared.node.Node.{Node}
-use Rattle.nfs_names.specs.declared.node.Pair.{Pair}
-use Rattle.nfs_names.specs.State.{State, with_tree, without_unused}
-use Rattle.nfs_names.specs.Context.{at_object}
-use Rattle.nfs_names.specs.Outcome.{Outcome, done, refuses}
-use Rattle.nfs_names.specs.Checks.{node_as, node_at, saved_object, current, both, no_directory, denied, name_checks}
-use Rattle.nfs_names.specs.Faults.{by_tree}
-use Rattle.nfs_names.specs.Attributes.{attributes_of}
-use Rattle.nfs_names.specs.Access.{told_access, access}
-use Rattle.nfs_names.specs.Create.{attributes_in, change_info, create, new_of, place_checks, sets_of, wanted_of}
-use Rattle.nfs_names.specs.GetAttr.{get_attr}
-use Rattle.nfs_names.specs.GetFh.{get_fh}
-use Rattle.nfs_names.specs.Link.{link}
-use Rattle.nfs_names.specs.Lookup.{lookup, is_link}
-use Rattle.nfs_names.specs.LookupP.{lookup_p}
-use Rattle.nfs_names.specs.NVerify.{nverify}
-use Rattle.nfs_names.specs.PutFh.{put_fh}
-use Rattle.nfs_names.specs.ReadDir.{listing_checks, fits_none, listed, read_dir}
-use Rattle.nfs_names.specs.ReadLink.{read_link}
-use Rattle.nfs_names.specs.Remove.{remove}
+use Rattle.nfs_names.specs.{declared.context.Context.Context, declared.context.Saved.Saved, declared.node.Node.Node, declared.node.Pair.Pair}
+use Rattle.nfs_names.specs.{State.{State, with_tree, without_unused}, Context.at_object, Outcome.{Outcome, done, refuses}}
+use Rattle.nfs_names.specs.{Checks.{node_as, node_at, saved_object, current, both, no_directory, denied, name_checks}, Faults.by_tree, Attributes.attributes_of}
+use Rattle.nfs_names.specs.{Access.{told_access, access}, Create.{attributes_in, change_info, create, new_of, place_checks, sets_of, wanted_of}}
+use Rattle.nfs_names.specs.{GetAttr.get_attr, GetFh.get_fh, Link.link, Lookup.{lookup, is_link}, LookupP.lookup_p, NVerify.nverify, PutFh.put_fh}
+use Rattle.nfs_names.specs.{ReadDir.{listing_checks, fits_none, listed, read_dir}, ReadLink.read_link, Remove.remove, Rename.{move_of, renamed, rename}}
+use Rattle.nfs_names.specs.{RestoreFh.restore_fh, SaveFh.save_fh, SecinfoNoName.{style_checks, secinfo_no_name}, Verify.{same_at, compared, verify}}
 use Rattle.nfs_names.specs.Rename as of_rename
-use Rattle.nfs_names.specs.Rename.{move_of, renamed, rename}
-use Rattle.nfs_names.specs.RestoreFh.{restore_fh}
-use Rattle.nfs_names.specs.SaveFh.{save_fh}
-use Rattle.nfs_names.specs.SecinfoNoName.{style_checks, secinfo_no_name}
-use Rattle.nfs_names.specs.Verify.{same_at, compared, verify}
-use Rattle.nfs_names.proofs.Rows.{tree_passes}
-use Rattle.nfs_names.proofs.Refusing.{IsRefusal, refusal_by, Refuses, all_refuse, err_refuses, ok_refuses, refuses_then}
+use Rattle.nfs_names.proofs.{Rows.tree_passes, Refusing.{IsRefusal, refusal_by, Refuses, all_refuse, err_refuses, ok_refuses, refuses_then}}
 use Rattle.nfs_names.proofs.Steps.{ends_found, ends_there, ends_held, ends_passed, by_steps}
 
 -- What is looked up.

@@ -1,13 +1,10 @@
 -- What holds of the outcome of an operation, if it is one of a table of operations.
 use Rattle.std.proofs.Common.{◌≡◌, refl, Bool, true, false, cond, Option, Some, None, subst}
-use Rattle.std.specs.Prelude.{◌&&◌, IfSome}
-use Rattle.std.specs.Option.{ForSome, option_map}
+use Rattle.std.specs.{Prelude.{◌&&◌, IfSome}, Option.{ForSome, option_map}}
 use Rattle.nfs_xdr.specs.declared.status.Status.TheVariants.{Delay}
 use Rattle.nfs_compound.specs.declared.op_num.OpNum.{OpNum}
 use Rattle.nfs_results.specs.Results.{status_of_result}
-use Rattle.nfs_names.specs.declared.context.Context.{Context}
-use Rattle.nfs_names.specs.State.{State}
-use Rattle.nfs_names.specs.Outcome.{Outcome, refuses, or_delay, is_ok}
+use Rattle.nfs_names.specs.{declared.context.Context.Context, State.State, Outcome.{Outcome, refuses, or_delay, is_ok}}
 
 pub by_delay : (P : Outcome → Type 0) (b : Bool) (s : State) (x : Context) (op : OpNum) (o : Outcome) → P (refuses s x op Delay) → P o → P (or_delay b s x op o)
 by_delay P b s x op o refused done = elim (b && is_ok (status_of_result o.result)) as (λ k. P (cond k (refuses s x op Delay) o)) [ true ↦ refused | false ↦ done ]

@@ -1,19 +1,11 @@
 -- Which refusals are an operation's own: each is one that a reply can bear, and none is for want of memory.
-use Rattle.std.proofs.Common.{◌≡◌, Bool, true, false, cond, eqb, List, [], ◌∷◌, Option, Some, None, refl, ap, subst}
-use Rattle.std.specs.Prelude.{Result, Ok, Err, ◌&&◌, not, ok_or}
-use Rattle.std.specs.List.{list_all}
-use Rattle.std.proofs.lemmas.Bool.{and_parts, not-true}
-use Rattle.nfs_xdr.specs.Checks.{first_fault, judged}
-use Rattle.nfs_xdr.specs.Status.{status_number}
-use Rattle.nfs_xdr.specs.declared.status.Status.{Status}
-use Rattle.nfs_compound.specs.declared.op_num.OpNum.{OpNum}
-use Rattle.nfs_compound.specs.OpNum.{op_number}
-use Rattle.nfs_results.specs.declared.res.Res.{Res}
-use Rattle.nfs_results.specs.Results.{refusal}
+use Rattle.std.proofs.{Common.{◌≡◌, Bool, true, false, cond, eqb, List, [], ◌∷◌, Option, Some, None, refl, ap, subst}, lemmas.Bool.{and_parts, not-true}}
+use Rattle.std.specs.{Prelude.{Result, Ok, Err, ◌&&◌, not, ok_or}, List.list_all}
+use Rattle.nfs_xdr.specs.{Checks.{first_fault, judged}, Status.status_number, declared.status.Status.Status}
+use Rattle.nfs_compound.specs.{declared.op_num.OpNum.OpNum, OpNum.op_number}
+use Rattle.nfs_results.specs.{declared.res.Res.Res, Results.refusal}
 use Rattle.nfs_opens.specs.Steps.{◌>>=◌, in_order, require}
-use Rattle.nfs_names.specs.declared.context.Context.{Context}
-use Rattle.nfs_names.specs.State.{State}
-use Rattle.nfs_names.specs.Outcome.{Outcome, passed, checked, mapped, answers, is_delay}
+use Rattle.nfs_names.specs.{declared.context.Context.Context, State.State, Outcome.{Outcome, passed, checked, mapped, answers, is_delay}}
 
 -- neither NFS4_OK nor that of an operation that there is not, nor NFS4ERR_DELAY
 pub record IsRefusal (status : Status) : Type 0 where

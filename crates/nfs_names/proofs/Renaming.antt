@@ -1,36 +1,22 @@
 -- RENAME: the tree's own checks are its last ones, and what it leaves.
 use Rattle.std.proofs.Common.{◌≡◌, ℕ, List, ◌+◌, true, false, not, Option, Some, None, refl, sym, subst, ◌∙◌, ap, inl, inr}
-use Rattle.std.specs.Prelude.{Result, Ok, Err, IsOk, is_ok as is_right, option_map, ◌==◌, ◌&&◌, ◌||◌, if◌then◌else◌, is_some, unwrap_or}
 use Rattle.std.proofs.lemmas.Bool.{cases_Bool, and_right, or_parts, ne_eqb, and_from, false≢true}
-use Rattle.nfs_xdr.proofs.Checks.{all_passed}
+use Rattle.std.specs.Prelude.{Result, Ok, Err, IsOk, is_ok as is_right, option_map, ◌==◌, ◌&&◌, ◌||◌, if◌then◌else◌, is_some, unwrap_or}
+use Rattle.nfs_xdr.proofs.{Checks.all_passed, Lists.none_left}
 use Rattle.nfs_xdr.specs.declared.time.Time.{Time}
 use Rattle.nfs_compound.specs.declared.op_num.OpNum.TheVariants as Num
 use Rattle.nfs_compound.specs.declared.name_args.Rename as args
-use Rattle.nfs_tree.specs.declared.row.Row.{Row}
-use Rattle.nfs_tree.specs.declared.done.Renamed.{Renamed}
-use Rattle.nfs_tree.specs.declared.fault.TreeFault.{TreeFault}
+use Rattle.nfs_tree.specs.{declared.row.Row.Row, declared.done.Renamed.Renamed, declared.fault.TreeFault.TreeFault}
 use Rattle.nfs_tree.specs.Files.{Files, has_name, lookup, is_entry, entry, has_entries, without_entry, raised, stays}
 use Rattle.nfs_tree.specs.Calls.{Did, DoesOrWants, rename_fault, rename_unless}
+use Rattle.nfs_tree.specs.Names.{Move, move, moves, moved_object, replaced_object, is_unlike, is_in_the_way, rename_checks, with_moved}
 use Rattle.nfs_tree.specs.Calls as tree
-use Rattle.nfs_tree.specs.Names.{Move, move, moves, moved_object, replaced_object, is_unlike, is_in_the_way, rename_checks}
-use Rattle.nfs_tree.specs.Names.{with_moved}
 use Rattle.nfs_tree.proofs.Trees.{has_one, apart}
-use Rattle.nfs_names.specs.declared.context.Context.{Context}
-use Rattle.nfs_names.specs.declared.node.Pair.{Pair}
-use Rattle.nfs_names.specs.State.{State}
-use Rattle.nfs_names.specs.Faults.{status_of}
-use Rattle.nfs_names.specs.Outcome.{refuses, or_delay, is_delay}
-use Rattle.nfs_names.specs.Checks.{both}
-use Rattle.nfs_names.specs.Operation.{moves_in}
+use Rattle.nfs_names.specs.{declared.context.Context.Context, declared.node.Pair.Pair, State.State, Faults.status_of, Outcome.{refuses, or_delay, is_delay}}
+use Rattle.nfs_names.specs.{Checks.both, Operation.moves_in, Rename.{move_of, renamed}, Fronts.renaming}
 use Rattle.nfs_names.specs.Rename as of_rename
-use Rattle.nfs_names.specs.Rename.{move_of, renamed}
 use Rattle.nfs_opens.specs.Steps.{in_order}
-use Rattle.nfs_names.proofs.Found.{came, ok_is}
-use Rattle.nfs_names.specs.Fronts.{renaming}
-use Rattle.nfs_names.proofs.Changing.{rename_asks, goes, stops}
-use Rattle.nfs_names.proofs.Rows.{none_pushed}
-use Rattle.nfs_names.proofs.Faulted.{refused_by_did, delayed, not_delayed}
-use Rattle.nfs_xdr.proofs.Lists.{none_left}
+use Rattle.nfs_names.proofs.{Found.{came, ok_is}, Changing.{rename_asks, goes, stops}, Rows.none_pushed, Faulted.{refused_by_did, delayed, not_delayed}}
 
 -- what the tree did of two names, of the names that were asked for
 pub as_named : (t left : Files) (now : Time) (p : Pair) (a : args.Rename) (old new : List ℕ) (r : Result Renamed TreeFault) → old ≡ a.oldname → new ≡ a.newname

@@ -1,8 +1,7 @@
 -- The last checks of an operation are those of the tree, under the statuses of its faults.
 use Rattle.std.proofs.Common.{◌≡◌, Bool, true, false, cond, eqb, not, List, [], ◌∷◌, ◌++◌, length, map, Option, Some, None, refl, ◌∙◌, ap, inl, inr, arith}
-use Rattle.std.specs.Prelude.{option_map, filter}
-use Rattle.std.specs.List.{list_any}
 use Rattle.std.proofs.lemmas.Bool.{cases_Bool, ne_eqb}
+use Rattle.std.specs.{Prelude.{option_map, filter}, List.list_any}
 use Rattle.nfs_xdr.specs.Checks.{first_fault}
 use Rattle.nfs_xdr.proofs.Lists.{any_push}
 use Rattle.nfs_tree.specs.declared.fault.TreeFault.{TreeFault}

@@ -1,25 +1,15 @@
 -- Each operation on names leaves a tree that is one, and a store that is one.
-use Rattle.std.proofs.Common.{◌≡◌, ℕ, Bool, false, not, Option, Some, None, refl, sym, ◌∙◌, inl, inr}
+use Rattle.std.proofs.{Common.{◌≡◌, ℕ, Bool, false, not, Option, Some, None, refl, sym, ◌∙◌, inl, inr}, lemmas.Bool.{cases_Bool, eq-eqb, or_parts, false≢true}}
 use Rattle.std.specs.Prelude.{◌==◌, ◌||◌, IfSome}
-use Rattle.std.proofs.lemmas.Bool.{cases_Bool, eq-eqb, or_parts, false≢true}
 use Rattle.nfs_xdr.specs.declared.time.Time.{Time}
 use Rattle.nfs_xdr.proofs.Lists.{none_left}
 use Rattle.nfs_compound.specs.declared.op.Item.{Item}
-use Rattle.nfs_tree.specs.Files.{root, has_row, has_entries, is_entry, lookup, named}
-use Rattle.nfs_tree.specs.Names.{with_moved, without_name}
-use Rattle.nfs_tree.specs.TreeInvariants.{IsTree}
-use Rattle.nfs_tree.proofs.Trees.{tree_forgets, tree_removed, remove_granted}
-use Rattle.nfs_tree.proofs.Put.{tree_created, tree_linked}
-use Rattle.nfs_tree.proofs.Moved.{tree_moved}
-use Rattle.nfs_names.specs.declared.context.Context.{Context}
-use Rattle.nfs_names.specs.State.{State, with_tree, is_open, is_used, without_unused}
-use Rattle.nfs_names.specs.StoreInvariants.{IsStore}
-use Rattle.nfs_names.specs.Rename.{without_replaced}
-use Rattle.nfs_names.specs.Operation.{comes_to}
-use Rattle.nfs_names.proofs.StoreInvariants.{rooted, store_new, store_link, store_removed, store_moved}
-use Rattle.nfs_names.proofs.Renaming.{replaced_empty}
-use Rattle.nfs_names.proofs.Effects.{Effect, Makes, Links, Removes, Moves, Fits, behind, Each, of_states}
-use Rattle.nfs_names.proofs.Effected.{kept_item}
+use Rattle.nfs_tree.specs.{Files.{root, has_row, has_entries, is_entry, lookup, named}, Names.{with_moved, without_name}, TreeInvariants.IsTree}
+use Rattle.nfs_tree.proofs.{Trees.{tree_forgets, tree_removed, remove_granted}, Put.{tree_created, tree_linked}, Moved.tree_moved}
+use Rattle.nfs_names.specs.{declared.context.Context.Context, State.{State, with_tree, is_open, is_used, without_unused}, StoreInvariants.IsStore}
+use Rattle.nfs_names.specs.{Rename.without_replaced, Operation.comes_to}
+use Rattle.nfs_names.proofs.{StoreInvariants.{rooted, store_new, store_link, store_removed, store_moved}, Renaming.replaced_empty}
+use Rattle.nfs_names.proofs.{Effects.{Effect, Makes, Links, Removes, Moves, Fits, behind, Each, of_states}, Effected.kept_item}
 
 -- an object that is not used goes, where it has no entries
 pub tree_unused : (s : State) (n : ℕ) → IsTree s.tree → (is_used s n ≡ false → has_entries s.tree.rows n ≡ false) → IsTree (without_unused s n).tree

@@ -1,24 +1,14 @@
 -- The end of clients: one client after the other, and nobody's.
 use Rattle.std.proofs.Common.{◌≡◌, ◌≢◌, ℕ, Bool, true, false, cond, not, List, [], ◌∷◌, Option, Some, None, refl, sym, ◌∙◌, ap, subst, inl, inr}
-use Rattle.std.specs.Prelude.{◌==◌, ◌||◌, ◌&&◌, filter, is_some}
-use Rattle.std.specs.List.{list_any}
-use Rattle.std.specs.Option.{option_map_or}
-use Rattle.std.proofs.Math.Path.{fun_ext}
-use Rattle.std.proofs.lemmas.Bool.{cases_Bool, eqb-true, eq-eqb, false≢true}
+use Rattle.std.proofs.{Math.Path.fun_ext, lemmas.Bool.{cases_Bool, eqb-true, eq-eqb, false≢true}}
+use Rattle.std.specs.{Prelude.{◌==◌, ◌||◌, ◌&&◌, filter, is_some}, List.list_any, Option.option_map_or}
 use Rattle.nfs_xdr.specs.Tables.{In}
 use Rattle.nfs_xdr.proofs.Lists.{none_any, filter_past, filter_both, filter_all, any_in, any_left}
-use Rattle.nfs_tree.specs.declared.stored.Stored.{Stored}
-use Rattle.nfs_tree.specs.Object.{is_regular}
-use Rattle.nfs_tree.specs.Files.{root, stored_in, has_row}
-use Rattle.nfs_opens.specs.declared.records.OpenState.{OpenState}
-use Rattle.nfs_opens.specs.declared.records.LockState.{LockState}
-use Rattle.nfs_opens.specs.Holding.{FileHolders}
-use Rattle.nfs_opens.specs.Table.{Table}
-use Rattle.nfs_opens.specs.TableInvariants.{IsTable, IsHolder, AreHolders}
-use Rattle.nfs_opens.specs.Closing.{stands, held_within}
+use Rattle.nfs_tree.specs.{declared.stored.Stored.Stored, Object.is_regular, Files.{root, stored_in, has_row}}
+use Rattle.nfs_opens.specs.{declared.records.OpenState.OpenState, declared.records.LockState.LockState, Holding.FileHolders, Table.Table}
+use Rattle.nfs_opens.specs.{TableInvariants.{IsTable, IsHolder, AreHolders}, Closing.{stands, held_within}}
 use Rattle.nfs_opens.proofs.LockLemmas.{same_table}
-use Rattle.nfs_names.specs.State.{State, with_tree, is_open, is_used, without_unused}
-use Rattle.nfs_names.specs.StoreInvariants.{IsStore}
+use Rattle.nfs_names.specs.{State.{State, with_tree, is_open, is_used, without_unused}, StoreInvariants.IsStore}
 use Rattle.nfs_names.specs.Ending.{has_open, table_staying, with_opens, only_used, staying}
 
 -- Locked bytes.

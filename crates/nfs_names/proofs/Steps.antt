@@ -1,13 +1,10 @@
 -- What holds of the steps of an operation, one after the other.
 use Rattle.std.proofs.Common.{◌≡◌, Bool, true, false, List, Option, Some, None, refl}
 use Rattle.std.specs.Prelude.{Result, Ok, Err, ok_or}
-use Rattle.nfs_xdr.specs.Checks.{first_fault, judged}
-use Rattle.nfs_xdr.specs.declared.status.Status.{Status}
+use Rattle.nfs_xdr.specs.{Checks.{first_fault, judged}, declared.status.Status.Status}
 use Rattle.nfs_compound.specs.declared.op_num.OpNum.{OpNum}
 use Rattle.nfs_opens.specs.Steps.{◌>>=◌, ◌>>◌, in_order, require}
-use Rattle.nfs_names.specs.declared.context.Context.{Context}
-use Rattle.nfs_names.specs.State.{State}
-use Rattle.nfs_names.specs.Outcome.{Outcome, refuses, or_refusal}
+use Rattle.nfs_names.specs.{declared.context.Context.Context, State.State, Outcome.{Outcome, refuses, or_refusal}}
 use Rattle.nfs_names.proofs.Refusing.{IsRefusal, Refuses, is_refusal, refusal_by, all_refuse, first_refusal}
 
 -- How the steps end: in a refusal, or in an outcome of which this holds.

@@ -1,27 +1,18 @@
 -- What every store keeps, through every change of names: each object is used, and only files are open.
 use Rattle.std.proofs.Common.{◌≡◌, ◌≢◌, ℕ, ◌+◌, Bool, true, false, not, List, [], ◌∷◌, ◌++◌, Option, Some, None, refl, sym, ◌∙◌, ap, subst, inl, inr}
-use Rattle.std.specs.Prelude.{◌==◌, ◌||◌, filter, option_map, unwrap_or, is_some}
-use Rattle.std.specs.Option.{option_map_or}
 use Rattle.std.proofs.lemmas.Bool.{cases_Bool, cases_eq, eqb-true, eq-eqb, ne_eqb, false≢true}
-use Rattle.nfs_xdr.specs.declared.time.Time.{Time}
-use Rattle.nfs_tree.specs.declared.object.FileType.{FileType}
-use Rattle.nfs_tree.specs.declared.object.FileType.TheVariants as Kind
-use Rattle.nfs_tree.specs.declared.row.Row.{Row}
-use Rattle.nfs_tree.specs.declared.sets.Sets.{Sets}
-use Rattle.nfs_tree.specs.declared.stored.Stored.{Stored}
+use Rattle.std.specs.{Prelude.{◌==◌, ◌||◌, filter, option_map, unwrap_or, is_some}, Option.option_map_or}
+use Rattle.nfs_xdr.specs.{declared.time.Time.Time, Tables.In}
+use Rattle.nfs_tree.specs.{declared.object.FileType.FileType, declared.row.Row.Row, declared.sets.Sets.Sets, declared.stored.Stored.Stored}
 use Rattle.nfs_tree.specs.Object.{is_directory, is_regular, modified, no_sets}
-use Rattle.nfs_tree.specs.Files.{Files, root, stored_in, is_there, is_directory_at, is_entry, entry, named, lookup, has_row, has_entries}
-use Rattle.nfs_tree.specs.Calls.{is_regular_at}
+use Rattle.nfs_tree.specs.{Files.{Files, root, stored_in, is_there, is_directory_at, is_entry, entry, named, lookup, has_row, has_entries}, Calls.is_regular_at}
 use Rattle.nfs_tree.specs.Files.{with_changed, with_entries_changed, with_links_changed, change_at, without_entry}
 use Rattle.nfs_tree.specs.Create.{New, with_new, new_object, data_of}
-use Rattle.nfs_tree.specs.Names.{with_link, without_name, forget, Move, moved_object, replaced_object, with_both_changed, with_moved}
-use Rattle.nfs_xdr.specs.Tables.{In}
+use Rattle.nfs_tree.specs.{Names.{with_link, without_name, forget, Move, moved_object, replaced_object, with_both_changed, with_moved}, TreeInvariants.IsTree}
+use Rattle.nfs_tree.specs.declared.object.FileType.TheVariants as Kind
 use Rattle.nfs_xdr.proofs.Lists.{in_any, any_in, stays_in, push_in, last_in, none_in}
-use Rattle.nfs_tree.specs.TreeInvariants.{IsTree}
-use Rattle.nfs_tree.proofs.Objects.{keeps_changed, stored_map, stored_push, stored_dropped}
-use Rattle.nfs_tree.proofs.Trees.{entry_names}
-use Rattle.nfs_names.specs.State.{State, new_store, with_tree, is_open, is_used, without_unused}
-use Rattle.nfs_names.specs.StoreInvariants.{IsRooted, IsStore, IsStoreBut}
+use Rattle.nfs_tree.proofs.{Objects.{keeps_changed, stored_map, stored_push, stored_dropped}, Trees.entry_names}
+use Rattle.nfs_names.specs.{State.{State, new_store, with_tree, is_open, is_used, without_unused}, StoreInvariants.{IsRooted, IsStore, IsStoreBut}}
 use Rattle.nfs_names.specs.Rename.{without_replaced}
 
 -- of which type an object is, if it is there

@@ -1,19 +1,11 @@
 -- What operations on names leave alone: all opens, and whose context it is.
-use Rattle.std.proofs.Common.{◌≡◌, ℕ, Bool, Option, Some, None, refl, ◌∙◌, inl, inr}
-use Rattle.std.specs.Prelude.{IfSome}
-use Rattle.std.specs.Option.{ForSome}
-use Rattle.std.proofs.lemmas.Bool.{cases_Bool}
+use Rattle.std.proofs.{Common.{◌≡◌, ℕ, Bool, Option, Some, None, refl, ◌∙◌, inl, inr}, lemmas.Bool.cases_Bool}
+use Rattle.std.specs.{Prelude.IfSome, Option.ForSome}
 use Rattle.nfs_xdr.specs.declared.time.Time.{Time}
 use Rattle.nfs_compound.specs.declared.op.Item.{Item}
-use Rattle.nfs_tree.specs.Files.{lookup, named}
-use Rattle.nfs_tree.specs.Names.{with_moved, without_name}
-use Rattle.nfs_names.specs.declared.context.Context.{Context}
-use Rattle.nfs_names.specs.State.{State, with_tree, is_used, without_unused}
-use Rattle.nfs_names.specs.Operation.{comes_to}
-use Rattle.nfs_names.specs.Rename.{without_replaced}
-use Rattle.nfs_names.proofs.Effects.{Effect, Removes, Moves, behind, Kept}
-use Rattle.nfs_names.proofs.Effected.{kept_item}
-use Rattle.nfs_names.proofs.Ones.{each_of}
+use Rattle.nfs_tree.specs.{Files.{lookup, named}, Names.{with_moved, without_name}}
+use Rattle.nfs_names.specs.{declared.context.Context.Context, State.{State, with_tree, is_used, without_unused}, Operation.comes_to, Rename.without_replaced}
+use Rattle.nfs_names.proofs.{Effects.{Effect, Removes, Moves, behind, Kept}, Effected.kept_item, Ones.each_of}
 
 pub record Leaves (s : State) (x : Context) (left : State) (behind : Context) : Type 0 where
   pub opens : left.opens ≡ s.opens

@@ -5,10 +5,7 @@ use Rattle.nfs_results.specs.declared.res.AccessOk.{AccessOk}
 use Rattle.nfs_results.specs.declared.res.Res.TheVariants as Res
 use Rattle.nfs_attrs.specs.declared.permission.Access as judged
 use Rattle.nfs_attrs.specs.Permissions.{judge_access}
-use Rattle.nfs_names.specs.declared.context.Context.{Context}
-use Rattle.nfs_names.specs.State.{State}
-use Rattle.nfs_names.specs.Outcome.{Outcome, done, or_refusal}
-use Rattle.nfs_names.specs.Checks.{current}
+use Rattle.nfs_names.specs.{declared.context.Context.Context, State.State, Outcome.{Outcome, done, or_refusal}, Checks.current}
 use Rattle.nfs_opens.specs.Steps.{◌>>=◌}
 
 abbrev pub told_access : judged.Access → AccessOk

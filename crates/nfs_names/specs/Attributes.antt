@@ -1,14 +1,9 @@
 -- The attributes of an object as operations report them (RFC 8881 section 5).
 use Rattle.std.specs.Prelude.{ℕ, if◌then◌else◌}
-use Rattle.nfs_tree.specs.Object.{is_directory}
-use Rattle.nfs_tree.specs.Files.{links_in}
-use Rattle.nfs_attrs.specs.declared.about.About.{About}
-use Rattle.nfs_attrs.specs.declared.mask.Mask.{Mask}
-use Rattle.nfs_attrs.specs.Mask.{trimmed_words, common}
-use Rattle.nfs_attrs.specs.Attributes.{readable, values}
+use Rattle.nfs_tree.specs.{Object.is_directory, Files.links_in}
+use Rattle.nfs_attrs.specs.{declared.about.About.About, declared.mask.Mask.Mask, Mask.{trimmed_words, common}, Attributes.{readable, values}}
 use Rattle.nfs_results.specs.declared.res.Fattr.{Fattr}
-use Rattle.nfs_names.specs.declared.node.Node.{Node}
-use Rattle.nfs_names.specs.State.{State}
+use Rattle.nfs_names.specs.{declared.node.Node.Node, State.State}
 
 -- a directory has one name; any other object has as many as rows name it
 abbrev pub links_of : State → Node → ℕ

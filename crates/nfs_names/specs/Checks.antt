@@ -1,19 +1,11 @@
 -- Checks that several operations share, each once.
-use Rattle.std.specs.Prelude.{ℕ, ◌==◌, ◌||◌, Bool, not, List, [], ◌∷◌, length, nat_lt, Option, Some, None, Result, Ok, Err, bytes_eq}
-use Rattle.std.specs.List.{list_any}
+use Rattle.std.specs.{Prelude.{ℕ, ◌==◌, ◌||◌, Bool, not, List, [], ◌∷◌, length, nat_lt, Option, Some, None, Result, Ok, Err, bytes_eq}, List.list_any}
 use Rattle.nfs_xdr.specs.declared.status.Status.{Status}
 use Rattle.nfs_xdr.specs.declared.status.Status.TheVariants.{Access, NotDir, Inval, NameTooLong, Stale, NoFileHandle, BadChar, BadName}
-use Rattle.nfs_tree.specs.declared.object.Object.{Object}
-use Rattle.nfs_tree.specs.Object.{is_directory}
-use Rattle.nfs_tree.specs.Files.{most_name, object_at}
-use Rattle.nfs_attrs.specs.declared.permission.Want.{Want}
-use Rattle.nfs_attrs.specs.Permissions.{may}
+use Rattle.nfs_tree.specs.{declared.object.Object.Object, Object.is_directory, Files.{most_name, object_at}}
+use Rattle.nfs_attrs.specs.{declared.permission.Want.Want, Permissions.may}
 use Rattle.nfs_opens.specs.Steps.{◌>>=◌}
-use Rattle.nfs_names.specs.declared.context.Context.{Context}
-use Rattle.nfs_names.specs.declared.context.Saved.{Saved}
-use Rattle.nfs_names.specs.declared.node.Node.{Node}
-use Rattle.nfs_names.specs.declared.node.Pair.{Pair}
-use Rattle.nfs_names.specs.State.{State}
+use Rattle.nfs_names.specs.{declared.context.Context.Context, declared.context.Saved.Saved, declared.node.Node.Node, declared.node.Pair.Pair, State.State}
 
 -- A filehandle is wanted and there is none, or its object is gone (RFC 8881 sections 15.1.2.5 and 15.1.2.9).
 abbrev pub node_as : ℕ → Option Object → Result Node Status

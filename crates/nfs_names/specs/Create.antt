@@ -1,36 +1,19 @@
 -- CREATE (RFC 8881 section 18.4): a directory or a symbolic link is made, and becomes the current filehandle's object.
-use Rattle.std.specs.Prelude.{ℕ, ◌+◌, ◌==◌, Bool, true, false, not, List, ◌∷◌, length, nat_lt, Some, Result, Ok, is_some}
-use Rattle.std.specs.Prelude.{unwrap_or, option_map}
-use Rattle.nfs_xdr.specs.declared.time.Time.{Time}
-use Rattle.nfs_xdr.specs.declared.status.Status.{Status}
-use Rattle.nfs_xdr.specs.declared.status.Status.TheVariants.{Inval, NameTooLong, BadType}
+use Rattle.std.specs.Prelude.{ℕ, ◌+◌, ◌==◌, Bool, true, false, not, List, ◌∷◌, length, nat_lt, Some, Result, Ok, is_some, unwrap_or, option_map}
+use Rattle.nfs_xdr.specs.{declared.time.Time.Time, declared.status.Status.Status, declared.status.Status.TheVariants.{Inval, NameTooLong, BadType}}
 use Rattle.nfs_compound.specs.declared.op_num.OpNum.TheVariants as Num
-use Rattle.nfs_compound.specs.declared.attributes.Attributes.{Attributes}
-use Rattle.nfs_compound.specs.declared.name_args.Create.{Create}
-use Rattle.nfs_compound.specs.declared.name_args.CreateType.{CreateType}
+use Rattle.nfs_compound.specs.{declared.attributes.Attributes.Attributes, declared.name_args.Create.Create, declared.name_args.CreateType.CreateType}
 use Rattle.nfs_compound.specs.declared.name_args.CreateType.TheVariants.{Symlink, Other}
 use Rattle.nfs_results.specs.declared.res.ChangeInfo.{ChangeInfo}
 use Rattle.nfs_results.specs.declared.res.Res.TheVariants as Res
-use Rattle.nfs_tree.specs.declared.done.Change.{Change}
-use Rattle.nfs_tree.specs.declared.sets.Sets.{Sets}
-use Rattle.nfs_tree.specs.Files.{most_text, raised}
+use Rattle.nfs_tree.specs.{declared.done.Change.Change, declared.sets.Sets.Sets, Files.{most_text, raised}}
 use Rattle.nfs_tree.specs.Create.{New, Directory, Link, create_checks, with_new}
-use Rattle.nfs_attrs.specs.declared.set_time.SetTime.{SetTime}
-use Rattle.nfs_attrs.specs.declared.set_time.SetTime.TheVariants.{Now, Given}
-use Rattle.nfs_attrs.specs.declared.wanted.Wanted.{Wanted}
-use Rattle.nfs_attrs.specs.declared.wanted.AttrFault.{AttrFault}
-use Rattle.nfs_attrs.specs.Mask.{mask_of, trimmed_words}
-use Rattle.nfs_attrs.specs.Reading.{read_attrs, fault_status}
-use Rattle.nfs_attrs.specs.Setting.{make_checks}
+use Rattle.nfs_attrs.specs.{declared.set_time.SetTime.SetTime, declared.set_time.SetTime.TheVariants.{Now, Given}, declared.wanted.Wanted.Wanted}
+use Rattle.nfs_attrs.specs.{declared.wanted.AttrFault.AttrFault, Mask.{mask_of, trimmed_words}, Reading.{read_attrs, fault_status}, Setting.make_checks}
 use Rattle.nfs_attrs.specs.Permissions.{change}
 use Rattle.nfs_opens.specs.Steps.{◌>>=◌, map_err, in_order, require, ◌>>◌}
-use Rattle.nfs_names.specs.declared.context.Context.{Context}
-use Rattle.nfs_names.specs.declared.node.Node.{Node}
-use Rattle.nfs_names.specs.State.{State, with_tree}
-use Rattle.nfs_names.specs.Context.{at_object}
-use Rattle.nfs_names.specs.Outcome.{Outcome, or_refusal}
-use Rattle.nfs_names.specs.Checks.{current, no_directory, denied, name_checks}
-use Rattle.nfs_names.specs.Faults.{by_tree}
+use Rattle.nfs_names.specs.{declared.context.Context.Context, declared.node.Node.Node, State.{State, with_tree}, Context.at_object}
+use Rattle.nfs_names.specs.{Outcome.{Outcome, or_refusal}, Checks.{current, no_directory, denied, name_checks}, Faults.by_tree}
 
 -- Directories and links are made; a number that is no type's is read like one that has nothing behind it.
 abbrev pub is_made : CreateType → Bool

@@ -1,10 +1,8 @@
 -- The end of clients (RFC 8881 sections 8.3 and 8.4.2): their opens go, with their lock states and the bytes that these hold; and so does each object but the
 -- root that then has neither a row nor an open.
-use Rattle.std.specs.Prelude.{ℕ, ◌==◌, Bool, not, filter, if◌then◌else◌}
-use Rattle.std.specs.List.{list_any}
+use Rattle.std.specs.{Prelude.{ℕ, ◌==◌, Bool, not, filter, if◌then◌else◌}, List.list_any}
 use Rattle.nfs_tree.specs.Names.{forget}
-use Rattle.nfs_opens.specs.Table.{Table}
-use Rattle.nfs_opens.specs.Closing.{held_within}
+use Rattle.nfs_opens.specs.{Table.Table, Closing.held_within}
 use Rattle.nfs_names.specs.State.{State, with_tree, is_used}
 
 -- an open of the client stands

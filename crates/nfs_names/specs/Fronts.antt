@@ -2,30 +2,15 @@
 use Rattle.std.specs.Prelude.{ℕ, ◌==◌, List, [], ◌∷◌, Result, Ok, is_some, not, ok_or}
 use Rattle.nfs_xdr.specs.declared.status.Status.{Status}
 use Rattle.nfs_xdr.specs.declared.status.Status.TheVariants.{IsDir, Symlink, Inval, Stale, NoFileHandle, NoEnt, BadHandle, WrongType}
-use Rattle.nfs_compound.specs.declared.name_args.Create.{Create}
-use Rattle.nfs_compound.specs.declared.name_args.ReadDir.{ReadDir}
-use Rattle.nfs_compound.specs.declared.name_args.Rename.{Rename}
+use Rattle.nfs_compound.specs.{declared.name_args.Create.Create, declared.name_args.ReadDir.ReadDir, declared.name_args.Rename.Rename}
 use Rattle.nfs_compound.specs.declared.name_args.SecinfoStyle.{SecinfoStyle}
-use Rattle.nfs_tree.specs.Object.{is_directory}
-use Rattle.nfs_tree.specs.Files.{lookup, object_at, parent_in}
-use Rattle.nfs_attrs.specs.declared.handle.Handle.{Handle}
-use Rattle.nfs_attrs.specs.Handle.{handle_of}
-use Rattle.nfs_attrs.specs.Mask.{mask_of, asks_set_only}
-use Rattle.nfs_attrs.specs.Permissions.{change, execute}
-use Rattle.nfs_attrs.specs.Setting.{make_checks}
+use Rattle.nfs_tree.specs.{Object.is_directory, Files.{lookup, object_at, parent_in}}
+use Rattle.nfs_attrs.specs.{declared.handle.Handle.Handle, Handle.handle_of, Mask.{mask_of, asks_set_only}, Permissions.{change, execute}, Setting.make_checks}
 use Rattle.nfs_opens.specs.Steps.{◌>>=◌, ◌>>◌, in_order, require}
-use Rattle.nfs_names.specs.declared.context.Context.{Context}
-use Rattle.nfs_names.specs.declared.context.Saved.{Saved}
-use Rattle.nfs_names.specs.declared.making.Making.{Making}
-use Rattle.nfs_names.specs.declared.node.Node.{Node}
-use Rattle.nfs_names.specs.declared.node.Pair.{Pair}
-use Rattle.nfs_names.specs.State.{State}
-use Rattle.nfs_names.specs.Checks.{current, both, no_directory, denied, name_checks}
-use Rattle.nfs_names.specs.Create.{attributes_in, place_checks}
-use Rattle.nfs_names.specs.Lookup.{is_link}
-use Rattle.nfs_names.specs.ReadDir.{listing_checks}
+use Rattle.nfs_names.specs.{declared.context.Context.Context, declared.context.Saved.Saved, declared.making.Making.Making, declared.node.Node.Node}
+use Rattle.nfs_names.specs.{declared.node.Pair.Pair, State.State, Checks.{current, both, no_directory, denied, name_checks}}
+use Rattle.nfs_names.specs.{Create.{attributes_in, place_checks}, Lookup.is_link, ReadDir.listing_checks, SecinfoNoName.style_checks}
 use Rattle.nfs_names.specs.Rename as of_rename
-use Rattle.nfs_names.specs.SecinfoNoName.{style_checks}
 
 -- the directory in which CREATE makes an object
 abbrev pub placing : State → Context → Create → Result Node Status

@@ -4,11 +4,7 @@ use Rattle.nfs_xdr.specs.declared.status.Status.TheVariants.{Inval}
 use Rattle.nfs_compound.specs.declared.op_num.OpNum.TheVariants as Num
 use Rattle.nfs_results.specs.declared.res.Res.TheVariants as Res
 use Rattle.nfs_attrs.specs.Mask.{mask_of, asks_set_only}
-use Rattle.nfs_names.specs.declared.context.Context.{Context}
-use Rattle.nfs_names.specs.State.{State}
-use Rattle.nfs_names.specs.Outcome.{Outcome, done, or_refusal}
-use Rattle.nfs_names.specs.Checks.{current}
-use Rattle.nfs_names.specs.Attributes.{attributes_of}
+use Rattle.nfs_names.specs.{declared.context.Context.Context, State.State, Outcome.{Outcome, done, or_refusal}, Checks.current, Attributes.attributes_of}
 use Rattle.nfs_opens.specs.Steps.{require, ◌>>=◌, ◌>>◌}
 
 unfoldable pub get_attr : State → Context → List ℕ → Outcome

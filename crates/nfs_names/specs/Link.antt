@@ -1,19 +1,12 @@
 -- LINK (RFC 8881 section 18.9): the saved filehandle's object gets one more name, in the current filehandle's directory.
 use Rattle.std.specs.Prelude.{ℕ, List, ◌∷◌, Ok}
-use Rattle.nfs_xdr.specs.declared.time.Time.{Time}
-use Rattle.nfs_xdr.specs.declared.status.Status.TheVariants.{IsDir}
+use Rattle.nfs_xdr.specs.{declared.time.Time.Time, declared.status.Status.TheVariants.IsDir}
 use Rattle.nfs_compound.specs.declared.op_num.OpNum.TheVariants as Num
 use Rattle.nfs_results.specs.declared.res.Res.TheVariants as Res
-use Rattle.nfs_tree.specs.Object.{is_directory}
-use Rattle.nfs_tree.specs.Names.{link_checks, with_link}
-use Rattle.nfs_tree.specs.Files.{raised}
+use Rattle.nfs_tree.specs.{Object.is_directory, Names.{link_checks, with_link}, Files.raised}
 use Rattle.nfs_attrs.specs.Permissions.{change}
-use Rattle.nfs_names.specs.declared.context.Context.{Context}
-use Rattle.nfs_names.specs.State.{State, with_tree}
-use Rattle.nfs_names.specs.Outcome.{Outcome, or_refusal}
-use Rattle.nfs_names.specs.Checks.{both, no_directory, denied, name_checks}
-use Rattle.nfs_names.specs.Create.{change_info}
-use Rattle.nfs_names.specs.Faults.{by_tree}
+use Rattle.nfs_names.specs.{declared.context.Context.Context, State.{State, with_tree}, Outcome.{Outcome, or_refusal}}
+use Rattle.nfs_names.specs.{Checks.{both, no_directory, denied, name_checks}, Create.change_info, Faults.by_tree}
 use Rattle.nfs_opens.specs.Steps.{in_order, ◌>>=◌, ◌>>◌}
 
 unfoldable pub link : State → Context → Time → List ℕ → Outcome

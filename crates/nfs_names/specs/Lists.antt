@@ -1,13 +1,10 @@
 -- What the calls that list a directory put (RFC 8881 section 18.23).
 use Rattle.std.specs.Prelude.{◌≡◌, ℕ, ◌<◌, ◌≤◌, Bool, true, false, List, length}
-use Rattle.nfs_xdr.specs.SheetState.{SheetState, Puts}
-use Rattle.nfs_xdr.specs.declared.status.Status.{Status}
-use Rattle.nfs_xdr.specs.declared.status.Status.TheVariants.{Nfs4Ok, TooSmall}
+use Rattle.nfs_xdr.specs.{SheetState.{SheetState, Puts}, declared.status.Status.Status, declared.status.Status.TheVariants.{Nfs4Ok, TooSmall}}
 use Rattle.nfs_compound.specs.declared.op_num.OpNum.TheVariants as Num
 use Rattle.nfs_compound.specs.OpNum.{op_number}
-use Rattle.nfs_results.specs.declared.res.ReadDirOk.{ReadDirOk}
+use Rattle.nfs_results.specs.{declared.res.ReadDirOk.ReadDirOk, Results.{spell_result, refusal}}
 use Rattle.nfs_results.specs.declared.res.Res.TheVariants as Res
-use Rattle.nfs_results.specs.Results.{spell_result, refusal}
 
 -- what a call that puts an entry has put, if it takes no more than so many bytes
 abbrev pub PutsWithin : Bool → ℕ → SheetState → SheetState → List ℕ → Type 0

@@ -3,14 +3,9 @@ use Rattle.std.specs.Prelude.{ℕ, Bool, true, false, List, ◌∷◌, Ok, ok_or
 use Rattle.nfs_xdr.specs.declared.status.Status.TheVariants.{Symlink, NoEnt}
 use Rattle.nfs_compound.specs.declared.op_num.OpNum.TheVariants as Num
 use Rattle.nfs_results.specs.declared.res.Res.TheVariants as Res
-use Rattle.nfs_tree.specs.declared.object.FileType.{FileType}
-use Rattle.nfs_tree.specs.declared.object.FileType.TheVariants.{Regular, Directory, Link}
-use Rattle.nfs_tree.specs.Files.{lookup as found}
+use Rattle.nfs_tree.specs.{declared.object.FileType.FileType, declared.object.FileType.TheVariants.{Regular, Directory, Link}, Files.{lookup as found}}
 use Rattle.nfs_attrs.specs.Permissions.{execute}
-use Rattle.nfs_names.specs.declared.context.Context.{Context}
-use Rattle.nfs_names.specs.State.{State}
-use Rattle.nfs_names.specs.Context.{at_object}
-use Rattle.nfs_names.specs.Outcome.{Outcome, done, or_refusal}
+use Rattle.nfs_names.specs.{declared.context.Context.Context, State.State, Context.at_object, Outcome.{Outcome, done, or_refusal}}
 use Rattle.nfs_names.specs.Checks.{current, no_directory, denied, name_checks}
 use Rattle.nfs_opens.specs.Steps.{in_order, ◌>>=◌, ◌>>◌}
 

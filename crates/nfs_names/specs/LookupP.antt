@@ -3,10 +3,7 @@ use Rattle.std.specs.Prelude.{[], ◌∷◌, Ok, ok_or}
 use Rattle.nfs_compound.specs.declared.op_num.OpNum.TheVariants as Num
 use Rattle.nfs_results.specs.declared.res.Res.TheVariants as Res
 use Rattle.nfs_attrs.specs.Permissions.{execute}
-use Rattle.nfs_names.specs.declared.context.Context.{Context}
-use Rattle.nfs_names.specs.State.{State}
-use Rattle.nfs_names.specs.Context.{at_object}
-use Rattle.nfs_names.specs.Outcome.{Outcome, done, or_refusal}
+use Rattle.nfs_names.specs.{declared.context.Context.Context, State.State, Context.at_object, Outcome.{Outcome, done, or_refusal}}
 use Rattle.nfs_names.specs.Checks.{current, no_directory, denied}
 use Rattle.nfs_xdr.specs.declared.status.Status.TheVariants.{NoEnt}
 use Rattle.nfs_tree.specs.Files.{parent_in}

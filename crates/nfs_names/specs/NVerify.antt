@@ -4,10 +4,7 @@ use Rattle.nfs_xdr.specs.declared.status.Status.TheVariants.{Same}
 use Rattle.nfs_compound.specs.declared.op_num.OpNum.TheVariants as Num
 use Rattle.nfs_compound.specs.declared.attributes.Attributes.{Attributes}
 use Rattle.nfs_results.specs.declared.res.Res.TheVariants as Res
-use Rattle.nfs_names.specs.declared.context.Context.{Context}
-use Rattle.nfs_names.specs.State.{State}
-use Rattle.nfs_names.specs.Outcome.{Outcome, done, or_refusal}
-use Rattle.nfs_names.specs.Verify.{compared}
+use Rattle.nfs_names.specs.{declared.context.Context.Context, State.State, Outcome.{Outcome, done, or_refusal}, Verify.compared}
 use Rattle.nfs_opens.specs.Steps.{require, ◌>>=◌, ◌>>◌}
 
 unfoldable pub nverify : State → Context → Attributes → Outcome

@@ -1,35 +1,13 @@
 -- The operations on names and attributes, one line each, and what want of memory makes of them. The others are none of these.
 use Rattle.std.specs.Prelude.{Bool, true, false, Ok, Err, Result, Option, Some, None}
-use Rattle.nfs_xdr.specs.declared.time.Time.{Time}
-use Rattle.nfs_xdr.specs.declared.status.Status.{Status}
+use Rattle.nfs_xdr.specs.{declared.time.Time.Time, declared.status.Status.Status}
 use Rattle.nfs_compound.specs.declared.name_args.Rename as args
-use Rattle.nfs_compound.specs.declared.op.Op.{Op}
-use Rattle.nfs_compound.specs.declared.op.Item.{Item}
+use Rattle.nfs_compound.specs.{declared.op.Op.Op, declared.op.Item.Item}
 use Rattle.nfs_tree.specs.Names.{moves}
-use Rattle.nfs_names.specs.declared.context.Context.{Context}
-use Rattle.nfs_names.specs.declared.node.Pair.{Pair}
-use Rattle.nfs_names.specs.State.{State}
-use Rattle.nfs_names.specs.Outcome.{Outcome, by_table}
-use Rattle.nfs_names.specs.Checks.{both}
-use Rattle.nfs_names.specs.Access.{access}
-use Rattle.nfs_names.specs.Create.{create}
-use Rattle.nfs_names.specs.GetAttr.{get_attr}
-use Rattle.nfs_names.specs.GetFh.{get_fh}
-use Rattle.nfs_names.specs.Link.{link}
-use Rattle.nfs_names.specs.Lookup.{lookup}
-use Rattle.nfs_names.specs.LookupP.{lookup_p}
-use Rattle.nfs_names.specs.NVerify.{nverify}
-use Rattle.nfs_names.specs.PutFh.{put_fh}
-use Rattle.nfs_names.specs.PutPubFh.{put_pub_fh}
-use Rattle.nfs_names.specs.PutRootFh.{put_root_fh}
-use Rattle.nfs_names.specs.ReadDir.{read_dir}
-use Rattle.nfs_names.specs.ReadLink.{read_link}
-use Rattle.nfs_names.specs.Remove.{remove}
-use Rattle.nfs_names.specs.Rename.{rename, move_of}
-use Rattle.nfs_names.specs.RestoreFh.{restore_fh}
-use Rattle.nfs_names.specs.SaveFh.{save_fh}
-use Rattle.nfs_names.specs.SecinfoNoName.{secinfo_no_name}
-use Rattle.nfs_names.specs.Verify.{verify}
+use Rattle.nfs_names.specs.{declared.context.Context.Context, declared.node.Pair.Pair, State.State, Outcome.{Outcome, by_table}, Checks.both, Access.access}
+use Rattle.nfs_names.specs.{Create.create, GetAttr.get_attr, GetFh.get_fh, Link.link, Lookup.lookup, LookupP.lookup_p, NVerify.nverify, PutFh.put_fh}
+use Rattle.nfs_names.specs.{PutPubFh.put_pub_fh, PutRootFh.put_root_fh, ReadDir.read_dir, ReadLink.read_link, Remove.remove, Rename.{rename, move_of}}
+use Rattle.nfs_names.specs.{RestoreFh.restore_fh, SaveFh.save_fh, SecinfoNoName.secinfo_no_name, Verify.verify}
 
 -- what an operation comes to, at a moment
 abbrev pub one : State → Context → Time → Op → Option Outcome

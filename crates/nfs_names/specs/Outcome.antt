@@ -1,21 +1,11 @@
 -- What one operation comes to: its result, and the state and the context behind it.
-use Rattle.std.specs.Prelude.{◌==◌, ◌&&◌, Bool, List, Option, Some, None, Result, Ok, Err, if◌then◌else◌}
-use Rattle.std.specs.Option.{option_map}
-use Rattle.nfs_xdr.specs.Checks.{first_fault}
-use Rattle.nfs_xdr.specs.declared.time.Time.{Time}
-use Rattle.nfs_xdr.specs.Status.{status_number}
-use Rattle.nfs_xdr.specs.declared.status.Status.{Status}
+use Rattle.std.specs.{Prelude.{◌==◌, ◌&&◌, Bool, List, Option, Some, None, Result, Ok, Err, if◌then◌else◌}, Option.option_map}
+use Rattle.nfs_xdr.specs.{Checks.first_fault, declared.time.Time.Time, Status.status_number, declared.status.Status.Status}
 use Rattle.nfs_xdr.specs.declared.status.Status.TheVariants.{Nfs4Ok, Delay}
-use Rattle.nfs_compound.specs.declared.op_num.OpNum.{OpNum}
-use Rattle.nfs_compound.specs.OpNum.{op_number}
-use Rattle.nfs_compound.specs.Arguments.{arguments}
-use Rattle.nfs_compound.specs.declared.op.Op.{Op}
-use Rattle.nfs_compound.specs.declared.op.Item.{Item}
+use Rattle.nfs_compound.specs.{declared.op_num.OpNum.OpNum, OpNum.op_number, Arguments.arguments, declared.op.Op.Op, declared.op.Item.Item}
 use Rattle.nfs_compound.specs.declared.op.Item.TheVariants.{Operation, Fault}
-use Rattle.nfs_results.specs.declared.res.Res.{Res}
-use Rattle.nfs_results.specs.Results.{status_of_result, refusal}
-use Rattle.nfs_names.specs.declared.context.Context.{Context}
-use Rattle.nfs_names.specs.State.{State}
+use Rattle.nfs_results.specs.{declared.res.Res.Res, Results.{status_of_result, refusal}}
+use Rattle.nfs_names.specs.{declared.context.Context.Context, State.State}
 
 pub record Outcome : Type 0 where
   pub result : Res

@@ -1,15 +1,11 @@
 -- PUTFH (RFC 8881 section 18.19): a filehandle that this start of the server gave, and whose object is there, becomes the current one.
-use Rattle.std.specs.Prelude.{ℕ, ◌==◌, not, List, [], ◌∷◌, Ok, ok_or}
+use Rattle.std.specs.Prelude.{ℕ, ◌==◌, not, List, [], ◌∷◌, Ok, ok_or, is_some}
 use Rattle.nfs_xdr.specs.declared.status.Status.TheVariants.{BadHandle, Stale}
 use Rattle.nfs_compound.specs.declared.op_num.OpNum.TheVariants as Num
 use Rattle.nfs_results.specs.declared.res.Res.TheVariants as Res
 use Rattle.nfs_tree.specs.Files.{object_at}
-use Rattle.std.specs.Prelude.{is_some}
 use Rattle.nfs_attrs.specs.Handle.{handle_of}
-use Rattle.nfs_names.specs.declared.context.Context.{Context}
-use Rattle.nfs_names.specs.State.{State}
-use Rattle.nfs_names.specs.Context.{at_object}
-use Rattle.nfs_names.specs.Outcome.{Outcome, done, or_refusal}
+use Rattle.nfs_names.specs.{declared.context.Context.Context, State.State, Context.at_object, Outcome.{Outcome, done, or_refusal}}
 use Rattle.nfs_opens.specs.Steps.{in_order, ◌>>=◌, ◌>>◌}
 
 unfoldable pub put_fh : State → Context → List ℕ → Outcome

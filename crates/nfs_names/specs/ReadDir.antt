@@ -1,28 +1,15 @@
 -- READDIR (RFC 8881 section 18.23): the entries behind a cookie with their attributes, as many as fit into so many bytes.
 use Rattle.std.specs.Prelude.{ℕ, ◌+◌, ◌==◌, Bool, not, ◌&&◌, ◌||◌, List, [], ◌∷◌, length, map, nat_lt, nat_le, replicate, bytes_eq, if◌then◌else◌, Option, Some, Ok}
-use Rattle.std.specs.Prelude.{None}
-use Rattle.std.specs.List.{flat_map}
-use Rattle.nfs_xdr.specs.declared.status.Status.{Status}
-use Rattle.nfs_xdr.specs.declared.status.Status.TheVariants.{Inval, NotSame, BadCookie, TooSmall}
+use Rattle.std.specs.{Prelude.None, List.flat_map}
+use Rattle.nfs_xdr.specs.{declared.status.Status.Status, declared.status.Status.TheVariants.{Inval, NotSame, BadCookie, TooSmall}}
 use Rattle.nfs_compound.specs.declared.op_num.OpNum.TheVariants as Num
 use Rattle.nfs_compound.specs.declared.name_args.ReadDir.{ReadDir}
-use Rattle.nfs_results.specs.Largest.{given}
-use Rattle.nfs_results.specs.declared.res.Entry.{Entry}
-use Rattle.nfs_results.specs.declared.res.Fattr.{Fattr}
-use Rattle.nfs_results.specs.declared.res.ReadDirOk.{ReadDirOk}
+use Rattle.nfs_results.specs.{Largest.given, declared.res.Entry.Entry, declared.res.Fattr.Fattr, declared.res.ReadDirOk.ReadDirOk, Straight.entry_text}
 use Rattle.nfs_results.specs.declared.res.Res.TheVariants as Res
-use Rattle.nfs_results.specs.Straight.{entry_text}
-use Rattle.nfs_tree.specs.declared.object.Object.{Object}
-use Rattle.nfs_tree.specs.Files.{Listed, listing, object_at}
-use Rattle.nfs_attrs.specs.declared.mask.Mask.{Mask}
-use Rattle.nfs_attrs.specs.Mask.{mask_of, asks_set_only}
-use Rattle.nfs_attrs.specs.Permissions.{read}
-use Rattle.nfs_names.specs.declared.context.Context.{Context}
-use Rattle.nfs_names.specs.declared.node.Node.{Node}
-use Rattle.nfs_names.specs.State.{State}
-use Rattle.nfs_names.specs.Outcome.{Outcome, done, or_refusal}
-use Rattle.nfs_names.specs.Checks.{current, no_directory, denied}
-use Rattle.nfs_names.specs.Attributes.{attributes_of}
+use Rattle.nfs_tree.specs.{declared.object.Object.Object, Files.{Listed, listing, object_at}}
+use Rattle.nfs_attrs.specs.{declared.mask.Mask.Mask, Mask.{mask_of, asks_set_only}, Permissions.read}
+use Rattle.nfs_names.specs.{declared.context.Context.Context, declared.node.Node.Node, State.State, Outcome.{Outcome, done, or_refusal}}
+use Rattle.nfs_names.specs.{Checks.{current, no_directory, denied}, Attributes.attributes_of}
 use Rattle.nfs_opens.specs.Steps.{in_order, require, ◌>>=◌, ◌>>◌}
 
 -- what is reported of an object; an entry's object is there, so the first line is never met

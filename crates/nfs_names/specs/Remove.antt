@@ -3,15 +3,10 @@ use Rattle.std.specs.Prelude.{ℕ, List, ◌∷◌, Ok}
 use Rattle.nfs_xdr.specs.declared.time.Time.{Time}
 use Rattle.nfs_compound.specs.declared.op_num.OpNum.TheVariants as Num
 use Rattle.nfs_results.specs.declared.res.Res.TheVariants as Res
-use Rattle.nfs_tree.specs.Files.{named, raised}
-use Rattle.nfs_tree.specs.Names.{remove_checks, without_name}
+use Rattle.nfs_tree.specs.{Files.{named, raised}, Names.{remove_checks, without_name}}
 use Rattle.nfs_attrs.specs.Permissions.{change}
-use Rattle.nfs_names.specs.declared.context.Context.{Context}
-use Rattle.nfs_names.specs.State.{State, with_tree, without_unused}
-use Rattle.nfs_names.specs.Outcome.{Outcome, or_refusal}
-use Rattle.nfs_names.specs.Checks.{current, no_directory, denied, name_checks}
-use Rattle.nfs_names.specs.Create.{change_info}
-use Rattle.nfs_names.specs.Faults.{by_tree}
+use Rattle.nfs_names.specs.{declared.context.Context.Context, State.{State, with_tree, without_unused}, Outcome.{Outcome, or_refusal}}
+use Rattle.nfs_names.specs.{Checks.{current, no_directory, denied, name_checks}, Create.change_info, Faults.by_tree}
 use Rattle.nfs_opens.specs.Steps.{in_order, ◌>>=◌, ◌>>◌}
 
 unfoldable pub remove : State → Context → Time → List ℕ → Outcome

@@ -1,20 +1,13 @@
 -- RENAME (RFC 8881 section 18.26): an entry moves from the saved filehandle's directory to the current one's.
 use Rattle.std.specs.Prelude.{ℕ, Bool, ◌∷◌, ◌++◌, Option, Some, None, Ok, false, true, List}
-use Rattle.nfs_xdr.specs.declared.time.Time.{Time}
-use Rattle.nfs_xdr.specs.declared.status.Status.{Status}
+use Rattle.nfs_xdr.specs.{declared.time.Time.Time, declared.status.Status.Status}
 use Rattle.nfs_compound.specs.declared.op_num.OpNum.TheVariants as Num
 use Rattle.nfs_compound.specs.declared.name_args.Rename as args
 use Rattle.nfs_results.specs.declared.res.Res.TheVariants as Res
-use Rattle.nfs_tree.specs.Files.{lookup, raised, stays}
-use Rattle.nfs_tree.specs.Names.{Move, move, moves, rename_checks, with_moved}
+use Rattle.nfs_tree.specs.{Files.{lookup, raised, stays}, Names.{Move, move, moves, rename_checks, with_moved}}
 use Rattle.nfs_attrs.specs.Permissions.{change}
-use Rattle.nfs_names.specs.declared.context.Context.{Context}
-use Rattle.nfs_names.specs.declared.node.Pair.{Pair}
-use Rattle.nfs_names.specs.State.{State, with_tree, without_unused}
-use Rattle.nfs_names.specs.Outcome.{Outcome, done, or_refusal}
-use Rattle.nfs_names.specs.Checks.{both, no_directory, denied, name_checks}
-use Rattle.nfs_names.specs.Create.{change_info}
-use Rattle.nfs_names.specs.Faults.{by_tree}
+use Rattle.nfs_names.specs.{declared.context.Context.Context, declared.node.Pair.Pair, State.{State, with_tree, without_unused}}
+use Rattle.nfs_names.specs.{Outcome.{Outcome, done, or_refusal}, Checks.{both, no_directory, denied, name_checks}, Create.change_info, Faults.by_tree}
 use Rattle.nfs_opens.specs.Steps.{in_order, ◌>>=◌, ◌>>◌}
 
 abbrev pub move_of : args.Rename → Pair → Move

@@ -4,9 +4,7 @@ use Rattle.nfs_xdr.specs.declared.status.Status.TheVariants.{NoFileHandle, Stale
 use Rattle.nfs_compound.specs.declared.op_num.OpNum.TheVariants as Num
 use Rattle.nfs_results.specs.declared.res.Res.TheVariants as Res
 use Rattle.nfs_tree.specs.Files.{object_at}
-use Rattle.nfs_names.specs.declared.context.Context.{Context}
-use Rattle.nfs_names.specs.State.{State}
-use Rattle.nfs_names.specs.Outcome.{Outcome, done, or_refusal}
+use Rattle.nfs_names.specs.{declared.context.Context.Context, State.State, Outcome.{Outcome, done, or_refusal}}
 use Rattle.nfs_opens.specs.Steps.{require, ◌>>=◌, ◌>>◌}
 
 unfoldable pub restore_fh : State → Context → Outcome

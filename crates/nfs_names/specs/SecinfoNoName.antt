@@ -1,16 +1,11 @@
 -- SECINFO_NO_NAME (RFC 8881 section 18.45): AUTH_SYS is the one flavor; the current filehandle is then none.
 use Rattle.std.specs.Prelude.{Bool, List, [], ◌∷◌, None, Ok, is_some, not}
-use Rattle.nfs_xdr.specs.declared.status.Status.{Status}
+use Rattle.nfs_xdr.specs.{declared.status.Status.Status, declared.status.Status.TheVariants.NoEnt}
 use Rattle.nfs_compound.specs.declared.op_num.OpNum.TheVariants as Num
-use Rattle.nfs_compound.specs.declared.name_args.SecinfoStyle.{SecinfoStyle}
-use Rattle.nfs_compound.specs.declared.name_args.SecinfoStyle.TheVariants.{CurrentFh, Parent}
+use Rattle.nfs_compound.specs.{declared.name_args.SecinfoStyle.SecinfoStyle, declared.name_args.SecinfoStyle.TheVariants.{CurrentFh, Parent}}
 use Rattle.nfs_results.specs.declared.res.Res.TheVariants as Res
-use Rattle.nfs_names.specs.declared.context.Context.{Context}
-use Rattle.nfs_names.specs.declared.node.Node.{Node}
-use Rattle.nfs_names.specs.State.{State}
-use Rattle.nfs_names.specs.Outcome.{Outcome, done, or_refusal}
+use Rattle.nfs_names.specs.{declared.context.Context.Context, declared.node.Node.Node, State.State, Outcome.{Outcome, done, or_refusal}}
 use Rattle.nfs_names.specs.Checks.{current, no_directory}
-use Rattle.nfs_xdr.specs.declared.status.Status.TheVariants.{NoEnt}
 use Rattle.nfs_tree.specs.Files.{parent_in}
 use Rattle.nfs_opens.specs.Steps.{in_order, ◌>>=◌, ◌>>◌}
 

@@ -1,10 +1,7 @@
 -- What operations act on: the tree, the opens, the instance of the server and the length of a lease.
-use Rattle.std.specs.Prelude.{ℕ, ◌==◌, ◌||◌, Bool, pos, if◌then◌else◌}
-use Rattle.std.specs.List.{list_any}
+use Rattle.std.specs.{Prelude.{ℕ, ◌==◌, ◌||◌, Bool, pos, if◌then◌else◌}, List.list_any}
 use Rattle.nfs_xdr.specs.declared.time.Time.{Time}
-use Rattle.nfs_tree.specs.Files.{Files, root, has_row}
-use Rattle.nfs_tree.specs.Create.{new_tree}
-use Rattle.nfs_tree.specs.Names.{forget}
+use Rattle.nfs_tree.specs.{Files.{Files, root, has_row}, Create.new_tree, Names.forget}
 use Rattle.nfs_opens.specs.Table.{Table, table, no_opens}
 use Rattle.nfs_names.specs.declared.store.Store.{Store}
 

@@ -1,7 +1,6 @@
 -- What every store keeps.
 use Rattle.std.specs.Prelude.{◌≡◌, ◌≢◌, ℕ, true}
-use Rattle.nfs_tree.specs.Files.{Files, is_there}
-use Rattle.nfs_tree.specs.Calls.{is_regular_at, IsReached}
+use Rattle.nfs_tree.specs.{Files.{Files, is_there}, Calls.{is_regular_at, IsReached}}
 use Rattle.nfs_names.specs.State.{State, is_open, is_used}
 
 -- each directory but the root has a row

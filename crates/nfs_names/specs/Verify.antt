@@ -1,20 +1,12 @@
 -- VERIFY (RFC 8881 section 18.31): whether the attributes are those that are given, byte for byte as the server writes them (profile).
 use Rattle.std.specs.Prelude.{Bool, Result, Ok}
-use Rattle.nfs_xdr.specs.declared.status.Status.{Status}
-use Rattle.nfs_xdr.specs.declared.status.Status.TheVariants.{NotSame}
+use Rattle.nfs_xdr.specs.{declared.status.Status.Status, declared.status.Status.TheVariants.NotSame}
 use Rattle.nfs_compound.specs.declared.op_num.OpNum.TheVariants as Num
 use Rattle.nfs_compound.specs.declared.attributes.Attributes.{Attributes}
 use Rattle.nfs_results.specs.declared.res.Res.TheVariants as Res
-use Rattle.nfs_attrs.specs.declared.wanted.AttrFault.{AttrFault}
-use Rattle.nfs_attrs.specs.Mask.{mask_of}
-use Rattle.nfs_attrs.specs.Comparing.{same}
-use Rattle.nfs_attrs.specs.Reading.{fault_status}
+use Rattle.nfs_attrs.specs.{declared.wanted.AttrFault.AttrFault, Mask.mask_of, Comparing.same, Reading.fault_status}
 use Rattle.nfs_opens.specs.Steps.{◌>>=◌, map_err, require, ◌>>◌}
-use Rattle.nfs_names.specs.declared.context.Context.{Context}
-use Rattle.nfs_names.specs.declared.node.Node.{Node}
-use Rattle.nfs_names.specs.State.{State}
-use Rattle.nfs_names.specs.Outcome.{Outcome, done, or_refusal}
-use Rattle.nfs_names.specs.Checks.{current}
+use Rattle.nfs_names.specs.{declared.context.Context.Context, declared.node.Node.Node, State.State, Outcome.{Outcome, done, or_refusal}, Checks.current}
 use Rattle.nfs_names.specs.Attributes.{about}
 
 -- whether they are the same, or why that cannot be said

@@ -1,16 +1,10 @@
 -- A pair that comes into a block of an index or goes, seen among all its pairs.
 use Rattle.std.proofs.Common.{◌≡◌, ◌≢◌, ◌⊎◌, inl, inr, ℕ, zero, suc, ◌-◌, ◌<◌, ◌≤◌, Bool, true, false, List, [], ◌∷◌, ◌++◌, set, length, get_or}
-use Rattle.std.proofs.Common.{Option, Some, None, refl, sym, ◌∙◌, ap, subst, arith}
-use Rattle.std.specs.Prelude.{slice_get}
-use Rattle.std.specs.List.{insert, remove}
-use Rattle.std.specs.List.Sorted.{IsPartitionPoint, IsPartitionedBy}
-use Rattle.std.proofs.lemmas.Bool.{cases_lt, false≢true}
-use Rattle.std.proofs.lemmas.List.{append-nil}
+use Rattle.std.proofs.{Common.{Option, Some, None, refl, sym, ◌∙◌, ap, subst, arith}, lemmas.Bool.{cases_lt, false≢true}, lemmas.List.append-nil}
+use Rattle.std.specs.{Prelude.slice_get, List.{insert, remove}, List.Sorted.{IsPartitionPoint, IsPartitionedBy}}
 use Rattle.nfs_xdr.specs.Tables.{In}
-use Rattle.nfs_opens.specs.declared.index.Pair.{Pair}
-use Rattle.nfs_opens.specs.Index.{Precedes, IsAscending, pair_of, is_before, IsNext, HasPut, HasTaken}
-use Rattle.nfs_opens.specs.Flat.{flat, last_of, front_of, rest_of}
-use Rattle.nfs_opens.specs.Blocks.{ends_before, AreOrdered, IsPlace}
+use Rattle.nfs_opens.specs.{declared.index.Pair.Pair, Index.{Precedes, IsAscending, pair_of, is_before, IsNext, HasPut, HasTaken}}
+use Rattle.nfs_opens.specs.{Flat.{flat, last_of, front_of, rest_of}, Blocks.{ends_before, AreOrdered, IsPlace}}
 use Rattle.nfs_opens.proofs.FlatLemmas.{in_front, in_rear, in_either, last_among, in_flat, block_in, around, set_around, added_around, removed_around, in_set, all_front, removed_set, rest_last, same_block, last_got}
 use Rattle.nfs_opens.proofs.IndexLemmas.{compared, never_itself, carried, before_is, behind_is, itself_is, stays_before, later, in_insert, removed_in}
 

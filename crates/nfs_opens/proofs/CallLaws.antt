@@ -1,26 +1,15 @@
 -- What a call that was granted found, and what it answers and leaves. A refused one leaves the table as it was.
 use Rattle.std.proofs.Common.{◌≡◌, ◌⊎◌, inl, inr, ℕ, suc, ◌+◌, Bool, true, false, eqb, not, List, [], ◌∷◌, ◌++◌, Option, Some, None, refl, sym, ◌∙◌, ap}
-use Rattle.std.specs.Prelude.{◌==◌, Result, Ok, Err, ok_or}
 use Rattle.std.proofs.lemmas.Bool.{eqb-true, and_parts}
+use Rattle.std.specs.Prelude.{◌==◌, Result, Ok, Err, ok_or}
 use Rattle.nfs_xdr.specs.declared.status.Status.TheVariants.{BadStateId, LocksHeld, Inval, ServerFault}
-use Rattle.nfs_xdr.proofs.Lists.{find_in}
-use Rattle.nfs_xdr.proofs.Tables.{at_of_in}
+use Rattle.nfs_xdr.proofs.{Lists.find_in, Tables.at_of_in}
 use Rattle.nfs_ranges.specs.Holders.{holding, cleared, holds_any}
-use Rattle.nfs_opens.specs.declared.share.Share.{Share}
-use Rattle.nfs_opens.specs.declared.stateid.StateId.{StateId}
-use Rattle.nfs_opens.specs.declared.records.OpenState.{OpenState}
-use Rattle.nfs_opens.specs.declared.records.LockState.{LockState}
-use Rattle.nfs_opens.specs.declared.judging.Sort.TheVariants.{OpenOnly, LockOnly, Either}
-use Rattle.nfs_opens.specs.declared.locking.Wish.{Wish}
-use Rattle.nfs_opens.specs.declared.locking.OpenFault.TheVariants.{Refused}
-use Rattle.nfs_opens.specs.Holding.{on_file}
-use Rattle.nfs_opens.specs.StateId.{next_seqid, last_number}
-use Rattle.nfs_opens.specs.Steps.{◌>>=◌, require, map_err}
-use Rattle.nfs_opens.specs.Table.{Table, answer_of, table_after, open_at, lock_at, with_open, with_lock}
-use Rattle.nfs_opens.specs.TableInvariants.{IsTable}
-use Rattle.nfs_opens.specs.Judging.{judge}
-use Rattle.nfs_opens.specs.Opening.{is_narrower, narrows, downgrade}
-use Rattle.nfs_opens.specs.Closing.{without_open, close, lock_in, without_lock, free}
+use Rattle.nfs_opens.specs.{declared.share.Share.Share, declared.stateid.StateId.StateId, declared.records.OpenState.OpenState}
+use Rattle.nfs_opens.specs.{declared.records.LockState.LockState, declared.judging.Sort.TheVariants.{OpenOnly, LockOnly, Either}, declared.locking.Wish.Wish}
+use Rattle.nfs_opens.specs.{declared.locking.OpenFault.TheVariants.Refused, Holding.on_file, StateId.{next_seqid, last_number}, Steps.{◌>>=◌, require, map_err}}
+use Rattle.nfs_opens.specs.{Table.{Table, answer_of, table_after, open_at, lock_at, with_open, with_lock}, TableInvariants.IsTable, Judging.judge}
+use Rattle.nfs_opens.specs.{Opening.{is_narrower, narrows, downgrade}, Closing.{without_open, close, lock_in, without_lock, free}}
 use Rattle.nfs_opens.specs.Locking.{raised, lock_judged, access_in, is_locker, state_of, lock_as, lock_first, lock_by_owner, lock_under, lock_known, unlock}
 use Rattle.nfs_opens.proofs.LockLemmas.{judged_open, judged_lock, judged_freed}
 

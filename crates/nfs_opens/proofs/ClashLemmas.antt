@@ -1,20 +1,12 @@
 -- What the counts of a file's opens tell of clashes (RFC 8881 section 9.7).
 use Rattle.std.proofs.Common.{◌≡◌, inl, inr, ℕ, Bool, true, false, not, List, [], ◌∷◌, length, Some, None, refl, sym, ◌∙◌, ap}
-use Rattle.std.specs.Prelude.{◌==◌, ◌&&◌, ◌||◌, find, nat_lt}
-use Rattle.std.specs.List.{list_any}
 use Rattle.std.proofs.lemmas.Bool.{cases_Bool, eq-eqb, ne_eqb, false≢true}
+use Rattle.std.specs.{Prelude.{◌==◌, ◌&&◌, ◌||◌, find, nat_lt}, List.list_any}
 use Rattle.nfs_xdr.specs.Tables.{In, record_at, without_record}
-use Rattle.nfs_xdr.proofs.Lists.{filter_both, find_in, none_in}
-use Rattle.nfs_xdr.proofs.Tables.{in_once, at_of_in}
-use Rattle.nfs_opens.specs.declared.records.OpenState.{OpenState}
-use Rattle.nfs_opens.specs.Counts.{how_many, count_of, had, denied, without_one, reserved}
-use Rattle.nfs_opens.specs.Share.{meets}
-use Rattle.nfs_opens.specs.Table.{Table, Asked, is_owners, is_own, clashes_with}
-use Rattle.nfs_opens.specs.TableInvariants.{IsTable, HasOneEach}
-use Rattle.nfs_opens.proofs.CountLemmas.{many_any, many_same}
-use Rattle.nfs_opens.proofs.CountedLemmas.{same_count, count_without}
-use Rattle.nfs_opens.proofs.ShareLemmas.{own_is}
-use Rattle.nfs_opens.proofs.SingleLemmas.{whose_is}
+use Rattle.nfs_xdr.proofs.{Lists.{filter_both, find_in, none_in}, Tables.{in_once, at_of_in}}
+use Rattle.nfs_opens.specs.{declared.records.OpenState.OpenState, Counts.{how_many, count_of, had, denied, without_one, reserved}, Share.meets}
+use Rattle.nfs_opens.specs.{Table.{Table, Asked, is_owners, is_own, clashes_with}, TableInvariants.{IsTable, HasOneEach}}
+use Rattle.nfs_opens.proofs.{CountLemmas.{many_any, many_same}, CountedLemmas.{same_count, count_without}, ShareLemmas.own_is, SingleLemmas.whose_is}
 
 -- an open of the file that is asked for, by another owner
 abbrev pub is_others : Asked → OpenState → Bool

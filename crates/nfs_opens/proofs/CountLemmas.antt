@@ -1,13 +1,10 @@
 -- How many opens pass a test, behind one that comes, goes or changes.
 use Rattle.std.proofs.Common.{◌≡◌, inl, inr, ℕ, suc, ◌+◌, ◌<◌, ◌≤◌, Bool, true, false, List, [], ◌∷◌, ◌++◌, length, Some, refl, sym, ◌∙◌, ap, arith}
-use Rattle.std.specs.Prelude.{◌==◌, nat_lt, if◌then◌else◌}
-use Rattle.std.specs.List.{list_any}
 use Rattle.std.proofs.lemmas.Bool.{cases_Bool, eqb-true, lt-ltb}
+use Rattle.std.specs.{Prelude.{◌==◌, nat_lt, if◌then◌else◌}, List.list_any}
 use Rattle.nfs_xdr.specs.Tables.{IsRising, In, record_at, without_record, with_record}
-use Rattle.nfs_xdr.proofs.Lists.{count_push, length_filter, filter_in}
-use Rattle.nfs_xdr.proofs.Tables.{at_below, without_none, with_none}
-use Rattle.nfs_opens.specs.StateId.{last_number}
-use Rattle.nfs_opens.specs.Counts.{how_many, more, less}
+use Rattle.nfs_xdr.proofs.{Lists.{count_push, length_filter, filter_in}, Tables.{at_below, without_none, with_none}}
+use Rattle.nfs_opens.specs.{StateId.last_number, Counts.{how_many, more, less}}
 
 abbrev pub bit : Bool → ℕ
 bit b = if b then 1 else 0

@@ -1,16 +1,11 @@
 -- The count of each file's opens, behind an open that comes, goes or changes; and what it tells of clashes (RFC 8881 section 9.7).
 use Rattle.std.proofs.Common.{◌≡◌, inl, inr, ℕ, ◌<◌, ◌≤◌, Bool, true, false, cond, List, [], ◌∷◌, ◌++◌, length, Some, None, refl, sym, ◌∙◌, ap, arith}
-use Rattle.std.specs.Prelude.{◌==◌, ◌&&◌}
 use Rattle.std.proofs.lemmas.Bool.{cases_Bool, eq-eqb, ne_eqb, eqb-true, false≢true}
+use Rattle.std.specs.Prelude.{◌==◌, ◌&&◌}
 use Rattle.nfs_xdr.specs.Tables.{IsRising, record_at, without_record, with_record}
-use Rattle.nfs_xdr.proofs.Lists.{find_in}
-use Rattle.nfs_xdr.proofs.Tables.{without_none, with_none}
-use Rattle.nfs_opens.specs.StateId.{last_number}
-use Rattle.nfs_opens.specs.declared.records.OpenState.{OpenState}
-use Rattle.nfs_opens.specs.declared.counts.Count.{Count}
-use Rattle.nfs_opens.specs.declared.counts.Counts.{Counts}
-use Rattle.nfs_opens.specs.Counts.{how_many, count_of, count_at, more, less, with_one, without_one, reserved, CountsAnew, AreCounted}
-use Rattle.nfs_opens.specs.TableInvariants.{Rises}
+use Rattle.nfs_xdr.proofs.{Lists.find_in, Tables.{without_none, with_none}}
+use Rattle.nfs_opens.specs.{StateId.last_number, declared.records.OpenState.OpenState, declared.counts.Count.Count, declared.counts.Counts.Counts}
+use Rattle.nfs_opens.specs.{Counts.{how_many, count_of, count_at, more, less, with_one, without_one, reserved, CountsAnew, AreCounted}, TableInvariants.Rises}
 use Rattle.nfs_opens.proofs.CountLemmas.{less_without, more_pushed, other_with, many_there}
 
 pub same_count : (a b : Count) → a.opens ≡ b.opens → a.readers ≡ b.readers → a.writers ≡ b.writers → a.read_deniers ≡ b.read_deniers

@@ -1,18 +1,12 @@
 -- The end of a client, one open after the other (RFC 8881 section 8.3).
 use Rattle.std.proofs.Common.{◌≡◌, ℕ, suc, ◌<◌, Bool, true, false, cond, not, List, length, Option, Some, None, refl, sym, ◌∙◌, ap, arith, inl, inr}
-use Rattle.std.proofs.Math.Path.{fun_ext}
+use Rattle.std.proofs.{Math.Path.fun_ext, lemmas.Bool.{eq-eqb, ne_eqb, false≢true}}
 use Rattle.std.specs.Prelude.{◌==◌, find, filter}
-use Rattle.std.proofs.lemmas.Bool.{eq-eqb, ne_eqb, false≢true}
 use Rattle.nfs_xdr.specs.Tables.{In}
-use Rattle.nfs_xdr.proofs.Lists.{find_in, none_in, any_in, any_left, filter_all, filter_past, length_fewer}
-use Rattle.nfs_xdr.proofs.Tables.{in_once}
+use Rattle.nfs_xdr.proofs.{Lists.{find_in, none_in, any_in, any_left, filter_all, filter_past, length_fewer}, Tables.in_once}
 use Rattle.nfs_ranges.specs.declared.Kind.{Kind}
-use Rattle.nfs_opens.specs.declared.records.OpenState.{OpenState}
-use Rattle.nfs_opens.specs.declared.records.LockState.{LockState}
-use Rattle.nfs_opens.specs.Table.{Table}
-use Rattle.nfs_opens.specs.TableInvariants.{IsTable}
-use Rattle.nfs_opens.specs.Closing.{stands, held_within, not_under, without_open}
-use Rattle.nfs_opens.specs.Calls.{without_client}
+use Rattle.nfs_opens.specs.{declared.records.OpenState.OpenState, declared.records.LockState.LockState, Table.Table, TableInvariants.IsTable}
+use Rattle.nfs_opens.specs.{Closing.{stands, held_within, not_under, without_open}, Calls.without_client}
 use Rattle.nfs_opens.proofs.LockLemmas.{same_table, some_or_none}
 
 abbrev number_of : OpenState → ℕ

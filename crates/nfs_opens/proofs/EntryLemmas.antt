@@ -1,12 +1,7 @@
 -- Entries of an index, as the pairs that contracts see.
-use Rattle.std.proofs.Common.{◌≡◌, ℕ, zero, suc, ◌-◌, ◌<◌, ◌≤◌, Bool, List, [], ◌∷◌, map, length}
-use Rattle.std.proofs.Common.{Some, refl, sym, ◌∙◌, ap, subst, arith}
-use Rattle.std.specs.Prelude.{slice_get}
-use Rattle.std.specs.Option.{option_map}
-use Rattle.std.specs.List.{insert, remove}
-use Rattle.std.specs.List.Sorted.{IsPartitionPoint, IsPartitionedBy}
-use Rattle.std.proofs.lemmas.List.{get_or-map, length-map}
-use Rattle.std.proofs.lemmas.Option.{slice_get-map}
+use Rattle.std.proofs.Common.{◌≡◌, ℕ, zero, suc, ◌-◌, ◌<◌, ◌≤◌, Bool, List, [], ◌∷◌, map, length, Some, refl, sym, ◌∙◌, ap, subst, arith}
+use Rattle.std.proofs.{lemmas.List.{get_or-map, length-map}, lemmas.Option.slice_get-map}
+use Rattle.std.specs.{Prelude.slice_get, Option.option_map, List.{insert, remove}, List.Sorted.{IsPartitionPoint, IsPartitionedBy}}
 use Rattle.nfs_opens.specs.declared.index.Pair.{Pair}
 
 module _ {X : Type 0} (pair : X → Pair) where

@@ -1,17 +1,9 @@
 -- What the locked bytes of files say of who holds which byte, after a change of one file.
 use Rattle.std.proofs.Common.{◌≡◌, ◌≢◌, ◌⊎◌, inl, inr, ℕ, zero, suc, Bool, true, false, cond, not, List, [], ◌∷◌, Option, Some, None, refl, sym, ◌∙◌, ap, subst, arith}
-use Rattle.std.proofs.Math.Path.{fun_ext}
-use Rattle.std.specs.Prelude.{◌==◌, is_some, IsSome, ◌&&◌, ◌||◌, ◌^◌}
-use Rattle.std.specs.List.{list_any}
-use Rattle.std.specs.Ordering.{nat_cmp}
-use Rattle.std.specs.BTreeMap.{BTreeMap, is_at, get, Updates, WritesThrough}
-use Rattle.std.specs.Map.{lookup, set_value}
-use Rattle.std.proofs.lemmas.Map.Steps.{set_value_same}
-use Rattle.std.proofs.lemmas.Bool.{cases_eq, ne_eqb, eq-eqb, false≢true}
-use Rattle.std.proofs.lemmas.Bool.Decides.{nat_tests}
-use Rattle.nfs_ranges.specs.declared.Kind.{Kind}
-use Rattle.nfs_ranges.specs.Holders.{Holders, LockedBytes, at, nobody, cleared, dropped, holds_any, least}
-use Rattle.nfs_ranges.specs.Facts.{Tells}
+use Rattle.std.proofs.{Math.Path.fun_ext, lemmas.Map.Steps.set_value_same, lemmas.Bool.{cases_eq, ne_eqb, eq-eqb, false≢true}, lemmas.Bool.Decides.nat_tests}
+use Rattle.std.specs.{Prelude.{◌==◌, is_some, IsSome, ◌&&◌, ◌||◌, ◌^◌}, List.list_any, Ordering.nat_cmp}
+use Rattle.std.specs.{BTreeMap.{BTreeMap, is_at, get, Updates, WritesThrough}, Map.{lookup, set_value}}
+use Rattle.nfs_ranges.specs.{declared.Kind.Kind, Holders.{Holders, LockedBytes, at, nobody, cleared, dropped, holds_any, least}, Facts.Tells}
 use Rattle.nfs_opens.specs.Holding.{FileHolders, held_by, on_file, is_listed, ListsNoMore}
 
 abbrev pub holders_of : Option LockedBytes → Holders

@@ -1,7 +1,6 @@
 -- What keeps writers from standing beside other holders (RFC 8881 section 9.1).
 use Rattle.std.proofs.Common.{◌≡◌, ◌⊎◌, ℕ, Some, None, sym, ◌∙◌, inl, inr}
-use Rattle.nfs_ranges.specs.declared.Kind.TheVariants.{Write}
-use Rattle.nfs_ranges.specs.Holders.{Holders, HasNoClash}
+use Rattle.nfs_ranges.specs.{declared.Kind.TheVariants.Write, Holders.{Holders, HasNoClash}}
 
 -- the second holds nothing else than the first
 abbrev pub IsFewer : Holders → Holders → Type 0

@@ -1,16 +1,10 @@
 -- Walks over the opens that belong to one file.
 use Rattle.std.proofs.Common.{◌≡◌, ℕ, suc, ◌-◌, ◌<◌, Bool, true, false, List, Option, Some, None, sym, ◌∙◌, ap, arith, refl, Bor}
-use Rattle.std.specs.Prelude.{◌==◌, ◌&&◌, not, nat_lt, is_some, find}
-use Rattle.std.specs.List.{list_any}
-use Rattle.std.specs.Option.{option_copied}
 use Rattle.std.proofs.lemmas.Bool.{and_parts, eqb-true}
+use Rattle.std.specs.{Prelude.{◌==◌, ◌&&◌, not, nat_lt, is_some, find}, List.list_any, Option.option_copied}
 use Rattle.nfs_xdr.proofs.Lists.{find_in, any_in}
-use Rattle.nfs_opens.specs.declared.records.OpenState.{OpenState}
-use Rattle.nfs_opens.specs.Keys.{owner_key, open_key}
-use Rattle.nfs_opens.specs.Table.{Table, Asked, is_own}
-use Rattle.nfs_opens.specs.TableInvariants.{IsTable}
-use Rattle.nfs_opens.proofs.ShareLemmas.{own_is}
-use Rattle.nfs_opens.proofs.IndexLemmas.{any_begun, any_done, any_missed, come_bounds}
+use Rattle.nfs_opens.specs.{declared.records.OpenState.OpenState, Keys.{owner_key, open_key}, Table.{Table, Asked, is_own}, TableInvariants.IsTable}
+use Rattle.nfs_opens.proofs.{ShareLemmas.own_is, IndexLemmas.{any_begun, any_done, any_missed, come_bounds}}
 
 -- A walk over the opens that belong to one thing, as a file, by a test that only they pass.
 

@@ -1,15 +1,11 @@
 -- Lock states that leave go one after the other.
 use Rattle.std.proofs.Common.{◌≡◌, inl, inr, ℕ, suc, ◌<◌, ◌≤◌, Bool, true, false, not, List, [], ◌∷◌, length, Some, None, refl, sym, ◌∙◌, ap, arith}
-use Rattle.std.specs.Prelude.{◌==◌, find, filter}
 use Rattle.std.proofs.lemmas.Bool.{cases_Bool, eq-eqb, ne_eqb, false≢true}
+use Rattle.std.specs.Prelude.{◌==◌, find, filter}
 use Rattle.nfs_xdr.specs.Tables.{IsRising, In}
-use Rattle.nfs_xdr.proofs.Lists.{find_in, none_in, filter_all, filter_past, length_fewer}
-use Rattle.nfs_xdr.proofs.Tables.{in_bounds, in_once}
+use Rattle.nfs_xdr.proofs.{Lists.{find_in, none_in, filter_all, filter_past, length_fewer}, Tables.{in_bounds, in_once}}
 use Rattle.nfs_ranges.specs.Holders.{dropped}
-use Rattle.nfs_opens.specs.declared.records.LockState.{LockState}
-use Rattle.nfs_opens.specs.Holding.{FileHolders, on_file}
-use Rattle.nfs_opens.specs.TableInvariants.{Rises}
-use Rattle.nfs_opens.specs.Calls.{held_without}
+use Rattle.nfs_opens.specs.{declared.records.LockState.LockState, Holding.{FileHolders, on_file}, TableInvariants.Rises, Calls.held_without}
 use Rattle.nfs_opens.proofs.LockLemmas.{without_none_leaves}
 
 abbrev number_of : LockState → ℕ

@@ -1,37 +1,18 @@
 -- What a lock, a judged stateid and a closed open come to.
 use Rattle.std.proofs.Common.{◌≡◌, ◌≢◌, ◌⊎◌, inl, inr, ℕ, suc, ◌<◌, ◌≤◌, Bool, true, false, cond, not, List, [], ◌∷◌, Option, Some}
-use Rattle.std.proofs.Common.{None, refl, sym, ◌∙◌, ap, subst, arith}
-use Rattle.std.proofs.Math.Path.{fun_ext}
-use Rattle.std.specs.Prelude.{◌==◌, ◌^◌, ◌&&◌, filter, Result, Ok, Err, IsSome, nat_lt, if◌then◌else◌}
-use Rattle.std.specs.List.{list_any}
+use Rattle.std.proofs.{Common.{None, refl, sym, ◌∙◌, ap, subst, arith}, Math.Path.fun_ext}
 use Rattle.std.proofs.lemmas.Bool.{cases_Bool, cases_eq, cases_lt, eq-eqb, ne_eqb, eqb-true, and_parts, leb-true, false≢true}
-use Rattle.nfs_xdr.specs.declared.status.Status.{Status}
-use Rattle.nfs_ranges.specs.declared.Kind.{Kind}
-use Rattle.nfs_ranges.specs.Holders.{Holders, holding, dropped, nobody, holds_any, is_within}
-use Rattle.nfs_ranges.specs.declared.Held.{Held}
-use Rattle.nfs_ranges.specs.Told.{told}
-use Rattle.nfs_ranges.specs.Facts.{Tells}
-use Rattle.nfs_ranges.proofs.ToldLemmas.{told_is_unique, any_is_decided}
-use Rattle.nfs_xdr.specs.declared.status.Status.TheVariants.{BadStateId, OldStateId}
-use Rattle.nfs_opens.specs.declared.stateid.StateId.{StateId}
-use Rattle.nfs_opens.specs.declared.judging.Seat.{Seat}
-use Rattle.nfs_opens.specs.declared.judging.Seat.TheVariants.{Anonymous, ReadBypass, Open, Lock}
-use Rattle.nfs_opens.specs.declared.judging.Sort.TheVariants.{OpenOnly, LockOnly, Either}
-use Rattle.nfs_opens.specs.StateId.{is_anonymous, is_bypass}
-use Rattle.nfs_opens.specs.Judging.{access_of, judge, judge_named, named_by, seated}
-use Rattle.nfs_opens.specs.declared.records.OpenState.{OpenState}
-use Rattle.nfs_opens.specs.declared.records.LockState.{LockState}
-use Rattle.nfs_opens.specs.Holding.{FileHolders, on_file}
-use Rattle.nfs_xdr.specs.Tables.{In}
-use Rattle.nfs_xdr.proofs.Lists.{any_in, in_filter, stays_in, none_any, in_any, find_in}
-use Rattle.nfs_xdr.proofs.Tables.{in_once}
-use Rattle.nfs_opens.specs.Table.{Table, open_at, lock_at}
-use Rattle.nfs_opens.specs.TableInvariants.{IsTable, IsHolder, AreHolders}
-use Rattle.nfs_opens.specs.Closing.{stands, held_within, lock_in}
-use Rattle.nfs_opens.specs.Calls.{held_without}
-use Rattle.nfs_opens.proofs.FileLemmas.{file_here, file_other, on_file_same}
-use Rattle.nfs_ranges.proofs.HolderLemmas.{set_keeps}
-use Rattle.nfs_opens.proofs.TableLemmas.{KeepsBytes, holders_left}
+use Rattle.std.specs.{Prelude.{◌==◌, ◌^◌, ◌&&◌, filter, Result, Ok, Err, IsSome, nat_lt, if◌then◌else◌}, List.list_any}
+use Rattle.nfs_xdr.specs.{declared.status.Status.Status, declared.status.Status.TheVariants.{BadStateId, OldStateId}, Tables.In}
+use Rattle.nfs_ranges.specs.{declared.Kind.Kind, Holders.{Holders, holding, dropped, nobody, holds_any, is_within}, declared.Held.Held, Told.told, Facts.Tells}
+use Rattle.nfs_ranges.proofs.{ToldLemmas.{told_is_unique, any_is_decided}, HolderLemmas.set_keeps}
+use Rattle.nfs_opens.specs.{declared.stateid.StateId.StateId, declared.judging.Seat.Seat, declared.judging.Seat.TheVariants.{Anonymous, ReadBypass, Open, Lock}}
+use Rattle.nfs_opens.specs.{declared.judging.Sort.TheVariants.{OpenOnly, LockOnly, Either}, StateId.{is_anonymous, is_bypass}}
+use Rattle.nfs_opens.specs.{Judging.{access_of, judge, judge_named, named_by, seated}, declared.records.OpenState.OpenState}
+use Rattle.nfs_opens.specs.{declared.records.LockState.LockState, Holding.{FileHolders, on_file}, Table.{Table, open_at, lock_at}}
+use Rattle.nfs_opens.specs.{TableInvariants.{IsTable, IsHolder, AreHolders}, Closing.{stands, held_within, lock_in}, Calls.held_without}
+use Rattle.nfs_xdr.proofs.{Lists.{any_in, in_filter, stays_in, none_any, in_any, find_in}, Tables.in_once}
+use Rattle.nfs_opens.proofs.{FileLemmas.{file_here, file_other, on_file_same}, TableLemmas.{KeepsBytes, holders_left}}
 
 -- who holds a byte behind a lock: the lock state that locks, in the range, or whoever held it
 held_then : (h : Holders) (n : ℕ) (kind : Kind) (first last s b : ℕ) → ((n ≡ s) × (first ≤ b) × (b ≤ last)) ⊎ (holding h n kind first last s b ≡ h s b)

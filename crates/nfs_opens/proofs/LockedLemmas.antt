@@ -1,21 +1,13 @@
 -- The lock states of one key, and which files stay listed.
 use Rattle.std.proofs.Common.{◌≡◌, ℕ, suc, ◌⊎◌, Bool, true, false, not, List, [], ◌∷◌, ◌++◌, map, Some, refl, sym, ◌∙◌, ap, subst, inl, inr}
-use Rattle.std.specs.Prelude.{◌==◌, find, filter, bytes_eq, IfSome, if◌then◌else◌}
-use Rattle.std.specs.List.{list_any}
 use Rattle.std.proofs.lemmas.Bool.{cases_Bool, cases_eq, and_parts, eqb-true, eq-eqb, false≢true}
-use Rattle.nfs_xdr.proofs.Lists.{find_in, any_in, in_any, any_filter, any_map, push_in, last_in}
-use Rattle.nfs_xdr.proofs.Tables.{at_of_in, in_once}
+use Rattle.std.specs.{Prelude.{◌==◌, find, filter, bytes_eq, IfSome, if◌then◌else◌}, List.list_any}
+use Rattle.nfs_xdr.proofs.{Lists.{find_in, any_in, in_any, any_filter, any_map, push_in, last_in}, Tables.{at_of_in, in_once}}
 use Rattle.nfs_xdr.specs.Tables.{In}
 use Rattle.nfs_ranges.specs.Holders.{LockedBytes}
-use Rattle.nfs_opens.specs.declared.records.OpenState.{OpenState}
-use Rattle.nfs_opens.specs.declared.records.LockState.{LockState}
-use Rattle.nfs_opens.specs.Holding.{is_listed, ListsNoMore}
-use Rattle.nfs_opens.specs.Locking.{is_locker, raised}
-use Rattle.nfs_opens.specs.Table.{Table, open_at, lock_at}
-use Rattle.nfs_opens.specs.TableInvariants.{IsTable, AreListed}
-use Rattle.nfs_opens.specs.Keys.{owner_key, lock_key}
-use Rattle.nfs_opens.proofs.ShareLemmas.{owner_bytes}
-use Rattle.nfs_opens.proofs.StepLemmas.{all_some, if_some}
+use Rattle.nfs_opens.specs.{declared.records.OpenState.OpenState, declared.records.LockState.LockState, Holding.{is_listed, ListsNoMore}}
+use Rattle.nfs_opens.specs.{Locking.{is_locker, raised}, Table.{Table, open_at, lock_at}, TableInvariants.{IsTable, AreListed}, Keys.{owner_key, lock_key}}
+use Rattle.nfs_opens.proofs.{ShareLemmas.owner_bytes, StepLemmas.{all_some, if_some}}
 
 abbrev number_of : LockState → ℕ
 number_of l = l.number

@@ -1,18 +1,11 @@
 -- Blocks by rising numbers: the block that has a number, and what a change, one that goes and one that comes leave of all.
 use Rattle.std.proofs.Common.{◌≡◌, ◌≢◌, inl, inr, ℕ, zero, suc, ◌-◌, ◌<◌, ◌≤◌, Bool, true, false, not, List, [], ◌∷◌, ◌++◌, map, set, length, get_or}
-use Rattle.std.proofs.Common.{Some, None, refl, sym, ◌∙◌, ap, subst, arith}
-use Rattle.std.specs.Prelude.{◌==◌, nat_lt, find, filter, slice_get, if◌then◌else◌}
-use Rattle.std.specs.List.{remove}
-use Rattle.std.specs.List.Sorted.{IsPartitionPoint, IsPartitionedBy}
-use Rattle.std.proofs.lemmas.Bool.{cases_Bool, cases_lt, ne_eqb, lt-ltb, ltb-true, false≢true}
-use Rattle.std.proofs.lemmas.List.{append_assoc, append-nil, map-append}
-use Rattle.std.proofs.lemmas.List.Elements.{filter-append}
+use Rattle.std.proofs.{Common.{Some, None, refl, sym, ◌∙◌, ap, subst, arith}, lemmas.Bool.{cases_Bool, cases_lt, ne_eqb, lt-ltb, ltb-true, false≢true}}
+use Rattle.std.proofs.{lemmas.List.{append_assoc, append-nil, map-append}, lemmas.List.Elements.filter-append}
+use Rattle.std.specs.{Prelude.{◌==◌, nat_lt, find, filter, slice_get, if◌then◌else◌}, List.remove, List.Sorted.{IsPartitionPoint, IsPartitionedBy}}
 use Rattle.nfs_xdr.specs.Tables.{IsRising, In}
-use Rattle.nfs_xdr.proofs.Lists.{find_none, filter_all, in_push}
-use Rattle.nfs_xdr.proofs.Tables.{IsRising-below, IsRising-from, IsRising-map, IsRising-filter, in_bounds}
-use Rattle.nfs_opens.specs.Flat.{flat, last_of, front_of, rest_of}
-use Rattle.nfs_opens.specs.ByNumber.{ends_below, AreRising}
-use Rattle.nfs_opens.specs.TableInvariants.{Rises}
+use Rattle.nfs_xdr.proofs.{Lists.{find_none, filter_all, in_push}, Tables.{IsRising-below, IsRising-from, IsRising-map, IsRising-filter, in_bounds}}
+use Rattle.nfs_opens.specs.{Flat.{flat, last_of, front_of, rest_of}, ByNumber.{ends_below, AreRising}, TableInvariants.Rises}
 use Rattle.nfs_opens.proofs.FlatLemmas.{in_either, in_flat, last_among, block_in, around, set_around, removed_around, in_set, all_front, removed_set, rest_last, flat_push, last_got}
 use Rattle.nfs_opens.proofs.IndexLemmas.{removed_in}
 

@@ -1,13 +1,9 @@
 -- When two opens do not clash (RFC 8881 section 9.7).
 use Rattle.std.proofs.Common.{◌≡◌, inl, inr, ℕ, Bool, true, false, not, ◌&&◌, ◌||◌, List, refl, sym, ◌∙◌, ap, eqb}
+use Rattle.std.proofs.{lemmas.Bool.{cases_Bool, eq-eqb, eqb-true, and_parts, false≢true}, lemmas.Slice.Eq.bytes_eq-Decides}
 use Rattle.std.specs.Prelude.{bytes_eq}
-use Rattle.std.proofs.lemmas.Bool.{cases_Bool, eq-eqb, eqb-true, and_parts, false≢true}
-use Rattle.std.proofs.lemmas.Slice.Eq.{bytes_eq-Decides}
-use Rattle.nfs_opens.specs.declared.share.Share.{Share}
-use Rattle.nfs_opens.specs.declared.records.OpenState.{OpenState}
-use Rattle.nfs_opens.specs.Share.{meets, joined, is_part}
-use Rattle.nfs_opens.specs.Table.{Asked, is_owners, is_own, clashes_with, as_asked}
-use Rattle.nfs_opens.specs.Opening.{joins, narrows, is_narrower}
+use Rattle.nfs_opens.specs.{declared.share.Share.Share, declared.records.OpenState.OpenState, Share.{meets, joined, is_part}}
+use Rattle.nfs_opens.specs.{Table.{Asked, is_owners, is_own, clashes_with, as_asked}, Opening.{joins, narrows, is_narrower}}
 
 -- of two that meet on no bit
 pub record AreApart (access deny : Share) (o : OpenState) : Type 0 where

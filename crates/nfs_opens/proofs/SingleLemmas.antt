@@ -1,12 +1,10 @@
 -- An owner has at most one open of a file.
 use Rattle.std.proofs.Common.{◌≡◌, ◌≢◌, ℕ, Bool, true, List, [], ◌∷◌, ◌++◌, None, map, refl, sym, ◌∙◌, ap, subst, inl, inr}
-use Rattle.std.specs.Prelude.{◌==◌, find, filter, if◌then◌else◌}
 use Rattle.std.proofs.lemmas.Bool.{cases_Bool, eq-eqb, false≢true}
+use Rattle.std.specs.Prelude.{◌==◌, find, filter, if◌then◌else◌}
 use Rattle.nfs_xdr.specs.Tables.{In}
 use Rattle.nfs_xdr.proofs.Lists.{in_filter, in_map, in_push, none_in}
-use Rattle.nfs_opens.specs.declared.records.OpenState.{OpenState}
-use Rattle.nfs_opens.specs.Table.{Asked, is_own}
-use Rattle.nfs_opens.specs.TableInvariants.{HasOneEach, whose}
+use Rattle.nfs_opens.specs.{declared.records.OpenState.OpenState, Table.{Asked, is_own}, TableInvariants.{HasOneEach, whose}}
 use Rattle.nfs_opens.proofs.ShareLemmas.{are_owners}
 
 pub each_none : HasOneEach []

@@ -1,37 +1,20 @@
 -- What a call answers where nothing refuses it, and that its table is one.
 use Rattle.std.proofs.Common.{◌≡◌, ◌≢◌, inl, inr, ℕ, suc, ◌+◌, ◌<◌, ◌≤◌, Bool, true, false, cond, eqb, not, List, [], ◌∷◌, ◌++◌, Option, Some, None, refl, sym}
-use Rattle.std.proofs.Common.{◌∙◌, ap, subst, arith}
-use Rattle.std.proofs.Math.Path.{fun_ext}
-use Rattle.std.specs.Prelude.{◌==◌, ◌^◌, Ok, Err, ok_or, IfSome, nat_le, ◌&&◌}
-use Rattle.std.proofs.lemmas.Bool.{eqb-true, cases_eq, cases_lt, eq-eqb, ne_eqb, le-leb}
-use Rattle.nfs_ranges.specs.declared.Held.{Held}
-use Rattle.nfs_ranges.specs.Holders.{Holders, holding, cleared, dropped, holds_any, HasNoClash}
-use Rattle.nfs_ranges.specs.declared.Kind.{Kind}
-use Rattle.nfs_ranges.specs.Told.{meets}
+use Rattle.std.proofs.{Common.{◌∙◌, ap, subst, arith}, Math.Path.fun_ext, lemmas.Bool.{eqb-true, cases_eq, cases_lt, eq-eqb, ne_eqb, le-leb}}
+use Rattle.std.specs.{Prelude.{◌==◌, ◌^◌, Ok, Err, ok_or, IfSome, nat_le, ◌&&◌}, List.list_any}
+use Rattle.nfs_ranges.specs.{declared.Held.Held, Holders.{Holders, holding, cleared, dropped, holds_any, HasNoClash}, declared.Kind.Kind, Told.meets}
 use Rattle.nfs_ranges.specs.Facts.{Tells, IsBelow}
-use Rattle.nfs_opens.specs.declared.share.Share.{Share}
-use Rattle.nfs_opens.specs.declared.records.OpenState.{OpenState}
-use Rattle.nfs_opens.specs.declared.records.LockState.{LockState}
-use Rattle.nfs_opens.specs.declared.locking.Wish.{Wish}
-use Rattle.nfs_opens.specs.declared.locking.OpenFault.TheVariants.{Refused}
-use Rattle.nfs_xdr.specs.declared.status.Status.TheVariants.{BadStateId, OpenMode, ShareDenied, ServerFault}
-use Rattle.nfs_xdr.specs.declared.status.Status.{Status}
-use Rattle.nfs_xdr.proofs.Lists.{find_in, in_push, push_in, last_in}
-use Rattle.nfs_xdr.proofs.Tables.{IsRising-push, in_once, IsRising-upto, in_bounds}
-use Rattle.nfs_opens.specs.Holding.{FileHolders, on_file}
-use Rattle.nfs_opens.specs.TableInvariants.{HasNoByteBehind, IsTable, IsHolder}
-use Rattle.nfs_opens.specs.StateId.{next_seqid, last_number}
-use Rattle.nfs_opens.specs.Table.{Table, open_at, lock_at, with_open, with_lock, Asked, is_own, clashes_with}
-use Rattle.nfs_opens.specs.Closing.{without_lock}
-use Rattle.nfs_opens.specs.Locking.{permits, clash, unless_told, lock_judged, lock_as, lock_first, raised}
-use Rattle.nfs_opens.specs.Steps.{require}
+use Rattle.nfs_opens.specs.{declared.share.Share.Share, declared.records.OpenState.OpenState, declared.records.LockState.LockState, declared.locking.Wish.Wish}
+use Rattle.nfs_opens.specs.{declared.locking.OpenFault.TheVariants.Refused, Holding.{FileHolders, on_file}}
+use Rattle.nfs_opens.specs.{TableInvariants.{HasNoByteBehind, IsTable, IsHolder}, StateId.{next_seqid, last_number}}
+use Rattle.nfs_opens.specs.{Table.{Table, open_at, lock_at, with_open, with_lock, Asked, is_own, clashes_with}, Closing.without_lock}
+use Rattle.nfs_opens.specs.{Locking.{permits, clash, unless_told, lock_judged, lock_as, lock_first, raised}, Steps.require}
+use Rattle.nfs_opens.specs.Opening.{narrows, is_narrower, joins, own_open}
+use Rattle.nfs_xdr.specs.{declared.status.Status.TheVariants.{BadStateId, OpenMode, ShareDenied, ServerFault}, declared.status.Status.Status}
+use Rattle.nfs_xdr.proofs.{Lists.{find_in, in_push, push_in, last_in}, Tables.{IsRising-push, in_once, IsRising-upto, in_bounds}}
 use Rattle.nfs_opens.proofs.CallLaws.{first_state, goes_on}
 use Rattle.nfs_opens.proofs.TableLemmas.{KeepsBytes, table_raised, clears_bytes, table_freed, table_narrowed, table_joined, on_each}
-use Rattle.nfs_opens.proofs.FileLemmas.{file_here, file_other}
-use Rattle.nfs_opens.proofs.ShareLemmas.{own_is}
-use Rattle.nfs_opens.specs.Opening.{narrows, is_narrower, joins, own_open}
-use Rattle.std.specs.List.{list_any}
-use Rattle.nfs_opens.proofs.LockLemmas.{sets_bytes, clash_tells, holds_none, some_or_none}
+use Rattle.nfs_opens.proofs.{FileLemmas.{file_here, file_other}, ShareLemmas.own_is, LockLemmas.{sets_bytes, clash_tells, holds_none, some_or_none}}
 
 pub if_some : {X : Type 0} (o : Option X) (x : X) (P : X → Type 0) → o ≡ Some x → IfSome o P → P x
 if_some {X} o x P e is = let at : IfSome (Some x) P = subst (λ (o : Option X). IfSome o P) e is in at

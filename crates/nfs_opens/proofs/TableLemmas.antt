@@ -1,26 +1,16 @@
 -- What each change keeps of what holds of every table.
 use Rattle.std.proofs.Common.{◌≡◌, ◌≢◌, ◌⊎◌, inl, inr, ℕ, suc, ◌+◌, ◌≤◌, Bool, true, false, cond, eqb, not, List, [], ◌∷◌, ◌++◌, Option, None}
-use Rattle.std.proofs.Common.{refl, sym, ◌∙◌, ap, subst, arith}
-use Rattle.std.specs.Prelude.{◌==◌, ◌^◌, if◌then◌else◌, filter}
-use Rattle.std.specs.List.{list_any}
-use Rattle.std.proofs.lemmas.Bool.{cases_eq, eq-eqb, ne_eqb, eqb-true}
+use Rattle.std.proofs.{Common.{refl, sym, ◌∙◌, ap, subst, arith}, lemmas.Bool.{cases_eq, eq-eqb, ne_eqb, eqb-true}}
+use Rattle.std.specs.{Prelude.{◌==◌, ◌^◌, if◌then◌else◌, filter}, List.list_any}
 use Rattle.nfs_xdr.specs.Tables.{In}
 use Rattle.nfs_xdr.proofs.Lists.{in_filter, stays_in, in_push, push_in, in_map, map_in, none_any, in_any}
 use Rattle.nfs_xdr.proofs.Tables.{IsRising-push, IsRising-map, IsRising-filter, in_once, IsRising-upto}
-use Rattle.nfs_ranges.specs.declared.Kind.{Kind}
-use Rattle.nfs_ranges.specs.Holders.{Holders, cleared, HasNoClash}
-use Rattle.nfs_ranges.specs.Facts.{IsBelow}
-use Rattle.nfs_opens.specs.declared.share.Share.{Share}
-use Rattle.nfs_opens.specs.declared.records.OpenState.{OpenState}
-use Rattle.nfs_opens.specs.declared.records.LockState.{LockState}
-use Rattle.nfs_opens.specs.Holding.{FileHolders, on_file}
-use Rattle.nfs_opens.specs.Table.{Table, Asked, clashes_with, as_asked, with_open, with_lock, no_opens}
-use Rattle.nfs_opens.specs.TableInvariants.{IsTable, IsHolder, AreHolders}
-use Rattle.nfs_opens.specs.Opening.{new_open, joins, narrows, is_narrower}
-use Rattle.nfs_opens.specs.Closing.{stands, held_within, not_under, without_open, without_lock}
-use Rattle.nfs_opens.specs.Locking.{raised}
-use Rattle.nfs_opens.proofs.FileLemmas.{file_here, file_other}
-use Rattle.nfs_opens.proofs.HolderLemmas.{IsFewer, fewer_keeps}
+use Rattle.nfs_ranges.specs.{declared.Kind.Kind, Holders.{Holders, cleared, HasNoClash}, Facts.IsBelow}
+use Rattle.nfs_opens.specs.{declared.share.Share.Share, declared.records.OpenState.OpenState, declared.records.LockState.LockState}
+use Rattle.nfs_opens.specs.{Holding.{FileHolders, on_file}, Table.{Table, Asked, clashes_with, as_asked, with_open, with_lock, no_opens}}
+use Rattle.nfs_opens.specs.{TableInvariants.{IsTable, IsHolder, AreHolders}, Opening.{new_open, joins, narrows, is_narrower}}
+use Rattle.nfs_opens.specs.{Closing.{stands, held_within, not_under, without_open, without_lock}, Locking.raised}
+use Rattle.nfs_opens.proofs.{FileLemmas.{file_here, file_other}, HolderLemmas.{IsFewer, fewer_keeps}}
 use Rattle.nfs_opens.proofs.ShareLemmas.{peace_back, peace_self, joins_apart, narrows_apart}
 
 -- a new table

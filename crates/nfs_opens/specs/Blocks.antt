@@ -1,9 +1,7 @@
 -- How an index lies: in blocks, each with pairs that stand next to each other (RFC 8881 sections 8.3 and 9.7: states of one client and of one file).
 use Rattle.std.specs.Prelude.{◌≡◌, ◌≢◌, ℕ, ◌<◌, Bool, true, length, List, [], ◌∷◌, Option, Some, None, IfSome}
 use Rattle.nfs_xdr.specs.Tables.{In}
-use Rattle.nfs_opens.specs.declared.index.Pair.{Pair}
-use Rattle.nfs_opens.specs.Index.{Precedes, IsAscending, is_before}
-use Rattle.nfs_opens.specs.Flat.{flat, last_of, front_of, rest_of}
+use Rattle.nfs_opens.specs.{declared.index.Pair.Pair, Index.{Precedes, IsAscending, is_before}, Flat.{flat, last_of, front_of, rest_of}}
 
 -- the pairs, and whether there is room for one more
 pub record Listed : Type 0 where

@@ -1,8 +1,7 @@
 -- How opens (RFC 8881 section 9.7) and lock states (section 9.1) lie: in blocks, by rising numbers, each with states that stand next to each other.
 use Rattle.std.specs.Prelude.{◌≡◌, ◌≢◌, ℕ, ◌<◌, nat_lt, Bool, true, length, List, [], ◌∷◌, Option, IfSome}
 use Rattle.nfs_xdr.specs.Tables.{In}
-use Rattle.nfs_opens.specs.Flat.{flat, last_of}
-use Rattle.nfs_opens.specs.TableInvariants.{Rises}
+use Rattle.nfs_opens.specs.{Flat.{flat, last_of}, TableInvariants.Rises}
 
 -- the states, and whether there is room for one more
 pub record Numbered (X : Type 0) : Type 0 where

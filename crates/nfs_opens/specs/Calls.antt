@@ -1,25 +1,13 @@
 -- What calls of `Opens` take, answer and leave beside what their operations come to: faults, want of memory, and a client's end, one open at a time.
 use Rattle.std.specs.Prelude.{◌==◌, Bool, ◌&&◌, List, [], ◌∷◌, Option, is_none, ◌≡◌, ℕ, not, Some, Result, Err, IsOk, IsTrue, None, filter, find, if◌then◌else◌}
 use Rattle.std.specs.List.{list_any}
-use Rattle.nfs_xdr.specs.Checks.{first_fault}
-use Rattle.nfs_xdr.specs.declared.status.Status.{Status}
-use Rattle.nfs_xdr.specs.declared.status.Status.TheVariants.{ShareDenied, ServerFault}
+use Rattle.nfs_xdr.specs.{Checks.first_fault, declared.status.Status.Status, declared.status.Status.TheVariants.{ShareDenied, ServerFault}}
 use Rattle.nfs_ranges.specs.Holders.{dropped}
-use Rattle.nfs_opens.specs.Opening.{own_open}
-use Rattle.nfs_opens.specs.declared.opening.Ask.{Ask}
-use Rattle.nfs_opens.specs.StateId.{last_number}
-use Rattle.nfs_opens.specs.Table.{Table, Asked, clashes_with, answer_of, table_after}
-use Rattle.nfs_opens.specs.Locking.{lock_under, lock_known}
-use Rattle.nfs_opens.specs.declared.stateid.StateId.{StateId}
-use Rattle.nfs_opens.specs.declared.locking.Wish.{Wish}
-use Rattle.nfs_opens.specs.declared.locking.Locker.{Locker}
-use Rattle.nfs_opens.specs.declared.locking.Locker.TheVariants.{New, Known}
-use Rattle.nfs_opens.specs.declared.locking.OpenFault.{OpenFault}
-use Rattle.nfs_opens.specs.declared.locking.OpenFault.TheVariants.{Memory}
-use Rattle.nfs_opens.specs.Closing.{held_within, without_open}
-use Rattle.nfs_opens.specs.declared.records.OpenState.{OpenState}
-use Rattle.nfs_opens.specs.declared.records.LockState.{LockState}
-use Rattle.nfs_opens.specs.Holding.{FileHolders, on_file}
+use Rattle.nfs_opens.specs.{Opening.own_open, declared.opening.Ask.Ask, StateId.last_number, Table.{Table, Asked, clashes_with, answer_of, table_after}}
+use Rattle.nfs_opens.specs.{Locking.{lock_under, lock_known}, declared.stateid.StateId.StateId, declared.locking.Wish.Wish, declared.locking.Locker.Locker}
+use Rattle.nfs_opens.specs.{declared.locking.Locker.TheVariants.{New, Known}, declared.locking.OpenFault.OpenFault}
+use Rattle.nfs_opens.specs.{declared.locking.OpenFault.TheVariants.Memory, Closing.{held_within, without_open}, declared.records.OpenState.OpenState}
+use Rattle.nfs_opens.specs.{declared.records.LockState.LockState, Holding.{FileHolders, on_file}}
 
 abbrev pub asked : Ask → Asked
 asked a = record { client = a.client; owner = a.owner.now; file = a.file; access = a.access; deny = a.deny }

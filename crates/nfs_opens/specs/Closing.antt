@@ -1,18 +1,10 @@
 -- CLOSE and FREE_STATEID (RFC 8881 sections 18.2 and 18.38).
-use Rattle.std.specs.Prelude.{ℕ, ◌==◌, Bool, not, List, Some, None, ok_or, Result, Ok, Err, filter, if◌then◌else◌}
-use Rattle.std.specs.List.{list_any}
-use Rattle.nfs_xdr.specs.declared.status.Status.{Status}
-use Rattle.nfs_xdr.specs.declared.status.Status.TheVariants.{BadStateId, LocksHeld}
+use Rattle.std.specs.{Prelude.{ℕ, ◌==◌, Bool, not, List, Some, None, ok_or, Result, Ok, Err, filter, if◌then◌else◌}, List.list_any}
+use Rattle.nfs_xdr.specs.{declared.status.Status.Status, declared.status.Status.TheVariants.{BadStateId, LocksHeld}}
 use Rattle.nfs_ranges.specs.Holders.{holds_any}
-use Rattle.nfs_opens.specs.declared.stateid.StateId.{StateId}
-use Rattle.nfs_opens.specs.declared.records.LockState.{LockState}
-use Rattle.nfs_opens.specs.declared.judging.Seat.{Seat}
-use Rattle.nfs_opens.specs.declared.judging.Seat.TheVariants.{Open, Lock}
-use Rattle.nfs_opens.specs.declared.judging.Sort.TheVariants.{OpenOnly, Either}
-use Rattle.nfs_opens.specs.Holding.{FileHolders}
-use Rattle.nfs_opens.specs.Steps.{◌>>=◌, ◌>>◌, require}
-use Rattle.nfs_opens.specs.Table.{Table, lock_at}
-use Rattle.nfs_opens.specs.Judging.{judge}
+use Rattle.nfs_opens.specs.{declared.stateid.StateId.StateId, declared.records.LockState.LockState, declared.judging.Seat.Seat}
+use Rattle.nfs_opens.specs.{declared.judging.Seat.TheVariants.{Open, Lock}, declared.judging.Sort.TheVariants.{OpenOnly, Either}, Holding.FileHolders}
+use Rattle.nfs_opens.specs.{Steps.{◌>>=◌, ◌>>◌, require}, Table.{Table, lock_at}, Judging.judge}
 
 abbrev pub stands : List LockState → ℕ → Bool
 stands locks s = list_any (λ l. l.number == s) locks

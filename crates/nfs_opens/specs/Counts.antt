@@ -1,13 +1,8 @@
 -- How many opens a file has, and how many of them have each kind of access and deny each (RFC 8881 section 9.7).
-use Rattle.std.specs.Prelude.{◌≡◌, ℕ, ◌+◌, ◌-◌, ◌==◌, Bool, true, ◌&&◌, List, length, filter, min, nat_eq, nat_lt, if◌then◌else◌}
-use Rattle.std.specs.HashMap.{get, spare}
+use Rattle.std.specs.{Prelude.{◌≡◌, ℕ, ◌+◌, ◌-◌, ◌==◌, Bool, true, ◌&&◌, List, length, filter, min, nat_eq, nat_lt, if◌then◌else◌}, HashMap.{get, spare}}
 use Rattle.std.specs.Option.{unwrap_or}
-use Rattle.nfs_opens.specs.declared.share.Share.{Share}
-use Rattle.nfs_opens.specs.declared.records.OpenState.{OpenState}
-use Rattle.nfs_opens.specs.declared.counts.Count.{Count}
-use Rattle.nfs_opens.specs.declared.counts.Counts.{Counts}
-use Rattle.nfs_opens.specs.declared.counts.Reservation.{Reservation}
-use Rattle.nfs_opens.specs.StateId.{last_number}
+use Rattle.nfs_opens.specs.{declared.share.Share.Share, declared.records.OpenState.OpenState, declared.counts.Count.Count, declared.counts.Counts.Counts}
+use Rattle.nfs_opens.specs.{declared.counts.Reservation.Reservation, StateId.last_number}
 
 -- how many pass a test
 abbrev pub how_many : {X : Type 0} → (X → Bool) → List X → ℕ

@@ -1,6 +1,5 @@
 -- The locked bytes of all files: of each file who holds which byte, and how (RFC 8881 section 9.1).
-use Rattle.std.specs.List.{list_any}
-use Rattle.std.specs.Prelude.{◌≡◌, ℕ, ◌==◌, Bool, true, List, [], ◌∷◌, if◌then◌else◌}
+use Rattle.std.specs.{List.list_any, Prelude.{◌≡◌, ℕ, ◌==◌, Bool, true, List, [], ◌∷◌, if◌then◌else◌}}
 use Rattle.nfs_ranges.specs.Holders.{Holders, LockedBytes, at, nobody}
 
 -- for each file, each lock state by its number and each byte: how it holds the byte, if it does

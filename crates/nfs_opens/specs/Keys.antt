@@ -1,9 +1,6 @@
 -- Where an owner on a file stands among others, so that its opens (RFC 8881 section 9.7) and its lock state (section 9.1) are found by halving: as a number, which no two share.
-use Rattle.std.specs.Prelude.{ℕ, ◌+◌, ◌*◌, ◌^◌, List}
-use Rattle.std.specs.List.{fold}
-use Rattle.nfs_opens.specs.declared.key.Key.{Key}
-use Rattle.nfs_opens.specs.declared.records.OpenState.{OpenState}
-use Rattle.nfs_opens.specs.declared.records.LockState.{LockState}
+use Rattle.std.specs.{Prelude.{ℕ, ◌+◌, ◌*◌, ◌^◌, List}, List.fold}
+use Rattle.nfs_opens.specs.{declared.key.Key.Key, declared.records.OpenState.OpenState, declared.records.LockState.LockState}
 
 -- a byte behind the digits of a number
 abbrev pub digit : ℕ → ℕ → ℕ

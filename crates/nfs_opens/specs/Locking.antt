@@ -1,25 +1,11 @@
 -- LOCK, LOCKT and LOCKU (RFC 8881 sections 18.10 to 18.12).
 use Rattle.std.specs.Prelude.{ℕ, ◌+◌, ◌==◌, suc, Bool, not, ◌&&◌, List, [], ◌∷◌, ◌++◌, Option, Some, None, ok_or, Result, Ok, Err, find, bytes_eq, if◌then◌else◌}
 use Rattle.nfs_xdr.specs.declared.status.Status.TheVariants.{BadStateId, OpenMode, ServerFault}
-use Rattle.nfs_ranges.specs.declared.Kind.{Kind}
-use Rattle.nfs_ranges.specs.declared.Kind.TheVariants.{Read, Write}
-use Rattle.nfs_ranges.specs.declared.Held.{Held}
-use Rattle.nfs_ranges.specs.Holders.{holding, cleared}
-use Rattle.nfs_ranges.specs.Told.{told}
-use Rattle.nfs_opens.specs.declared.share.Share.{Share}
-use Rattle.nfs_opens.specs.declared.stateid.StateId.{StateId}
-use Rattle.nfs_opens.specs.declared.records.LockState.{LockState}
-use Rattle.nfs_opens.specs.declared.judging.Seat.{Seat}
-use Rattle.nfs_opens.specs.declared.judging.Seat.TheVariants.{Open, Lock}
-use Rattle.nfs_opens.specs.declared.judging.Sort.TheVariants.{OpenOnly, LockOnly}
-use Rattle.nfs_opens.specs.declared.locking.Wish.{Wish}
-use Rattle.nfs_opens.specs.declared.locking.OpenFault.{OpenFault}
-use Rattle.nfs_opens.specs.declared.locking.OpenFault.TheVariants.{Refused, Denied}
-use Rattle.nfs_opens.specs.Share.{neither}
-use Rattle.nfs_opens.specs.StateId.{next_seqid, last_number}
-use Rattle.nfs_opens.specs.Holding.{on_file}
-use Rattle.nfs_opens.specs.Steps.{◌>>=◌, ◌>>◌, require, map_err}
-use Rattle.nfs_opens.specs.Table.{Table, lock_at, with_lock}
+use Rattle.nfs_ranges.specs.{declared.Kind.Kind, declared.Kind.TheVariants.{Read, Write}, declared.Held.Held, Holders.{holding, cleared}, Told.told}
+use Rattle.nfs_opens.specs.{declared.share.Share.Share, declared.stateid.StateId.StateId, declared.records.LockState.LockState, declared.judging.Seat.Seat}
+use Rattle.nfs_opens.specs.{declared.judging.Seat.TheVariants.{Open, Lock}, declared.judging.Sort.TheVariants.{OpenOnly, LockOnly}, declared.locking.Wish.Wish}
+use Rattle.nfs_opens.specs.{declared.locking.OpenFault.OpenFault, declared.locking.OpenFault.TheVariants.{Refused, Denied}, Share.neither}
+use Rattle.nfs_opens.specs.{StateId.{next_seqid, last_number}, Holding.on_file, Steps.{◌>>=◌, ◌>>◌, require, map_err}, Table.{Table, lock_at, with_lock}}
 use Rattle.nfs_opens.specs.Judging.{judge}
 
 -- the lock state that a lock owner has on a file

@@ -1,16 +1,9 @@
 -- OPEN and OPEN_DOWNGRADE as far as they concern opens (RFC 8881 sections 18.16 and 18.18).
 use Rattle.std.specs.Prelude.{ℕ, ◌+◌, Bool, not, ◌&&◌, [], ◌∷◌, ◌++◌, Option, Some, None, ok_or, Result, Ok, find}
-use Rattle.nfs_xdr.specs.declared.status.Status.{Status}
-use Rattle.nfs_xdr.specs.declared.status.Status.TheVariants.{BadStateId, Inval}
-use Rattle.nfs_opens.specs.declared.share.Share.{Share}
-use Rattle.nfs_opens.specs.declared.stateid.StateId.{StateId}
-use Rattle.nfs_opens.specs.declared.records.OpenState.{OpenState}
-use Rattle.nfs_opens.specs.declared.judging.Sort.TheVariants.{OpenOnly}
-use Rattle.nfs_opens.specs.Share.{joined, is_part, is_neither}
-use Rattle.nfs_opens.specs.StateId.{next_seqid}
-use Rattle.nfs_opens.specs.Steps.{◌>>=◌, ◌>>◌, require}
-use Rattle.nfs_opens.specs.Table.{Table, Asked, is_own, open_at, with_open}
-use Rattle.nfs_opens.specs.Judging.{judge}
+use Rattle.nfs_xdr.specs.{declared.status.Status.Status, declared.status.Status.TheVariants.{BadStateId, Inval}}
+use Rattle.nfs_opens.specs.{declared.share.Share.Share, declared.stateid.StateId.StateId, declared.records.OpenState.OpenState}
+use Rattle.nfs_opens.specs.{declared.judging.Sort.TheVariants.OpenOnly, Share.{joined, is_part, is_neither}, StateId.next_seqid, Steps.{◌>>=◌, ◌>>◌, require}}
+use Rattle.nfs_opens.specs.{Table.{Table, Asked, is_own, open_at, with_open}, Judging.judge}
 
 -- the open that the owner has of the file
 abbrev pub own_open : Table → Asked → Option OpenState

@@ -1,10 +1,7 @@
 -- Stateids (RFC 8881 section 8.2): a seqid, and behind it the server's instance and the number of an open or a lock state.
 use Rattle.std.specs.Prelude.{ℕ, ◌+◌, ◌==◌, Bool, ◌&&◌, ◌||◌, Result, Ok, Err, if◌then◌else◌}
-use Rattle.nfs_xdr.specs.declared.status.Status.{Status}
-use Rattle.nfs_xdr.specs.declared.status.Status.TheVariants.{BadStateId}
-use Rattle.nfs_opens.specs.declared.stateid.StateId.{StateId}
-use Rattle.nfs_opens.specs.declared.stateid.CurrentSeqid.{CurrentSeqid}
-use Rattle.nfs_opens.specs.declared.stateid.CurrentSeqid.TheVariants.{Any, Own}
+use Rattle.nfs_xdr.specs.{declared.status.Status.Status, declared.status.Status.TheVariants.BadStateId}
+use Rattle.nfs_opens.specs.{declared.stateid.StateId.StateId, declared.stateid.CurrentSeqid.CurrentSeqid, declared.stateid.CurrentSeqid.TheVariants.{Any, Own}}
 
 -- the last value of a seqid, and of the counter of states
 abbrev pub last_seqid : ℕ

@@ -1,10 +1,7 @@
 -- Opens, lock states and locked bytes (RFC 8881 sections 8.2, 9.1 and 9.7).
 use Rattle.std.specs.Prelude.{ℕ, ◌==◌, Bool, not, ◌&&◌, ◌||◌, List, [], Option, Result, Ok, Err, find, map, bytes_eq, if◌then◌else◌}
 use Rattle.nfs_ranges.specs.Holders.{LockedBytes}
-use Rattle.nfs_opens.specs.declared.share.Share.{Share}
-use Rattle.nfs_opens.specs.declared.records.OpenState.{OpenState}
-use Rattle.nfs_opens.specs.declared.records.LockState.{LockState}
-use Rattle.nfs_opens.specs.Share.{meets}
+use Rattle.nfs_opens.specs.{declared.share.Share.Share, declared.records.OpenState.OpenState, declared.records.LockState.LockState, Share.meets}
 use Rattle.nfs_opens.specs.Holding.{FileHolders, held_by, unlocked}
 
 -- what an `Opens` keeps: opens and lock states in rising order of their numbers, the locked bytes by file, the last number

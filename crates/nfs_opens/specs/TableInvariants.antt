@@ -1,17 +1,9 @@
 -- What holds of every table.
-use Rattle.std.specs.Prelude.{◌≡◌, ℕ, ◌≤◌, ◌^◌, None, ◌≢◌, ◌==◌, suc, Bool, true, false, List}
-use Rattle.std.specs.List.{list_any}
+use Rattle.std.specs.{Prelude.{◌≡◌, ℕ, ◌≤◌, ◌^◌, None, ◌≢◌, ◌==◌, suc, Bool, true, false, List}, List.list_any}
 use Rattle.nfs_xdr.specs.Tables.{IsRising, In}
-use Rattle.nfs_ranges.specs.Holders.{Holders, LockedBytes, HasNoClash}
-use Rattle.nfs_ranges.specs.Facts.{IsBelow}
-use Rattle.nfs_opens.specs.Table.{Kept, Table, table, clashes_with, as_asked}
-use Rattle.nfs_opens.specs.declared.records.OpenState.{OpenState}
-use Rattle.nfs_opens.specs.declared.records.LockState.{LockState}
-use Rattle.nfs_opens.specs.declared.index.Pair.{Pair}
-use Rattle.nfs_opens.specs.declared.counts.Counts.{Counts}
-use Rattle.nfs_opens.specs.Counts.{AreCounted}
-use Rattle.nfs_opens.specs.Index.{IsIndex}
-use Rattle.nfs_opens.specs.Keys.{open_key, lock_key}
+use Rattle.nfs_ranges.specs.{Holders.{Holders, LockedBytes, HasNoClash}, Facts.IsBelow}
+use Rattle.nfs_opens.specs.{Table.{Kept, Table, table, clashes_with, as_asked}, declared.records.OpenState.OpenState, declared.records.LockState.LockState}
+use Rattle.nfs_opens.specs.{declared.index.Pair.Pair, declared.counts.Counts.Counts, Counts.AreCounted, Index.IsIndex, Keys.{open_key, lock_key}}
 use Rattle.nfs_opens.specs.Holding.{FileHolders, is_listed}
 
 -- no byte from 2^64 on is held

@@ -1,8 +1,6 @@
 -- The worked run, and runs in which wrong clocks take a lease.
 use Rattle.std.proofs.Common.{◌≡◌, ◌≤◌, ℕ, ◌+◌, ◌/◌, List, [], ◌∷◌, refl, arith}
-use Rattle.nfs_pace.specs.declared.paced.Paced.{Paced}
-use Rattle.nfs_pace.specs.Paced.{second, starts, tells, risen}
-use Rattle.nfs_pace.specs.Laws.{Call, Sweep, Tell, Read, after, KeepsWhoRenews}
+use Rattle.nfs_pace.specs.{declared.paced.Paced.Paced, Paced.{second, starts, tells, risen}, Laws.{Call, Sweep, Tell, Read, after, KeepsWhoRenews}}
 use Rattle.nfs_pace.specs.Worked.{at, renewed, rest, between, until, WorkedRun, WrongClocks}
 use Rattle.nfs_pace.specs.Worked as wrong
 

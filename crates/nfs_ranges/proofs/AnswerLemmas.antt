@@ -1,19 +1,12 @@
 -- What is asked of a list of owners.
 use Rattle.std.proofs.Common.{◌≡◌, ℕ, ◌<◌, ◌≤◌, ◌^◌, Bool, true, false, List, [], ◌∷◌, drop, Some, None, Result, Ok, Err, refl, sym, ◌∙◌, ap, arith, inl, inr}
-use Rattle.std.specs.Prelude.{IsTrue, IsSome, is_some, ◌↔◌, OnOk, OnErr, not}
 use Rattle.std.proofs.lemmas.Bool.{cases_Bool, ltb-true, ltb-false}
-use Rattle.nfs_ranges.specs.declared.interval.Interval.{Interval}
-use Rattle.nfs_ranges.specs.Intervals.{AreFrom, IsCanonical}
-use Rattle.nfs_ranges.specs.Edits.{lead, head, ends_before}
-use Rattle.nfs_ranges.specs.Holders.{LockedBytes, bytes_of, at, holds_any, kind_at}
-use Rattle.nfs_ranges.specs.Facts.{HoldsAny}
-use Rattle.nfs_ranges.specs.Owners.{AreCanonical, is_empty}
+use Rattle.std.specs.Prelude.{IsTrue, IsSome, is_some, ◌↔◌, OnOk, OnErr, not}
+use Rattle.nfs_ranges.specs.{declared.interval.Interval.Interval, Intervals.{AreFrom, IsCanonical}, Edits.{lead, head, ends_before}}
+use Rattle.nfs_ranges.specs.{Holders.{LockedBytes, bytes_of, at, holds_any, kind_at}, Facts.HoldsAny, Owners.{AreCanonical, is_empty}}
 use Rattle.nfs_ranges.specs.Groups.{AreKept, AreSame, IsPut}
-use Rattle.nfs_ranges.proofs.CanonicalLemmas.{within_is, within_above, none_below, at_first}
-use Rattle.nfs_ranges.proofs.PlaceLemmas.{Fails, fails, from_drop}
-use Rattle.nfs_ranges.proofs.OwnerLemmas.{bytes-canonical}
-use Rattle.nfs_ranges.proofs.GroupLemmas.{kept_put, kept_same}
-use Rattle.nfs_ranges.proofs.ToldLemmas.{holds_any_is}
+use Rattle.nfs_ranges.proofs.{CanonicalLemmas.{within_is, within_above, none_below, at_first}, PlaceLemmas.{Fails, fails, from_drop}}
+use Rattle.nfs_ranges.proofs.{OwnerLemmas.bytes-canonical, GroupLemmas.{kept_put, kept_same}, ToldLemmas.holds_any_is}
 
 -- how a byte is held, by the first interval that does not end before it
 skipped : (b : ℕ) (xs : List Interval) → kind_at xs b ≡ kind_at (drop (lead (ends_before b) xs) xs) b

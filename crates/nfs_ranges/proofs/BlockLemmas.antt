@@ -1,18 +1,10 @@
 -- Intervals in blocks: which block and which place in it, and what an edit leaves of them.
 use Rattle.std.proofs.Common.{◌≡◌, ℕ, zero, suc, ◌-◌, ◌<◌, ◌≤◌, min, Bool, true, false, nat_lt, nat_le, ◌==◌, List, [], ◌∷◌, ◌++◌, take, drop, length, get_or}
 use Rattle.std.proofs.Common.{Option, Some, None, refl, sym, ◌∙◌, ap, subst, arith, inl, inr, append_assoc}
-use Rattle.std.specs.Option.{option_to_list}
-use Rattle.std.specs.Prelude.{slice_get, if◌then◌else◌}
-use Rattle.std.specs.List.Sorted.{IsPartitionedBy}
-use Rattle.std.proofs.lemmas.Bool.{cases_Bool, ltb-true, lt-ltb, leb-true, le-leb, ne_eqb}
-use Rattle.std.proofs.lemmas.List.{append-nil, drop_all, drop_min, take-append-drop}
-use Rattle.nfs_ranges.specs.declared.interval.Interval.{Interval}
-use Rattle.nfs_ranges.specs.declared.blocks.Place.{Place}
-use Rattle.nfs_ranges.specs.declared.blocks.Parts.{Parts}
-use Rattle.nfs_ranges.specs.declared.edits.Edit.{Edit}
-use Rattle.nfs_ranges.specs.Intervals.{AreFrom, IsCanonical}
-use Rattle.nfs_ranges.specs.Owners.{is_empty}
-use Rattle.nfs_ranges.specs.Edits.{lead, head, ends_before, ends_by}
+use Rattle.std.proofs.{lemmas.Bool.{cases_Bool, ltb-true, lt-ltb, leb-true, le-leb, ne_eqb}, lemmas.List.{append-nil, drop_all, drop_min, take-append-drop}}
+use Rattle.std.specs.{Option.option_to_list, Prelude.{slice_get, if◌then◌else◌}, List.Sorted.IsPartitionedBy}
+use Rattle.nfs_ranges.specs.{declared.interval.Interval.Interval, declared.blocks.Place.Place, declared.blocks.Parts.Parts, declared.edits.Edit.Edit}
+use Rattle.nfs_ranges.specs.{Intervals.{AreFrom, IsCanonical}, Owners.is_empty, Edits.{lead, head, ends_before, ends_by}}
 use Rattle.nfs_ranges.specs.Blocks.{flat, last_from, last_end, AreSome, AreBlocks, spot, block_at, IsPlace, spliced, IsSomeIn, ArePartsOf, ends_whole, ends_whole_by}
 use Rattle.nfs_ranges.proofs.EditLemmas.{from_later}
 

@@ -1,11 +1,8 @@
 -- Canonical lists that say the same of each byte are equal.
 use Rattle.std.proofs.Common.{◌≡◌, ◌≢◌, ℕ, suc, ◌<◌, ◌≤◌, ◌^◌, true, false, List, [], ◌∷◌, Some, None, refl, sym, ◌∙◌, ap, arith, inl, inr}
 use Rattle.std.proofs.lemmas.Bool.{cases_lt, and_left, and_right, and_from, le-leb, lt-leb, eq-eqb}
-use Rattle.nfs_ranges.specs.declared.Kind.{Kind}
-use Rattle.nfs_ranges.specs.declared.Kind.TheVariants.{Read, Write}
-use Rattle.nfs_ranges.specs.declared.interval.Interval.{Interval}
-use Rattle.nfs_ranges.specs.Intervals.{is_same, joins, touches, AreFrom, IsCanonical}
-use Rattle.nfs_ranges.specs.Holders.{is_within, kind_at}
+use Rattle.nfs_ranges.specs.{declared.Kind.Kind, declared.Kind.TheVariants.{Read, Write}, declared.interval.Interval.Interval}
+use Rattle.nfs_ranges.specs.{Intervals.{is_same, joins, touches, AreFrom, IsCanonical}, Holders.{is_within, kind_at}}
 
 pub within_is : (first last b : ℕ) → first ≤ b → b ≤ last → is_within first last b ≡ true
 within_is first last b lo hi = and_from _ _ (le-leb first b lo) (le-leb b last hi)

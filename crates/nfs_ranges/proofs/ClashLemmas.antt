@@ -1,25 +1,13 @@
 -- What is told is the first interval that clashes, of the owner that comes first.
 use Rattle.std.proofs.Common.{◌≡◌, ◌≢◌, ℕ, zero, suc, ◌<◌, ◌≤◌, ◌^◌, max, Bool, true, false, cond, eqb, leb, ◌&&◌, List, [], ◌∷◌, drop, length, get_or, Option, ◌+◌, ◌++◌}
-use Rattle.std.proofs.Common.{Some, None, refl, sym, ◌∙◌, ap, subst, arith, inl, inr}
-use Rattle.std.proofs.Math.Path.{fun_ext}
-use Rattle.std.proofs.lemmas.List.{drop_more}
-use Rattle.std.specs.Prelude.{All, find, not, option_map}
+use Rattle.std.proofs.{Common.{Some, None, refl, sym, ◌∙◌, ap, subst, arith, inl, inr}, Math.Path.fun_ext, lemmas.List.drop_more}
 use Rattle.std.proofs.lemmas.Bool.{cases_lt, cases_Bool, and_parts, and_cases, and_left, and_right, leb-true, and_from, cases_eq, ltb-true, lt-ltb, le-ltb}
 use Rattle.std.proofs.lemmas.Bool.{le-leb, lt-leb, eq-eqb, ne_eqb}
-use Rattle.nfs_ranges.specs.declared.Kind.{Kind}
-use Rattle.nfs_ranges.specs.declared.interval.Interval.{Interval}
-use Rattle.nfs_ranges.specs.declared.Held.{Held}
-use Rattle.nfs_ranges.specs.Intervals.{AreFrom, IsCanonical}
-use Rattle.nfs_ranges.specs.Edits.{lead}
-use Rattle.nfs_ranges.specs.Blocks.{flat, last_from, last_end, AreSome, AreBlocks, ends_whole}
-use Rattle.nfs_ranges.specs.Holders.{Holders, Owned, LockedBytes, at, nobody, kind_at}
-use Rattle.nfs_ranges.specs.Owners.{AreOwners, AreCanonical}
-use Rattle.nfs_ranges.specs.Clashes.{hits, held_by, clash_of, sooner, tell}
-use Rattle.nfs_ranges.specs.Told.{meets, clashes}
-use Rattle.nfs_ranges.specs.Facts.{IsTold, Tells}
-use Rattle.nfs_ranges.proofs.CanonicalLemmas.{none_below, ends_there, at_above, at_within}
-use Rattle.nfs_ranges.proofs.EditLemmas.{or_else}
-use Rattle.nfs_ranges.proofs.BlockLemmas.{lows, lows_block}
+use Rattle.std.specs.Prelude.{All, find, not, option_map}
+use Rattle.nfs_ranges.specs.{declared.Kind.Kind, declared.interval.Interval.Interval, declared.Held.Held, Intervals.{AreFrom, IsCanonical}, Edits.lead}
+use Rattle.nfs_ranges.specs.{Blocks.{flat, last_from, last_end, AreSome, AreBlocks, ends_whole}, Holders.{Holders, Owned, LockedBytes, at, nobody, kind_at}}
+use Rattle.nfs_ranges.specs.{Owners.{AreOwners, AreCanonical}, Clashes.{hits, held_by, clash_of, sooner, tell}, Told.{meets, clashes}, Facts.{IsTold, Tells}}
+use Rattle.nfs_ranges.proofs.{CanonicalLemmas.{none_below, ends_there, at_above, at_within}, EditLemmas.or_else, BlockLemmas.{lows, lows_block}}
 use Rattle.nfs_ranges.proofs.OwnerLemmas.{no_bytes}
 
 -- behind the range nothing clashes, and before it neither

@@ -1,13 +1,10 @@
 -- What a range given up or held leaves: canonical again, and right at each byte.
 use Rattle.std.proofs.Common.{◌≡◌, ℕ, suc, ◌-◌, ◌<◌, ◌≤◌, ◌^◌, min, max, Bool, true, false, cond, ltb, eqb, ◌&&◌, List, [], ◌∷◌, Option, Some, None, refl, sym}
-use Rattle.std.proofs.Common.{◌∙◌, ap, arith, inl, inr}
-use Rattle.std.proofs.lemmas.Bool.{cases_lt, cases_Bool, and_parts, ltb-true, ltb-false, lt-ltb, le-ltb, eqb-true}
+use Rattle.std.proofs.{Common.{◌∙◌, ap, arith, inl, inr}, lemmas.Bool.{cases_lt, cases_Bool, and_parts, ltb-true, ltb-false, lt-ltb, le-ltb, eqb-true}}
 use Rattle.std.proofs.lemmas.Bool.Decides.{nat_tests}
-use Rattle.nfs_ranges.specs.declared.Kind.{Kind}
-use Rattle.nfs_ranges.specs.declared.interval.Interval.{Interval}
-use Rattle.nfs_ranges.specs.Intervals.{is_same, joins, touches, AreFrom, IsCanonical, kept_below, kept_above, put, glue, without}
+use Rattle.nfs_ranges.specs.{declared.Kind.Kind, declared.interval.Interval.Interval}
+use Rattle.nfs_ranges.specs.Intervals.{is_same, joins, touches, AreFrom, IsCanonical, kept_below, kept_above, put, glue, without, with_range}
 use Rattle.nfs_ranges.specs.Holders.{is_within, kind_at}
-use Rattle.nfs_ranges.specs.Intervals.{with_range}
 use Rattle.nfs_ranges.proofs.CanonicalLemmas.{within_is, within_below, within_above, same_is, none_below}
 
 -- the first of two answers

@@ -1,19 +1,12 @@
 -- Owners that lie in groups: which group an owner belongs to, and what a change of one group makes of all.
 use Rattle.std.proofs.Common.{◌≡◌, ℕ, zero, suc, ◌-◌, ◌<◌, ◌≤◌, Bool, true, false, eqb, List, [], ◌∷◌, ◌++◌, take, drop, set, length, get_or, refl, sym, ◌∙◌, ap}
-use Rattle.std.proofs.Common.{subst, arith, append_assoc, Some, inl, inr}
-use Rattle.std.specs.Prelude.{if◌then◌else◌, slice_get, ◌==◌}
-use Rattle.std.specs.List.{insert, remove}
-use Rattle.std.specs.List.Sorted.{IsPartitionedBy}
-use Rattle.std.proofs.lemmas.Bool.{cases_Bool, cases_lt, ltb-true, ltb-false, lt-ltb, le-ltb, ne_eqb}
+use Rattle.std.proofs.{Common.{subst, arith, append_assoc, Some, inl, inr}, lemmas.Bool.{cases_Bool, cases_lt, ltb-true, ltb-false, lt-ltb, le-ltb, ne_eqb}}
 use Rattle.std.proofs.lemmas.List.{append-nil, set_split, set-get_or}
-use Rattle.nfs_ranges.specs.declared.interval.Interval.{Interval}
-use Rattle.nfs_ranges.specs.Intervals.{IsCanonical, without, with_range}
-use Rattle.nfs_ranges.specs.Holders.{Owned, LockedBytes, bytes_of}
-use Rattle.nfs_ranges.specs.Owners.{is_empty, AreOwners, AreCanonical, entry, with_owner}
-use Rattle.nfs_ranges.specs.Blocks.{flat, AreSome, block_at, spot}
+use Rattle.std.specs.{Prelude.{if◌then◌else◌, slice_get, ◌==◌}, List.{insert, remove}, List.Sorted.IsPartitionedBy}
+use Rattle.nfs_ranges.specs.{declared.interval.Interval.Interval, Intervals.{IsCanonical, without, with_range}, Holders.{Owned, LockedBytes, bytes_of}}
+use Rattle.nfs_ranges.specs.{Owners.{is_empty, AreOwners, AreCanonical, entry, with_owner}, Blocks.{flat, AreSome, block_at, spot}}
 use Rattle.nfs_ranges.specs.Groups.{AreKept, AreSame, AreSomeBut, IsPut, are_below, last_number, number_from}
-use Rattle.nfs_ranges.proofs.BlockLemmas.{flat-append, block_got, spot_within}
-use Rattle.nfs_ranges.proofs.OwnerLemmas.{no_bytes, owners_later, with_owner-canonical, held_some}
+use Rattle.nfs_ranges.proofs.{BlockLemmas.{flat-append, block_got, spot_within}, OwnerLemmas.{no_bytes, owners_later, with_owner-canonical, held_some}}
 
 -- owners before and behind
 pub front_owners : (low : ℕ) (os ps : LockedBytes) → AreOwners low (os ++ ps) → AreOwners low os

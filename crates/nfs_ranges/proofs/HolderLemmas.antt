@@ -1,11 +1,7 @@
 -- What keeps writers from standing beside other holders.
 use Rattle.std.proofs.Common.{◌≡◌, ◌≢◌, ℕ, Bool, true, false, cond, eqb, ◌&&◌, Option, Some, None, refl, sym, ◌∙◌, ap, inl, inr}
 use Rattle.std.proofs.lemmas.Bool.{cases_Bool, cases_eq, and_parts, eq-eqb, ne_eqb, leb-true}
-use Rattle.nfs_ranges.specs.declared.Kind.{Kind}
-use Rattle.nfs_ranges.specs.declared.Kind.TheVariants.{Read, Write}
-use Rattle.nfs_ranges.specs.Holders.{Holders, is_within}
-use Rattle.nfs_ranges.specs.Told.{meets, clashes}
-use Rattle.nfs_ranges.specs.Facts.{Tells}
+use Rattle.nfs_ranges.specs.{declared.Kind.Kind, declared.Kind.TheVariants.{Read, Write}, Holders.{Holders, is_within}, Told.{meets, clashes}, Facts.Tells}
 use Rattle.nfs_ranges.specs.Laws.{SetKeeps}
 
 -- Write meets whatever is held

@@ -1,16 +1,9 @@
 -- Owners in a list by their numbers: one found, one put, one taken out.
 use Rattle.std.proofs.Common.{◌≡◌, ℕ, zero, suc, ◌<◌, ◌≤◌, Bool, true, false, eqb, List, [], ◌∷◌, ◌++◌, drop, set, length, get_or, refl, sym, ◌∙◌, ap, arith}
-use Rattle.std.proofs.Common.{inl, inr}
-use Rattle.std.specs.Prelude.{not}
-use Rattle.std.specs.List.{insert, remove}
-use Rattle.std.specs.List.Sorted.{IsPartitionedBy}
-use Rattle.std.proofs.lemmas.Bool.{cases_Bool, cases_lt, ltb-true, lt-ltb, le-ltb, eqb-true, ne_eqb}
-use Rattle.nfs_ranges.specs.declared.interval.Interval.{Interval}
-use Rattle.nfs_ranges.specs.Intervals.{IsCanonical, without, with_range}
-use Rattle.nfs_ranges.specs.Holders.{Owned, LockedBytes, bytes_of}
-use Rattle.nfs_ranges.specs.Edits.{lead, head}
-use Rattle.nfs_ranges.specs.Owners.{is_empty, AreOwners, AreCanonical, entry, with_owner}
-use Rattle.nfs_ranges.specs.Groups.{is_below, is_own}
+use Rattle.std.proofs.{Common.{inl, inr}, lemmas.Bool.{cases_Bool, cases_lt, ltb-true, lt-ltb, le-ltb, eqb-true, ne_eqb}}
+use Rattle.std.specs.{Prelude.not, List.{insert, remove}, List.Sorted.IsPartitionedBy}
+use Rattle.nfs_ranges.specs.{declared.interval.Interval.Interval, Intervals.{IsCanonical, without, with_range}, Holders.{Owned, LockedBytes, bytes_of}}
+use Rattle.nfs_ranges.specs.{Edits.{lead, head}, Owners.{is_empty, AreOwners, AreCanonical, entry, with_owner}, Groups.{is_below, is_own}}
 use Rattle.nfs_ranges.proofs.OwnerLemmas.{bytes-canonical, held_some, no_bytes}
 
 -- numbers rise

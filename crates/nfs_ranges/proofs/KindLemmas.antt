@@ -1,8 +1,6 @@
 -- The test whether a byte is held with a kind.
 use Rattle.std.proofs.Common.{◌≡◌, ◌≢◌, true, false, Option, Some, None, refl, sym, ◌∙◌, ap}
-use Rattle.nfs_ranges.specs.declared.Kind.{Kind}
-use Rattle.nfs_ranges.specs.declared.Kind.TheVariants.{Read, Write}
-use Rattle.nfs_ranges.specs.Told.{is_held_as}
+use Rattle.nfs_ranges.specs.{declared.Kind.Kind, declared.Kind.TheVariants.{Read, Write}, Told.is_held_as}
 
 pub same_is : (k j : Kind) → is_held_as k (Some j) ≡ true → j ≡ k
 same_is Read Read e = refl

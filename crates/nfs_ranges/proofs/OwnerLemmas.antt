@@ -1,16 +1,12 @@
 -- Owners in rising order: one found, one put, one taken out.
 use Rattle.std.proofs.Common.{◌≡◌, ◌≢◌, ℕ, suc, ◌<◌, ◌≤◌, ◌^◌, Bool, false, cond, eqb, ◌&&◌, List, [], ◌∷◌, ◌++◌}
-use Rattle.std.proofs.Common.{Option, Some, None, refl, sym, ◌∙◌, ap, arith, inl, inr}
-use Rattle.std.proofs.Math.Path.{fun_ext}
+use Rattle.std.proofs.{Common.{Option, Some, None, refl, sym, ◌∙◌, ap, arith, inl, inr}, Math.Path.fun_ext}
 use Rattle.std.proofs.lemmas.Bool.{cases_lt, cases_Bool, cases_order, lt-ltb, le-ltb, eqb-true, eq-eqb, ne_eqb}
-use Rattle.nfs_ranges.specs.declared.Kind.{Kind}
-use Rattle.nfs_ranges.specs.declared.interval.Interval.{Interval}
+use Rattle.nfs_ranges.specs.{declared.Kind.Kind, declared.interval.Interval.Interval}
 use Rattle.nfs_ranges.specs.Intervals.{IsCanonical, joins, kept_below, kept_above, put, glue, without, with_range}
-use Rattle.nfs_ranges.specs.Holders.{Owned, LockedBytes, bytes_of, at, holding, cleared, dropped, is_within, kind_at}
-use Rattle.nfs_ranges.specs.Laws.{Canonical}
+use Rattle.nfs_ranges.specs.{Holders.{Owned, LockedBytes, bytes_of, at, holding, cleared, dropped, is_within, kind_at}, Laws.Canonical}
 use Rattle.nfs_ranges.specs.Owners.{is_empty, AreOwners, AreCanonical, entry, with_owner}
-use Rattle.nfs_ranges.proofs.CanonicalLemmas.{canonical_unique, at_first}
-use Rattle.nfs_ranges.proofs.EditLemmas.{at-with_range, at-without}
+use Rattle.nfs_ranges.proofs.{CanonicalLemmas.{canonical_unique, at_first}, EditLemmas.{at-with_range, at-without}}
 
 pub owners_later : (low more : ℕ) (os : LockedBytes) → low ≤ more → AreOwners more os → AreOwners low os
 owners_later low more [] le are = tt

@@ -1,21 +1,15 @@
 -- What an edit leaves, by the places at which it begins and ends.
 use Rattle.std.proofs.Common.{◌≡◌, ℕ, zero, suc, ◌-◌, ◌<◌, ◌≤◌, ◌^◌, min, max, Bool, true, false, ltb, eqb, leb, ◌&&◌, List, [], ◌∷◌, ◌++◌, take, drop}
 use Rattle.std.proofs.Common.{length, get_or, Option, Some, None, refl, sym, ◌∙◌, ap, subst, arith, inl, inr}
-use Rattle.std.specs.Option.{option_to_list}
-use Rattle.std.specs.Prelude.{IfSome, is_some}
-use mir.Val.{bool_byte}
-use Rattle.std.specs.List.Sorted.{IsPartitionPoint, IsPartitionedBy}
 use Rattle.std.proofs.lemmas.Bool.{cases_lt, cases_Bool, and_parts, leb-true, leb-false, ltb-true, ltb-false, lt-ltb, le-ltb, and_right, and_from, le-leb}
 use Rattle.std.proofs.lemmas.Bool.{lt-leb, eq-eqb, ne_eqb}
-use Rattle.nfs_ranges.specs.declared.Kind.{Kind}
-use Rattle.nfs_ranges.specs.declared.interval.Interval.{Interval}
-use Rattle.nfs_ranges.specs.declared.edits.Edit.{Edit}
+use Rattle.std.specs.{Option.option_to_list, Prelude.{IfSome, is_some}, List.Sorted.{IsPartitionPoint, IsPartitionedBy}}
+use mir.Val.{bool_byte}
+use Rattle.nfs_ranges.specs.{declared.Kind.Kind, declared.interval.Interval.Interval, declared.edits.Edit.Edit}
 use Rattle.nfs_ranges.specs.Intervals.{is_same, joins, touches, AreFrom, IsCanonical, kept_below, kept_above, put, glue, without, with_range}
-use Rattle.nfs_ranges.specs.Edits.{lead, ends_before, ends_by, apart_by, head, begin_at, end_at, left_before, left_behind}
-use Rattle.nfs_ranges.specs.declared.blocks.Place.{Place}
+use Rattle.nfs_ranges.specs.{Edits.{lead, ends_before, ends_by, apart_by, head, begin_at, end_at, left_before, left_behind}, declared.blocks.Place.Place}
 use Rattle.nfs_ranges.specs.Blocks.{flat, last_end, block_at, IsPlace, spliced, spot, ends_whole, ends_whole_by}
-use Rattle.nfs_ranges.proofs.BlockLemmas.{splice_is, spot-le, spot-length}
-use Rattle.nfs_ranges.proofs.CanonicalLemmas.{same_is}
+use Rattle.nfs_ranges.proofs.{BlockLemmas.{splice_is, spot-le, spot-length}, CanonicalLemmas.same_is}
 
 -- put before intervals that it does not touch
 put_apart : (x : Interval) (ys : List Interval) → touches x ys ≡ false → put x ys ≡ x ∷ ys

@@ -1,17 +1,11 @@
 -- The span of intervals, and wishes that lie outside it.
 use Rattle.std.proofs.Common.{◌≡◌, ℕ, suc, ◌-◌, ◌<◌, ◌≤◌, true, false, leb, ltb, List, [], ◌∷◌, ◌++◌, drop, length, Some, None, refl}
-use Rattle.std.proofs.Common.{sym, ◌∙◌, ap, subst, arith, inl, inr}
-use Rattle.std.specs.Prelude.{find, slice_get}
-use Rattle.std.proofs.lemmas.List.{append-nil}
+use Rattle.std.proofs.{Common.{sym, ◌∙◌, ap, subst, arith, inl, inr}, lemmas.List.append-nil}
 use Rattle.std.proofs.lemmas.Bool.{cases_Bool, and_left, and_right, or_parts, lt-leb, le-ltb}
-use Rattle.nfs_ranges.specs.declared.Kind.{Kind}
-use Rattle.nfs_ranges.specs.declared.interval.Interval.{Interval}
-use Rattle.nfs_ranges.specs.declared.span.Span.{Span}
-use Rattle.nfs_ranges.specs.Intervals.{AreFrom, joins, kept_below, kept_above, put, glue, without, with_range}
-use Rattle.nfs_ranges.specs.Edits.{head}
-use Rattle.nfs_ranges.specs.Blocks.{flat, last_from, last_end, block_at, AreSome, AreBlocks}
-use Rattle.nfs_ranges.specs.Owners.{LieWithin, IsSpan, IsSpanOf}
-use Rattle.nfs_ranges.specs.Clashes.{hits, has_write}
+use Rattle.std.specs.Prelude.{find, slice_get}
+use Rattle.nfs_ranges.specs.{declared.Kind.Kind, declared.interval.Interval.Interval, declared.span.Span.Span}
+use Rattle.nfs_ranges.specs.{Intervals.{AreFrom, joins, kept_below, kept_above, put, glue, without, with_range}, Edits.head}
+use Rattle.nfs_ranges.specs.{Blocks.{flat, last_from, last_end, block_at, AreSome, AreBlocks}, Owners.{LieWithin, IsSpan, IsSpanOf}, Clashes.{hits, has_write}}
 use Rattle.nfs_ranges.specs.Told.{is_write, meets}
 
 wider : (first low last : ℕ) (xs : List Interval) → first ≤ low → LieWithin low last xs → LieWithin first last xs

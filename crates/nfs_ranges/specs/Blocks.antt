@@ -1,13 +1,8 @@
 -- A list that lies in blocks, each with what stands next to each other; and the intervals of one that does.
 use Rattle.std.specs.Prelude.{◌≡◌, ℕ, zero, suc, ◌≤◌, take, drop, length, ◌++◌, nat_le, nat_lt, Bool, false, if◌then◌else◌, List, [], ◌∷◌, Option, Some, None}
 use Rattle.std.specs.Option.{option_to_list}
-use Rattle.nfs_ranges.specs.declared.interval.Interval.{Interval}
-use Rattle.nfs_ranges.specs.declared.blocks.Place.{Place}
-use Rattle.nfs_ranges.specs.declared.blocks.Parts.{Parts}
-use Rattle.nfs_ranges.specs.declared.edits.Edit.{Edit}
-use Rattle.nfs_ranges.specs.Intervals.{IsCanonical}
-use Rattle.nfs_ranges.specs.Owners.{is_empty}
-use Rattle.nfs_ranges.specs.Edits.{lead, head}
+use Rattle.nfs_ranges.specs.{declared.interval.Interval.Interval, declared.blocks.Place.Place, declared.blocks.Parts.Parts, declared.edits.Edit.Edit}
+use Rattle.nfs_ranges.specs.{Intervals.IsCanonical, Owners.is_empty, Edits.{lead, head}}
 
 -- what stands in one block behind what stands in the other
 abbrev pub flat : {X : Type 0} → List (List X) → List X

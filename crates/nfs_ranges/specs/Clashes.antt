@@ -1,10 +1,6 @@
 -- Which interval stands against a wish to lock a range.
 use Rattle.std.specs.Prelude.{ℕ, ◌==◌, max, nat_le, nat_lt, Bool, false, ◌&&◌, ◌||◌, if◌then◌else◌, List, [], ◌∷◌, Option, Some, None, find, option_map}
-use Rattle.nfs_ranges.specs.declared.Kind.{Kind}
-use Rattle.nfs_ranges.specs.declared.interval.Interval.{Interval}
-use Rattle.nfs_ranges.specs.declared.Held.{Held}
-use Rattle.nfs_ranges.specs.Holders.{Owned, LockedBytes}
-use Rattle.nfs_ranges.specs.Told.{is_write, meets}
+use Rattle.nfs_ranges.specs.{declared.Kind.Kind, declared.interval.Interval.Interval, declared.Held.Held, Holders.{Owned, LockedBytes}, Told.{is_write, meets}}
 
 abbrev pub hits : Kind → ℕ → ℕ → Interval → Bool
 hits kind first last x = meets kind (Some x.kind) && (nat_le first x.last && nat_le x.first last)

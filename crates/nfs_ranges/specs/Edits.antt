@@ -1,10 +1,6 @@
 -- Where an edit of a list of intervals begins and ends, and what stands there afterwards.
-use Rattle.std.specs.Prelude.{ℕ, zero, suc, ◌-◌, nat_le, nat_lt, Bool, ◌&&◌, if◌then◌else◌, List, [], ◌∷◌, Option, Some}
-use Rattle.std.specs.Prelude.{None}
-use Rattle.nfs_ranges.specs.declared.Kind.{Kind}
-use Rattle.nfs_ranges.specs.declared.interval.Interval.{Interval}
-use Rattle.nfs_ranges.specs.declared.interval.Edge.{Edge}
-use Rattle.nfs_ranges.specs.Intervals.{is_same}
+use Rattle.std.specs.Prelude.{ℕ, zero, suc, ◌-◌, nat_le, nat_lt, Bool, ◌&&◌, if◌then◌else◌, List, [], ◌∷◌, Option, Some, None}
+use Rattle.nfs_ranges.specs.{declared.Kind.Kind, declared.interval.Interval.Interval, declared.interval.Edge.Edge, Intervals.is_same}
 
 -- how many pass before the first that does not
 abbrev pub lead : {X : Type 0} → (X → Bool) → List X → ℕ

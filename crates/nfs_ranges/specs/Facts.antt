@@ -1,9 +1,6 @@
 -- What is held and what is told of a clash, as facts: `holds_any` and `told` are functions that give them (`specs/Laws.antt`).
 use Rattle.std.specs.Prelude.{ℕ, ◌<◌, ◌^◌, IsSome, ◌≡◌, ◌≢◌, suc, ◌≤◌, true, false, Option, Some, None}
-use Rattle.nfs_ranges.specs.Holders.{Holders}
-use Rattle.nfs_ranges.specs.Told.{clashes}
-use Rattle.nfs_ranges.specs.declared.Kind.{Kind}
-use Rattle.nfs_ranges.specs.declared.Held.{Held}
+use Rattle.nfs_ranges.specs.{Holders.Holders, Told.clashes, declared.Kind.Kind, declared.Held.Held}
 
 -- the lock state holds a byte of the file
 abbrev pub HoldsAny : Holders → ℕ → Type 0

@@ -1,10 +1,7 @@
 -- Owners in rising order, and groups of them: those that stand next to each other.
 use Rattle.std.specs.Prelude.{◌≡◌, All, ℕ, zero, suc, ◌==◌, nat_lt, Bool, false, List, [], ◌∷◌, Option, Some, None}
-use Rattle.nfs_ranges.specs.declared.interval.Interval.{Interval}
-use Rattle.nfs_ranges.specs.declared.span.Span.{Span}
-use Rattle.nfs_ranges.specs.Holders.{Owned, LockedBytes}
-use Rattle.nfs_ranges.specs.Owners.{is_empty, AreCanonical, with_owner, IsSpanOf}
-use Rattle.nfs_ranges.specs.Blocks.{flat, AreSome}
+use Rattle.nfs_ranges.specs.{declared.interval.Interval.Interval, declared.span.Span.Span, Holders.{Owned, LockedBytes}}
+use Rattle.nfs_ranges.specs.{Owners.{is_empty, AreCanonical, with_owner, IsSpanOf}, Blocks.{flat, AreSome}}
 
 -- the owner has a lower number
 abbrev pub is_below : ℕ → Owned → Bool

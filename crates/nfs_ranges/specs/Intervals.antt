@@ -1,8 +1,6 @@
 -- The bytes that one lock state holds, as a list of intervals in canonical form, and how that changes.
 use Rattle.std.specs.Prelude.{◌≡◌, ℕ, suc, ◌-◌, ◌<◌, ◌≤◌, ◌^◌, ◌==◌, min, max, nat_lt, Bool, true, false, ◌&&◌, if◌then◌else◌, List, [], ◌∷◌}
-use Rattle.nfs_ranges.specs.declared.Kind.{Kind}
-use Rattle.nfs_ranges.specs.declared.Kind.TheVariants.{Read, Write}
-use Rattle.nfs_ranges.specs.declared.interval.Interval.{Interval}
+use Rattle.nfs_ranges.specs.{declared.Kind.Kind, declared.Kind.TheVariants.{Read, Write}, declared.interval.Interval.Interval}
 
 abbrev pub is_same : Kind → Kind → Bool
 is_same Read Read = true

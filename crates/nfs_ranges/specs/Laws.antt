@@ -1,11 +1,7 @@
 -- Laws of what is told and of what is held: facts on one side, functions that can be run on the other.
 use Rattle.std.specs.Prelude.{◌≡◌, ℕ, ◌↔◌, ◌<◌, ◌≤◌, ◌^◌, Option, None, IsTrue}
-use Rattle.nfs_ranges.specs.declared.Kind.{Kind}
-use Rattle.nfs_ranges.specs.declared.Held.{Held}
-use Rattle.nfs_ranges.specs.Holders.{Holders, LockedBytes, HasNoClash, at, holding, holds_any}
-use Rattle.nfs_ranges.specs.Facts.{HoldsAny, Tells, IsBelow}
-use Rattle.nfs_ranges.specs.Owners.{AreCanonical}
-use Rattle.nfs_ranges.specs.Told.{told}
+use Rattle.nfs_ranges.specs.{declared.Kind.Kind, declared.Held.Held, Holders.{Holders, LockedBytes, HasNoClash, at, holding, holds_any}}
+use Rattle.nfs_ranges.specs.{Facts.{HoldsAny, Tells, IsBelow}, Owners.AreCanonical, Told.told}
 
 -- whatever is held, exactly one thing is told, and the function `told` gives it
 abbrev pub ToldIsUnique : Type 0

@@ -1,10 +1,6 @@
 -- The owners of a list, in rising order of their numbers.
 use Rattle.std.specs.Prelude.{◌≡◌, ℕ, suc, ◌≤◌, ◌==◌, nat_lt, Bool, true, false, if◌then◌else◌, List, [], ◌∷◌, ◌++◌}
-use Rattle.nfs_ranges.specs.declared.interval.Interval.{Interval}
-use Rattle.nfs_ranges.specs.declared.span.Span.{Span}
-use Rattle.nfs_ranges.specs.Intervals.{IsCanonical}
-use Rattle.nfs_ranges.specs.Clashes.{has_write}
-use Rattle.nfs_ranges.specs.Holders.{LockedBytes}
+use Rattle.nfs_ranges.specs.{declared.interval.Interval.Interval, declared.span.Span.Span, Intervals.IsCanonical, Clashes.has_write, Holders.LockedBytes}
 
 abbrev pub is_empty : {X : Type 0} → List X → Bool
 is_empty [] = true

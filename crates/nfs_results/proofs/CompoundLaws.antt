@@ -2,13 +2,9 @@
 use Rattle.std.proofs.Common.{◌≡◌, ℕ, List, ◌++◌, length, refl, sym, ap, ◌∙◌, append_assoc, arith}
 use Rattle.std.specs.List.{flat_map}
 use Rattle.nfs_xdr.specs.Spelling as spelling
-use Rattle.nfs_xdr.specs.Lawful.{IsCodec}
-use Rattle.nfs_xdr.proofs.CodecLaws.{is_opaque, is_then, is_as_type, is_array}
-use Rattle.nfs_results.specs.Results.{spell_result}
-use Rattle.nfs_results.specs.ResultCodec.{result}
-use Rattle.nfs_results.specs.CompoundResult.{CompoundResult, spell_compound, parts, compound_result}
-use Rattle.nfs_xdr.specs.Status.{status_number}
-use Rattle.nfs_xdr.proofs.StatusLaws.{is_status}
+use Rattle.nfs_xdr.specs.{Lawful.IsCodec, Status.status_number}
+use Rattle.nfs_xdr.proofs.{CodecLaws.{is_opaque, is_then, is_as_type, is_array}, StatusLaws.is_status}
+use Rattle.nfs_results.specs.{Results.spell_result, ResultCodec.result, CompoundResult.{CompoundResult, spell_compound, parts, compound_result}}
 use Rattle.nfs_results.proofs.ResultLaws.{is_result}
 
 is_parts : IsCodec parts

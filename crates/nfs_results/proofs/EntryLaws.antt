@@ -1,19 +1,10 @@
 -- Entries that were gone over are lent as they are spelled, and taken one by one.
-use Rattle.std.proofs.Common.{◌≡◌, ℕ, ◌-◌, Bool, true, false, List, [], ◌∷◌, ◌++◌, length, take, Some, None, subst, refl, sym, ap, ◌∙◌, append-nil}
-use Rattle.std.proofs.Common.{arith}
+use Rattle.std.proofs.Common.{◌≡◌, ℕ, ◌-◌, Bool, true, false, List, [], ◌∷◌, ◌++◌, length, take, Some, None, subst, refl, sym, ap, ◌∙◌, append-nil, arith}
+use Rattle.std.proofs.{lemmas.List.{take_at, length-append}, lemmas.Option.same_Some, lemmas.Bool.{false≢true}}
 use Rattle.std.specs.List.{AllByRecursion}
-use Rattle.std.proofs.lemmas.List.{take_at, length-append}
-use Rattle.std.proofs.lemmas.Option.{same_Some}
-use Rattle.std.proofs.lemmas.Bool.{false≢true}
-use Rattle.nfs_xdr.specs.Reading.{flag_at}
-use Rattle.nfs_xdr.specs.Text.{IsBytes}
-use Rattle.nfs_xdr.specs.Combinators.{passed}
-use Rattle.nfs_xdr.specs.Chain.{spell_chain, chain}
-use Rattle.nfs_xdr.proofs.CodecLaws.{bind_some, is_flag}
-use Rattle.nfs_xdr.proofs.ChainLaws.{is_chain}
-use Rattle.nfs_results.specs.declared.res.Entry.{Entry}
-use Rattle.nfs_results.specs.Items.{entry}
-use Rattle.nfs_results.specs.Entries.{in_front, entries_in, AreEntries}
+use Rattle.nfs_xdr.specs.{Reading.flag_at, Text.IsBytes, Combinators.passed, Chain.{spell_chain, chain}}
+use Rattle.nfs_xdr.proofs.{CodecLaws.{bind_some, is_flag}, ChainLaws.is_chain}
+use Rattle.nfs_results.specs.{declared.res.Entry.Entry, Items.entry, Entries.{in_front, entries_in, AreEntries}}
 use Rattle.nfs_results.proofs.ItemLaws.{is_entry}
 
 -- the bytes that were gone over

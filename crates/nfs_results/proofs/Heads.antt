@@ -1,12 +1,9 @@
 -- A word that is written over another, and the head of a compound's result with another status and count.
 use Rattle.std.proofs.Common.{◌≡◌, ℕ, ◌+◌, ◌≤◌, List, ◌++◌, length, take, drop, append_assoc, sym, ap, ◌∙◌, arith}
 use Rattle.std.proofs.lemmas.List.{length-append, take_at, drop_at, drop-drop, length-drop, length-take-le}
-use Rattle.nfs_xdr.specs.Spelling.{number, opaque}
+use Rattle.nfs_xdr.specs.{Spelling.{number, opaque}, declared.status.Status.Status, Status.status_number}
 use Rattle.nfs_xdr.proofs.Putting.{length_number}
-use Rattle.nfs_xdr.specs.declared.status.Status.{Status}
-use Rattle.nfs_xdr.specs.Status.{status_number}
-use Rattle.nfs_results.specs.Results.{spell_compound_head}
-use Rattle.nfs_results.specs.OpenHead.{HeadsAt}
+use Rattle.nfs_results.specs.{Results.spell_compound_head, OpenHead.HeadsAt}
 
 -- what `set_u32` makes of bytes
 abbrev pub set_at : (at : ℕ) (word bytes : List ℕ) → List ℕ

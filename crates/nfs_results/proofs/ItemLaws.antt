@@ -1,20 +1,13 @@
 -- The items of results are read exactly where they are spelled.
-use Rattle.std.proofs.Common.{ℕ, ◌^◌, ◌<◌, eqb, cond, ◌++◌, Some, None, refl, ap, ◌∙◌, arith}
+use Rattle.std.proofs.{Common.{ℕ, ◌^◌, ◌<◌, eqb, cond, ◌++◌, Some, None, refl, ap, ◌∙◌, arith}, lemmas.Bool.{eqb-true, eq-eqb}}
 use Rattle.std.specs.Int.{w32, from_be_bytes}
-use Rattle.std.proofs.lemmas.Bool.{eqb-true, eq-eqb}
 use Rattle.nfs_xdr.specs.Spelling as spelling
-use Rattle.nfs_xdr.specs.Reading.{number_at}
-use Rattle.nfs_xdr.specs.Codec.{number}
-use Rattle.nfs_xdr.specs.Lawful.{IsCodec, IsSized}
-use Rattle.nfs_xdr.specs.Combinators.{few}
+use Rattle.nfs_xdr.specs.{Reading.number_at, Codec.number, Lawful.{IsCodec, IsSized}, Combinators.few}
 use Rattle.nfs_xdr.proofs.CodecLaws.{bind_some, test_some, taken_at, is_number, is_hyper, is_flag, is_fixed, is_opaque, is_unbounded, is_then, is_as_type}
-use Rattle.nfs_xdr.proofs.CodecLaws.{is_only, is_few, is_pieces}
-use Rattle.nfs_xdr.proofs.ChainLaws.{is_chain}
-use Rattle.nfs_compound.proofs.ArgLaws.{is_lock_type, is_stable_how}
-use Rattle.nfs_compound.proofs.ItemLaws.{is_stateid, is_state_owner, is_channel_attrs}
+use Rattle.nfs_xdr.proofs.{CodecLaws.{is_only, is_few, is_pieces}, ChainLaws.is_chain}
+use Rattle.nfs_compound.proofs.{ArgLaws.{is_lock_type, is_stable_how}, ItemLaws.{is_stateid, is_state_owner, is_channel_attrs}}
 use Rattle.nfs_results.specs.Items.{always, is_trimmed, attr_set, fattr, change_info, access, create, denied, open_ok, read_ok, entry, rename}
-use Rattle.nfs_results.specs.Listing.{read_dir}
-use Rattle.nfs_results.specs.Items.{write_ok, exchange_id, create_session, flavors, sequence, are_statuses, status_codes}
+use Rattle.nfs_results.specs.{Listing.read_dir, Items.{write_ok, exchange_id, create_session, flavors, sequence, are_statuses, status_codes}}
 
 is_always : (k : ℕ) → k < 2 ^ 32 → IsCodec (always k)
 is_always k small = record {

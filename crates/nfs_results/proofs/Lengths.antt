@@ -1,32 +1,18 @@
 -- How long results are.
 use Rattle.std.proofs.Common.{◌≡◌, ℕ, zero, suc, ◌+◌, ◌*◌, ◌-◌, ◌%◌, ◌≤◌, ◌<◌, Bool, true, false, cond, eqb, ltb, List, [], ◌∷◌, ◌++◌, length, Option, Some}
-use Rattle.std.proofs.Common.{None, subst, sym, ap, refl, arith}
+use Rattle.std.proofs.{Common.{None, subst, sym, ap, refl, arith}, lemmas.List.{length-append, length-replicate}}
 use Rattle.std.specs.List.{flat_map}
-use Rattle.std.proofs.lemmas.List.{length-append, length-replicate}
 use Rattle.nfs_xdr.specs.Spelling as spelling
-use Rattle.nfs_xdr.specs.Spelling.{padding}
-use Rattle.nfs_xdr.specs.declared.status.Status.{Status}
-use Rattle.nfs_xdr.specs.Codec.{number}
-use Rattle.nfs_xdr.specs.Combinators.{optional}
+use Rattle.nfs_xdr.specs.{Spelling.padding, declared.status.Status.Status, Codec.number, Combinators.optional}
 use Rattle.nfs_xdr.proofs.Putting.{length_number, length_hyper}
-use Rattle.nfs_compound.specs.declared.stateid.Stateid.{Stateid}
-use Rattle.nfs_compound.specs.declared.channel_attrs.ChannelAttrs.{ChannelAttrs}
-use Rattle.nfs_compound.specs.Stateid.{stateid}
-use Rattle.nfs_compound.specs.StateOwner.{state_owner}
-use Rattle.nfs_compound.specs.ChannelAttrs.{channel_attrs}
-use Rattle.nfs_compound.specs.ArgCodecs.{lock_type, stable_how}
+use Rattle.nfs_compound.specs.{declared.stateid.Stateid.Stateid, declared.channel_attrs.ChannelAttrs.ChannelAttrs, Stateid.stateid, StateOwner.state_owner}
+use Rattle.nfs_compound.specs.{ChannelAttrs.channel_attrs, ArgCodecs.{lock_type, stable_how}, declared.op.Item.Item}
+use Rattle.nfs_compound.specs.declared.op.Item.TheVariants.{Operation, Fault}
 use Rattle.nfs_results.specs.declared.res.ChangeInfo.{ChangeInfo}
 use Rattle.nfs_results.specs.Items.{access, attr_set, fattr, change_info, create, denied, open_ok, read_ok, rename, write_ok, exchange_id, create_session}
-use Rattle.nfs_results.specs.Items.{flavors, sequence, status_codes}
-use Rattle.nfs_results.specs.declared.res.Denied.{Denied}
-use Rattle.nfs_results.specs.declared.res.Res.{Res}
-use Rattle.nfs_results.specs.Results.{head, operation_of, spell_result, spell_compound_head}
-use Rattle.nfs_results.specs.Parts.{parts}
-use Rattle.nfs_results.specs.ResultCodec.{HasArrays}
-use Rattle.nfs_results.specs.Largest.{largest_of, asked, largest}
-use Rattle.nfs_results.specs.MayAnswer.{HasSizes, IsPlain, MayAnswer}
-use Rattle.nfs_compound.specs.declared.op.Item.{Item}
-use Rattle.nfs_compound.specs.declared.op.Item.TheVariants.{Operation, Fault}
+use Rattle.nfs_results.specs.{Items.{flavors, sequence, status_codes}, declared.res.Denied.Denied, declared.res.Res.Res}
+use Rattle.nfs_results.specs.{Results.{head, operation_of, spell_result, spell_compound_head}, Parts.parts, ResultCodec.HasArrays}
+use Rattle.nfs_results.specs.{Largest.{largest_of, asked, largest}, MayAnswer.{HasSizes, IsPlain, MayAnswer}}
 
 -- the lengths of texts whose parts are known
 pub ruleset lengths = (length_number, length_hyper, length-append, length-replicate)

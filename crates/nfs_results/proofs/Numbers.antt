@@ -1,16 +1,10 @@
 -- Numbers that are put one behind the other, as a loop does.
 use Rattle.std.proofs.Common.{◌≡◌, ℕ, suc, ◌+◌, ◌<◌, ◌≤◌, Bool, true, false, List, ◌++◌, length, take, drop, get_or, map, subst, refl, ap, sym, ◌∙◌, arith}
-use Rattle.std.specs.Int.{w32, from_be_bytes}
-use Rattle.std.specs.Prelude.{is_some}
-use Rattle.std.specs.List.{flat_map}
-use Rattle.std.proofs.Math.Seq.{drop-cons}
-use Rattle.std.proofs.Math.ListN.{drop_of_length-le}
-use Rattle.std.proofs.lemmas.List.{length-append, length-map, take_all}
+use Rattle.std.proofs.{Math.Seq.drop-cons, Math.ListN.drop_of_length-le, lemmas.List.{length-append, length-map, take_all}}
 use Rattle.std.proofs.lemmas.List.Folds.{flat_map-map, length-flat_map-take}
-use Rattle.nfs_xdr.specs.Spelling.{number}
-use Rattle.nfs_xdr.specs.SheetState.{SheetState, HasRoom, Puts}
+use Rattle.std.specs.{Int.{w32, from_be_bytes}, Prelude.is_some, List.flat_map}
+use Rattle.nfs_xdr.specs.{Spelling.number, SheetState.{SheetState, HasRoom, Puts}, StatusCodec.status_of}
 use Rattle.nfs_xdr.specs.Codec as codec
-use Rattle.nfs_xdr.specs.StatusCodec.{status_of}
 use Rattle.nfs_xdr.proofs.Putting.{length_number}
 use Rattle.nfs_results.specs.Items.{are_statuses}
 

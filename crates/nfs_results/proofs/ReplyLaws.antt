@@ -1,19 +1,11 @@
 -- Reading the result of a compound, one result after the other.
 use Rattle.std.proofs.Common.{◌≡◌, ℕ, zero, suc, ◌+◌, ◌-◌, ◌<◌, Bool, true, false, eqb, List, [], ◌∷◌, length, append-nil, Option, Some, None, Result, Ok, Err}
-use Rattle.std.proofs.Common.{refl, sym, ap, ◌∙◌, arith}
+use Rattle.std.proofs.{Common.{refl, sym, ap, ◌∙◌, arith}, lemmas.Bool.{eqb-true, false≢true}, lemmas.List.nil_from_length}
 use Rattle.std.specs.Prelude.{IfOk, OnErr, MatchResult}
-use Rattle.std.proofs.lemmas.Bool.{eqb-true, false≢true}
 use Rattle.nfs_xdr.proofs.CodecLaws.{test_some}
-use Rattle.std.proofs.lemmas.List.{nil_from_length}
-use Rattle.nfs_xdr.specs.declared.cursor.Unreadable.{Unreadable}
-use Rattle.nfs_xdr.specs.Reading.{◌>>=◌, number_at, opaque_at}
-use Rattle.nfs_xdr.specs.Codec.{many_at}
-use Rattle.nfs_xdr.specs.Text.{IsBytes}
-use Rattle.nfs_results.specs.declared.res.Res.{Res}
-use Rattle.nfs_xdr.specs.declared.status.Status.{Status}
-use Rattle.nfs_xdr.specs.StatusCodec.{status}
-use Rattle.nfs_results.specs.ResultCodec.{result}
-use Rattle.nfs_results.specs.CompoundResult.{CompoundResult, spell_compound, compound_result, IsReply, IsNoReply}
+use Rattle.nfs_xdr.specs.{declared.cursor.Unreadable.Unreadable, Reading.{◌>>=◌, number_at, opaque_at}, Codec.many_at, Text.IsBytes}
+use Rattle.nfs_xdr.specs.{declared.status.Status.Status, StatusCodec.status}
+use Rattle.nfs_results.specs.{declared.res.Res.Res, ResultCodec.result, CompoundResult.{CompoundResult, spell_compound, compound_result, IsReply, IsNoReply}}
 use Rattle.nfs_results.specs.ReadReply.{whole, is_whole, results_left}
 use Rattle.nfs_results.proofs.CompoundLaws.{is_compound}
 

@@ -1,32 +1,17 @@
 -- The table of results is a codec.
 use Rattle.std.proofs.Common.{◌≡◌, ℕ, ◌^◌, ◌<◌, Bool, true, false, not, eqb, leb, cond, ◌&&◌, ◌||◌, List, [], ◌++◌, Option, Some, None, refl, sym, ap}
-use Rattle.std.proofs.Common.{◌∙◌, append_assoc, append-nil, arith, inl, inr}
-use Rattle.std.proofs.lemmas.Bool.{eqb-true, leb-true, and_parts, false≢true}
+use Rattle.std.proofs.{Common.{◌∙◌, append_assoc, append-nil, arith, inl, inr}, lemmas.Bool.{eqb-true, leb-true, and_parts, false≢true}}
 use Rattle.std.proofs.lemmas.Option.{same_Some}
 use Rattle.nfs_xdr.specs.Spelling as spelling
-use Rattle.nfs_xdr.specs.Reading.{◌>>=◌, number_at}
-use Rattle.nfs_xdr.specs.declared.status.Status.{Status}
-use Rattle.nfs_xdr.specs.declared.status.Status.TheVariants.{Nfs4Ok, Denied}
-use Rattle.nfs_xdr.specs.Status.{status_number}
-use Rattle.nfs_xdr.specs.StatusCodec.{status_of, status}
-use Rattle.nfs_xdr.specs.Codec.{Codec, opaque, unbounded, arm}
-use Rattle.nfs_xdr.specs.Text.{IsBytes}
-use Rattle.nfs_xdr.specs.Lawful.{IsCodec}
-use Rattle.nfs_xdr.specs.Combinators.{fixed}
+use Rattle.nfs_xdr.specs.{Reading.{◌>>=◌, number_at}, declared.status.Status.Status, declared.status.Status.TheVariants.{Nfs4Ok, Denied}, Status.status_number}
+use Rattle.nfs_xdr.specs.{StatusCodec.{status_of, status}, Codec.{Codec, opaque, unbounded, arm}, Text.IsBytes, Lawful.IsCodec, Combinators.fixed}
 use Rattle.nfs_xdr.proofs.CodecLaws.{bind_some, test_some, chosen, taken_at, arm_takes, is_number, is_fixed, is_opaque, is_unbounded}
-use Rattle.nfs_xdr.proofs.StatusLaws.{is_status, is_status_listing}
-use Rattle.nfs_xdr.proofs.WordLaws.{listed_number}
-use Rattle.nfs_compound.specs.declared.op_num.OpNum.{OpNum}
+use Rattle.nfs_xdr.proofs.{StatusLaws.{is_status, is_status_listing}, WordLaws.listed_number}
+use Rattle.nfs_compound.specs.{declared.op_num.OpNum.OpNum, OpNum.{op_number, op_nums, op_num}, Stateid.stateid}
 use Rattle.nfs_compound.specs.declared.op_num.OpNum.TheVariants as Num
-use Rattle.nfs_compound.specs.OpNum.{op_number, op_nums, op_num}
-use Rattle.nfs_compound.specs.Stateid.{stateid}
 use Rattle.nfs_compound.proofs.ItemLaws.{is_stateid}
 use Rattle.nfs_results.specs.Items as item
-use Rattle.nfs_results.specs.Listing.{read_dir}
-use Rattle.nfs_results.specs.declared.res.Res.{Res}
-use Rattle.nfs_results.specs.Results.{head, spell_result}
-use Rattle.nfs_results.specs.Refusals.{bears, tells, can_refuse}
-use Rattle.nfs_results.specs.Parts.{is_legal}
+use Rattle.nfs_results.specs.{Listing.read_dir, declared.res.Res.Res, Results.{head, spell_result}, Refusals.{bears, tells, can_refuse}, Parts.is_legal}
 use Rattle.nfs_results.specs.ResultCodec.{FitsResult, done_at, done_by, refused_at, read_behind, result}
 use Rattle.nfs_results.proofs.ItemLaws.{is_attr_set, is_fattr, is_change_info, is_access, is_create, is_denied, is_open_ok, is_read_ok, is_read_dir, is_rename}
 use Rattle.nfs_results.proofs.ItemLaws.{is_write_ok, is_exchange_id, is_create_session, is_flavors, is_sequence, is_status_codes}

@@ -1,17 +1,12 @@
 -- Parts that are put one behind the other are a result.
 use Rattle.std.proofs.Common.{◌≡◌, ℕ, Bool, true, List, [], ◌∷◌, ◌++◌, length, refl, sym, ap, ◌∙◌, append_assoc}
 use Rattle.std.specs.List.{flat_map}
-use Rattle.nfs_xdr.specs.Spelling.{number, hyper, flag, fixed, opaque}
-use Rattle.nfs_xdr.specs.Chain.{spell_chain}
+use Rattle.nfs_xdr.specs.{Spelling.{number, hyper, flag, fixed, opaque}, Chain.spell_chain}
 use Rattle.nfs_compound.specs.declared.op_num.OpNum.TheVariants as Num
-use Rattle.nfs_results.specs.Items.{fattr, entry, read_ok, status_codes}
-use Rattle.nfs_results.specs.Listing.{read_dir}
-use Rattle.nfs_results.specs.declared.res.ReadOk.{ReadOk}
-use Rattle.nfs_results.specs.declared.res.Entry.{Entry}
-use Rattle.nfs_results.specs.declared.res.ReadDirOk.{ReadDirOk}
-use Rattle.nfs_results.specs.declared.res.Res.TheVariants as Res
-use Rattle.nfs_results.specs.Results.{spell_result, done_head}
+use Rattle.nfs_results.specs.{Items.{fattr, entry, read_ok, status_codes}, Listing.read_dir, declared.res.ReadOk.ReadOk, declared.res.Entry.Entry}
+use Rattle.nfs_results.specs.{declared.res.ReadDirOk.ReadDirOk, Results.{spell_result, done_head}}
 use Rattle.nfs_results.specs.Straight.{read_head, read_end, read_dir_head, entry_head, entry_text, list_end, test_stateid_head}
+use Rattle.nfs_results.specs.declared.res.Res.TheVariants as Res
 
 pub read_in_parts : (r : ReadOk) → spell_result (Res.Read r) ≡ read_head r.eof (length r.bytes) ++ (r.bytes ++ read_end (length r.bytes))
 unfolding read_ok

@@ -1,45 +1,23 @@
 -- Each result is its text: its operation's number, its status, the bytes behind them, and what has to fit.
 use Rattle.std.proofs.Common.{◌≡◌, ℕ, eqb, inl, inr, ◌<◌, ◌^◌, List, [], ◌∷◌, ◌++◌, Option, Some, None, Bool, true, false, not, refl, sym, ap, ◌∙◌, arith, append_assoc}
-use Rattle.std.specs.Prelude.{IsTrue, ◌≢◌, is_some}
-use Rattle.std.specs.List.{AllByRecursion}
 use Rattle.std.proofs.lemmas.Bool.{false≢true, and_parts, cases_Bool, eqb-true}
-use Rattle.nfs_xdr.specs.Spelling.{hyper, flag}
+use Rattle.std.specs.{Prelude.{IsTrue, ◌≢◌, is_some}, List.AllByRecursion}
+use Rattle.nfs_xdr.specs.{Spelling.{hyper, flag}, Codec.Codec, Chain.{chain, spell_chain}, Status.status_number, StatusCodec.{statuses, status_of}}
+use Rattle.nfs_xdr.specs.{declared.status.Status.Status, declared.status.Status.TheVariants.{Nfs4Ok, Denied, OpIllegal}}
+use Rattle.nfs_xdr.specs.Text.{Text, ◌then◌, void, uint32, bool, enum, fixed, opaque, array, most}
 use Rattle.nfs_xdr.specs.Spelling as spelling
 use Rattle.nfs_xdr.specs.Codec as codec
 use Rattle.nfs_xdr.specs.Combinators as combinators
-use Rattle.nfs_xdr.specs.Codec.{Codec}
-use Rattle.nfs_xdr.specs.Chain.{chain, spell_chain}
-use Rattle.nfs_xdr.specs.Status.{status_number}
-use Rattle.nfs_xdr.specs.StatusCodec.{statuses, status_of}
-use Rattle.nfs_xdr.specs.declared.status.Status.{Status}
-use Rattle.nfs_xdr.specs.declared.status.Status.TheVariants.{Nfs4Ok, Denied, OpIllegal}
-use Rattle.nfs_xdr.proofs.StatusLaws.{is_status_listing}
-use Rattle.nfs_xdr.proofs.WordLaws.{listed_number}
-use Rattle.nfs_compound.specs.declared.op_num.OpNum.{OpNum}
+use Rattle.nfs_xdr.proofs.{StatusLaws.is_status_listing, WordLaws.listed_number, TextLaws.{Spells, all_fit, arrays, numbers}}
+use Rattle.nfs_compound.specs.{declared.op_num.OpNum.OpNum, OpNum.op_number, Stateid.stateid, StateOwner.state_owner, ArgCodecs.{lock_type, stable_how}}
+use Rattle.nfs_compound.specs.{Enums.stable_how_number, Wire.channel_attrs4}
 use Rattle.nfs_compound.specs.declared.op_num.OpNum.TheVariants as Num
-use Rattle.nfs_compound.specs.OpNum.{op_number}
-use Rattle.nfs_compound.specs.Stateid.{stateid}
-use Rattle.nfs_compound.specs.StateOwner.{state_owner}
-use Rattle.nfs_compound.specs.ArgCodecs.{lock_type, stable_how}
-use Rattle.nfs_compound.specs.Enums.{stable_how_number}
-use Rattle.nfs_xdr.specs.Text.{Text, ◌then◌, void, uint32, bool, enum, fixed, opaque, array, most}
-use Rattle.nfs_xdr.proofs.TextLaws.{Spells, all_fit, arrays, numbers}
-use Rattle.nfs_compound.specs.Wire.{channel_attrs4}
 use Rattle.nfs_compound.proofs.WireLaws.{owners, ids, channels}
 use Rattle.nfs_results.specs.Items as item
-use Rattle.nfs_results.specs.Listing.{read_dir}
-use Rattle.nfs_results.specs.Items.{is_trimmed, are_statuses}
-use Rattle.nfs_results.specs.declared.res.Entry.{Entry}
-use Rattle.nfs_results.specs.declared.res.Fattr.{Fattr}
-use Rattle.nfs_results.specs.declared.res.Res.{Res}
-use Rattle.nfs_results.specs.Parts.{is_legal, parts}
-use Rattle.nfs_results.specs.Straight.{entry_text}
-use Rattle.nfs_results.proofs.ResultLaws.{same_status}
-use Rattle.nfs_results.proofs.CompoundLaws.{same_spelling}
-use Rattle.nfs_results.specs.Results.{spell_result}
-use Rattle.nfs_results.specs.ResultCodec.{result}
-use Rattle.nfs_results.specs.CompoundResult.{compound_result}
+use Rattle.nfs_results.specs.{Listing.read_dir, Items.{is_trimmed, are_statuses}, declared.res.Entry.Entry, declared.res.Fattr.Fattr, declared.res.Res.Res}
+use Rattle.nfs_results.specs.{Parts.{is_legal, parts}, Straight.entry_text, Results.spell_result, ResultCodec.result, CompoundResult.compound_result}
 use Rattle.nfs_results.specs.Wire.{nfsstat4, bitmap4, fattr4, change_info4, lock4denied, open4resok, entry4, entries4, exchange_id4resok, Resop, ends, nfs_resop4, result4, compound4res}
+use Rattle.nfs_results.proofs.{ResultLaws.same_status, CompoundLaws.same_spelling}
 
 -- The items.
 

@@ -1,14 +1,8 @@
 -- The result of a compound (RFC 8881 section 16.2.2): its status, the tag of its call and the results of the operations that were run.
-use Rattle.std.specs.Prelude.{◌≡◌, ℕ, List, ◌++◌, length, Option}
-use Rattle.std.specs.List.{flat_map}
-use Rattle.nfs_xdr.specs.Limits.{opaque_limit}
+use Rattle.std.specs.{Prelude.{◌≡◌, ℕ, List, ◌++◌, length, Option}, List.flat_map}
+use Rattle.nfs_xdr.specs.{Limits.opaque_limit, Codec.{Codec, ◌then◌, as_type, array}, declared.status.Status.Status, StatusCodec.{status as any_status}}
 use Rattle.nfs_xdr.specs.Codec as codec
-use Rattle.nfs_xdr.specs.Codec.{Codec, ◌then◌, as_type, array}
-use Rattle.nfs_xdr.specs.declared.status.Status.{Status}
-use Rattle.nfs_xdr.specs.StatusCodec.{status as any_status}
-use Rattle.nfs_results.specs.declared.res.Res.{Res}
-use Rattle.nfs_results.specs.ResultCodec.{result}
-use Rattle.nfs_results.specs.Results.{spell_result, spell_compound_head}
+use Rattle.nfs_results.specs.{declared.res.Res.Res, ResultCodec.result, Results.{spell_result, spell_compound_head}}
 
 pub record CompoundResult : Type 0 where
   pub status : Status

@@ -1,9 +1,7 @@
 -- The entries of a directory as a reply lends them.
-use Rattle.std.specs.Prelude.{◌≡◌, ℕ, List, [], Option, Some, None}
-use Rattle.std.specs.List.{AllByRecursion}
+use Rattle.std.specs.{Prelude.{◌≡◌, ℕ, List, [], Option, Some, None}, List.AllByRecursion}
 use Rattle.nfs_xdr.specs.Chain.{spell_chain, chain}
-use Rattle.nfs_results.specs.declared.res.Entry.{Entry}
-use Rattle.nfs_results.specs.Items.{entry}
+use Rattle.nfs_results.specs.{declared.res.Entry.Entry, Items.entry}
 
 abbrev pub in_front : Option (List Entry × List ℕ) → List Entry
 in_front None = []

@@ -1,30 +1,13 @@
 -- How the items of results are spelled (RFC 5662). What is put together is named in the order of its bytes.
-use Rattle.std.specs.Prelude.{ℕ, ◌==◌, List, [], ◌∷◌, Bool, true, not, is_some, Some, None, if◌then◌else◌}
-use Rattle.std.specs.Int.{w32, from_be_bytes}
-use Rattle.std.specs.List.{list_all}
+use Rattle.std.specs.{Prelude.{ℕ, ◌==◌, List, [], ◌∷◌, Bool, true, not, is_some, Some, None, if◌then◌else◌}, Int.{w32, from_be_bytes}, List.list_all}
 use Rattle.nfs_xdr.specs.Spelling as spelling
-use Rattle.nfs_xdr.specs.Reading.{◌>>=◌, number_at}
-use Rattle.nfs_xdr.specs.StatusCodec.{status_of}
-use Rattle.nfs_xdr.specs.Limits.{opaque_limit}
-use Rattle.nfs_xdr.specs.Codec.{Codec, number, hyper, flag, opaque, unbounded, ◌then◌, as_type, only, pieces}
-use Rattle.nfs_xdr.specs.Combinators.{fixed, few}
-use Rattle.nfs_compound.specs.Stateid.{stateid}
-use Rattle.nfs_compound.specs.StateOwner.{state_owner}
-use Rattle.nfs_compound.specs.ChannelAttrs.{channel_attrs}
-use Rattle.nfs_compound.specs.ArgCodecs.{lock_type, stable_how}
-use Rattle.nfs_results.specs.declared.res.AccessOk.{AccessOk}
-use Rattle.nfs_results.specs.declared.res.ChangeInfo.{ChangeInfo}
-use Rattle.nfs_results.specs.declared.res.RenameOk.{RenameOk}
-use Rattle.nfs_results.specs.declared.res.WriteOk.{WriteOk}
-use Rattle.nfs_results.specs.declared.res.CreateSessionOk.{CreateSessionOk}
-use Rattle.nfs_results.specs.declared.res.SequenceOk.{SequenceOk}
-use Rattle.nfs_results.specs.declared.res.CreateOk.{CreateOk}
-use Rattle.nfs_results.specs.declared.res.Fattr.{Fattr}
-use Rattle.nfs_results.specs.declared.res.Denied.{Denied}
-use Rattle.nfs_results.specs.declared.res.OpenOk.{OpenOk}
-use Rattle.nfs_results.specs.declared.res.ReadOk.{ReadOk}
-use Rattle.nfs_results.specs.declared.res.Entry.{Entry}
-use Rattle.nfs_results.specs.declared.res.ExchangeIdOk.{ExchangeIdOk}
+use Rattle.nfs_xdr.specs.{Reading.{◌>>=◌, number_at}, StatusCodec.status_of, Limits.opaque_limit}
+use Rattle.nfs_xdr.specs.{Codec.{Codec, number, hyper, flag, opaque, unbounded, ◌then◌, as_type, only, pieces}, Combinators.{fixed, few}}
+use Rattle.nfs_compound.specs.{Stateid.stateid, StateOwner.state_owner, ChannelAttrs.channel_attrs, ArgCodecs.{lock_type, stable_how}}
+use Rattle.nfs_results.specs.{declared.res.AccessOk.AccessOk, declared.res.ChangeInfo.ChangeInfo, declared.res.RenameOk.RenameOk, declared.res.WriteOk.WriteOk}
+use Rattle.nfs_results.specs.{declared.res.CreateSessionOk.CreateSessionOk, declared.res.SequenceOk.SequenceOk, declared.res.CreateOk.CreateOk}
+use Rattle.nfs_results.specs.{declared.res.Fattr.Fattr, declared.res.Denied.Denied, declared.res.OpenOk.OpenOk, declared.res.ReadOk.ReadOk}
+use Rattle.nfs_results.specs.{declared.res.Entry.Entry, declared.res.ExchangeIdOk.ExchangeIdOk}
 
 -- a number that is always the same
 abbrev pub always : ℕ → Codec (Unit {0})

@@ -1,13 +1,8 @@
 -- How many bytes the result of an operation takes at most, from its operation number on (RFC 8881 section 2.10.6.4; this server's profile).
 use Rattle.std.specs.Prelude.{ℕ, ◌+◌, ◌*◌, ◌==◌, length, nat_lt, if◌then◌else◌}
-use Rattle.nfs_xdr.specs.Spelling.{padding}
-use Rattle.nfs_xdr.specs.Limits.{most_transfer}
+use Rattle.nfs_xdr.specs.{Spelling.padding, Limits.most_transfer}
 use Rattle.nfs_compound.specs.declared.op_num.OpNum.TheVariants as Num
-use Rattle.nfs_compound.specs.OpNum.{op_number}
-use Rattle.nfs_compound.specs.Arguments.{arguments}
-use Rattle.nfs_compound.specs.declared.op.Op.{Op}
-use Rattle.nfs_compound.specs.declared.op.Item.{Item}
-use Rattle.nfs_compound.specs.declared.op.Item.TheVariants.{Operation, Fault}
+use Rattle.nfs_compound.specs.{OpNum.op_number, Arguments.arguments, declared.op.Op.Op, declared.op.Item.Item, declared.op.Item.TheVariants.{Operation, Fault}}
 
 -- no more than this many bytes are given at once
 abbrev pub given : ℕ → ℕ

@@ -1,13 +1,8 @@
 -- The results that an operation of this server may have, by their sizes.
 use Rattle.std.specs.Prelude.{◌≡◌, ℕ, ◌≤◌, length, None}
 use Rattle.nfs_xdr.specs.Limits.{opaque_limit}
-use Rattle.nfs_compound.specs.declared.op.Item.{Item}
-use Rattle.nfs_compound.specs.declared.op.Item.TheVariants.{Operation, Fault}
-use Rattle.nfs_results.specs.Largest.{given, number_of, asked}
-use Rattle.nfs_results.specs.declared.res.Res.{Res}
-use Rattle.nfs_results.specs.Results.{operation_of}
-use Rattle.nfs_results.specs.Parts.{parts}
-use Rattle.nfs_results.specs.ResultCodec.{IsBounded}
+use Rattle.nfs_compound.specs.{declared.op.Item.Item, declared.op.Item.TheVariants.{Operation, Fault}}
+use Rattle.nfs_results.specs.{Largest.{given, number_of, asked}, declared.res.Res.Res, Results.operation_of, Parts.parts, ResultCodec.IsBounded}
 
 -- The sizes that this server's answers have where so much was asked for: filehandles of 16 bytes, text of at most 1,024,
 -- three words of a mask, the values of its attributes, and no more bytes, entries and statuses than asked.

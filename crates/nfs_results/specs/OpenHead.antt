@@ -1,8 +1,6 @@
 -- A head of a compound's result whose status and count are set once the results stand behind it.
 use Rattle.std.specs.Prelude.{◌≡◌, ℕ, ◌+◌, List, ◌++◌, length}
-use Rattle.nfs_xdr.specs.Spelling.{opaque}
-use Rattle.nfs_xdr.specs.declared.status.Status.{Status}
-use Rattle.nfs_xdr.specs.SheetState.{SheetState}
+use Rattle.nfs_xdr.specs.{Spelling.opaque, declared.status.Status.Status, SheetState.SheetState}
 use Rattle.nfs_results.specs.Results.{spell_compound_head}
 
 -- where the status and the count of a head with this tag stand, behind what is before it

@@ -1,19 +1,11 @@
 -- What a result is put together from, by operation and then by status (RFC 5662), in the order of the operations' numbers.
 use Rattle.std.specs.Prelude.{ℕ, ◌≤◌, ◌<◌, ◌^◌, ◌==◌, List, [], length, Bool, not, IsTrue}
-use Rattle.nfs_xdr.specs.Limits.{fhsize, opaque_limit}
-use Rattle.nfs_xdr.specs.declared.status.Status.{Status}
-use Rattle.nfs_xdr.specs.declared.status.Status.TheVariants.{Nfs4Ok, Denied, OpIllegal}
-use Rattle.nfs_xdr.specs.Status.{status_number}
-use Rattle.nfs_xdr.specs.Codec.{Codec, opaque, unbounded}
-use Rattle.nfs_xdr.specs.Combinators.{fixed}
-use Rattle.nfs_compound.specs.declared.op_num.OpNum.{OpNum}
+use Rattle.nfs_xdr.specs.{Limits.{fhsize, opaque_limit}, declared.status.Status.Status, declared.status.Status.TheVariants.{Nfs4Ok, Denied, OpIllegal}}
+use Rattle.nfs_xdr.specs.{Status.status_number, Codec.{Codec, opaque, unbounded}, Combinators.fixed}
+use Rattle.nfs_compound.specs.{declared.op_num.OpNum.OpNum, OpNum.op_number, Stateid.stateid}
 use Rattle.nfs_compound.specs.declared.op_num.OpNum.TheVariants as Num
-use Rattle.nfs_compound.specs.OpNum.{op_number}
-use Rattle.nfs_compound.specs.Stateid.{stateid}
-use Rattle.nfs_results.specs.Refusals.{can_refuse}
+use Rattle.nfs_results.specs.{Refusals.can_refuse, Listing.read_dir, declared.res.Res.Res}
 use Rattle.nfs_results.specs.Items as item
-use Rattle.nfs_results.specs.Listing.{read_dir}
-use Rattle.nfs_results.specs.declared.res.Res.{Res}
 
 -- What makes a result: its operation number, its status, what is behind them, whether that fits, and what has to hold
 -- for that beside the sizes of numbers and of arrays, which their types give.

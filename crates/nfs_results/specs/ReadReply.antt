@@ -1,8 +1,7 @@
 -- The result of a compound as it is read, one result after the other.
 use Rattle.std.specs.Prelude.{ℕ, zero, suc, ◌==◌, List, [], ◌∷◌, length, Bool, false, Option, Some, None, if◌then◌else◌}
 use Rattle.nfs_xdr.specs.Reading.{◌>>=◌}
-use Rattle.nfs_results.specs.declared.res.Res.{Res}
-use Rattle.nfs_results.specs.ResultCodec.{result}
+use Rattle.nfs_results.specs.{declared.res.Res.Res, ResultCodec.result}
 
 -- what was read, where nothing stands behind it
 abbrev pub whole : {A : Type 0} → Option (A × List ℕ) → Option A

@@ -1,8 +1,6 @@
 -- Which operation bears which status with nothing behind it (RFC 5662; RFC 8881 sections 15.2 and 18).
 use Rattle.std.specs.Prelude.{ℕ, ◌==◌, ◌||◌, ◌&&◌, Bool, not, nat_le, if◌then◌else◌}
-use Rattle.nfs_xdr.specs.declared.status.Status.{Status}
-use Rattle.nfs_xdr.specs.declared.status.Status.TheVariants.{Nfs4Ok, Denied, OpIllegal, RepTooBig}
-use Rattle.nfs_xdr.specs.Status.{status_number}
+use Rattle.nfs_xdr.specs.{declared.status.Status.Status, declared.status.Status.TheVariants.{Nfs4Ok, Denied, OpIllegal, RepTooBig}, Status.status_number}
 use Rattle.nfs_compound.specs.declared.op_num.OpNum.TheVariants as Num
 use Rattle.nfs_compound.specs.OpNum.{op_number, first_op, last_op, op_illegal}
 

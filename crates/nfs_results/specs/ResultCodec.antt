@@ -1,23 +1,11 @@
 -- How a result is read, and how long its arrays are (RFC 5662).
 use Rattle.std.specs.Prelude.{◌≡◌, ℕ, ◌==◌, ◌&&◌, List, length, Option, Some, None, if◌then◌else◌}
-use Rattle.nfs_xdr.specs.Reading.{◌>>=◌, number_at}
-use Rattle.nfs_xdr.specs.Limits.{fhsize}
-use Rattle.nfs_xdr.specs.declared.status.Status.{Status}
-use Rattle.nfs_xdr.specs.declared.status.Status.TheVariants.{Nfs4Ok, Denied}
-use Rattle.nfs_xdr.specs.Status.{status_number}
-use Rattle.nfs_xdr.specs.StatusCodec.{status as any_status}
-use Rattle.nfs_xdr.specs.Codec.{Codec, opaque, unbounded, arm, bare}
-use Rattle.nfs_xdr.specs.Combinators.{fixed}
-use Rattle.nfs_compound.specs.declared.op_num.OpNum.{OpNum}
+use Rattle.nfs_xdr.specs.{Reading.{◌>>=◌, number_at}, Limits.fhsize, declared.status.Status.Status, declared.status.Status.TheVariants.{Nfs4Ok, Denied}}
+use Rattle.nfs_xdr.specs.{Status.status_number, StatusCodec.{status as any_status}, Codec.{Codec, opaque, unbounded, arm, bare}, Combinators.fixed}
+use Rattle.nfs_compound.specs.{declared.op_num.OpNum.OpNum, OpNum.{op_number, op_num}, Stateid.stateid}
 use Rattle.nfs_compound.specs.declared.op_num.OpNum.TheVariants as Num
-use Rattle.nfs_compound.specs.OpNum.{op_number, op_num}
-use Rattle.nfs_compound.specs.Stateid.{stateid}
-use Rattle.nfs_results.specs.Parts.{is_legal, parts}
-use Rattle.nfs_results.specs.Refusals.{can_refuse}
-use Rattle.nfs_results.specs.Results.{spell_result}
+use Rattle.nfs_results.specs.{Parts.{is_legal, parts}, Refusals.can_refuse, Results.spell_result, Listing.read_dir, declared.res.Res.Res}
 use Rattle.nfs_results.specs.Items as item
-use Rattle.nfs_results.specs.Listing.{read_dir}
-use Rattle.nfs_results.specs.declared.res.Res.{Res}
 
 abbrev pub FitsResult : Res → Type 0
 FitsResult r = (parts r).Fits

@@ -2,15 +2,10 @@
 -- `specs/Wire.antt` says.
 use Rattle.std.specs.Prelude.{ℕ, ◌==◌, List, [], ◌++◌, if◌then◌else◌}
 use Rattle.nfs_xdr.specs.Spelling as spelling
-use Rattle.nfs_xdr.specs.declared.status.Status.{Status}
-use Rattle.nfs_xdr.specs.Status.{status_number}
-use Rattle.nfs_xdr.specs.Spelling.{number, opaque}
-use Rattle.nfs_xdr.specs.declared.status.Status.TheVariants.{Nfs4Ok}
+use Rattle.nfs_xdr.specs.{declared.status.Status.Status, Status.status_number, Spelling.{number, opaque}, declared.status.Status.TheVariants.Nfs4Ok}
 use Rattle.nfs_compound.specs.declared.op_num.OpNum.TheVariants as Num
-use Rattle.nfs_compound.specs.OpNum.{op_number}
-use Rattle.nfs_compound.specs.declared.op_num.OpNum.{OpNum}
-use Rattle.nfs_results.specs.declared.res.Res.{Res}
-use Rattle.nfs_results.specs.Parts.{parts}
+use Rattle.nfs_compound.specs.{OpNum.op_number, declared.op_num.OpNum.OpNum}
+use Rattle.nfs_results.specs.{declared.res.Res.Res, Parts.parts}
 
 -- which operation a result is of, and how that ended
 abbrev pub operation_of : Res → ℕ

@@ -4,8 +4,7 @@ use Rattle.std.specs.Prelude.{ℕ, List, ◌++◌, Bool, true, false, replicate}
 use Rattle.nfs_xdr.specs.Spelling.{number, hyper, flag, fixed, opaque, padding}
 use Rattle.nfs_compound.specs.declared.op_num.OpNum.TheVariants as Num
 use Rattle.nfs_results.specs.Items as item
-use Rattle.nfs_results.specs.declared.res.Entry.{Entry}
-use Rattle.nfs_results.specs.Results.{done_head}
+use Rattle.nfs_results.specs.{declared.res.Entry.Entry, Results.done_head}
 
 -- READ: in front of so many bytes, and the zeros behind them
 abbrev pub read_head : (eof : Bool) (count : ℕ) → List ℕ

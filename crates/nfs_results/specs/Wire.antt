@@ -1,21 +1,11 @@
 -- The results of the operations on the wire (RFC 8881 sections 3 and 18, RFC 5662): its structs and unions in the order of RFC 8881, each field under
 -- its type, and nfs_resop4 with the number, the status and the fields of each operation on its line.
 use Rattle.std.specs.Prelude.{◌≡◌, ◌≢◌, ℕ, List, [], ◌∷◌, ◌++◌, true, false, IsTrue, None}
-use Rattle.nfs_xdr.specs.Limits.{fhsize, opaque_limit}
-use Rattle.nfs_xdr.specs.declared.status.Status.{Status}
-use Rattle.nfs_xdr.specs.declared.status.Status.TheVariants.{Nfs4Ok, Denied, OpIllegal}
-use Rattle.nfs_xdr.specs.Status.{status_number}
-use Rattle.nfs_compound.specs.Enums.{lock_type_number, stable_how_number}
-use Rattle.nfs_xdr.specs.Text.{Text, ◌then◌, void, uint32, uint64, bool, enum, fixed, opaque, array, optional, most}
-use Rattle.nfs_compound.specs.Wire.{component4, state_owner4, stateid4, nfs_impl_id4, channel_attrs4}
-use Rattle.nfs_results.specs.declared.res.ChangeInfo.{ChangeInfo}
-use Rattle.nfs_results.specs.declared.res.Denied.{Denied as DeniedLock}
-use Rattle.nfs_results.specs.declared.res.ExchangeIdOk.{ExchangeIdOk}
-use Rattle.nfs_results.specs.declared.res.OpenOk.{OpenOk}
-use Rattle.nfs_results.specs.declared.res.Fattr.{Fattr}
-use Rattle.nfs_results.specs.declared.res.Entry.{Entry}
-use Rattle.nfs_results.specs.declared.res.Res.{Res}
-use Rattle.nfs_results.specs.Refusals.{can_refuse}
+use Rattle.nfs_xdr.specs.{Limits.{fhsize, opaque_limit}, declared.status.Status.Status, declared.status.Status.TheVariants.{Nfs4Ok, Denied, OpIllegal}}
+use Rattle.nfs_xdr.specs.{Status.status_number, Text.{Text, ◌then◌, void, uint32, uint64, bool, enum, fixed, opaque, array, optional, most}}
+use Rattle.nfs_compound.specs.{Enums.{lock_type_number, stable_how_number}, Wire.{component4, state_owner4, stateid4, nfs_impl_id4, channel_attrs4}}
+use Rattle.nfs_results.specs.{declared.res.ChangeInfo.ChangeInfo, declared.res.Denied.{Denied as DeniedLock}, declared.res.ExchangeIdOk.ExchangeIdOk}
+use Rattle.nfs_results.specs.{declared.res.OpenOk.OpenOk, declared.res.Fattr.Fattr, declared.res.Entry.Entry, declared.res.Res.Res, Refusals.can_refuse}
 use Rattle.nfs_results.specs.CompoundResult.{CompoundResult}
 
 -- the text of those values alone of which this holds too

@@ -1,15 +1,10 @@
 -- Each stream of bytes has a reading.
-use Rattle.std.proofs.Common.{◌≡◌, ℕ, List, [], ◌∷◌, ◌++◌, length, refl, sym, subst, append_assoc, inl, inr, arith}
-use Rattle.std.proofs.lemmas.List.{append-nil, take_at}
+use Rattle.std.proofs.{Common.{◌≡◌, ℕ, List, [], ◌∷◌, ◌++◌, length, refl, sym, subst, append_assoc, inl, inr, arith}, lemmas.List.{append-nil, take_at}}
 use Rattle.nfs_xdr.specs.Text.{IsBytes}
 use Rattle.nfs_xdr.proofs.CodecLaws.{IsBytes-take}
-use Rattle.nfs_rpc.specs.RecordMarking.{Part, IsPart, Gathered, Begun, Complete, Failed, start}
-use Rattle.nfs_rpc.specs.Feeding.{Holds}
-use Rattle.nfs_rpc.specs.Stream.{End, Open, TooLong, IsReading}
+use Rattle.nfs_rpc.specs.{RecordMarking.{Part, IsPart, Gathered, Begun, Complete, Failed, start}, Feeding.Holds, Stream.{End, Open, TooLong, IsReading}}
 use Rattle.nfs_rpc.specs.Share.{with_mark, with_data}
-use Rattle.nfs_rpc.proofs.Fragments.{bytes_behind_front}
-use Rattle.nfs_rpc.proofs.Taking.{mark_holds, data_holds}
-use Rattle.nfs_rpc.proofs.Readings.{part_unfinished}
+use Rattle.nfs_rpc.proofs.{Fragments.bytes_behind_front, Taking.{mark_holds, data_holds}, Readings.part_unfinished}
 
 -- of nothing nothing is kept
 pub starts : IsPart [] start

@@ -1,16 +1,12 @@
 -- One share of a piece more.
 use Rattle.std.proofs.Common.{◌≡◌, ℕ, ◌+◌, ◌-◌, ◌%◌, ◌^◌, ◌<◌, ◌≤◌, List, [], ◌++◌, length, take, drop, true, sym, ap, subst, ◌∙◌, append_assoc}
 use Rattle.std.proofs.Common.{inl, inr, arith}
-use Rattle.std.specs.Int.{w32, from_be_bytes}
 use Rattle.std.proofs.lemmas.List.{take-append-drop, take-take, drop-take, take_all, take_at, drop_at, length-take, length-drop, length-append}
 use Rattle.std.proofs.lemmas.Nat.{be_bytes_4, from_be_bytes-to_be_bytes_4}
-use Rattle.nfs_xdr.specs.Spelling.{number}
-use Rattle.nfs_xdr.specs.Text.{IsBytes}
-use Rattle.nfs_xdr.proofs.Putting.{length_number}
-use Rattle.nfs_xdr.proofs.CodecLaws.{IsBytes-take}
-use Rattle.nfs_rpc.specs.RecordMarking.{Gathered, Begun, IsPart, IsRecord, start, spell_mark, fragments}
-use Rattle.nfs_xdr.specs.Limits.{most_record}
-use Rattle.nfs_rpc.specs.Feeding.{BeginsWith, IsWhole, Holds}
+use Rattle.std.specs.Int.{w32, from_be_bytes}
+use Rattle.nfs_xdr.specs.{Spelling.number, Text.IsBytes, Limits.most_record}
+use Rattle.nfs_xdr.proofs.{Putting.length_number, CodecLaws.IsBytes-take}
+use Rattle.nfs_rpc.specs.{RecordMarking.{Gathered, Begun, IsPart, IsRecord, start, spell_mark, fragments}, Feeding.{BeginsWith, IsWhole, Holds}}
 use Rattle.nfs_rpc.proofs.Fragments.{IsBytes-append}
 
 take_front : (piece : List ℕ) (i k : ℕ) → take i piece ++ take k (drop i piece) ≡ take (i + k) piece

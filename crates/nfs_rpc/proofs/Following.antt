@@ -1,8 +1,6 @@
 -- What each answer to a piece says of the reading of the stream behind the last record that was done with.
-use Rattle.std.proofs.Common.{◌≡◌, ℕ, List, [], ◌∷◌, ◌++◌, take, drop, refl, sym, ap, ◌∙◌, append_assoc}
-use Rattle.std.proofs.lemmas.List.{take-append-drop}
-use Rattle.nfs_rpc.specs.RecordMarking.{IsRecord, IsTooLong, Part, IsPart}
-use Rattle.nfs_rpc.specs.Stream.{End, Open, TooLong, IsReading}
+use Rattle.std.proofs.{Common.{◌≡◌, ℕ, List, [], ◌∷◌, ◌++◌, take, drop, refl, sym, ap, ◌∙◌, append_assoc}, lemmas.List.take-append-drop}
+use Rattle.nfs_rpc.specs.{RecordMarking.{IsRecord, IsTooLong, Part, IsPart}, Stream.{End, Open, TooLong, IsReading}}
 use Rattle.nfs_rpc.proofs.Readings.{part_unfinished}
 
 -- the bytes taken, and those behind

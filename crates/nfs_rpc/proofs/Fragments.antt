@@ -1,11 +1,8 @@
 -- Fragments and their marks.
 use Rattle.std.proofs.Common.{◌≡◌, ℕ, ◌+◌, ◌-◌, ◌%◌, ◌^◌, ◌<◌, Bool, true, false, leb, List, [], ◌∷◌, ◌++◌, length, refl, sym, ap, ◌∙◌, append_assoc, inl, inr}
-use Rattle.std.proofs.Common.{arith}
-use Rattle.std.proofs.lemmas.Bool.{cases_lt, leb-true, leb-false}
-use Rattle.std.proofs.lemmas.List.{append-nil, get_or-append-add, get_or_append_left, get_or-append_right}
-use Rattle.std.proofs.lemmas.List.Concat.{flat_map-append}
-use Rattle.nfs_xdr.specs.Spelling.{number}
-use Rattle.nfs_xdr.specs.Text.{IsBytes}
+use Rattle.std.proofs.{Common.arith, lemmas.Bool.{cases_lt, leb-true, leb-false}}
+use Rattle.std.proofs.{lemmas.List.{append-nil, get_or-append-add, get_or_append_left, get_or-append_right}, lemmas.List.Concat.flat_map-append}
+use Rattle.nfs_xdr.specs.{Spelling.number, Text.IsBytes}
 use Rattle.nfs_rpc.specs.RecordMarking.{spell_mark, fragments, joined}
 
 -- a whole fragment that is not the last

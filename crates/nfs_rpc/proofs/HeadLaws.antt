@@ -1,27 +1,15 @@
 -- The codecs of a call's head read what they spell, and what is accepted is spelled so.
 use Rattle.std.proofs.Common.{◌≡◌, ℕ, ◌<◌, ◌^◌, Bool, true, false, not, List, [], ◌∷◌, ◌++◌, length, Option, Some, None, Result, Ok, Err, refl, sym}
-use Rattle.std.proofs.Common.{ap, ◌∙◌, append_assoc, arith}
-use Rattle.std.specs.Prelude.{◌↔◌, nat_le, option_and_then, ok_or, ◌==◌, if◌then◌else◌}
-use Rattle.std.specs.Int.{w32, from_be_bytes}
-use Rattle.std.proofs.lemmas.Bool.{eqb-true}
-use Rattle.std.proofs.lemmas.List.{append-nil}
-use Rattle.std.proofs.lemmas.Option.{same_Some}
-use Rattle.nfs_xdr.specs.Codec.{number}
-use Rattle.nfs_xdr.specs.Lawful.{IsCodec, IsSized}
-use Rattle.nfs_xdr.specs.Checks.{first_fault, judged}
+use Rattle.std.proofs.{Common.{ap, ◌∙◌, append_assoc, arith}, lemmas.Bool.eqb-true, lemmas.List.append-nil, lemmas.Option.same_Some}
+use Rattle.std.specs.{Prelude.{◌↔◌, nat_le, option_and_then, ok_or, ◌==◌, if◌then◌else◌}, Int.{w32, from_be_bytes}}
+use Rattle.nfs_xdr.specs.{Codec.number, Lawful.{IsCodec, IsSized}, Checks.{first_fault, judged}, Caller.Caller, AuthSys.{AuthSys, auth_sys}}
+use Rattle.nfs_xdr.specs.{Text.{IsBytes, Leads}, Wire.authsys_parms}
 use Rattle.nfs_xdr.proofs.CodecLaws.{test_some, is_number, is_opaque, is_then, is_as_type, is_only, is_led_by, is_pieces}
-use Rattle.nfs_rpc.specs.declared.refusal.Refusal.{Refusal}
-use Rattle.nfs_rpc.specs.declared.refusal.Refusal.TheVariants.{Silent}
-use Rattle.nfs_rpc.specs.declared.call.Procedure.{Procedure}
-use Rattle.nfs_xdr.specs.Caller.{Caller}
-use Rattle.nfs_xdr.specs.AuthSys.{AuthSys, auth_sys}
-use Rattle.nfs_xdr.specs.Text.{IsBytes, Leads}
-use Rattle.nfs_xdr.specs.Wire.{authsys_parms}
 use Rattle.nfs_xdr.proofs.TextLaws.{Spells, credentials, leads_from, leads_again}
-use Rattle.nfs_rpc.specs.Wire as wire
-use Rattle.nfs_rpc.specs.Wire.{Header, call_body, rpc_msg}
-use Rattle.nfs_rpc.specs.HeadCodec.{opaque_auth, header, message, spell_call, message_at, header_at, auth_sys_at}
+use Rattle.nfs_rpc.specs.{declared.refusal.Refusal.Refusal, declared.refusal.Refusal.TheVariants.Silent, declared.call.Procedure.Procedure}
+use Rattle.nfs_rpc.specs.{Wire.{Header, call_body, rpc_msg}, HeadCodec.{opaque_auth, header, message, spell_call, message_at, header_at, auth_sys_at}}
 use Rattle.nfs_rpc.specs.CallHead.{named_by, caller_of, caller_by, Call, Called, Accepted, Refused, ◌>>=◌, checks, behind_header, call_of}
+use Rattle.nfs_rpc.specs.Wire as wire
 
 pub is_opaque_auth : IsCodec opaque_auth
 unfolding opaque_auth

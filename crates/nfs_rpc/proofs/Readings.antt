@@ -2,8 +2,8 @@
 use Rattle.std.proofs.Common.{◌≡◌, ℕ, ◌+◌, ◌≤◌, true, List, [], ◌∷◌, ◌++◌, length, refl, sym, ap, subst, ◌∙◌, append_assoc, inl, inr, arith}
 use Rattle.std.proofs.lemmas.List.{length-append}
 use Rattle.nfs_rpc.specs.RecordMarking.{spell_mark, fragments, joined, IsRecord, IsTooLong, Part, IsBetween, IsInside, IsPart}
-use Rattle.nfs_xdr.specs.Limits.{most_record}
 use Rattle.nfs_rpc.specs.Stream.{IsUnfinished, AreRecords, End, Open, TooLong, EndsAs, IsReading}
+use Rattle.nfs_xdr.specs.Limits.{most_record}
 use Rattle.nfs_rpc.proofs.Walks.{mark_same, append_same, meet, stops_final, stops_long, stops_cut, stops_begun, cut_is_no_mark}
 
 -- a record and what stands behind it

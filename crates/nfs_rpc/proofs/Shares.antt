@@ -1,9 +1,7 @@
 -- What the fields of a `Records` hold while a record has begun, and what the last bytes of a mark make of it.
-use Rattle.std.proofs.Common.{◌≡◌, ℕ, List, ◌++◌, length, refl, sym, ap, ◌∙◌}
+use Rattle.std.proofs.{Common.{◌≡◌, ℕ, List, ◌++◌, length, refl, sym, ap, ◌∙◌}, lemmas.Bool.eq-eqb}
 use Rattle.std.specs.Int.{w32, from_be_bytes}
-use Rattle.std.proofs.lemmas.Bool.{eq-eqb}
-use Rattle.nfs_rpc.specs.declared.records.State.{State}
-use Rattle.nfs_rpc.specs.RecordMarking.{Part, Gathered, Begun, Complete, Failed, start}
+use Rattle.nfs_rpc.specs.{declared.records.State.State, RecordMarking.{Part, Gathered, Begun, Complete, Failed, start}}
 use Rattle.nfs_rpc.specs.Share.{held, state_of, at_mark, with_mark}
 
 part_of : Gathered → Part

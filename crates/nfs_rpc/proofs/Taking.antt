@@ -1,15 +1,11 @@
 -- Bytes more of the stream: what was held with the stream before is held with the stream now.
 use Rattle.std.proofs.Common.{◌≡◌, ℕ, ◌+◌, ◌-◌, ◌%◌, ◌^◌, ◌<◌, ◌≤◌, Bool, true, false, cond, eqb, ltb, leb, ◌&&◌, List, [], ◌∷◌, ◌++◌, length, refl, sym, ap}
 use Rattle.std.proofs.Common.{subst, ◌∙◌, append_assoc, inl, inr, arith}
-use Rattle.std.specs.Int.{w32, from_be_bytes}
-use Rattle.std.proofs.lemmas.Bool.{cases_eq, ltb-true, ltb-false, eqb-true, eqb-false, eq-eqb, and_parts, cond_both}
-use Rattle.std.proofs.lemmas.List.{append-nil, length-append}
+use Rattle.std.proofs.{lemmas.Bool.{cases_eq, ltb-true, ltb-false, eqb-true, eqb-false, eq-eqb, and_parts, cond_both}, lemmas.List.{append-nil, length-append}}
 use Rattle.std.proofs.lemmas.Nat.{be_bytes_4}
-use Rattle.nfs_xdr.specs.Spelling.{number}
-use Rattle.nfs_xdr.specs.Text.{IsBytes}
-use Rattle.nfs_rpc.specs.RecordMarking.{spell_mark, fragments, joined, Part, IsBetween, IsInside, IsPart, Begun, Complete, Failed}
-use Rattle.nfs_rpc.specs.Feeding.{Holds}
-use Rattle.nfs_xdr.specs.Limits.{most_record}
+use Rattle.std.specs.Int.{w32, from_be_bytes}
+use Rattle.nfs_xdr.specs.{Spelling.number, Text.IsBytes, Limits.most_record}
+use Rattle.nfs_rpc.specs.{RecordMarking.{spell_mark, fragments, joined, Part, IsBetween, IsInside, IsPart, Begun, Complete, Failed}, Feeding.Holds}
 use Rattle.nfs_rpc.specs.Share.{at_mark, with_mark, with_data}
 use Rattle.nfs_rpc.proofs.Fragments.{more_fragments, more_joined, word_mark, further, bytes_behind_front}
 

@@ -1,14 +1,9 @@
 -- Two walks along the fragments of one stream stop at one place.
 use Rattle.std.proofs.Common.{◌≡◌, ℕ, ◌+◌, ◌<◌, ◌≤◌, ◌^◌, Bool, true, false, List, [], ◌∷◌, ◌++◌, length, take, drop, refl, sym, ap, subst, ◌∙◌, append_assoc}
-use Rattle.std.proofs.Common.{arith}
-use Rattle.std.proofs.lemmas.Option.{some_pair_parts}
-use Rattle.std.proofs.lemmas.List.{take_at, drop_at, length-append}
-use Rattle.nfs_xdr.specs.Spelling.{number}
-use Rattle.nfs_xdr.specs.Reading.{number_at}
-use Rattle.nfs_xdr.proofs.CodecLaws.{is_number}
-use Rattle.nfs_xdr.proofs.Putting.{length_number}
+use Rattle.std.proofs.{Common.arith, lemmas.Option.some_pair_parts, lemmas.List.{take_at, drop_at, length-append}}
+use Rattle.nfs_xdr.specs.{Spelling.number, Reading.number_at, Limits.most_record}
+use Rattle.nfs_xdr.proofs.{CodecLaws.is_number, Putting.length_number}
 use Rattle.nfs_rpc.specs.RecordMarking.{spell_mark, fragments, joined}
-use Rattle.nfs_xdr.specs.Limits.{most_record}
 
 number_same : (k j : ℕ) (xs ys : List ℕ) → k < 2 ^ 32 → j < 2 ^ 32 → number k ++ xs ≡ number j ++ ys → (k ≡ j) × (xs ≡ ys)
 number_same k j xs ys small smaller e = some_pair_parts k j xs ys (sym (is_number.again k xs small) ∙ ap number_at e ∙ is_number.again j ys smaller)

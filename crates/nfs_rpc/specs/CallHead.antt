@@ -2,16 +2,11 @@
 -- by this server's order of checks.
 use Rattle.std.specs.Prelude.{ℕ, ◌==◌, ◌&&◌, List, [], ◌∷◌, length, Bool, Option, Some, None, Result, Ok, Err, nat_lt, if◌then◌else◌, not}
 use Rattle.std.specs.Prelude.{option_and_then, ok_or}
-use Rattle.nfs_xdr.specs.Caller.{Caller}
-use Rattle.nfs_xdr.specs.Checks.{first_fault, judged}
-use Rattle.nfs_xdr.specs.AuthSys.{AuthSys}
-use Rattle.nfs_rpc.specs.Wire.{OpaqueAuth, Header}
-use Rattle.nfs_rpc.specs.HeadCodec.{message_at, header_at, auth_sys_at}
-use Rattle.nfs_rpc.specs.declared.refusal.Refusal.{Refusal}
+use Rattle.nfs_xdr.specs.{Caller.Caller, Checks.{first_fault, judged}, AuthSys.AuthSys}
+use Rattle.nfs_rpc.specs.{Wire.{OpaqueAuth, Header}, HeadCodec.{message_at, header_at, auth_sys_at}, declared.refusal.Refusal.Refusal}
 use Rattle.nfs_rpc.specs.declared.refusal.Refusal.TheVariants.{Silent, Mismatch, Auth, Accept}
 use Rattle.nfs_rpc.specs.declared.refusal.AuthStat.TheVariants.{BadCred, RejectedCred, TooWeak}
-use Rattle.nfs_rpc.specs.declared.refusal.AcceptStat.TheVariants.{ProgUnavail, ProgMismatch, ProcUnavail, GarbageArgs}
-use Rattle.nfs_rpc.specs.declared.call.Procedure.{Procedure}
+use Rattle.nfs_rpc.specs.{declared.refusal.AcceptStat.TheVariants.{ProgUnavail, ProgMismatch, ProcUnavail, GarbageArgs}, declared.call.Procedure.Procedure}
 use Rattle.nfs_rpc.specs.declared.call.Procedure.TheVariants as Procedures
 
 -- under AUTH_NONE

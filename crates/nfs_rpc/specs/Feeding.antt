@@ -1,8 +1,7 @@
 -- What `Records` does with a piece of a stream, and with the record that waits (RFC 5531 section 11).
 use Rattle.std.specs.Prelude.{◌≡◌, ℕ, ◌+◌, ◌<◌, ◌≤◌, ◌++◌, List, [], length, take, Bool, true, false}
 use Rattle.nfs_xdr.specs.Limits.{most_record}
-use Rattle.nfs_rpc.specs.declared.records.Fed.{Fed}
-use Rattle.nfs_rpc.specs.declared.records.Fed.TheVariants.{More, Whole, TooLong}
+use Rattle.nfs_rpc.specs.{declared.records.Fed.Fed, declared.records.Fed.TheVariants.{More, Whole, TooLong}}
 use Rattle.nfs_rpc.specs.RecordMarking.{Part, Gathered, Begun, Complete, Failed, IsRecord, start, spell_mark, IsTooLong, IsPart}
 
 -- what is held stands for the bytes behind the last record that was done with

@@ -1,7 +1,6 @@
 -- Reading the head of a call. That the readers give what the texts of the wire (Wire) have is a law.
 use Rattle.std.specs.Prelude.{ℕ, List, ◌++◌, Option}
-use Rattle.nfs_xdr.specs.Codec.{Codec, number, opaque, ◌then◌, as_type, led_by}
-use Rattle.nfs_xdr.specs.AuthSys.{AuthSys, auth_sys}
+use Rattle.nfs_xdr.specs.{Codec.{Codec, number, opaque, ◌then◌, as_type, led_by}, AuthSys.{AuthSys, auth_sys}}
 use Rattle.nfs_rpc.specs.Wire.{OpaqueAuth, Header}
 
 unfoldable pub opaque_auth : Codec OpaqueAuth

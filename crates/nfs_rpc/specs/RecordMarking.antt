@@ -1,9 +1,7 @@
 -- Record marking (RFC 5531 section 11), on whole streams: which bytes are a record, which are the beginning of one, and
 -- which promise more than a record may hold. Nothing here knows in what pieces the bytes came.
-use Rattle.std.specs.Prelude.{◌≡◌, ℕ, ◌+◌, ◌<◌, ◌≤◌, ◌⊎◌, List, [], ◌++◌, length, Bool, true, false}
-use Rattle.std.specs.List.{flat_map}
-use Rattle.nfs_xdr.specs.Spelling.{number}
-use Rattle.nfs_xdr.specs.Limits.{most_record}
+use Rattle.std.specs.{Prelude.{◌≡◌, ℕ, ◌+◌, ◌<◌, ◌≤◌, ◌⊎◌, List, [], ◌++◌, length, Bool, true, false}, List.flat_map}
+use Rattle.nfs_xdr.specs.{Spelling.number, Limits.most_record}
 
 -- the top bit of a mark: the fragment is the record's last one
 abbrev pub last_fragment : ℕ

@@ -1,12 +1,9 @@
 -- The head of a reply, and the replies of calls that are not run (RFC 5531 sections 9 and 8.2).
 use Rattle.std.specs.Prelude.{ℕ, List, [], ◌++◌}
 use Rattle.nfs_xdr.specs.Spelling.{number}
-use Rattle.nfs_rpc.specs.declared.refusal.Refusal.{Refusal}
-use Rattle.nfs_rpc.specs.declared.refusal.Refusal.TheVariants.{Silent, Mismatch, Auth, Accept}
-use Rattle.nfs_rpc.specs.declared.refusal.AuthStat.{AuthStat}
-use Rattle.nfs_rpc.specs.declared.refusal.AuthStat.TheVariants.{BadCred, RejectedCred, TooWeak}
-use Rattle.nfs_rpc.specs.declared.refusal.AcceptStat.{AcceptStat}
-use Rattle.nfs_rpc.specs.declared.refusal.AcceptStat.TheVariants.{ProgUnavail, ProgMismatch, ProcUnavail, GarbageArgs}
+use Rattle.nfs_rpc.specs.{declared.refusal.Refusal.Refusal, declared.refusal.Refusal.TheVariants.{Silent, Mismatch, Auth, Accept}}
+use Rattle.nfs_rpc.specs.{declared.refusal.AuthStat.AuthStat, declared.refusal.AuthStat.TheVariants.{BadCred, RejectedCred, TooWeak}}
+use Rattle.nfs_rpc.specs.{declared.refusal.AcceptStat.AcceptStat, declared.refusal.AcceptStat.TheVariants.{ProgUnavail, ProgMismatch, ProcUnavail, GarbageArgs}}
 
 -- REPLY 1, MSG_ACCEPTED 0, and a verifier of flavor AUTH_NONE with no bytes
 abbrev pub spell_accepted : ℕ → List ℕ

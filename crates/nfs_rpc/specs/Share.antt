@@ -1,9 +1,7 @@
 -- What the bytes of one share of a piece make of the part held: bytes of one mark, or data bytes of one fragment
 -- (RFC 5531 section 11).
-use Rattle.std.specs.Prelude.{ℕ, ◌+◌, ◌-◌, ◌%◌, ◌==◌, ◌&&◌, List, [], ◌++◌, length, nat_lt, nat_le, if◌then◌else◌}
-use Rattle.std.specs.Int.{w32, from_be_bytes}
-use Rattle.nfs_rpc.specs.declared.records.State.{State}
-use Rattle.nfs_rpc.specs.RecordMarking.{Part, Gathered, Begun, Complete, Failed, last_fragment}
+use Rattle.std.specs.{Prelude.{ℕ, ◌+◌, ◌-◌, ◌%◌, ◌==◌, ◌&&◌, List, [], ◌++◌, length, nat_lt, nat_le, if◌then◌else◌}, Int.{w32, from_be_bytes}}
+use Rattle.nfs_rpc.specs.{declared.records.State.State, RecordMarking.{Part, Gathered, Begun, Complete, Failed, last_fragment}}
 use Rattle.nfs_xdr.specs.Limits.{most_record}
 
 -- what the fields of a `Records` hold

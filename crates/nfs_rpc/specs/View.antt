@@ -4,10 +4,9 @@ use Rattle.nfs_xdr.specs.Caller.{caller}
 use Rattle.nfs_rpc.specs.declared.call.Call as rust_call
 use Rattle.nfs_rpc.specs.declared.call.OpaqueAuth as rust_opaque_auth
 use Rattle.nfs_rpc.specs.declared.call.Header as rust_header
-use Rattle.nfs_rpc.specs.declared.refusal.Refusal.{Refusal}
+use Rattle.nfs_rpc.specs.{declared.refusal.Refusal.Refusal, CallHead.{Called, Accepted, Refused}}
 use Rattle.nfs_rpc.specs.Wire as wire
 use Rattle.nfs_rpc.specs.CallHead as head
-use Rattle.nfs_rpc.specs.CallHead.{Called, Accepted, Refused}
 
 abbrev pub opaque_auth : rust_opaque_auth.OpaqueAuth → wire.OpaqueAuth
 opaque_auth a = record { flavor = a.flavor; body = a.body.now }

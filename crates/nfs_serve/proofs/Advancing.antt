@@ -1,13 +1,9 @@
 -- Acts one after the other, and what each call of a port comes to.
 use Rattle.std.proofs.Common.{◌≡◌, ℕ, not, ◌&&◌, ◌||◌, ◌+◌, ◌<◌, ◌≤◌, Bool, List, [], ◌∷◌, ◌++◌, length, filter, arith, flat_map, Option, Some, None, refl, sym, ap, subst, ◌∙◌}
-use Rattle.std.proofs.Common.{append_assoc, append-nil, true, false}
-use Rattle.std.proofs.lemmas.List.Concat.{flat_map-append}
-use Rattle.std.proofs.lemmas.List.Elements.{filter-append}
+use Rattle.std.proofs.{Common.{append_assoc, append-nil, true, false}, lemmas.List.Concat.flat_map-append, lemmas.List.Elements.filter-append}
 use Rattle.nfs_serve.specs.Step.{State}
 use Rattle.nfs_serve.specs.Desk.{Desk, HasMore, Unready, MayClose, most_read, closed, leaving, Act, WriteBlocked, Closed, Failed, Stepped, Came, ReadBlocked, Ended, IsHungry, Does, Goes, IsStuck, Reads, ReadsOnce, is_of_read}
-use Rattle.nfs_serve.specs.Told.{Told, Logs}
-use Rattle.nfs_serve.specs.Deeds.{Deed, counted, shown, asked}
-use Rattle.nfs_serve.specs.declared.lane.Budget.{Budget}
+use Rattle.nfs_serve.specs.{Told.{Told, Logs}, Deeds.{Deed, counted, shown, asked}, declared.lane.Budget.Budget}
 use Rattle.nfs_serve.specs.Lane.{Stand, is_first, Advances, Quiet, StepsOne}
 
 pub Logs-nil : {A : Type 0} (a : Option (List A)) → Logs a a []

@@ -1,8 +1,7 @@
 -- What a reader has left, when bytes of its buffer are taken.
 use Rattle.std.proofs.Common.{◌≡◌, ℕ, Bool, true, false, List, ◌++◌, take, drop, Option, None, Some, sym, ap, ◌∙◌}
 use Rattle.std.proofs.Common.{append_assoc, take-append-drop, ◌==◌, if◌then◌else◌}
-use Rattle.std.specs.Io.KnownBytes.{Consumes, prepend_known}
-use Rattle.std.specs.Io.Buffered.{reader_buffer, reader_inner, reader_capacity, reader_remaining}
+use Rattle.std.specs.{Io.KnownBytes.{Consumes, prepend_known}, Io.Buffered.{reader_buffer, reader_inner, reader_capacity, reader_remaining}}
 use Rattle.std.specs.declared.io.buffered.BufReader.{BufReader}
 
 loses_front : (empty : Bool) (behind : Option (List ℕ)) (buffer front rest : List ℕ) → front ++ rest ≡ buffer

@@ -1,17 +1,12 @@
 -- The records of a connection are those of its stream, whatever comes on other connections between its pieces.
 use Rattle.std.proofs.Common.{◌≡◌, ◌≢◌, ℕ, Bool, true, false, List, [], ◌∷◌, ◌++◌, refl, sym, ap, subst, ◌∙◌, append_assoc, append-nil, flat_map, map, All, inl}
-use Rattle.std.proofs.Common.{inr, nat_eq}
-use Rattle.std.proofs.lemmas.Bool.{eq-eqb, ne_eqb, eqb-true}
-use Rattle.std.proofs.lemmas.List.Elements.{All-head, All-tail}
+use Rattle.std.proofs.{Common.{inr, nat_eq}, lemmas.Bool.{eq-eqb, ne_eqb, eqb-true}, lemmas.List.Elements.{All-head, All-tail}}
 use Rattle.std.proofs.lemmas.List.Concat.{flat_map-append}
-use Rattle.nfs_rpc.specs.RecordMarking.{start}
-use Rattle.nfs_rpc.specs.Stream.{End, Open, TooLong, IsReading, IsUnfinished}
+use Rattle.nfs_rpc.specs.{RecordMarking.start, Stream.{End, Open, TooLong, IsReading, IsUnfinished}}
 use Rattle.nfs_rpc.proofs.Readings.{reading_then, part_unfinished}
-use Rattle.nfs_serve.specs.Script.{Entry}
-use Rattle.nfs_serve.specs.Run.{Streams, with_stream, all_closed, Brings, TakesPiece, TakesAll, StreamEvent, Arrives, overflow, events_of}
+use Rattle.nfs_serve.specs.{Script.Entry, Run.{Streams, with_stream, all_closed, Brings, TakesPiece, TakesAll, StreamEvent, Arrives, overflow, events_of}}
 use Rattle.nfs_serve.specs.Promises.Laws.{stream_on, call_on, overflow_on, IsClosedBehind, NoneCloses, ConnectionsAreStreams}
-use Rattle.nfs_serve.proofs.Pieces.{start_holds}
-use Rattle.nfs_serve.proofs.Cutting.{still_long}
+use Rattle.nfs_serve.proofs.{Pieces.start_holds, Cutting.still_long}
 
 -- entries one after the other
 record ReadsParts (old : Streams) (xs ys : List Entry) (brought : List StreamEvent) (new : Streams) : Type 0 where

@@ -1,17 +1,12 @@
 -- Heads of entries, and what reading one gave.
 use Rattle.std.proofs.Common.{◌≡◌, ℕ, ◌+◌, ◌<◌, ◌≤◌, ◌^◌, Bool, true, false, List, ◌++◌, length, take, drop, slice_range, refl, sym, ap, subst, ◌∙◌, arith}
 use Rattle.std.proofs.Common.{inl, inr, ◌⊎◌, Option, take_all, [], append-nil, append_assoc, length-append, length-take-le, if◌then◌else◌, nat_lt, Some, None}
+use Rattle.std.proofs.{lemmas.Bool.ltb-false, lemmas.List.take-append-drop, Math.Seq.take-append_seam}
 use Rattle.std.specs.Io.KnownBytes.{Consumes, IsAtEnd}
-use Rattle.nfs_serve.specs.declared.fault.Stop.TheVariants.{Cut, Connection, Long, Late, Many, ReadFailed, WriteFailed}
-use Rattle.std.proofs.lemmas.Bool.{ltb-false}
+use Rattle.nfs_serve.specs.{declared.fault.Stop.TheVariants.{Cut, Connection, Long, Late, Many, ReadFailed, WriteFailed}, declared.fault.Stop.Stop}
+use Rattle.nfs_serve.specs.{Script.{Entry, spell_entry, head, IsHead, IsPartial, refusal}, Reading.{BeginsWith, StopsAnywhere, stop_of}, Ends.IsReported}
 use lib.Seq.{take-add}
-use Rattle.nfs_serve.specs.declared.fault.Stop.{Stop}
-use Rattle.std.proofs.lemmas.List.{take-append-drop}
-use Rattle.std.proofs.Math.Seq.{take-append_seam}
 use Rattle.nfs_xdr.specs.Spelling.{number, hyper}
-use Rattle.nfs_serve.specs.Script.{Entry, spell_entry, head, IsHead, IsPartial, refusal}
-use Rattle.nfs_serve.specs.Reading.{BeginsWith, StopsAnywhere, stop_of}
-use Rattle.nfs_serve.specs.Ends.{IsReported}
 
 pub length-head : (moment conn len : ℕ) → length (head moment conn len) ≡ 16
 unfolding head hyper number

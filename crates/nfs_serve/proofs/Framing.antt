@@ -3,12 +3,8 @@ use Rattle.std.proofs.Common.{◌≡◌, ℕ, Option, ◌+◌, ◌≤◌, List, 
 use Rattle.std.proofs.lemmas.List.{take_at, drop_at, drop-drop}
 use Rattle.nfs_xdr.specs.Spelling.{number, hyper}
 use Rattle.nfs_xdr.proofs.Putting.{length_number}
-use Rattle.nfs_serve.specs.declared.form.Form.{Form}
-use Rattle.nfs_serve.specs.declared.form.Form.TheVariants.{Tagged, Plain}
-use Rattle.nfs_serve.specs.declared.form.Outcome.{Outcome}
-use Rattle.nfs_serve.specs.declared.form.Outcome.TheVariants.{Reply, Silent}
-use Rattle.nfs_serve.specs.Run.{one_fragment, spell_reply, spell_answer}
-use Rattle.nfs_serve.specs.Server.{IsAnswer}
+use Rattle.nfs_serve.specs.{declared.form.Form.Form, declared.form.Form.TheVariants.{Tagged, Plain}, declared.form.Outcome.Outcome}
+use Rattle.nfs_serve.specs.{declared.form.Outcome.TheVariants.{Reply, Silent}, Run.{one_fragment, spell_reply, spell_answer}, Server.IsAnswer}
 use Rattle.nfs_serve.specs.Engine.{in_form, spell_lent}
 
 pub length-framed : (bytes : List ℕ) (conn : ℕ) → 8 ≤ length bytes → length (number conn ++ drop 4 bytes) ≡ length bytes

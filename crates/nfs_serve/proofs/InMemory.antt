@@ -2,13 +2,9 @@
 use Rattle.std.proofs.Common.{◌≡◌, ◌≢◌, ℕ, Bool, true, false, List, [], ◌++◌, length, flat_map, Option, Some, Result, Ok, Err, sym, ap, subst, ◌∙◌, arith}
 use Rattle.std.proofs.Common.{append_assoc, append-nil, length-append}
 use Rattle.nfs_rpc.specs.RecordMarking.{Gathered}
-use Rattle.nfs_serve.specs.declared.fault.Stop.{Stop}
-use Rattle.nfs_serve.specs.declared.fault.Stop.TheVariants.{Cut, Connection, Long, Late, Many, ReadFailed, WriteFailed}
-use Rattle.nfs_serve.specs.declared.fault.ReplayFault.{ReplayFault}
-use Rattle.nfs_serve.specs.Script.{Entry, spell_entry, BeginsRefused, StopsAt, IsStopped, IsWhole}
-use Rattle.nfs_serve.specs.Ends.{IsReported}
-use Rattle.nfs_serve.specs.Step.{State}
-use Rattle.nfs_serve.specs.Replay.{RunsOn, RunsScript, RunsFront, ReplaysFault, Replays, Reports}
+use Rattle.nfs_serve.specs.{declared.fault.Stop.Stop, declared.fault.Stop.TheVariants.{Cut, Connection, Long, Late, Many, ReadFailed, WriteFailed}}
+use Rattle.nfs_serve.specs.{declared.fault.ReplayFault.ReplayFault, Script.{Entry, spell_entry, BeginsRefused, StopsAt, IsStopped, IsWhole}, Ends.IsReported}
+use Rattle.nfs_serve.specs.{Step.State, Replay.{RunsOn, RunsScript, RunsFront, ReplaysFault, Replays, Reports}}
 
 false≢true : false ≡ true → ⊥
 false≢true e = cc

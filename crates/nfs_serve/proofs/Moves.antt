@@ -1,14 +1,10 @@
 -- Moves one after the other, and the events of entries one after the other.
 use Rattle.std.proofs.Common.{◌≡◌, ℕ, Bool, true, false, List, [], ◌∷◌, ◌++◌, refl, sym, ap, ◌∙◌, append_assoc, append-nil, nat_eq, if◌then◌else◌}
 use Rattle.std.proofs.lemmas.List.{map-append}
-use Rattle.nfs_rpc.specs.RecordMarking.{Gathered}
-use Rattle.nfs_rpc.specs.Stream.{End}
-use Rattle.nfs_serve.specs.declared.form.Form.{Form}
-use Rattle.nfs_serve.specs.Script.{Entry}
-use Rattle.nfs_serve.specs.Step.{State}
+use Rattle.nfs_rpc.specs.{RecordMarking.Gathered, Stream.End}
+use Rattle.nfs_serve.specs.{declared.form.Form.Form, Script.Entry, Step.State}
 use Rattle.nfs_serve.specs.Run.{Streams, with_stream, StreamEvent, Takes, TakesAll, Move, events, after, after_event, output, output_of, all_closed, Brings, Runs, Breaks, RunsInto}
-use Rattle.nfs_serve.specs.Server.{held_on, IsWith, Stands}
-use Rattle.nfs_serve.specs.Replay.{AllStand}
+use Rattle.nfs_serve.specs.{Server.{held_on, IsWith, Stands}, Replay.AllStand}
 
 pub after-append : (s : State) (xs ys : List Move) → after s (xs ++ ys) ≡ after (after s xs) ys
 after-append s [] ys = refl

@@ -1,20 +1,13 @@
 -- Which fault a script has, and its whole entries, are decided by its bytes.
 use Rattle.std.proofs.Common.{◌≡◌, ℕ, suc, ◌+◌, ◌<◌, ◌≤◌, ◌^◌, List, [], ◌∷◌, ◌++◌, length, flat_map, take, drop, All, ◌⊎◌, inl, inr, Option, Some, None, refl}
-use Rattle.std.proofs.Common.{sym, ap, subst, ◌∙◌, arith, append_assoc, append-nil, length-append}
-use Rattle.std.proofs.lemmas.Bool.{le-ltb}
-use Rattle.std.proofs.lemmas.List.{take_at, drop_at, take-append-drop}
-use Rattle.std.proofs.lemmas.List.Elements.{All-head, All-tail}
-use Rattle.std.proofs.lemmas.Option.{some_pair_parts}
-use Rattle.nfs_xdr.specs.Spelling.{number, hyper}
+use Rattle.std.proofs.{Common.{sym, ap, subst, ◌∙◌, arith, append_assoc, append-nil, length-append}, lemmas.Bool.le-ltb}
+use Rattle.std.proofs.{lemmas.List.{take_at, drop_at, take-append-drop}, lemmas.List.Elements.{All-head, All-tail}, lemmas.Option.some_pair_parts}
+use Rattle.nfs_xdr.specs.{Spelling.{number, hyper}, Codec.{Codec, ◌then◌}, Lawful.IsCodec}
 use Rattle.nfs_xdr.specs.Codec as codec
-use Rattle.nfs_xdr.specs.Codec.{Codec, ◌then◌}
-use Rattle.nfs_xdr.specs.Lawful.{IsCodec}
 use Rattle.nfs_xdr.proofs.CodecLaws.{is_number, is_hyper, is_then}
-use Rattle.nfs_serve.specs.declared.fault.Stop.{Stop}
-use Rattle.nfs_serve.specs.declared.fault.Stop.TheVariants.{Cut, Connection, Long, Late, Many, ReadFailed, WriteFailed}
+use Rattle.nfs_serve.specs.{declared.fault.Stop.Stop, declared.fault.Stop.TheVariants.{Cut, Connection, Long, Late, Many, ReadFailed, WriteFailed}}
 use Rattle.nfs_serve.specs.Script.{Entry, head, spell_entry, Fits, max_entries, refusal, IsHead, BeginsRefused, IsPartial, StopsAt, IsRead}
-use Rattle.nfs_serve.specs.Promises.Laws.{HasOneReading}
-use Rattle.nfs_serve.specs.Reading.{BeginsWith}
+use Rattle.nfs_serve.specs.{Promises.Laws.HasOneReading, Reading.BeginsWith}
 use Rattle.nfs_serve.proofs.Entries.{length-head}
 
 abbrev heads : Codec (ℕ × (ℕ × ℕ))

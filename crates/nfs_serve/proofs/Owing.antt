@@ -1,17 +1,9 @@
 -- A part of a stream whose first record, if one ends in it, was stepped.
-use Rattle.std.proofs.Common.{◌≡◌, ℕ, false, List, [], take, Option, Some, refl, sym, append-nil, arith, inl, inr}
-use Rattle.std.proofs.Math.ListN.{get_or-eq_default}
-use Rattle.std.proofs.lemmas.List.{get_or-take, length-take}
-use Rattle.std.proofs.lemmas.Bool.{cases_lt}
+use Rattle.std.proofs.{Common.{◌≡◌, ℕ, false, List, [], take, Option, Some, refl, sym, append-nil, arith, inl, inr}, Math.ListN.get_or-eq_default}
+use Rattle.std.proofs.{lemmas.List.{get_or-take, length-take}, lemmas.Bool.cases_lt}
 use Rattle.nfs_xdr.specs.Text.{IsBytes}
-use Rattle.nfs_rpc.specs.RecordMarking.{Gathered, Complete, Failed, is_too_long}
-use Rattle.nfs_rpc.specs.Feeding.{waits}
-use Rattle.nfs_serve.specs.declared.form.Form.TheVariants.{Plain}
-use Rattle.nfs_serve.specs.Step.{State, step}
-use Rattle.nfs_serve.specs.Run.{spell_answer}
-use Rattle.nfs_serve.specs.Server.{fresh}
-use Rattle.nfs_serve.specs.First.{TakesUp, RunsOver}
-use Rattle.nfs_serve.specs.Desk.{TakesPart}
+use Rattle.nfs_rpc.specs.{RecordMarking.{Gathered, Complete, Failed, is_too_long}, Feeding.waits}
+use Rattle.nfs_serve.specs.{declared.form.Form.TheVariants.Plain, Step.{State, step}, Run.spell_answer, Server.fresh, First.{TakesUp, RunsOver}, Desk.TakesPart}
 use Rattle.nfs_serve.proofs.Pieces.{taking_start, taking_more, taking_ends, taking_long}
 
 module _ (conn : ℕ) (s : State) (was : Gathered) (moment : ℕ) (part : List ℕ) (short : is_too_long was ≡ false) where

@@ -1,8 +1,6 @@
 -- Lists that are read into a part, or written from a front.
 use Rattle.std.proofs.Common.{◌≡◌, ℕ, ◌+◌, ◌-◌, ◌≤◌, List, ◌++◌, arith, length, take, drop, slice_range, sym, ap, ◌∙◌, le_refl, drop_at, length-take-le}
-use Rattle.std.proofs.Common.{append_assoc, take-append-drop}
-use Rattle.std.proofs.lemmas.Slice.{take-put_mid_below}
-use Rattle.std.proofs.lemmas.List.{take_rest}
+use Rattle.std.proofs.{Common.{append_assoc, take-append-drop}, lemmas.Slice.take-put_mid_below, lemmas.List.take_rest}
 use borrow.Rule.Slice.PartMut.{put_mid, post_of}
 use lib.Seq.{take-add, take-append-le}
 

@@ -1,22 +1,15 @@
 -- A piece that is taken record by record.
 use Rattle.std.proofs.Common.{◌≡◌, ℕ, Bool, false, List, [], ◌∷◌, ◌++◌, Option, None, refl, sym, ap, subst, ◌∙◌, append_assoc, append-nil, take, drop, map}
-use Rattle.std.proofs.Common.{take-append-drop, inl, arith}
-use Rattle.std.proofs.lemmas.List.{map-append}
+use Rattle.std.proofs.{Common.{take-append-drop, inl, arith}, lemmas.List.map-append, KnownBytes.{Appends-nil, Appends-trans}}
 use Rattle.std.specs.Io.KnownBytes.{Appends}
-use Rattle.std.proofs.KnownBytes.{Appends-nil, Appends-trans}
 use Rattle.nfs_xdr.specs.Text.{IsBytes}
 use Rattle.nfs_rpc.specs.RecordMarking.{Gathered, Begun, Complete, Failed, IsRecord, start, is_too_long}
-use Rattle.nfs_rpc.specs.Stream.{End, Open, TooLong, AreRecords, IsReading, IsUnfinished}
-use Rattle.nfs_rpc.specs.Feeding.{waits, Holds}
-use Rattle.nfs_rpc.proofs.Fragments.{IsBytes-append, bytes_behind_front}
-use Rattle.nfs_rpc.proofs.Readings.{part_unfinished}
-use Rattle.nfs_serve.specs.declared.form.Form.{Form}
-use Rattle.nfs_serve.specs.declared.form.Flow.TheVariants as Flow
-use Rattle.nfs_serve.specs.Step.{State, step}
-use Rattle.nfs_serve.specs.Ends.{AppendsFront}
-use Rattle.nfs_serve.specs.First.{TakesUp}
+use Rattle.nfs_rpc.specs.{Stream.{End, Open, TooLong, AreRecords, IsReading, IsUnfinished}, Feeding.{waits, Holds}}
+use Rattle.nfs_rpc.proofs.{Fragments.{IsBytes-append, bytes_behind_front}, Readings.part_unfinished}
+use Rattle.nfs_serve.specs.{declared.form.Form.Form, Step.{State, step}, Ends.AppendsFront, First.TakesUp}
 use Rattle.nfs_serve.specs.Run.{Arrives, Overflows, events_of, Brings, Move, events, after, output, spell_answer, spell_overflow}
 use Rattle.nfs_serve.specs.Server.{Stands, flow_of, Feeds, FeedsInto}
+use Rattle.nfs_serve.specs.declared.form.Flow.TheVariants as Flow
 use Rattle.nfs_serve.proofs.Moves.{after-append, output-last, events-append}
 
 -- more bytes behind the records

@@ -1,14 +1,8 @@
 -- One more sweep, and what stands on the ports when one of them changes.
 use Rattle.std.proofs.Common.{◌≡◌, ◌≢◌, ℕ, ◌<◌, List, [], ◌∷◌, ◌++◌, length, map, set, get_or, flat_map, Option, refl, sym, ap, subst, ◌∙◌, append-nil, length-append, arith, ◌+◌, ◌⊎◌, true, false, eqb, inl, inr}
-use Rattle.std.proofs.lemmas.Bool.Decides.{eqb_tells}
-use Rattle.std.proofs.lemmas.List.{map-set, get_or-set_same, get_or-set_other, get_or-map, length-map}
+use Rattle.std.proofs.{lemmas.Bool.Decides.eqb_tells, lemmas.List.{map-set, get_or-set_same, get_or-set_other, get_or-map, length-map}}
 use Rattle.std.proofs.lemmas.List.Concat.{flat_map-append}
-use Rattle.nfs_serve.specs.Step.{State}
-use Rattle.nfs_serve.specs.Desk.{Desk, closed, HasMore}
-use Rattle.nfs_serve.specs.Told.{Told, Logs}
-use Rattle.nfs_serve.specs.Deeds.{Deed}
-use Rattle.nfs_serve.specs.Lane.{desk_of, desks_of}
-use Rattle.nfs_serve.specs.declared.lane.Lane.{Lane}
+use Rattle.nfs_serve.specs.{Step.State, Desk.{Desk, closed, HasMore}, Told.{Told, Logs}, Deeds.Deed, Lane.{desk_of, desks_of}, declared.lane.Lane.Lane}
 use Rattle.nfs_serve.specs.Hub.{Desks, at, none_live, Round, Opens, Turns, OthersStay, Turning, shown_in, asked_of, Sweeps, Sweeping, ServesRounds}
 use Rattle.nfs_serve.proofs.Advancing.{Logs-nil, Logs-trans}
 

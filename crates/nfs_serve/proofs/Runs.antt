@@ -1,29 +1,18 @@
 -- A run that goes on by an entry, and how it stops.
 use Rattle.std.proofs.Common.{◌≡◌, ◌≢◌, ℕ, suc, ◌+◌, ◌<◌, ◌≤◌, Bool, true, false, List, [], ◌∷◌, ◌++◌, length, flat_map, Option, Result, Ok, Err, refl, sym, ap}
 use Rattle.std.proofs.Common.{is_err, subst, ◌∙◌, arith, append-nil, length-append, All, nat_eq, if◌then◌else◌}
+use Rattle.std.proofs.{KnownBytes.{Consumes-nil, Consumes-trans, Appends-nil, Appends-trans}, lemmas.List.{get_or-set_same, get_or-set_other}}
+use Rattle.std.proofs.{lemmas.List.Elements.{All-nil, All-push}, lemmas.List.Concat.flat_map-append, lemmas.Bool.{eqb-true, eqb-false}, Math.ListN.set}
 use Rattle.std.specs.Io.KnownBytes.{Consumes, Appends}
-use Rattle.std.proofs.KnownBytes.{Consumes-nil, Consumes-trans, Appends-nil, Appends-trans}
-use Rattle.std.proofs.lemmas.List.{get_or-set_same, get_or-set_other}
-use Rattle.std.proofs.lemmas.List.Elements.{All-nil, All-push}
-use Rattle.std.proofs.lemmas.List.Concat.{flat_map-append}
-use Rattle.std.proofs.lemmas.Bool.{eqb-true, eqb-false}
-use Rattle.std.proofs.Math.ListN.{set}
-use Rattle.nfs_rpc.specs.RecordMarking.{Gathered}
-use Rattle.nfs_rpc.specs.Stream.{End, Open}
-use Rattle.nfs_serve.specs.declared.fault.Stop.{Stop}
-use Rattle.nfs_serve.specs.declared.fault.Stop.TheVariants.{Cut, Connection, Long, Late, Many, ReadFailed, WriteFailed}
-use Rattle.nfs_serve.specs.declared.fault.ReplayFault.{ReplayFault}
-use Rattle.nfs_serve.specs.declared.moving.WriteFailed as moving
-use Rattle.nfs_serve.specs.declared.form.Form.TheVariants.{Tagged}
-use Rattle.nfs_serve.specs.Script.{Entry, spell_entry, Fits, max_entries, StopsAt, IsStopped}
-use Rattle.nfs_serve.specs.Ends.{IsReported}
-use Rattle.nfs_serve.specs.Step.{State}
+use Rattle.nfs_rpc.specs.{RecordMarking.Gathered, Stream.{End, Open}}
+use Rattle.nfs_serve.specs.{declared.fault.Stop.Stop, declared.fault.Stop.TheVariants.{Cut, Connection, Long, Late, Many, ReadFailed, WriteFailed}}
+use Rattle.nfs_serve.specs.{declared.fault.ReplayFault.ReplayFault, declared.form.Form.TheVariants.Tagged}
+use Rattle.nfs_serve.specs.{Script.{Entry, spell_entry, Fits, max_entries, StopsAt, IsStopped}, Ends.IsReported, Step.State}
 use Rattle.nfs_serve.specs.Run.{Streams, with_stream, all_closed, Brings, TakesPiece, StreamEvent, events, output, Runs}
-use Rattle.nfs_serve.specs.Server.{fresh, held_on, IsWith, Feeds, FeedsInto}
-use Rattle.nfs_serve.specs.Replay.{AllStand, RunsOn, ReplaysFault, Replays, Reports}
+use Rattle.nfs_serve.specs.{Server.{fresh, held_on, IsWith, Feeds, FeedsInto}, Replay.{AllStand, RunsOn, ReplaysFault, Replays, Reports}}
 use Rattle.nfs_serve.specs.Running.{RunsEntry, RunsEntryOr, EndsBehind}
-use Rattle.nfs_serve.proofs.Moves.{runs_more, runs_into, with_stands}
-use Rattle.nfs_serve.proofs.Pieces.{start_holds, no_bytes}
+use Rattle.nfs_serve.specs.declared.moving.WriteFailed as moving
+use Rattle.nfs_serve.proofs.{Moves.{runs_more, runs_into, with_stands}, Pieces.{start_holds, no_bytes}}
 
 pub set_is_with : (held : List Gathered) (conn : ℕ) (now : Gathered) → conn < length held → IsWith (set held conn now) held conn now
 set_is_with held conn now within = λ c. cases c (nat_eq c conn) refl

@@ -1,26 +1,14 @@
 -- A talk that goes on by a piece, and how it ends.
 use Rattle.std.proofs.Common.{◌≡◌, ◌≢◌, ℕ, ◌+◌, ◌<◌, ◌≤◌, false, List, [], ◌∷◌, ◌++◌, length, flat_map, map, Option, refl, sym, ap, subst, ◌∙◌, arith}
-use Rattle.std.proofs.Common.{append-nil, length-append, All}
+use Rattle.std.proofs.{Common.{append-nil, length-append, All}, KnownBytes.{Consumes-nil, Consumes-trans, Appends-nil, Appends-trans}, lemmas.List.map-append}
+use Rattle.std.proofs.{lemmas.List.Elements.{All-nil, All-push}, lemmas.List.Concat.flat_map-append}
 use Rattle.std.specs.Io.KnownBytes.{Consumes, Appends}
-use Rattle.std.proofs.KnownBytes.{Consumes-nil, Consumes-trans, Appends-nil, Appends-trans}
-use Rattle.std.proofs.lemmas.List.{map-append}
-use Rattle.std.proofs.lemmas.List.Elements.{All-nil, All-push}
-use Rattle.std.proofs.lemmas.List.Concat.{flat_map-append}
-use Rattle.nfs_rpc.specs.RecordMarking.{Gathered, Begun, Complete, Failed, is_too_long}
-use Rattle.nfs_rpc.specs.Stream.{End, Open, TooLong}
-use Rattle.nfs_serve.specs.declared.form.Form.TheVariants.{Plain}
+use Rattle.nfs_rpc.specs.{RecordMarking.{Gathered, Begun, Complete, Failed, is_too_long}, Stream.{End, Open, TooLong}}
+use Rattle.nfs_serve.specs.{declared.form.Form.TheVariants.Plain, declared.talking.Talk.TheVariants.{Ended, Shut, ReadFailed, WriteFailed, TooMany}}
+use Rattle.nfs_serve.specs.{Script.Entry, Step.State, Run.{Streams, with_stream, all_closed, events, output, Runs}}
+use Rattle.nfs_serve.specs.{Server.{fresh, Stands, Feeds, FeedsInto, flow_of}, Told.{Told, Moment, Logs}, Talk.{max_reads, IsPiece, Speaks, Talks}}
 use Rattle.nfs_serve.specs.declared.form.Flow.TheVariants as Flow
-use Rattle.nfs_serve.specs.declared.talking.Talk.TheVariants.{Ended, Shut, ReadFailed, WriteFailed, TooMany}
-use Rattle.nfs_serve.specs.Script.{Entry}
-use Rattle.nfs_serve.specs.Step.{State}
-use Rattle.nfs_serve.specs.Run.{Streams, with_stream, all_closed, events, output, Runs}
-use Rattle.nfs_serve.specs.Server.{fresh, Stands, Feeds, FeedsInto, flow_of}
-use Rattle.nfs_serve.specs.Told.{Told, Moment, Logs}
-use Rattle.nfs_serve.specs.Talk.{max_reads, IsPiece, Speaks, Talks}
-use Rattle.nfs_serve.proofs.Moves.{runs_more, runs_into}
-use Rattle.nfs_serve.proofs.Pieces.{start_holds, no_bytes, stands_open}
-use Rattle.nfs_serve.proofs.Runs.{takes_piece}
-use Rattle.nfs_serve.proofs.Advancing.{Logs-nil, Logs-trans}
+use Rattle.nfs_serve.proofs.{Moves.{runs_more, runs_into}, Pieces.{start_holds, no_bytes, stands_open}, Runs.takes_piece, Advancing.{Logs-nil, Logs-trans}}
 
 -- A talk that has gone on for n pieces.
 pub record Speaking (old now : State) (is : Gathered) (n : ℕ) (l0 l1 h0 h1 : Option (List ℕ)) (c0 c1 : Option (List Told)) : Type 0 where

@@ -2,8 +2,7 @@
 use Rattle.std.proofs.Common.{◌≡◌, ℕ, ◌+◌, ◌-◌, List, [], ◌∷◌, ◌++◌, length, filter, arith, Bool, true, false, ◌||◌, ap, refl, sym, subst, ◌∙◌, length-append}
 use Rattle.std.proofs.lemmas.List.Elements.{filter-append}
 use Rattle.nfs_serve.specs.Desk.{Act, Came, ReadBlocked, Ended, Took, WriteBlocked, Failed, Closed, Stepped, is_step, step_count, taken_by, taken_count, late_by, is_late}
-use Rattle.nfs_serve.specs.declared.lane.Budget.{Budget}
-use Rattle.nfs_serve.specs.Lane.{StepsWithin, IsLeft, Spends}
+use Rattle.nfs_serve.specs.{declared.lane.Budget.Budget, Lane.{StepsWithin, IsLeft, Spends}}
 
 no : {A : Type 0} → false ≡ true → A
 no e = absurd (never e)

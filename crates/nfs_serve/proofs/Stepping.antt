@@ -1,23 +1,13 @@
 -- How the reply on the sheet is that of the step.
 use Rattle.std.proofs.Common.{◌≡◌, ℕ, ◌≤◌, max, List, [], ◌++◌, length, drop, Option, Some, None, refl, sym, ap, subst, arith, inl, inr, ◌∙◌}
-use Rattle.std.proofs.lemmas.Bool.{cases_Bool}
-use Rattle.std.proofs.lemmas.List.{drop_at, length-append}
-use Rattle.nfs_xdr.specs.Codec.{number}
-use Rattle.nfs_xdr.specs.Text.{IsBytes}
-use Rattle.nfs_xdr.specs.SheetState.{SheetState, Puts}
-use Rattle.nfs_rpc.specs.declared.refusal.Refusal.{Refusal}
-use Rattle.nfs_rpc.specs.declared.refusal.Refusal.TheVariants.{Silent, Mismatch, Auth, Accept}
-use Rattle.nfs_rpc.specs.Reply.{spell_refusal}
-use Rattle.nfs_rpc.specs.HeadCodec.{header}
-use Rattle.nfs_rpc.specs.CallHead.{Call, Called, Accepted, call_of}
+use Rattle.std.proofs.{lemmas.Bool.cases_Bool, lemmas.List.{drop_at, length-append}}
+use Rattle.nfs_xdr.specs.{Codec.number, Text.IsBytes, SheetState.{SheetState, Puts}}
+use Rattle.nfs_rpc.specs.{declared.refusal.Refusal.Refusal, declared.refusal.Refusal.TheVariants.{Silent, Mismatch, Auth, Accept}, Reply.spell_refusal}
+use Rattle.nfs_rpc.specs.{HeadCodec.header, CallHead.{Call, Called, Accepted, call_of}}
 use Rattle.nfs_rpc.proofs.HeadLaws.{call_taken}
-use Rattle.nfs_lease.specs.Renewals.{has_run_out}
-use Rattle.nfs_lease.specs.Queue.{IsLatest}
-use Rattle.nfs_exec.specs.Step.Machine.{Machine}
-use Rattle.nfs_exec.specs.Step.Expiry.{expired}
-use Rattle.nfs_serve.specs.Step.{State, Stepped, refused, reply_to, step}
-use Rattle.nfs_serve.specs.Server.{IsAnswer}
-use Rattle.nfs_serve.specs.Engine.{PutsReply, PutsAnswer, outcome_of}
+use Rattle.nfs_lease.specs.{Renewals.has_run_out, Queue.IsLatest}
+use Rattle.nfs_exec.specs.{Step.Machine.Machine, Step.Expiry.expired}
+use Rattle.nfs_serve.specs.{Step.{State, Stepped, refused, reply_to, step}, Server.IsAnswer, Engine.{PutsReply, PutsAnswer, outcome_of}}
 use Rattle.nfs_serve.specs.declared.form.Outcome.{Outcome}
 use Rattle.nfs_serve.specs.declared.form.Outcome.TheVariants as Outcomes
 

@@ -1,19 +1,12 @@
 -- A sweep, port after port; who begins before it; and how few others have their turn between two turns of a port.
 use Rattle.std.proofs.Common.{◌≡◌, ◌≢◌, ℕ, suc, ◌+◌, ◌*◌, ◌<◌, ◌≤◌, ◌⊎◌, List, [], ◌∷◌, ◌++◌, length, set, get_or, flat_map, Option, true, false, refl, sym, ap, subst, ◌∙◌, append-nil, arith, inl, inr, eqb}
-use Rattle.std.proofs.lemmas.Bool.Decides.{eqb_tells}
-use Rattle.std.proofs.lemmas.List.Concat.{flat_map-append}
-use Rattle.nfs_serve.specs.Step.{State}
-use Rattle.nfs_serve.specs.Script.{last_connection, connection_count}
-use Rattle.nfs_serve.specs.Desk.{Desk, opened, Act, Opened, HasMore, IsPassed, Goes, most_steps, step_count}
-use Rattle.nfs_serve.specs.Told.{Told, Sweep, Logs}
-use Rattle.nfs_serve.specs.Deeds.{Deed}
-use Rattle.nfs_serve.specs.Lane.{desk_of, desks_of, Visits}
-use Rattle.nfs_serve.specs.declared.lane.Lane.{Lane}
+use Rattle.std.proofs.{lemmas.Bool.Decides.eqb_tells, lemmas.List.Concat.flat_map-append}
+use Rattle.nfs_serve.specs.{Step.State, Script.{last_connection, connection_count}}
+use Rattle.nfs_serve.specs.{Desk.{Desk, opened, Act, Opened, HasMore, IsPassed, Goes, most_steps, step_count}, Told.{Told, Sweep, Logs}, Deeds.Deed}
+use Rattle.nfs_serve.specs.{Lane.{desk_of, desks_of, Visits}, declared.lane.Lane.Lane}
 use Rattle.nfs_serve.specs.Hub.{Desks, at, Round, Opens, Turns, OthersStay, Turning, InOrder, IsOf, IsServed, HasTurn, Sweeps, shown_in, asked_in, asked_of, steps_in}
-use Rattle.nfs_serve.specs.Sweep.{SweepsBelow, Begins}
-use Rattle.nfs_serve.specs.Promises.Waiting.{WaitsForFew}
-use Rattle.nfs_serve.proofs.Advancing.{Logs-nil, Logs-trans, stands}
-use Rattle.nfs_serve.proofs.Rounds.{at_same, at_other, at_lane, turning_on}
+use Rattle.nfs_serve.specs.{Sweep.{SweepsBelow, Begins}, Promises.Waiting.WaitsForFew}
+use Rattle.nfs_serve.proofs.{Advancing.{Logs-nil, Logs-trans, stands}, Rounds.{at_same, at_other, at_lane, turning_on}}
 
 -- a further turn, behind those of lower ports
 in_order_last : (from port : ℕ) (acts : List Act) (rounds : List Round) → InOrder from port rounds → InOrder from (suc port) (rounds ++ Turns port acts ∷ [])

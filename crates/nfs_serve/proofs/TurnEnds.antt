@@ -1,12 +1,9 @@
 -- How a turn ends, by what it stepped and left.
 use Rattle.std.proofs.Common.{◌≡◌, ℕ, suc, ◌-◌, ◌<◌, ◌≤◌, List, [], ◌∷◌, ◌++◌, length, Bool, true, false, ◌||◌, ◌⊎◌, inl, inr, refl, sym, ap, subst, ◌∙◌, arith}
 use Rattle.nfs_serve.specs.Desk.{Desk, Act, Came, Stepped, most_steps, most_taken, step_count, taken_by, taken_count, is_late, late_by, StepsBefore, IsStuck, Unready, Reads, ReadsOnce, EndsTurn}
-use Rattle.nfs_serve.specs.declared.lane.Budget.{Budget}
-use Rattle.nfs_serve.specs.declared.lane.Rest.{Rest}
-use Rattle.nfs_serve.specs.declared.lane.Rest.TheVariants.{Clear, Stuck, Gone}
-use Rattle.nfs_serve.proofs.Advancing.{reads_came, stuck_behind}
-use Rattle.nfs_serve.proofs.Spending.{steps_append}
+use Rattle.nfs_serve.specs.{declared.lane.Budget.Budget, declared.lane.Rest.Rest, declared.lane.Rest.TheVariants.{Clear, Stuck, Gone}}
 use Rattle.nfs_serve.specs.Lane.{StepsWithin, Spends, IsSpent, HasHadEnough, Rests, EndsOrMayClose, whole}
+use Rattle.nfs_serve.proofs.{Advancing.{reads_came, stuck_behind}, Spending.steps_append}
 
 no : true ≡ false → ⊥
 no e = cc

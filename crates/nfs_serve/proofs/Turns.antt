@@ -1,20 +1,13 @@
 -- The acts of one turn: the entries that they come to, and what they put out.
 use Rattle.std.proofs.Common.{◌≡◌, ◌≢◌, ℕ, ◌≤◌, List, [], ◌∷◌, ◌++◌, length, flat_map, true, false, All, refl, sym, ap, subst, ◌∙◌, append_assoc}
-use Rattle.std.proofs.Common.{append-nil, map, arith}
-use Rattle.std.proofs.lemmas.Bool.{eq-eqb, ne_eqb}
-use Rattle.std.proofs.lemmas.List.Elements.{All-nil, All-cons}
+use Rattle.std.proofs.{Common.{append-nil, map, arith}, lemmas.Bool.{eq-eqb, ne_eqb}, lemmas.List.Elements.{All-nil, All-cons}}
 use Rattle.nfs_rpc.specs.Stream.{End, Open, TooLong}
-use Rattle.nfs_serve.specs.declared.form.Form.TheVariants.{Plain}
-use Rattle.nfs_serve.specs.Script.{Entry, Fits, last_connection}
-use Rattle.nfs_serve.specs.Step.{State}
+use Rattle.nfs_serve.specs.{declared.form.Form.TheVariants.Plain, Script.{Entry, Fits, last_connection}, Step.State}
 use Rattle.nfs_serve.specs.Run.{Streams, with_stream, TakesAll, StreamEvent, Arrives, overflow, Brings, Move, events, after, after_event, output, output_of}
 use Rattle.nfs_serve.specs.Server.{Stands}
 use Rattle.nfs_serve.specs.Desk.{Desk, closed, leaving, Act, Opened, Over, Unready, Counted, Came, ReadBlocked, Ended, Took, WriteBlocked, Failed, Closed, Stepped, Goes}
-use Rattle.nfs_serve.specs.Promises.Laws.{NoneCloses}
-use Rattle.nfs_serve.specs.Promises.Account.{came, taken, part_of}
-use Rattle.nfs_serve.specs.Promises.Whole.{close, entries_of, port_of, output_on}
-use Rattle.nfs_serve.proofs.Moves.{after-append, output-append, events-append}
-use Rattle.nfs_serve.proofs.Runs.{takes_piece}
+use Rattle.nfs_serve.specs.{Promises.Laws.NoneCloses, Promises.Account.{came, taken, part_of}, Promises.Whole.{close, entries_of, port_of, output_on}}
+use Rattle.nfs_serve.proofs.{Moves.{after-append, output-append, events-append}, Runs.takes_piece}
 
 pub not_served : {A : Type 0} → false ≡ true → A
 not_served e = absurd (no e)

@@ -1,10 +1,7 @@
 -- What contracts see of the bytes that are owed, and what a read leaves in an empty box; private contracts alone speak of it.
 use Rattle.std.specs.Prelude.{◌≡◌, ℕ, ◌<◌, ◌≤◌, List, [], ◌∷◌, length, Option}
-use Rattle.nfs_serve.specs.Desk.{most_read, ReadBlocked, Failed}
+use Rattle.nfs_serve.specs.{Desk.{most_read, ReadBlocked, Failed}, Told.Logs, Deeds.Deed, declared.ports.Came.Came}
 use Rattle.nfs_serve.specs.Desk as act
-use Rattle.nfs_serve.specs.Told.{Logs}
-use Rattle.nfs_serve.specs.Deeds.{Deed}
-use Rattle.nfs_serve.specs.declared.ports.Came.{Came}
 use Rattle.nfs_serve.specs.declared.ports.Came.TheVariants as read
 
 -- the bytes, and how much of the room was laid out since it was last cleared

@@ -1,7 +1,6 @@
 -- What the connections show of what was done, in its order, and what each answer of theirs says.
 use Rattle.std.specs.Prelude.{ℕ, List, [], ◌∷◌, Bool, true, false}
-use Rattle.nfs_serve.specs.Told.{Told, Moment, Late}
-use Rattle.nfs_serve.specs.Desk.{Act, Stepped, Counted}
+use Rattle.nfs_serve.specs.{Told.{Told, Moment, Late}, Desk.{Act, Stepped, Counted}}
 use Rattle.nfs_serve.specs.Desk as act
 
 pub record Deed : Type 0 where

@@ -2,15 +2,9 @@
 -- it (RFC 5531 section 11). This server's profile.
 use Rattle.std.specs.Prelude.{◌≡◌, ◌⊎◌, ℕ, ◌+◌, ◌*◌, ◌<◌, ◌≤◌, List, [], ◌∷◌, ◌++◌, length, filter, Bool, true, false, not, ◌&&◌, ◌||◌}
 use Rattle.nfs_xdr.specs.Limits.{most_record}
-use Rattle.nfs_rpc.specs.RecordMarking.{Gathered, is_too_long}
-use Rattle.nfs_rpc.specs.Stream.{End}
-use Rattle.nfs_serve.specs.declared.form.Form.TheVariants.{Plain}
-use Rattle.nfs_serve.specs.Script.{last_moment, most_piece}
-use Rattle.nfs_serve.specs.Step.{State}
-use Rattle.nfs_serve.specs.Run.{Brings, Move, events, after, output}
-use Rattle.nfs_serve.specs.Server.{fresh, Stands}
-use Rattle.nfs_serve.specs.Talk.{max_reads}
-use Rattle.nfs_serve.specs.Sequenced.{answers_sequence}
+use Rattle.nfs_rpc.specs.{RecordMarking.{Gathered, is_too_long}, Stream.End}
+use Rattle.nfs_serve.specs.{declared.form.Form.TheVariants.Plain, Script.{last_moment, most_piece}, Step.State, Run.{Brings, Move, events, after, output}}
+use Rattle.nfs_serve.specs.{Server.{fresh, Stands}, Talk.max_reads, Sequenced.answers_sequence}
 
 -- the most bytes that one read brings: two records of the greatest length, each with one mark
 abbrev pub most_read : ℕ

@@ -1,8 +1,7 @@
 -- What a read and a write show of the ends of a run.
 use Rattle.std.specs.Prelude.{◌≡◌, ℕ, ◌<◌, List, ◌++◌, length, Bool, true, false, ◌&&◌, nat_eq, nat_lt, Option, Result, Ok, Err}
 use Rattle.std.specs.Io.KnownBytes.{Appends, IsAtEnd}
-use Rattle.nfs_serve.specs.declared.fault.Stop.{Stop}
-use Rattle.nfs_serve.specs.declared.fault.Stop.TheVariants.{Cut, ReadFailed, WriteFailed}
+use Rattle.nfs_serve.specs.{declared.fault.Stop.Stop, declared.fault.Stop.TheVariants.{Cut, ReadFailed, WriteFailed}}
 
 -- a read that took no byte into a buffer that is not empty
 abbrev pub shows_end : {E : Type 0} → Result ℕ E → List ℕ → Bool

@@ -4,13 +4,8 @@ use Rattle.std.specs.Prelude.{◌≡◌, ℕ, List, [], drop, Some, None}
 use Rattle.nfs_xdr.specs.SheetState.{SheetState, Puts}
 use Rattle.nfs_rpc.specs.declared.refusal.Refusal.{Refusal}
 use Rattle.nfs_rpc.specs.declared.refusal.Refusal.TheVariants as Refusals
-use Rattle.nfs_serve.specs.declared.form.Form.{Form}
-use Rattle.nfs_serve.specs.declared.form.Form.TheVariants.{Tagged, Plain}
-use Rattle.nfs_serve.specs.declared.form.Outcome.{Outcome}
-use Rattle.nfs_serve.specs.declared.form.Outcome.TheVariants.{Reply, Silent}
-use Rattle.nfs_serve.specs.Step.{State, Stepped}
-use Rattle.nfs_serve.specs.Run.{spell_reply}
-use Rattle.nfs_serve.specs.Server.{KeptServer}
+use Rattle.nfs_serve.specs.{declared.form.Form.Form, declared.form.Form.TheVariants.{Tagged, Plain}, declared.form.Outcome.Outcome}
+use Rattle.nfs_serve.specs.{declared.form.Outcome.TheVariants.{Reply, Silent}, Step.{State, Stepped}, Run.spell_reply, Server.KeptServer}
 
 -- what lasts from one record to the next, and the reply that is lent
 pub record EngineModel : Type 0 where

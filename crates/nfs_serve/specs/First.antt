@@ -1,12 +1,8 @@
 -- What the first record of a piece comes to; private contracts alone speak of it.
 use Rattle.std.specs.Prelude.{◌≡◌, ℕ, ◌<◌, ◌≤◌, List, ◌++◌, length, take, false, Option}
 use Rattle.nfs_xdr.specs.Text.{IsBytes}
-use Rattle.nfs_rpc.specs.RecordMarking.{Gathered, Complete, Failed, is_too_long}
-use Rattle.nfs_rpc.specs.Feeding.{waits, Holds}
-use Rattle.nfs_serve.specs.declared.connection.First.{First}
-use Rattle.nfs_serve.specs.declared.connection.First.TheVariants.{Nothing, Record, TooLong}
-use Rattle.nfs_serve.specs.Step.{step}
-use Rattle.nfs_serve.specs.Engine.{EngineModel}
+use Rattle.nfs_rpc.specs.{RecordMarking.{Gathered, Complete, Failed, is_too_long}, Feeding.{waits, Holds}}
+use Rattle.nfs_serve.specs.{declared.connection.First.First, declared.connection.First.TheVariants.{Nothing, Record, TooLong}, Step.step, Engine.EngineModel}
 use Rattle.nfs_serve.specs.Server.{fresh, IsAnswer, state_of}
 
 -- with these bytes what is held comes to this

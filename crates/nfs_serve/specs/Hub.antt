@@ -1,11 +1,8 @@
 -- Many connections over one server: the ports have their turns in the order of their numbers, sweep after sweep. Who is ready, and who
 -- begins, comes from outside.
 use Rattle.std.specs.Prelude.{length, ◌≡◌, ◌≢◌, ◌≤◌, ◌⊎◌, ◌^◌, ◌-◌, ℕ, suc, ◌+◌, List, [], ◌∷◌, flat_map, get_or, Option}
-use Rattle.nfs_serve.specs.Step.{State}
-use Rattle.nfs_serve.specs.Script.{last_connection, connection_count}
-use Rattle.nfs_serve.specs.Told.{Told, Sweep, Turn, Logs}
-use Rattle.nfs_serve.specs.Desk.{Desk, closed, opened, Act, Opened, Goes, EndsTurn, IsPassed, HasMore, step_count}
-use Rattle.nfs_serve.specs.Deeds.{Deed, over, shown, asked}
+use Rattle.nfs_serve.specs.{Step.State, Script.{last_connection, connection_count}, Told.{Told, Sweep, Turn, Logs}}
+use Rattle.nfs_serve.specs.{Desk.{Desk, closed, opened, Act, Opened, Goes, EndsTurn, IsPassed, HasMore, step_count}, Deeds.{Deed, over, shown, asked}}
 
 abbrev pub Desks : Type 0
 Desks = ℕ → Desk

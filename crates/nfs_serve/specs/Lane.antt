@@ -1,15 +1,9 @@
 -- What a port's fields stand for, and how far its functions bring it; private contracts alone speak of it.
 use Rattle.std.specs.Prelude.{◌≡◌, ◌⊎◌, ℕ, ◌+◌, ◌-◌, ◌<◌, List, [], ◌∷◌, ◌++◌, length, map, filter, flat_map, true, false, not, ◌&&◌, ◌||◌, Bool, Option}
 use Rattle.nfs_rpc.specs.RecordMarking.{is_too_long}
-use Rattle.nfs_serve.specs.Step.{State}
-use Rattle.nfs_serve.specs.Told.{Told, Turn, Moment, Late, Logs}
-use Rattle.nfs_serve.specs.Sequenced.{answers_sequence}
-use Rattle.nfs_serve.specs.Server.{KeptServer, state_of}
+use Rattle.nfs_serve.specs.{Step.State, Told.{Told, Turn, Moment, Late, Logs}, Sequenced.answers_sequence, Server.{KeptServer, state_of}}
 use Rattle.nfs_serve.specs.Desk.{Desk, Act, StepsPart, Goes, MayClose, IsStuck, ReadsOnce, is_of_read, is_step, step_count, taken_by, taken_count, late_by, is_late, EndsTurn}
-use Rattle.nfs_serve.specs.Deeds.{Deed, counted, shown, asked}
-use Rattle.nfs_serve.specs.declared.lane.Budget.{Budget}
-use Rattle.nfs_serve.specs.declared.lane.Lane.{Lane}
-use Rattle.nfs_serve.specs.declared.lane.Rest.{Rest}
+use Rattle.nfs_serve.specs.{Deeds.{Deed, counted, shown, asked}, declared.lane.Budget.Budget, declared.lane.Lane.Lane, declared.lane.Rest.Rest}
 use Rattle.nfs_serve.specs.declared.lane.Rest.TheVariants.{Clear, Stuck, Gone}
 
 abbrev pub desk_of : Lane → Desk

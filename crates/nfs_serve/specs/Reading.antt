@@ -1,11 +1,8 @@
 -- What reading the next entry of a script gives; private contracts alone speak of it.
-use Rattle.std.specs.Prelude.{◌≡◌, ℕ, ◌<◌, List, [], ◌++◌, Bool, true, false, Option, None, Some, Result, Ok, Err}
-use Rattle.std.specs.Io.KnownBytes.{Consumes, IsAtEnd}
-use Rattle.nfs_serve.specs.declared.fault.Stop.{Stop}
-use Rattle.nfs_serve.specs.declared.fault.Stop.TheVariants.{Cut, ReadFailed}
-use Rattle.nfs_serve.specs.declared.script.Entry as rust
-use Rattle.nfs_serve.specs.Ends.{IsReported}
+use Rattle.std.specs.{Prelude.{◌≡◌, ℕ, ◌<◌, List, [], ◌++◌, Bool, true, false, Option, None, Some, Result, Ok, Err}, Io.KnownBytes.{Consumes, IsAtEnd}}
+use Rattle.nfs_serve.specs.{declared.fault.Stop.Stop, declared.fault.Stop.TheVariants.{Cut, ReadFailed}, Ends.IsReported}
 use Rattle.nfs_serve.specs.Script.{Entry, spell_entry, Fits, max_entries, StopsAt}
+use Rattle.nfs_serve.specs.declared.script.Entry as rust
 
 -- an entry, wherever its piece lies in memory
 abbrev pub entry : rust.Entry → Entry

@@ -1,17 +1,10 @@
 -- What a run of a script did: which entries were read, what was written, and what was left.
 use Rattle.std.specs.Prelude.{◌≡◌, ◌≢◌, ℕ, suc, List, [], ◌∷◌, ◌++◌, length, Bool, true, false, Option, Result, Ok, Err, IfErr}
 use Rattle.std.specs.Io.KnownBytes.{Consumes, Appends, IsAtEnd}
-use Rattle.nfs_rpc.specs.RecordMarking.{Gathered}
-use Rattle.nfs_rpc.specs.Stream.{Open}
-use Rattle.nfs_serve.specs.declared.fault.Stop.{Stop}
-use Rattle.nfs_serve.specs.declared.fault.Stop.TheVariants.{ReadFailed, WriteFailed}
-use Rattle.nfs_serve.specs.declared.fault.ReplayFault.{ReplayFault}
-use Rattle.nfs_serve.specs.declared.form.Form.TheVariants.{Tagged}
-use Rattle.nfs_serve.specs.Script.{Entry, IsStopped, IsWhole}
-use Rattle.nfs_serve.specs.Ends.{IsReported}
-use Rattle.nfs_serve.specs.Step.{State}
-use Rattle.nfs_serve.specs.Run.{Streams, with_stream, Runs, RunsInto}
-use Rattle.nfs_serve.specs.Server.{ServerModel, held_on, Stands, state_of}
+use Rattle.nfs_rpc.specs.{RecordMarking.Gathered, Stream.Open}
+use Rattle.nfs_serve.specs.{declared.fault.Stop.Stop, declared.fault.Stop.TheVariants.{ReadFailed, WriteFailed}, declared.fault.ReplayFault.ReplayFault}
+use Rattle.nfs_serve.specs.{declared.form.Form.TheVariants.Tagged, Script.{Entry, IsStopped, IsWhole}, Ends.IsReported, Step.State}
+use Rattle.nfs_serve.specs.{Run.{Streams, with_stream, Runs, RunsInto}, Server.{ServerModel, held_on, Stands, state_of}}
 
 -- what is held of each connection stands for its stream
 abbrev pub AllStand : Streams → List Gathered → Type 0

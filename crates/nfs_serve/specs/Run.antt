@@ -2,12 +2,8 @@
 -- (RFC 5531 section 11). The records are stepped in the order in which their last bytes came.
 use Rattle.std.specs.Prelude.{◌≡◌, ℕ, ◌<◌, true, List, [], ◌∷◌, ◌++◌, length, map, Option, Some, None, if◌then◌else◌, nat_eq}
 use Rattle.nfs_xdr.specs.Spelling.{number}
-use Rattle.nfs_rpc.specs.RecordMarking.{spell_mark}
-use Rattle.nfs_rpc.specs.Stream.{End, Open, TooLong, IsReading}
-use Rattle.nfs_serve.specs.declared.form.Form.{Form}
-use Rattle.nfs_serve.specs.declared.form.Form.TheVariants.{Tagged, Plain}
-use Rattle.nfs_serve.specs.Script.{Entry}
-use Rattle.nfs_serve.specs.Step.{State, step}
+use Rattle.nfs_rpc.specs.{RecordMarking.spell_mark, Stream.{End, Open, TooLong, IsReading}}
+use Rattle.nfs_serve.specs.{declared.form.Form.Form, declared.form.Form.TheVariants.{Tagged, Plain}, Script.Entry, Step.{State, step}}
 
 -- for each connection the bytes behind its last whole record since it was last closed, or that its stream is too long and ignored
 abbrev pub Streams : Type 0

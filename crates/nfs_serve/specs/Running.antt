@@ -1,14 +1,8 @@
 -- What running one entry did, and what stands behind the last entry; private contracts alone speak of it.
-use Rattle.std.specs.Prelude.{◌≡◌, ℕ, suc, List, [], Bool, true, false, Option, Result, Ok, Err}
-use Rattle.std.specs.Io.KnownBytes.{Appends}
+use Rattle.std.specs.{Prelude.{◌≡◌, ℕ, suc, List, [], Bool, true, false, Option, Result, Ok, Err}, Io.KnownBytes.Appends}
 use Rattle.nfs_rpc.specs.RecordMarking.{Gathered}
-use Rattle.nfs_serve.specs.declared.fault.ReplayFault.{ReplayFault}
-use Rattle.nfs_serve.specs.declared.form.Form.TheVariants.{Tagged}
-use Rattle.nfs_serve.specs.Script.{Entry, max_entries, StopsAt}
-use Rattle.nfs_serve.specs.Step.{State}
-use Rattle.nfs_serve.specs.Run.{Streams, Takes, Move, events, after, output}
-use Rattle.nfs_serve.specs.Server.{fresh, held_on, IsWith, FeedsInto}
-use Rattle.nfs_serve.specs.Replay.{AllStand}
+use Rattle.nfs_serve.specs.{declared.fault.ReplayFault.ReplayFault, declared.form.Form.TheVariants.Tagged, Script.{Entry, max_entries, StopsAt}, Step.State}
+use Rattle.nfs_serve.specs.{Run.{Streams, Takes, Move, events, after, output}, Server.{fresh, held_on, IsWith, FeedsInto}, Replay.AllStand}
 
 -- One entry ran: its moves, and each reply was written. `was` and `is` are held of the streams.
 pub record RunsEntry (old new : State) (was is : List Gathered) (e : Entry) (h0 h1 : Option (List ℕ)) : Type 0 where

@@ -2,8 +2,7 @@
 -- a connection (4), a length (4) and that many bytes that came on the connection. Length 0 closes the connection.
 use Rattle.std.specs.Prelude.{◌≡◌, ℕ, suc, ◌^◌, ◌<◌, ◌≤◌, List, ◌++◌, [], length, flat_map, All, ◌⊎◌, Option, nat_lt, Some, None, if◌then◌else◌}
 use Rattle.nfs_xdr.specs.Spelling.{number, hyper}
-use Rattle.nfs_serve.specs.declared.fault.Stop.{Stop}
-use Rattle.nfs_serve.specs.declared.fault.Stop.TheVariants.{Cut, Connection, Long, Late, Many, ReadFailed, WriteFailed}
+use Rattle.nfs_serve.specs.{declared.fault.Stop.Stop, declared.fault.Stop.TheVariants.{Cut, Connection, Long, Late, Many, ReadFailed, WriteFailed}}
 
 pub record Entry : Type 0 where
   pub moment : ℕ

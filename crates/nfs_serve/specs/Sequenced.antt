@@ -1,7 +1,6 @@
 -- Whether a session's SEQUENCE was answered (RFC 5531 section 9, RFC 8881 sections 16.2 and 18.46): what is put out for a record tells it.
 use Rattle.std.specs.Prelude.{ℕ, ◌==◌, ◌&&◌, List, Bool, false, Option, Some, None}
-use Rattle.nfs_xdr.specs.Limits.{opaque_limit}
-use Rattle.nfs_xdr.specs.Reading.{◌>>=◌, number_at, opaque_at}
+use Rattle.nfs_xdr.specs.{Limits.opaque_limit, Reading.{◌>>=◌, number_at, opaque_at}}
 
 -- Of a record with its mark: the mark, xid, REPLY, MSG_ACCEPTED, a verifier of no bytes, SUCCESS; the compound's status, its tag, how many
 -- operations were answered, and the number and status of the first.

@@ -1,19 +1,12 @@
 -- What contracts see of a server, and what a record, a piece and a close do to it.
-use Rattle.std.specs.Prelude.{◌≡◌, ℕ, List, [], ◌∷◌, ◌++◌, get_or, Bool, true, false, Option, Some, None, Result, Ok, Err, nat_eq, if◌then◌else◌}
-use Rattle.std.specs.Prelude.{replicate}
+use Rattle.std.specs.Prelude.{◌≡◌, ℕ, List, [], ◌∷◌, ◌++◌, get_or, Bool, true, false, Option, Some, None, Result, Ok, Err, nat_eq, if◌then◌else◌, replicate}
 use Rattle.std.specs.Io.KnownBytes.{Appends}
 use Rattle.nfs_xdr.specs.Text.{IsBytes}
-use Rattle.nfs_rpc.specs.RecordMarking.{Gathered, Begun, Failed, IsPart, start}
-use Rattle.nfs_rpc.specs.Stream.{End, Open, TooLong}
-use Rattle.nfs_serve.specs.declared.form.Form.{Form}
-use Rattle.nfs_serve.specs.declared.form.Flow.{Flow}
-use Rattle.nfs_serve.specs.declared.form.Outcome.{Outcome}
-use Rattle.nfs_serve.specs.declared.form.Outcome.TheVariants.{Reply, Silent}
+use Rattle.nfs_rpc.specs.{RecordMarking.{Gathered, Begun, Failed, IsPart, start}, Stream.{End, Open, TooLong}}
+use Rattle.nfs_serve.specs.{declared.form.Form.Form, declared.form.Flow.Flow, declared.form.Outcome.Outcome, declared.form.Outcome.TheVariants.{Reply, Silent}}
+use Rattle.nfs_serve.specs.{Script.connection_count, Step.{State, new_state, step}, Run.{Brings, Move, events, after, output, Breaks}}
 use Rattle.nfs_exec.specs.Step.Machine as exec
 use Rattle.nfs_exec.specs.Step.Machine.{machine_of}
-use Rattle.nfs_serve.specs.Script.{connection_count}
-use Rattle.nfs_serve.specs.Step.{State, new_state, step}
-use Rattle.nfs_serve.specs.Run.{Brings, Move, events, after, output, Breaks}
 
 -- what is held of a stream of which nothing has come
 abbrev pub fresh : Gathered

@@ -1,14 +1,10 @@
 -- What each answer of a connection shows of what was done.
 use Rattle.std.specs.Prelude.{ℕ, ◌<◌, ◌≤◌, List, [], ◌∷◌, length, take, Bool, true, false}
-use Rattle.nfs_serve.specs.Deeds.{Deed, over}
-use Rattle.nfs_serve.specs.Script.{last_connection}
-use Rattle.nfs_serve.specs.Desk.{Opened, Unready, ReadBlocked, WriteBlocked, Failed}
+use Rattle.nfs_serve.specs.{Deeds.{Deed, over}, Script.last_connection, Desk.{Opened, Unready, ReadBlocked, WriteBlocked, Failed}, declared.ports.Next.Next}
+use Rattle.nfs_serve.specs.{declared.ports.Came.Came, declared.ports.Took.Took}
 use Rattle.nfs_serve.specs.Desk as act
-use Rattle.nfs_serve.specs.declared.ports.Next.{Next}
 use Rattle.nfs_serve.specs.declared.ports.Next.TheVariants as next
-use Rattle.nfs_serve.specs.declared.ports.Came.{Came}
 use Rattle.nfs_serve.specs.declared.ports.Came.TheVariants as read
-use Rattle.nfs_serve.specs.declared.ports.Took.{Took}
 use Rattle.nfs_serve.specs.declared.ports.Took.TheVariants as written
 
 abbrev pub NamesPort : Next → Type 0

@@ -1,17 +1,11 @@
 -- The step of one record: its moment is taken, what has run out goes, and its call is answered (RFC 5531 section 9,
 -- RFC 8881 section 16).
 use Rattle.std.specs.Prelude.{ℕ, max, List, ◌++◌, length, Option, Some, None}
-use Rattle.nfs_rpc.specs.declared.refusal.Refusal.{Refusal}
-use Rattle.nfs_rpc.specs.declared.refusal.Refusal.TheVariants.{Silent, Accept}
-use Rattle.nfs_rpc.specs.declared.refusal.AcceptStat.TheVariants.{GarbageArgs}
-use Rattle.nfs_rpc.specs.declared.call.Procedure.{Procedure}
-use Rattle.nfs_rpc.specs.CallHead.{Call, Called, Accepted, Refused, call_of}
-use Rattle.nfs_rpc.specs.Reply.{spell_head, spell_refusal}
-use Rattle.nfs_compound.specs.Request.{Request}
-use Rattle.nfs_compound.specs.ReadRequest.{request_at}
-use Rattle.nfs_exec.specs.Step.Machine.{Machine, starts}
-use Rattle.nfs_exec.specs.Step.Compound.{Answered, compound}
-use Rattle.nfs_exec.specs.Step.Expiry.{expired}
+use Rattle.nfs_rpc.specs.{declared.refusal.Refusal.Refusal, declared.refusal.Refusal.TheVariants.{Silent, Accept}}
+use Rattle.nfs_rpc.specs.{declared.refusal.AcceptStat.TheVariants.GarbageArgs, declared.call.Procedure.Procedure}
+use Rattle.nfs_rpc.specs.{CallHead.{Call, Called, Accepted, Refused, call_of}, Reply.{spell_head, spell_refusal}}
+use Rattle.nfs_compound.specs.{Request.Request, ReadRequest.request_at}
+use Rattle.nfs_exec.specs.{Step.Machine.{Machine, starts}, Step.Compound.{Answered, compound}, Step.Expiry.expired}
 
 -- what lasts from one record to the next: the tables, and the moment that was taken last, in seconds
 pub record State : Type 0 where

@@ -1,10 +1,6 @@
 -- What comes of a sweep in the midst, and of who begins before it; private contracts alone speak of it.
 use Rattle.std.specs.Prelude.{◌≡◌, ◌⊎◌, ℕ, ◌<◌, ◌≤◌, List, [], ◌∷◌, flat_map, Bool, true, false, Option}
-use Rattle.nfs_serve.specs.Step.{State}
-use Rattle.nfs_serve.specs.Script.{last_connection}
-use Rattle.nfs_serve.specs.Told.{Told, Logs}
-use Rattle.nfs_serve.specs.Desk.{opened, HasMore, Opened}
-use Rattle.nfs_serve.specs.Deeds.{Deed, over}
+use Rattle.nfs_serve.specs.{Step.State, Script.last_connection, Told.{Told, Logs}, Desk.{opened, HasMore, Opened}, Deeds.{Deed, over}}
 use Rattle.nfs_serve.specs.Hub.{Desks, Round, OthersStay, Turning, InOrder, HasTurn, IsServed, shown_in, asked_in}
 
 -- the ports below one had their turns

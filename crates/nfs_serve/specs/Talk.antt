@@ -3,13 +3,9 @@
 use Rattle.std.specs.Prelude.{◌≡◌, ℕ, ◌<◌, ◌≤◌, List, [], ◌∷◌, ◌++◌, length, flat_map, map, All, Bool, true, false, Option}
 use Rattle.std.specs.Io.KnownBytes.{Consumes, Appends, IsAtEnd}
 use Rattle.nfs_rpc.specs.Stream.{End, Open, TooLong}
-use Rattle.nfs_serve.specs.Told.{Told, Moment, Logs}
-use Rattle.nfs_serve.specs.declared.talking.Talk.{Talk}
-use Rattle.nfs_serve.specs.declared.talking.Talk.TheVariants.{Ended, Shut, ReadFailed, WriteFailed, TooMany}
-use Rattle.nfs_serve.specs.declared.form.Form.TheVariants.{Plain}
-use Rattle.nfs_serve.specs.Script.{Entry, Fits}
-use Rattle.nfs_serve.specs.Step.{State}
-use Rattle.nfs_serve.specs.Run.{Streams, Runs, RunsInto}
+use Rattle.nfs_serve.specs.{Told.{Told, Moment, Logs}, declared.talking.Talk.Talk}
+use Rattle.nfs_serve.specs.{declared.talking.Talk.TheVariants.{Ended, Shut, ReadFailed, WriteFailed, TooMany}, declared.form.Form.TheVariants.Plain}
+use Rattle.nfs_serve.specs.{Script.{Entry, Fits}, Step.State, Run.{Streams, Runs, RunsInto}}
 
 abbrev pub max_reads : ℕ
 max_reads = 1000000

@@ -1,9 +1,7 @@
 -- A session's id from its 16 bytes.
 use Rattle.std.proofs.Common.{ℕ, ◌≡◌, ◌<◌, ◌≤◌, ◌++◌, inl, inr, List, take, drop, length, get_or, ap, ◌∙◌, arith, length-take-le, length-drop, take-append-drop}
+use Rattle.std.proofs.{lemmas.Nat.be_bytes_8, lemmas.Bool.cases_lt, lemmas.List.{get_or-take, get_or-drop, get_or_past}}
 use Rattle.std.specs.Int.{w64, to_be_bytes, from_be_bytes}
-use Rattle.std.proofs.lemmas.Nat.{be_bytes_8}
-use Rattle.std.proofs.lemmas.Bool.{cases_lt}
-use Rattle.std.proofs.lemmas.List.{get_or-take, get_or-drop, get_or_past}
 
 bytes_take : (bytes : List ℕ) (n : ℕ) → length bytes ≡ 16 → n ≤ 16 → ((i : ℕ) → get_or bytes i 0 < 256) → (i : ℕ) → get_or (take n bytes) i 0 < 256
 bytes_take bytes n all few small i = elim (cases_lt i n) [

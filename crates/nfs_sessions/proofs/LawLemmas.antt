@@ -1,21 +1,14 @@
 -- The sessions as a map, and the ids that are given.
-use Rattle.std.proofs.Common.{◌≡◌, inl, inr, ℕ, ◌+◌, suc, Bool, true, false, not, List, [], ◌∷◌, ◌++◌, Option, Some, None, refl, sym, ◌∙◌, ap, arith}
-use Rattle.std.proofs.Common.{subst}
-use Rattle.std.specs.Prelude.{◌==◌, if◌then◌else◌, find, option_map, option_to_list}
-use Rattle.std.specs.Result.{result_ok}
+use Rattle.std.proofs.Common.{◌≡◌, inl, inr, ℕ, ◌+◌, suc, Bool, true, false, not, List, [], ◌∷◌, ◌++◌, Option, Some, None, refl, sym, ◌∙◌, ap, arith, subst}
 use Rattle.std.proofs.lemmas.Bool.{cases_Bool, eqb-true, eq-eqb, and_parts, cond-true, cond-false}
+use Rattle.std.specs.{Prelude.{◌==◌, if◌then◌else◌, find, option_map, option_to_list}, Result.result_ok}
 use Rattle.nfs_xdr.specs.Tables.{IsRising}
-use Rattle.nfs_xdr.proofs.Tables.{IsRising-from, in_bounds}
-use Rattle.nfs_sessions.specs.declared.channel.Wish.{Wish}
-use Rattle.nfs_sessions.specs.declared.id.SessionId.{SessionId}
-use Rattle.nfs_sessions.specs.declared.sessions.SessionFault.{SessionFault}
-use Rattle.nfs_sessions.specs.Channel.{granted}
+use Rattle.nfs_xdr.proofs.{Tables.{IsRising-from, in_bounds}, Lists.{find_none, find_out, find_past, find_map_as, find_push, find_push_other}}
+use Rattle.nfs_sessions.specs.{declared.channel.Wish.Wish, declared.id.SessionId.SessionId, declared.sessions.SessionFault.SessionFault, Channel.granted}
 use Rattle.nfs_sessions.specs.SessionSlots.{GrantedSlots, unused}
 use Rattle.nfs_sessions.specs.Sessions.{Session, SessionTable, is_session, session_at, create_fault, create_unless, with_session, destroyed}
-use Rattle.nfs_sessions.specs.SessionTables.{IsSessions}
-use Rattle.nfs_sessions.specs.Sessions.{without_client, with_slots}
+use Rattle.nfs_sessions.specs.{SessionTables.IsSessions, Sessions.{without_client, with_slots}}
 use Rattle.nfs_sessions.specs.Laws.{is_id, SessionsAreAMap, Call, Create, Destroy, DropClient, Change, all_after, all_given, IdsRise}
-use Rattle.nfs_xdr.proofs.Lists.{find_none, find_out, find_past, find_map_as, find_push, find_push_other}
 
 -- no number of a table is its bound
 find_above : {X : Type 0} (number : X → ℕ) (n : ℕ) (p : X → Bool) → ((x : X) → p x ≡ true → number x ≡ n)

@@ -1,21 +1,14 @@
 -- The place of a session by its id: the counter names one session, and the client is compared there.
 use Rattle.std.proofs.Common.{◌≡◌, ◌<◌, ℕ, suc, Bool, true, false, cond, not, List, [], ◌∷◌, Option}
 use Rattle.std.proofs.Common.{Some, None, Result, refl, sym, ◌∙◌, ap, subst, arith, inl, inr, get_or, length}
-use Rattle.std.specs.Prelude.{◌==◌, filter, find, position, nat_lt}
-use Rattle.std.specs.List.{position_or_len, remove}
-use Rattle.std.proofs.lemmas.Bool.{cases_Bool, eqb-true, eq-eqb, lt-ltb, false≢true}
-use Rattle.std.proofs.lemmas.Option.{none-some}
-use Rattle.std.proofs.lemmas.List.Quantifiers.{position-Some}
+use Rattle.std.proofs.{lemmas.Bool.{cases_Bool, eqb-true, eq-eqb, lt-ltb, false≢true}, lemmas.Option.none-some, lemmas.List.Quantifiers.position-Some}
 use Rattle.std.proofs.lemmas.List.Sums.{position_or_len_is}
-use Rattle.std.specs.Result.{result_ok}
-use Rattle.std.specs.Ordering.{nat_cmp}
+use Rattle.std.specs.{Prelude.{◌==◌, filter, find, position, nat_lt}, List.{position_or_len, remove}, Result.result_ok, Ordering.nat_cmp}
 use Rattle.std.specs.List.Sorted.{IsSearchInRange, IsBinarySearchResult}
 use Rattle.nfs_xdr.specs.Tables.{IsRising, In}
 use Rattle.nfs_xdr.proofs.Lists.{find_none, none_in, filter_in, filter_all, some_or_none, position_finds, position_nowhere, in_at}
 use Rattle.nfs_xdr.proofs.Tables.{position_is, in_once, removed, searched}
-use Rattle.nfs_sessions.specs.declared.id.SessionId.{SessionId}
-use Rattle.nfs_sessions.specs.Sessions.{Session, SessionTable, is_session, session_at, destroyed}
-use Rattle.nfs_sessions.specs.SessionTables.{IsSessions}
+use Rattle.nfs_sessions.specs.{declared.id.SessionId.SessionId, Sessions.{Session, SessionTable, is_session, session_at, destroyed}, SessionTables.IsSessions}
 use Rattle.nfs_sessions.proofs.TableLemmas.{is_counter, sessions_filtered}
 
 nowhere_of : {X : Type 0} (p : X → Bool) (xs : List X) → find p xs ≡ None → position p xs ≡ None

@@ -1,18 +1,11 @@
 -- What keeps a table of sessions in order.
 use Rattle.std.proofs.Common.{◌≡◌, ℕ, ◌+◌, suc, Bool, true, false, List, [], ◌∷◌, set, Some, refl, sym, ◌∙◌, ap, arith, get_or, inl, inr}
+use Rattle.std.proofs.{lemmas.Bool.{cases_Bool, eqb-true, and_parts}, lemmas.Option.slice_get-get_or, lemmas.List.Quantifiers.position-Some}
 use Rattle.std.specs.Prelude.{◌==◌, if◌then◌else◌, filter, map, position, slice_get}
-use Rattle.std.proofs.lemmas.Bool.{cases_Bool, eqb-true, and_parts}
-use Rattle.std.proofs.lemmas.Option.{slice_get-get_or}
-use Rattle.std.proofs.lemmas.List.Quantifiers.{position-Some}
 use Rattle.nfs_xdr.specs.Tables.{In}
-use Rattle.nfs_xdr.proofs.Lists.{find_in}
-use Rattle.nfs_xdr.proofs.Tables.{IsRising-push, IsRising-map, IsRising-filter, in_once, one_changed}
-use Rattle.nfs_sessions.specs.declared.channel.Wish.{Wish}
-use Rattle.nfs_sessions.specs.declared.id.SessionId.{SessionId}
-use Rattle.nfs_sessions.specs.Channel.{granted}
-use Rattle.nfs_sessions.specs.SessionSlots.{GrantedSlots, unused}
-use Rattle.nfs_sessions.specs.Sessions.{Session, SessionTable, is_session, session_at, with_session, with_slots}
-use Rattle.nfs_sessions.specs.SessionTables.{IsSessions}
+use Rattle.nfs_xdr.proofs.{Lists.find_in, Tables.{IsRising-push, IsRising-map, IsRising-filter, in_once, one_changed}}
+use Rattle.nfs_sessions.specs.{declared.channel.Wish.Wish, declared.id.SessionId.SessionId, Channel.granted, SessionSlots.{GrantedSlots, unused}}
+use Rattle.nfs_sessions.specs.{Sessions.{Session, SessionTable, is_session, session_at, with_session, with_slots}, SessionTables.IsSessions}
 
 pub sessions_filtered : (t : SessionTable) (p : Session → Bool) → IsSessions t → IsSessions (record t { sessions = filter p t.sessions })
 sessions_filtered t p is = record { rising = IsRising-filter (λ (s : Session). s.counter) p 1 (suc t.last) t.sessions is.rising }

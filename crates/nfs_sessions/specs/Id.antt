@@ -1,6 +1,5 @@
 -- How a session's id is spelled: sessionid4, 16 bytes (RFC 8881 section 3.2).
-use Rattle.std.specs.Prelude.{ℕ, List, ◌++◌, take, drop}
-use Rattle.std.specs.Int.{w64, from_be_bytes}
+use Rattle.std.specs.{Prelude.{ℕ, List, ◌++◌, take, drop}, Int.{w64, from_be_bytes}}
 use Rattle.nfs_xdr.specs.Spelling.{hyper}
 use Rattle.nfs_sessions.specs.declared.id.SessionId.{SessionId}
 

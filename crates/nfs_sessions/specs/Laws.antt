@@ -2,10 +2,7 @@
 use Rattle.std.specs.Prelude.{◌≡◌, ℕ, ◌+◌, ◌==◌, suc, Bool, ◌&&◌, if◌then◌else◌, List, [], ◌∷◌, ◌++◌, Option, Some, None, option_map, option_to_list}
 use Rattle.std.specs.Result.{result_ok}
 use Rattle.nfs_xdr.specs.Tables.{IsRising}
-use Rattle.nfs_sessions.specs.declared.channel.Wish.{Wish}
-use Rattle.nfs_sessions.specs.declared.id.SessionId.{SessionId}
-use Rattle.nfs_sessions.specs.Channel.{granted}
-use Rattle.nfs_sessions.specs.SessionSlots.{GrantedSlots, unused}
+use Rattle.nfs_sessions.specs.{declared.channel.Wish.Wish, declared.id.SessionId.SessionId, Channel.granted, SessionSlots.{GrantedSlots, unused}}
 use Rattle.nfs_sessions.specs.Sessions.{Session, SessionTable, session_at, create, with_session, destroyed, without_client, with_slots}
 use Rattle.nfs_sessions.specs.SessionTables.{IsSessions}
 

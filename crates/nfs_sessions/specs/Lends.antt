@@ -1,9 +1,6 @@
 -- What a table of sessions ends as, once the slots that it lent for changes are given back.
-use Rattle.std.specs.Prelude.{Option}
-use Rattle.std.specs.Borrow.{Lends, LendsIf, MutBor, Fml}
-use Rattle.nfs_sessions.specs.declared.id.SessionId.{SessionId}
-use Rattle.nfs_sessions.specs.SessionSlots.{GrantedSlots}
-use Rattle.nfs_sessions.specs.Sessions.{Session, SessionTable, with_slots}
+use Rattle.std.specs.{Prelude.Option, Borrow.{Lends, LendsIf, MutBor, Fml}}
+use Rattle.nfs_sessions.specs.{declared.id.SessionId.SessionId, SessionSlots.GrantedSlots, Sessions.{Session, SessionTable, with_slots}}
 use Rattle.nfs_sessions.specs.contracts.sessions.Session as session
 use Rattle.nfs_sessions.specs.contracts.sessions.Sessions as table
 use Rattle.nfs_sessions.specs.contracts.slots.SessionSlots as slots

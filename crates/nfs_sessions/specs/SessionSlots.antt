@@ -1,8 +1,7 @@
 -- The slots of a session under the channel that was granted (RFC 8881 section 2.10.6.1). A slot keeps a reply without its RPC head.
 use Rattle.std.specs.Prelude.{ℕ, ◌-◌, List, replicate}
-use Rattle.nfs_slots.specs.Slot.{SlotState, SlotTable, unused_slot}
+use Rattle.nfs_slots.specs.{Slot.{SlotState, SlotTable, unused_slot}, declared.slot.Verdict.Verdict}
 use Rattle.nfs_slots.specs.Slot as slots
-use Rattle.nfs_slots.specs.declared.slot.Verdict.{Verdict}
 use Rattle.nfs_sessions.specs.declared.channel.Channel.{Channel}
 
 -- the bytes of an accepted reply's RPC head (RFC 5531 section 9)

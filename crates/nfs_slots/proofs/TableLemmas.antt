@@ -1,18 +1,10 @@
 -- A table of slots along a list of requests.
 use Rattle.std.proofs.Common.{◌≡◌, inl, inr, ℕ, ◌+◌, ◌-◌, ◌<◌, ◌≤◌, ◌%◌, ◌^◌, suc, zero, Bool, true, false, cond, List, [], ◌∷◌, map, set, Option, Some, None}
-use Rattle.std.proofs.Common.{refl, sym, ◌∙◌, ap, arith, zero-add}
-use Rattle.std.specs.Prelude.{◌==◌, if◌then◌else◌, not, ◌&&◌, slice_get, count_by, bytes_eq, length, All}
-use Rattle.std.specs.Option.{option_map_or}
-use Rattle.std.proofs.lemmas.Bool.{cases_eq, ne_eqb, eq-eqb, eqb-true}
-use Rattle.std.proofs.lemmas.List.{map-set}
-use Rattle.std.proofs.lemmas.List.Elements.{All-head, All-tail}
-use Rattle.std.proofs.lemmas.List.Sums.{sum_by-cons}
-use Rattle.std.proofs.lemmas.Slice.Eq.{bytes_eq-Decides}
-use Rattle.nfs_slots.specs.declared.slot.Slot.{Slot}
-use Rattle.nfs_slots.specs.declared.slot.Verdict.TheVariants.{Fresh, Again, FalseRetry, Misordered, NoSlot}
-use Rattle.nfs_slots.specs.Slot.{SlotState, SlotTable, next_number, judge_slot, slot_at, judge, keep}
-use Rattle.nfs_slots.specs.SlotTables.{IsBounded}
-use Rattle.nfs_slots.specs.Buffers.{state_of, IsWithinRoom}
+use Rattle.std.proofs.{Common.{refl, sym, ◌∙◌, ap, arith, zero-add}, lemmas.Bool.{cases_eq, ne_eqb, eq-eqb, eqb-true}, lemmas.List.map-set}
+use Rattle.std.proofs.{lemmas.List.Elements.{All-head, All-tail}, lemmas.List.Sums.sum_by-cons, lemmas.Slice.Eq.bytes_eq-Decides}
+use Rattle.std.specs.{Prelude.{◌==◌, if◌then◌else◌, not, ◌&&◌, slice_get, count_by, bytes_eq, length, All}, Option.option_map_or}
+use Rattle.nfs_slots.specs.{declared.slot.Slot.Slot, declared.slot.Verdict.TheVariants.{Fresh, Again, FalseRetry, Misordered, NoSlot}}
+use Rattle.nfs_slots.specs.{Slot.{SlotState, SlotTable, next_number, judge_slot, slot_at, judge, keep}, SlotTables.IsBounded, Buffers.{state_of, IsWithinRoom}}
 use Rattle.nfs_slots.specs.Laws.{Request, is_on, Keeps, OnePlace, RepeatsAreAnswered}
 
 -- what a slot's buffers stand for, put into the table

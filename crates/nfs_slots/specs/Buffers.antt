@@ -1,7 +1,6 @@
 -- How a slot is kept: in buffers with room that was reserved.
 use Rattle.std.specs.Prelude.{ℕ, ◌≤◌, length, vec_capacity}
-use Rattle.nfs_slots.specs.Slot.{SlotState}
-use Rattle.nfs_slots.specs.declared.slot.Slot.{Slot}
+use Rattle.nfs_slots.specs.{Slot.SlotState, declared.slot.Slot.Slot}
 
 -- what a slot's buffers stand for
 abbrev pub state_of : Slot → SlotState

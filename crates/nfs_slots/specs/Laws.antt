@@ -1,7 +1,6 @@
 -- What holds of every list of requests that a table of slots keeps.
 use Rattle.std.specs.Prelude.{◌≡◌, ℕ, ◌-◌, ◌^◌, ◌≤◌, ◌==◌, Bool, List, [], ◌∷◌, count_by}
-use Rattle.nfs_slots.specs.declared.slot.Verdict.TheVariants.{Fresh, Again}
-use Rattle.nfs_slots.specs.Slot.{SlotTable, judge, keep, kept}
+use Rattle.nfs_slots.specs.{declared.slot.Verdict.TheVariants.{Fresh, Again}, Slot.{SlotTable, judge, keep, kept}}
 
 -- a request that ran, and its reply
 pub record Request : Type 0 where

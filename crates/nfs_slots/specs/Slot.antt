@@ -1,8 +1,7 @@
 -- A slot of a session, and what it says of a request's number (RFC 8881 section 2.10.6.1).
 use Rattle.std.specs.Prelude.{ℕ, ◌+◌, ◌%◌, ◌^◌, ◌==◌, Bool, true, false, not, ◌&&◌, if◌then◌else◌, List, [], Option, bytes_eq, slice_get, slice_set}
 use Rattle.std.specs.Option.{option_map_or}
-use Rattle.nfs_slots.specs.declared.slot.Verdict.{Verdict}
-use Rattle.nfs_slots.specs.declared.slot.Verdict.TheVariants.{Fresh, Again, FalseRetry, Misordered, NoSlot}
+use Rattle.nfs_slots.specs.{declared.slot.Verdict.Verdict, declared.slot.Verdict.TheVariants.{Fresh, Again, FalseRetry, Misordered, NoSlot}}
 
 -- a slot: the number of its last request, whether it took one, and of that request the caller, the argument bytes that a repeat is compared by, and the
 -- reply

@@ -1,10 +1,8 @@
 -- What every table of slots keeps, and what its calls answer.
-use Rattle.std.specs.Prelude.{ℕ, ◌≤◌, List, [], replicate, length}
-use Rattle.std.specs.Option.{option_map_or}
+use Rattle.std.specs.{Prelude.{ℕ, ◌≤◌, List, [], replicate, length}, Option.option_map_or}
 use Rattle.nfs_xdr.specs.declared.status.Status.{Status}
 use Rattle.nfs_xdr.specs.declared.status.Status.TheVariants as status
-use Rattle.nfs_slots.specs.Slot.{SlotTable, unused_slot, slot_at, kept}
-use Rattle.nfs_slots.specs.declared.slot.Verdict.{Verdict}
+use Rattle.nfs_slots.specs.{Slot.{SlotTable, unused_slot, slot_at, kept}, declared.slot.Verdict.Verdict}
 use Rattle.nfs_slots.specs.declared.slot.Verdict.TheVariants.{Fresh, Again, FalseRetry, Misordered, NoSlot}
 
 abbrev pub unused : ℕ → ℕ → ℕ → SlotTable

@@ -1,15 +1,9 @@
 -- Room for a result on a sheet of 2,200 bytes, and a head that stands in front of it.
 use Rattle.std.proofs.Common.{◌≡◌, ℕ, ◌+◌, ◌≤◌, Bool, true, false, cond, eqb, List, [], ◌++◌, length, append_assoc, ap, sym, ◌∙◌, arith}
 use Rattle.std.proofs.lemmas.List.{append-nil, length-append}
-use Rattle.nfs_xdr.specs.SheetState.{SheetState, HasRoom, Puts}
-use Rattle.nfs_xdr.specs.declared.status.Status.{Status}
-use Rattle.nfs_xdr.specs.declared.status.Status.TheVariants.{Nfs4Ok}
-use Rattle.nfs_results.specs.OpenHead.{HeadsAt, HasHead}
-use Rattle.nfs_results.specs.declared.res.Res.{Res}
-use Rattle.nfs_results.specs.Results.{operation_of, spell_result, spell_compound_head}
-use Rattle.nfs_results.specs.ResultCodec.{HasArrays}
-use Rattle.nfs_results.specs.Largest.{largest_of}
-use Rattle.nfs_results.specs.MayAnswer.{HasSizes}
+use Rattle.nfs_xdr.specs.{SheetState.{SheetState, HasRoom, Puts}, declared.status.Status.Status, declared.status.Status.TheVariants.Nfs4Ok}
+use Rattle.nfs_results.specs.{OpenHead.{HeadsAt, HasHead}, declared.res.Res.Res, Results.{operation_of, spell_result, spell_compound_head}}
+use Rattle.nfs_results.specs.{ResultCodec.HasArrays, Largest.largest_of, MayAnswer.HasSizes}
 use Rattle.nfs_results.proofs.Lengths.{behind_within, length_spelled, length_head_within}
 
 either : (b : Bool) (x y : ℕ) → x ≤ 1064 → y ≤ 1064 → cond b x y ≤ 1064

@@ -1,18 +1,12 @@
 -- The climb meets what names lead from.
 use Rattle.std.proofs.Common.{◌≡◌, ℕ, zero, suc, ◌≤◌, Bool, true, false, List, [], ◌∷◌, ◌++◌, length, Option, Some, None, refl, sym, ◌∙◌, ap, arith, inl, inr}
-use Rattle.std.specs.Prelude.{◌==◌, find}
-use Rattle.std.specs.Option.{option_map_or}
 use Rattle.std.proofs.lemmas.Bool.{cases_Bool, eqb-true, eq-eqb, false≢true}
+use Rattle.std.specs.{Prelude.{◌==◌, find}, Option.option_map_or}
 use Rattle.nfs_xdr.specs.Tables.{In}
 use Rattle.nfs_xdr.proofs.Lists.{find_in}
-use Rattle.nfs_tree.specs.declared.row.Row.{Row}
-use Rattle.nfs_tree.specs.Files.{entry, is_directory_at, is_there, parent_in}
-use Rattle.nfs_tree.specs.Names.{is_at_or_below}
-use Rattle.nfs_tree.specs.Walks.{walk}
-use Rattle.nfs_tree.specs.TreeInvariants.{Grounded}
+use Rattle.nfs_tree.specs.{declared.row.Row.Row, Files.{entry, is_directory_at, is_there, parent_in}, Names.is_at_or_below, Walks.walk, TreeInvariants.Grounded}
 use Rattle.nfs_tree.specs.Laws.{BelowIsReached}
-use Rattle.nfs_tree.proofs.Walked.{Ends, ends, then_walk}
-use Rattle.nfs_tree.proofs.Move.{AreUnique, unique_of, depth_bound, parent_is}
+use Rattle.nfs_tree.proofs.{Walked.{Ends, ends, then_walk}, Move.{AreUnique, unique_of, depth_bound, parent_is}}
 
 -- the climb that begins at what it looks for
 at_top : (rows : List Row) (top fuel d : ℕ) → top ≡ d → is_at_or_below rows top fuel d ≡ true

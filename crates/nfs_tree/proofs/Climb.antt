@@ -1,15 +1,10 @@
 -- The climb that looks whether an object lies at or below another: its steps, by rows, and that it meets no object without entries.
 use Rattle.std.proofs.Common.{◌≡◌, ℕ, zero, suc, ◌<◌, Bool, true, false, List, [], ◌∷◌, length, Option, Some, None, refl, sym, ◌∙◌, ap, subst, arith, inl, inr}
-use Rattle.std.specs.Prelude.{◌==◌, ◌||◌, find}
 use Rattle.std.proofs.lemmas.Bool.{cases_Bool, eqb-true, eq-eqb, false≢true}
-use Rattle.std.specs.Option.{option_map_or}
-use Rattle.nfs_tree.specs.declared.row.Row.{Row}
+use Rattle.std.specs.{Prelude.{◌==◌, ◌||◌, find}, Option.option_map_or}
+use Rattle.nfs_tree.specs.{declared.row.Row.Row, Files.{parent_in, has_entries}, Names.is_at_or_below, Maps.HasOneRow, TreeInvariants.AreRows}
 use Rattle.nfs_xdr.specs.Tables.{In}
 use Rattle.nfs_xdr.proofs.Lists.{find_in, none_in, none_any}
-use Rattle.nfs_tree.specs.Files.{parent_in, has_entries}
-use Rattle.nfs_tree.specs.Names.{is_at_or_below}
-use Rattle.nfs_tree.specs.Maps.{HasOneRow}
-use Rattle.nfs_tree.specs.TreeInvariants.{AreRows}
 
 pub climb_step : (rows : List Row) (top n m at p : ℕ) (whole : Bool) → n ≡ suc m → (at == top) ≡ false
     → parent_in rows at ≡ Some p → is_at_or_below rows top n at ≡ whole → is_at_or_below rows top m p ≡ whole

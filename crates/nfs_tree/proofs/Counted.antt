@@ -1,14 +1,10 @@
 -- How many rows name an object, and what is counted of them behind one that comes and one that goes.
 use Rattle.std.proofs.Common.{◌≡◌, ℕ, ◌+◌, ◌-◌, ◌<◌, ◌≤◌, ◌^◌, suc, Bool, true, false, List, [], ◌∷◌, ◌++◌, length, Option, refl, sym, ◌∙◌, ap, arith, inl, inr}
-use Rattle.std.specs.Prelude.{◌==◌, nat_lt, if◌then◌else◌}
 use Rattle.std.proofs.lemmas.Bool.{cases_Bool, eq-eqb, eqb-true, ne_eqb, lt-ltb, ltb-true, ltb-false}
+use Rattle.std.specs.Prelude.{◌==◌, nat_lt, if◌then◌else◌}
 use Rattle.nfs_xdr.specs.Tables.{IsRising, In, without_record}
-use Rattle.nfs_xdr.proofs.Lists.{count_push, length_filter}
-use Rattle.nfs_xdr.proofs.Tables.{at_below, in_bounds, without_none}
-use Rattle.nfs_tree.specs.declared.row.Row.{Row}
-use Rattle.nfs_tree.specs.Files.{links_in, has_row}
-use Rattle.nfs_tree.specs.Counts.{CountsAnew}
-use Rattle.nfs_tree.specs.Maps.{AreCounted, AreNamed}
+use Rattle.nfs_xdr.proofs.{Lists.{count_push, length_filter}, Tables.{at_below, in_bounds, without_none}}
+use Rattle.nfs_tree.specs.{declared.row.Row.Row, Files.{links_in, has_row}, Counts.CountsAnew, Maps.{AreCounted, AreNamed}}
 use Rattle.nfs_tree.proofs.MapLemmas.{cookie}
 
 abbrev bit : Bool → ℕ

@@ -1,26 +1,14 @@
 -- What stands behind CREATE and REMOVE.
 use Rattle.std.proofs.Common.{◌≡◌, ◌≢◌, ℕ, suc, ◌+◌, Bool, true, false, not, List, [], ◌∷◌, length, Option, Some, None, refl, sym, ◌∙◌, ap, subst, arith, inl, inr}
-use Rattle.std.specs.Prelude.{◌==◌, filter, option_map, unwrap_or, Ok}
-use Rattle.std.specs.List.{list_any}
 use Rattle.std.proofs.lemmas.Bool.{cases_Bool, eqb-true, false≢true}
-use Rattle.nfs_xdr.specs.Tables.{In}
+use Rattle.std.specs.{Prelude.{◌==◌, filter, option_map, unwrap_or, Ok}, List.list_any}
+use Rattle.nfs_xdr.specs.{Tables.In, declared.time.Time.Time}
 use Rattle.nfs_xdr.proofs.Lists.{in_filter, in_push, in_any, find_in, find_out, find_push_none, none_left}
-use Rattle.nfs_xdr.specs.declared.time.Time.{Time}
-use Rattle.nfs_tree.specs.declared.row.Row.{Row}
-use Rattle.nfs_tree.specs.declared.sets.Sets.{Sets}
-use Rattle.nfs_tree.specs.declared.done.Created.{Created}
-use Rattle.nfs_tree.specs.declared.done.Removed.{Removed}
-use Rattle.nfs_tree.specs.declared.fault.TreeFault.{TreeFault}
-use Rattle.nfs_tree.specs.Files.{Files, root, is_entry, entry, lookup, named, has_entries, without_entry, raised}
-use Rattle.nfs_tree.specs.Calls.{does_unless, create, create_fault, remove, remove_fault}
-use Rattle.nfs_tree.specs.Create.{New, with_new}
-use Rattle.nfs_tree.specs.Names.{without_name}
-use Rattle.nfs_tree.specs.TreeInvariants.{IsTree}
+use Rattle.nfs_tree.specs.{declared.row.Row.Row, declared.sets.Sets.Sets, declared.done.Created.Created, declared.done.Removed.Removed}
+use Rattle.nfs_tree.specs.{declared.fault.TreeFault.TreeFault, Files.{Files, root, is_entry, entry, lookup, named, has_entries, without_entry, raised}}
+use Rattle.nfs_tree.specs.{Calls.{does_unless, create, create_fault, remove, remove_fault}, Create.{New, with_new}, Names.without_name, TreeInvariants.IsTree}
 use Rattle.nfs_tree.specs.Laws.{CreatedIsFound, RemovedIsAbsent, RemovedIsEmpty, IsUnused, NewIsUnused, UnlinkedIsUnnamed}
-use Rattle.nfs_tree.proofs.RowsKept.{entry_self}
-use Rattle.nfs_tree.proofs.Objects.{stored_within}
-use Rattle.nfs_tree.proofs.Trees.{remove_granted, row_of}
-use Rattle.nfs_tree.proofs.Put.{create_granted, directory_there}
+use Rattle.nfs_tree.proofs.{RowsKept.entry_self, Objects.stored_within, Trees.{remove_granted, row_of}, Put.{create_granted, directory_there}}
 
 -- nothing refused what answers, and the answer is the one that it gives
 went : {A : Type 0} (t : Files) (o : Option TreeFault) (answer told : A) (after : Files)

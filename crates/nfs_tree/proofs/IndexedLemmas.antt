@@ -1,23 +1,13 @@
 -- What each change of the slab and of the map makes of the list of objects.
 use Rattle.std.proofs.Common.{◌≡◌, ◌≢◌, ℕ, ◌+◌, ◌<◌, suc, not, List, [], ◌∷◌, ◌++◌, map, Option, Some, None, refl, sym, ◌∙◌, ap, arith, subst, inl, inr}
-use Rattle.std.specs.Prelude.{slice_index_or, length, zero, ◌==◌, filter, if◌then◌else◌, option_map}
-use Rattle.std.specs.Option.{option_and_then}
-use Rattle.std.proofs.lemmas.Bool.{cases_eq, ne_eqb, eq-eqb}
-use Rattle.std.proofs.lemmas.List.{get_or-set_same, get_or-set_other, map-append}
-use Rattle.slab.specs.Slab.{with_value}
-use Rattle.std.specs.Ordering.{nat_cmp}
-use Rattle.std.specs.BTreeMap.{is_at, insert_entry}
-use Rattle.std.specs.Map.{lookup, remove_entry}
-use Rattle.slab.specs.Slab.{Slab, get, Updates}
-use Rattle.nfs_xdr.specs.Tables.{IsRising}
-use Rattle.nfs_xdr.specs.declared.time.Time.{Time}
+use Rattle.std.proofs.{lemmas.Bool.{cases_eq, ne_eqb, eq-eqb}, lemmas.List.{get_or-set_same, get_or-set_other, map-append}}
+use Rattle.std.specs.{Prelude.{slice_index_or, length, zero, ◌==◌, filter, if◌then◌else◌, option_map}, Option.option_and_then, Ordering.nat_cmp}
+use Rattle.std.specs.{BTreeMap.{is_at, insert_entry}, Map.{lookup, remove_entry}}
+use Rattle.slab.specs.Slab.{with_value, Slab, get, Updates}
+use Rattle.nfs_xdr.specs.{Tables.IsRising, declared.time.Time.Time}
 use Rattle.nfs_xdr.proofs.Tables.{IsRising-push}
-use Rattle.nfs_tree.specs.declared.stored.Body.{Body}
-use Rattle.nfs_tree.specs.declared.stored.Stored.{Stored}
-use Rattle.nfs_tree.specs.declared.sets.Sets.{Sets}
-use Rattle.nfs_tree.specs.Files.{root, last_count, change_at, with_changed, stored_in}
-use Rattle.nfs_tree.specs.Calls.{CanChange}
-use Rattle.nfs_tree.specs.Indexed.{stored, numbered, AreObjects}
+use Rattle.nfs_tree.specs.{declared.stored.Body.Body, declared.stored.Stored.Stored, declared.sets.Sets.Sets}
+use Rattle.nfs_tree.specs.{Files.{root, last_count, change_at, with_changed, stored_in}, Calls.CanChange, Indexed.{stored, numbered, AreObjects}}
 use Rattle.nfs_tree.proofs.StoredLemmas.{insert_last, free_vacant, stored_push, stored_apart, stored_remove, AreStored-push, stored_find, stored_write, filter_none, map_none, found_keeps, rising_keys, led_new, led_without, led_write}
 
 abbrev number : Stored → ℕ

@@ -1,21 +1,12 @@
 -- What a change of either map of names leaves at each name in each directory.
 use Rattle.std.proofs.Common.{◌≡◌, ℕ, ◌<◌, ◌≤◌, ◌^◌, Bool, true, false, cond, List, length, take, drop, Option, refl, sym, ◌∙◌, ap, inl, inr}
-use Rattle.std.specs.Prelude.{◌==◌, ◌&&◌, nat_le, bytes_eq}
-use Rattle.std.specs.Int.{to_be_bytes, from_be_bytes, w64}
-use Rattle.std.specs.Ordering.{nat_cmp, is_eq, eq_by_cmp}
-use Rattle.std.specs.Cmp.{eq_by_cmp_equiv}
-use Rattle.std.specs.Cmp.Lexicographic.{slice_cmp}
-use Rattle.std.specs.BTreeMap.{BTreeMap, is_at, Updates, UpdatesBy}
-use Rattle.std.specs.Map.{lookup, KeepsOthers, IsKeyTest, AreApart}
-use Rattle.std.proofs.lemmas.Bool.{cases_Bool, eq-eqb, eqb-true, and_parts, false≢true, leb-true, le-leb, lt-leb}
-use Rattle.std.proofs.lemmas.Cmp.{nat_list_cmp_total}
-use Rattle.std.proofs.lemmas.Map.Text.{is_eq-slice_cmp}
-use Rattle.std.proofs.lemmas.Nat.{from_be_bytes-to_be_bytes_8}
-use Rattle.std.proofs.lemmas.Slice.Eq.{bytes_eq-Decides}
+use Rattle.std.proofs.{lemmas.Bool.{cases_Bool, eq-eqb, eqb-true, and_parts, false≢true, leb-true, le-leb, lt-leb}, lemmas.Cmp.nat_list_cmp_total}
+use Rattle.std.proofs.{lemmas.Map.Text.is_eq-slice_cmp, lemmas.Nat.from_be_bytes-to_be_bytes_8, lemmas.Slice.Eq.bytes_eq-Decides}
 use Rattle.std.proofs.lemmas.List.{take_at, drop_at}
+use Rattle.std.specs.{Prelude.{◌==◌, ◌&&◌, nat_le, bytes_eq}, Int.{to_be_bytes, from_be_bytes, w64}, Ordering.{nat_cmp, is_eq, eq_by_cmp}, Cmp.eq_by_cmp_equiv}
+use Rattle.std.specs.{Cmp.Lexicographic.slice_cmp, BTreeMap.{BTreeMap, is_at, Updates, UpdatesBy}, Map.{lookup, KeepsOthers, IsKeyTest, AreApart}}
 use Rattle.nfs_xdr.specs.Text.{IsBytes}
-use Rattle.nfs_tree.specs.declared.by_name.ShortKey.{ShortKey}
-use Rattle.nfs_tree.specs.ByName.{key_of, spelled_at, short_key, short_cmp, cookie_at, NamesAnew}
+use Rattle.nfs_tree.specs.{declared.by_name.ShortKey.ShortKey, ByName.{key_of, spelled_at, short_key, short_cmp, cookie_at, NamesAnew}}
 use Rattle.nfs_tree.proofs.ShortKeys.{short_same}
 
 spells : (d0 d : ℕ) (n0 n : List ℕ) → d0 < 2 ^ 64 → d < 2 ^ 64 → key_of d0 n0 ≡ key_of d n → (d0 ≡ d) × (n0 ≡ n)

@@ -1,23 +1,12 @@
 -- What a listing has left, from its start on and behind each entry.
 use Rattle.std.proofs.Common.{◌≡◌, ◌≢◌, ℕ, ◌<◌, ◌≤◌, Bool, true, List, [], ◌∷◌, refl, sym, ◌∙◌, ap, subst, arith, inl, inr}
-use Rattle.std.specs.Prelude.{filter}
-use Rattle.std.specs.List.{AllByRecursion, list_any}
-use Rattle.std.specs.List.Sorted.{IsStrictlySortedBy}
-use Rattle.std.specs.Map.{keys_of}
-use Rattle.std.specs.BTreeMap.{is_at}
-use Rattle.std.specs.BTreeMap.Range.{range_contains}
-use Rattle.std.specs.declared.cmp.Ordering.TheVariants.{Less}
-use Rattle.std.specs.declared.ops.Bound.TheVariants.{Excluded, Unbounded}
-use Rattle.std.proofs.lemmas.Bool.{cases_Bool, eq-eqb, false_from_ne_true, false≢true}
-use Rattle.std.proofs.lemmas.Bool.Decides.{nat_tests}
+use Rattle.std.proofs.{lemmas.Bool.{cases_Bool, eq-eqb, false_from_ne_true, false≢true}, lemmas.Bool.Decides.nat_tests}
+use Rattle.std.specs.{Prelude.filter, List.{AllByRecursion, list_any}, List.Sorted.IsStrictlySortedBy, Map.keys_of, BTreeMap.is_at}
+use Rattle.std.specs.{BTreeMap.Range.range_contains, declared.cmp.Ordering.TheVariants.Less, declared.ops.Bound.TheVariants.{Excluded, Unbounded}}
 use Rattle.nfs_xdr.specs.Tables.{In}
 use Rattle.nfs_xdr.proofs.Lists.{in_filter, stays_in}
-use Rattle.nfs_tree.specs.declared.row.Row.{Row}
-use Rattle.nfs_tree.specs.Files.{listed, listing}
-use Rattle.nfs_tree.specs.Left.{ArePaired, AreAbove, AreLeft}
-use Rattle.nfs_tree.specs.Maps.{pair_cmp, has_pair, is_pair}
-use Rattle.nfs_tree.proofs.MapLemmas.{listing_none, listing_next}
-use Rattle.nfs_tree.proofs.PairLemmas.{pair_at, pair_is, pair_row, row_pair}
+use Rattle.nfs_tree.specs.{declared.row.Row.Row, Files.{listed, listing}, Left.{ArePaired, AreAbove, AreLeft}, Maps.{pair_cmp, has_pair, is_pair}}
+use Rattle.nfs_tree.proofs.{MapLemmas.{listing_none, listing_next}, PairLemmas.{pair_at, pair_is, pair_row, row_pair}}
 
 abbrev Pair : Type 0
 Pair = (ℕ × ℕ) × Unit {0}

@@ -1,21 +1,14 @@
 -- What changes of the maps make of the list of rows.
 use Rattle.std.proofs.Common.{◌≡◌, ℕ, ◌<◌, ◌≤◌, ◌+◌, ◌^◌, suc, Bool, true, false, cond, not, List, [], ◌∷◌, ◌++◌, map, length, Option, Some, None, refl, sym, ◌∙◌, ap, arith, inl, inr}
-use Rattle.std.specs.Prelude.{◌==◌, ◌&&◌, filter, find, option_map, is_some, bytes_eq, nat_lt}
-use Rattle.std.proofs.lemmas.Bool.{cases_Bool, eq-eqb, ne_eqb, eqb-true, and_parts, false≢true}
-use Rattle.std.proofs.lemmas.Bool.Decides.{nat_tests}
+use Rattle.std.proofs.{lemmas.Bool.{cases_Bool, eq-eqb, ne_eqb, eqb-true, and_parts, false≢true}, lemmas.Bool.Decides.nat_tests}
 use Rattle.std.proofs.lemmas.Slice.Eq.{bytes_eq-Decides}
-use Rattle.nfs_xdr.specs.Text.{IsBytes}
-use Rattle.nfs_xdr.specs.Tables.{IsRising, In, record_at, without_record}
+use Rattle.std.specs.Prelude.{◌==◌, ◌&&◌, filter, find, option_map, is_some, bytes_eq, nat_lt}
+use Rattle.nfs_xdr.specs.{Text.IsBytes, Tables.{IsRising, In, record_at, without_record}}
 use Rattle.nfs_xdr.proofs.Lists.{any_in, in_filter, in_push, find_in, none_in, find_none, find_kept, find_past, find_out, find_push, find_push_some, find_push_other, filter_in, filter_all, some_or_none}
 use Rattle.nfs_xdr.proofs.Tables.{IsRising-push, IsRising-filter, in_bounds, in_once, at_of_in}
-use Rattle.nfs_tree.specs.declared.row.Found.{Found}
-use Rattle.nfs_tree.specs.declared.row.Row.{Row}
-use Rattle.nfs_tree.specs.Finding.{found_of, found_at}
-use Rattle.nfs_tree.specs.Files.{most_name, is_entry, entry, has_row, without_entry, listed, listing}
-use Rattle.nfs_tree.specs.ByName.{NamesAnew}
-use Rattle.nfs_tree.specs.Maps.{AreNamed, ArePairs}
-use Rattle.nfs_tree.proofs.PairLemmas.{row_pair}
-use Rattle.nfs_tree.proofs.RowsKept.{entry_parts, entry_self, found_put, either}
+use Rattle.nfs_tree.specs.{declared.row.Found.Found, declared.row.Row.Row, Finding.{found_of, found_at}}
+use Rattle.nfs_tree.specs.{Files.{most_name, is_entry, entry, has_row, without_entry, listed, listing}, ByName.NamesAnew, Maps.{AreNamed, ArePairs}}
+use Rattle.nfs_tree.proofs.{PairLemmas.row_pair, RowsKept.{entry_parts, entry_self, found_put, either}}
 
 abbrev pub cookie : Row → ℕ
 cookie r = r.cookie

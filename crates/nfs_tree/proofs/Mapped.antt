@@ -1,20 +1,12 @@
 -- The maps of rows behind each of their changes.
 use Rattle.std.proofs.Common.{◌≡◌, ℕ, ◌<◌, ◌≤◌, ◌+◌, ◌^◌, List, [], ◌∷◌, ◌++◌, length, true, false, cond, Option, Some, None, refl, sym, ◌∙◌, ap, arith, subst}
-use Rattle.std.specs.Prelude.{◌==◌, ◌&&◌, ◌-◌, Bool, is_some, if◌then◌else◌}
-use Rattle.std.specs.BTreeMap.{is_at, insert_entry}
-use Rattle.std.specs.Map.{lookup}
 use Rattle.std.proofs.lemmas.Bool.{and_parts, leb-true}
+use Rattle.std.specs.{Prelude.{◌==◌, ◌&&◌, ◌-◌, Bool, is_some, if◌then◌else◌}, BTreeMap.{is_at, insert_entry}, Map.lookup}
 use Rattle.nfs_xdr.specs.Tables.{IsRising, In, without_record}
-use Rattle.nfs_xdr.proofs.Lists.{find_in, push_in}
-use Rattle.nfs_xdr.proofs.Tables.{IsRising-push}
-use Rattle.nfs_tree.specs.declared.row.Row.{Row}
-use Rattle.nfs_tree.specs.Files.{most_name, is_name, is_entry, entry, has_row, without_entry}
-use Rattle.nfs_tree.specs.Counts.{CountsAnew}
-use Rattle.nfs_tree.specs.ByName.{NamesAnew}
+use Rattle.nfs_xdr.proofs.{Lists.{find_in, push_in}, Tables.IsRising-push}
+use Rattle.nfs_tree.specs.{declared.row.Row.Row, Files.{most_name, is_name, is_entry, entry, has_row, without_entry}, Counts.CountsAnew, ByName.NamesAnew}
 use Rattle.nfs_tree.specs.Maps.{pair_cmp, has_pair, AreCounted, ArePairs, AreMapped}
-use Rattle.nfs_tree.proofs.RowsKept.{entry_parts}
-use Rattle.nfs_tree.proofs.PairLemmas.{pair_put, pair_gone, pairs_put, pairs_gone}
-use Rattle.nfs_tree.proofs.Counted.{counted_put, counted_gone}
+use Rattle.nfs_tree.proofs.{RowsKept.entry_parts, PairLemmas.{pair_put, pair_gone, pairs_put, pairs_gone}, Counted.{counted_put, counted_gone}}
 use Rattle.nfs_tree.proofs.MapLemmas.{cookie, named_put, named_over, named_gone, none_gone, gone_before, gone_same}
 
 -- behind a row that came, with its cookie the last

@@ -1,17 +1,11 @@
 -- An entry that moves: no directory comes to lie below itself, and every directory stays reached.
 use Rattle.std.proofs.Common.{◌≡◌, ◌≢◌, ℕ, zero, suc, ◌<◌, ◌≤◌, Bool, true, false, not, List, [], ◌∷◌, ◌++◌, length, Option, Some}
-use Rattle.std.proofs.Common.{None, refl, sym, ◌∙◌, ap, subst, arith, inl, inr}
-use Rattle.std.specs.Prelude.{◌==◌, ◌||◌, find, filter}
-use Rattle.std.specs.Option.{option_map_or}
-use Rattle.std.proofs.lemmas.Bool.{cases_Bool, eqb-true, eq-eqb, false≢true}
+use Rattle.std.proofs.{Common.{None, refl, sym, ◌∙◌, ap, subst, arith, inl, inr}, lemmas.Bool.{cases_Bool, eqb-true, eq-eqb, false≢true}}
+use Rattle.std.specs.{Prelude.{◌==◌, ◌||◌, find, filter}, Option.option_map_or}
 use Rattle.nfs_xdr.specs.Tables.{In}
 use Rattle.nfs_xdr.proofs.Lists.{in_filter, stays_in, in_push, push_in, last_in, find_in, none_in, find_kept, find_none_kept, count_filter, length_fewer}
 use Rattle.nfs_xdr.proofs.Lists.{count_dropped}
-use Rattle.nfs_tree.specs.declared.row.Row.{Row}
-use Rattle.nfs_tree.specs.Files.{root, most_links, is_name, is_entry, entry}
-use Rattle.nfs_tree.specs.Files.{parent_in, links_in}
-use Rattle.nfs_tree.specs.Files.{without_entry}
-use Rattle.nfs_tree.specs.Names.{is_at_or_below}
+use Rattle.nfs_tree.specs.{declared.row.Row.Row, Files.{root, most_links, is_name, is_entry, entry, parent_in, links_in, without_entry}, Names.is_at_or_below}
 use Rattle.nfs_tree.specs.TreeInvariants.{Grounded, AreRows}
 use Rattle.nfs_tree.proofs.RowsKept.{entry_parts, entry_self, grounded_in, found_put, one_put, few_put, either}
 

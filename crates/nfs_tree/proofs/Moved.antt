@@ -1,25 +1,16 @@
 -- The tree that a RENAME leaves keeps what every tree keeps.
-use Rattle.std.proofs.Common.{◌≡◌, ◌≢◌, ℕ, ◌+◌, ◌<◌, Bool, true, false, cond, not, [], ◌∷◌, ◌++◌, length}
-use Rattle.std.proofs.Common.{None, refl, sym, ◌∙◌, ap, subst, arith, inl, inr}
-use Rattle.std.specs.Prelude.{◌==◌, ◌&&◌, ◌||◌, option_map, unwrap_or}
+use Rattle.std.proofs.Common.{◌≡◌, ◌≢◌, ℕ, ◌+◌, ◌<◌, Bool, true, false, cond, not, [], ◌∷◌, ◌++◌, length, None, refl, sym, ◌∙◌, ap, subst, arith, inl, inr}
 use Rattle.std.proofs.lemmas.Bool.{cases_Bool, and_parts, eq-eqb, ne_eqb, ltb-true, not-false, false≢true}
-use Rattle.nfs_xdr.specs.Tables.{In}
-use Rattle.nfs_xdr.proofs.Lists.{in_filter, stays_in, find_in, find_none, filter_swap}
-use Rattle.nfs_xdr.proofs.Tables.{IsRising-push, IsRising-filter}
-use Rattle.nfs_xdr.proofs.Checks.{all_passed}
-use Rattle.nfs_xdr.specs.declared.time.Time.{Time}
-use Rattle.nfs_tree.specs.declared.row.Row.{Row}
-use Rattle.nfs_tree.specs.Object.{no_sets, modified}
+use Rattle.std.specs.Prelude.{◌==◌, ◌&&◌, ◌||◌, option_map, unwrap_or}
+use Rattle.nfs_xdr.specs.{Tables.In, declared.time.Time.Time}
+use Rattle.nfs_xdr.proofs.{Lists.{in_filter, stays_in, find_in, find_none, filter_swap}, Tables.{IsRising-push, IsRising-filter}, Checks.all_passed}
+use Rattle.nfs_tree.specs.{declared.row.Row.Row, Object.{no_sets, modified}}
 use Rattle.nfs_tree.specs.Files.{Files, root, last_count, is_name, is_there, is_directory_at, can_change, is_entry, entry, has_name}
-use Rattle.nfs_tree.specs.Calls.{CanChange, IsReached, rename_fault}
-use Rattle.nfs_tree.specs.Files.{named, has_entries, with_entries_changed, with_links_changed, without_entry}
+use Rattle.nfs_tree.specs.{Calls.{CanChange, IsReached, rename_fault}, Files.{named, has_entries, with_entries_changed, with_links_changed, without_entry}}
 use Rattle.nfs_tree.specs.Names.{is_at_or_below, Move, moved_object, replaced_object, moves, is_below_itself, is_unlike, is_in_the_way, can_move}
-use Rattle.nfs_tree.specs.Names.{rename_checks, with_both_changed, with_moved}
-use Rattle.nfs_tree.specs.TreeInvariants.{Grounded, AreRows, IsTree}
-use Rattle.nfs_tree.proofs.RowsKept.{entry_parts, reached, grounded_without, no_entries}
-use Rattle.nfs_tree.proofs.Objects.{stored_within, can_change_all, can_change_none}
-use Rattle.nfs_tree.proofs.Trees.{tree_changed, tree_dropped, entry_names, row_of, has_one, apart}
-use Rattle.nfs_tree.proofs.Put.{any_none, directory_there, vacant_of}
+use Rattle.nfs_tree.specs.{Names.{rename_checks, with_both_changed, with_moved}, TreeInvariants.{Grounded, AreRows, IsTree}}
+use Rattle.nfs_tree.proofs.{RowsKept.{entry_parts, reached, grounded_without, no_entries}, Objects.{stored_within, can_change_all, can_change_none}}
+use Rattle.nfs_tree.proofs.{Trees.{tree_changed, tree_dropped, entry_names, row_of, has_one, apart}, Put.{any_none, directory_there, vacant_of}}
 use Rattle.nfs_tree.proofs.Move.{unique_of, same_entry, depth_bound, clear, rows_moved}
 
 pub record MoveGranted (t : Files) (m : Move) : Type 0 where

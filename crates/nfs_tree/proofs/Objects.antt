@@ -1,21 +1,12 @@
 -- Objects through a change of one, a new one, and one that goes.
 use Rattle.std.proofs.Common.{◌≡◌, ◌≢◌, ℕ, ◌<◌, ◌≤◌, ltb, true, false, cond, not, List, [], ◌∷◌, ◌++◌, map, length, get_or}
-use Rattle.std.proofs.Common.{Option, Some, None, refl, sym, ◌∙◌, ap, subst, arith}
-use Rattle.std.specs.Prelude.{◌==◌, filter, option_map, is_some}
-use Rattle.std.specs.Option.{option_map_or}
-use Rattle.std.proofs.lemmas.Bool.{eqb-true, eq-eqb, ne_eqb, ltb-true}
-use Rattle.std.proofs.lemmas.List.Elements.{All-from_recursion}
-use Rattle.nfs_xdr.specs.declared.time.Time.{Time}
-use Rattle.std.proofs.lemmas.List.{get_or-map, length-map}
-use Rattle.nfs_xdr.specs.Tables.{IsRising, In}
-use Rattle.nfs_xdr.proofs.Lists.{find_map, find_in, find_past, find_push_some, find_push_none}
-use Rattle.nfs_xdr.proofs.Tables.{all_one, at_above, in_bounds, none_below}
-use Rattle.nfs_tree.specs.declared.sets.Sets.{Sets}
-use Rattle.nfs_tree.specs.declared.stored.Stored.{Stored}
-use Rattle.nfs_tree.specs.Object.{is_directory, changed}
-use Rattle.nfs_tree.specs.Files.{last_count, stored_in, is_directory_in, change_at, with_changed}
-use Rattle.nfs_tree.specs.Calls.{CanChange}
-use Rattle.nfs_tree.specs.TreeInvariants.{IsSized}
+use Rattle.std.proofs.{Common.{Option, Some, None, refl, sym, ◌∙◌, ap, subst, arith}, lemmas.Bool.{eqb-true, eq-eqb, ne_eqb, ltb-true}}
+use Rattle.std.proofs.{lemmas.List.Elements.All-from_recursion, lemmas.List.{get_or-map, length-map}}
+use Rattle.std.specs.{Prelude.{◌==◌, filter, option_map, is_some}, Option.option_map_or}
+use Rattle.nfs_xdr.specs.{declared.time.Time.Time, Tables.{IsRising, In}}
+use Rattle.nfs_xdr.proofs.{Lists.{find_map, find_in, find_past, find_push_some, find_push_none}, Tables.{all_one, at_above, in_bounds, none_below}}
+use Rattle.nfs_tree.specs.{declared.sets.Sets.Sets, declared.stored.Stored.Stored, Object.{is_directory, changed}}
+use Rattle.nfs_tree.specs.{Files.{last_count, stored_in, is_directory_in, change_at, with_changed}, Calls.CanChange, TreeInvariants.IsSized}
 
 -- a change of objects that keeps numbers, types and sizes
 pub record Keeps (objects : List Stored) (f : Stored → Stored) : Type 0 where

@@ -1,16 +1,11 @@
 -- The bytes of pages, through each change of a page.
 use Rattle.std.proofs.Common.{◌≡◌, ◌≢◌, ℕ, ◌+◌, ◌-◌, ◌*◌, ◌/◌, ◌%◌, ◌<◌, ◌≤◌, suc, zero, Bool, true, false, not, List, [], ◌∷◌, ◌++◌, map, length, take, drop, refl, sym, ◌∙◌, ap, arith, inl, inr, get_or, nat_lt, subst}
-use Rattle.std.specs.Prelude.{◌&&◌, if◌then◌else◌, slice_index_or, max, min}
-use Rattle.std.specs.List.{range_with_len}
-use Rattle.std.proofs.Math.ListN.{replicate, set}
-use Rattle.std.proofs.lemmas.Bool.{cases_lt, cases_eq}
-use Rattle.std.proofs.lemmas.Bool.Decides.{nat_tests}
+use Rattle.std.proofs.{Math.ListN.{replicate, set}, lemmas.Bool.{cases_lt, cases_eq}, lemmas.Bool.Decides.nat_tests}
 use Rattle.std.proofs.lemmas.List.{get_or-set_same, get_or-set_other, get_or_past, get_or-take, get_or-drop, get_or_append_left, get_or-append_right, get_or-replicate, length-take-le, length-replicate, take_all, same_lists, length-append, length-drop, length-take, append_assoc, map-append, get_or_default}
 use Rattle.std.proofs.lemmas.List.FromFn.{length-range_with_len, get_or-range_with_len, length-map-range_with_len, get_or-map-range_with_len}
-use Rattle.nfs_xdr.specs.SheetState.{SheetState, HasRoom}
-use Rattle.nfs_xdr.specs.Spelling.{number, opaque, padding}
-use Rattle.nfs_tree.specs.Bytes.{written, resized}
-use Rattle.nfs_tree.specs.Pages.{byte_of, bytes, IsClean, put_in, chosen, cut_at}
+use Rattle.std.specs.{Prelude.{◌&&◌, if◌then◌else◌, slice_index_or, max, min}, List.range_with_len}
+use Rattle.nfs_xdr.specs.{SheetState.{SheetState, HasRoom}, Spelling.{number, opaque, padding}}
+use Rattle.nfs_tree.specs.{Bytes.{written, resized}, Pages.{byte_of, bytes, IsClean, put_in, chosen, cut_at}}
 use Rattle.nfs_xdr.proofs.Putting.{length_number}
 
 -- zeros behind the end are not seen

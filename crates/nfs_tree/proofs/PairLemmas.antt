@@ -1,19 +1,11 @@
 -- Maps of pairs: of a number that each row has, and its cookie.
 use Rattle.std.proofs.Common.{◌≡◌, ℕ, ◌≤◌, Bool, true, false, cond, not, List, [], ◌∷◌, ◌++◌, Option, Some, None, refl, sym, ◌∙◌, ap, arith, inl, inr}
-use Rattle.std.specs.Prelude.{◌==◌, ◌&&◌, is_some, IsSome}
-use Rattle.std.specs.List.{list_any}
-use Rattle.std.specs.declared.cmp.Ordering.{Ordering}
-use Rattle.std.specs.declared.cmp.Ordering.TheVariants.{Less, Equal, Greater}
-use Rattle.std.specs.Ordering.{is_eq, is_gt}
-use Rattle.std.specs.BTreeMap.{is_at, insert_entry}
-use Rattle.std.specs.Map.{lookup}
-use Rattle.std.proofs.lemmas.Bool.{cases_Bool, eq-eqb, eqb-true, and_parts, false≢true}
-use Rattle.std.proofs.lemmas.Bool.Decides.{nat_tests}
+use Rattle.std.proofs.{lemmas.Bool.{cases_Bool, eq-eqb, eqb-true, and_parts, false≢true}, lemmas.Bool.Decides.nat_tests}
+use Rattle.std.specs.{Prelude.{◌==◌, ◌&&◌, is_some, IsSome}, List.list_any, declared.cmp.Ordering.Ordering}
+use Rattle.std.specs.{declared.cmp.Ordering.TheVariants.{Less, Equal, Greater}, Ordering.{is_eq, is_gt}, BTreeMap.{is_at, insert_entry}, Map.lookup}
 use Rattle.nfs_xdr.specs.Tables.{IsRising, In, without_record}
-use Rattle.nfs_xdr.proofs.Lists.{in_filter, in_any, any_in, any_push, last_in, any_filter}
-use Rattle.nfs_xdr.proofs.Tables.{in_once, in_bounds}
-use Rattle.nfs_tree.specs.declared.row.Row.{Row}
-use Rattle.nfs_tree.specs.Maps.{pair_cmp, has_pair, is_pair, ArePairs}
+use Rattle.nfs_xdr.proofs.{Lists.{in_filter, in_any, any_in, any_push, last_in, any_filter}, Tables.{in_once, in_bounds}}
+use Rattle.nfs_tree.specs.{declared.row.Row.Row, Maps.{pair_cmp, has_pair, is_pair, ArePairs}}
 
 pub pair_at : (q k : ℕ × ℕ) → is_at (pair_cmp q) k ≡ ((q.0 == k.0) && (q.1 == k.1))
 pair_at q k = grind (arith, nat_tests)

@@ -1,12 +1,10 @@
 -- What a refused call answers and leaves.
 use Rattle.std.proofs.Common.{◌≡◌, Bool, true, false, cond, List, [], ◌∷◌, Option, Some, None, refl, sym, ◌∙◌, ap, subst}
-use Rattle.std.specs.Prelude.{Result, Ok, Err}
-use Rattle.std.specs.List.{AllByRecursion}
+use Rattle.std.specs.{Prelude.{Result, Ok, Err}, List.AllByRecursion}
 use Rattle.nfs_xdr.specs.Checks.{first_fault, judged}
 use Rattle.nfs_tree.specs.declared.fault.TreeFault.{TreeFault}
 use Rattle.nfs_tree.specs.declared.fault.TreeFault.TheVariants.{NoEnt, Exist, NotDir, IsDir, NotEmpty, Inval, Fbig, NoSpc, Mlink, Counter, Memory}
-use Rattle.nfs_tree.specs.Files.{Files}
-use Rattle.nfs_tree.specs.Calls.{Did, does_unless, DoesOrWants}
+use Rattle.nfs_tree.specs.{Files.Files, Calls.{Did, does_unless, DoesOrWants}}
 
 abbrev pub is_memory : TreeFault → Bool
 is_memory NoEnt = false

@@ -2,11 +2,8 @@
 use Rattle.std.proofs.Common.{◌≡◌, true, false, Some, None, refl, sym, ◌∙◌, ap, subst}
 use Rattle.std.specs.Prelude.{Result, Ok, Err, if◌then◌else◌}
 use Rattle.nfs_xdr.specs.declared.time.Time.{Time}
-use Rattle.nfs_tree.specs.declared.done.Renamed.{Renamed}
-use Rattle.nfs_tree.specs.declared.fault.TreeFault.{TreeFault}
-use Rattle.nfs_tree.specs.Files.{Files}
-use Rattle.nfs_tree.specs.Calls.{DoesOrWants, rename_fault, rename_unless, moved, unmoved, rename}
-use Rattle.nfs_tree.specs.Names.{Move, moves, rename_checks}
+use Rattle.nfs_tree.specs.{declared.done.Renamed.Renamed, declared.fault.TreeFault.TreeFault, Files.Files}
+use Rattle.nfs_tree.specs.{Calls.{DoesOrWants, rename_fault, rename_unless, moved, unmoved, rename}, Names.{Move, moves, rename_checks}}
 use Rattle.nfs_tree.proofs.Refusals.{by_fault, fault_of}
 
 pub rename_refused : (t : Files) (m : Move) (now : Time) (r : Result Renamed TreeFault) (f : TreeFault)

@@ -1,15 +1,12 @@
 -- What is kept of rows when one is put, dropped or moved.
 use Rattle.std.proofs.Common.{◌≡◌, ◌≢◌, ◌⊎◌, ℕ, zero, suc, ◌+◌, ◌<◌, ◌≤◌, Bool, true, false, not, List, [], ◌∷◌, ◌++◌, Some, None, refl}
-use Rattle.std.proofs.Common.{sym, ◌∙◌, ap, subst, arith, inl, inr}
-use Rattle.std.specs.Prelude.{◌==◌, ◌||◌}
-use Rattle.std.proofs.lemmas.Bool.{cases_Bool, cases_eq, and_parts, eqb-true, eq-eqb, ne_eqb, false≢true}
+use Rattle.std.proofs.{Common.{sym, ◌∙◌, ap, subst, arith, inl, inr}, lemmas.Bool.{cases_Bool, cases_eq, and_parts, eqb-true, eq-eqb, ne_eqb, false≢true}}
 use Rattle.std.proofs.lemmas.Slice.Eq.{bytes_eq-Decides}
-use Rattle.nfs_tree.specs.declared.row.Row.{Row}
-use Rattle.nfs_tree.specs.Files.{root, most_links, is_name, is_entry, entry, links_in, has_row, has_entries, without_entry}
-use Rattle.nfs_xdr.specs.Tables.{In}
-use Rattle.nfs_xdr.proofs.Lists.{in_filter, stays_in, in_push, push_in, find_kept, find_push_some}
-use Rattle.nfs_xdr.proofs.Lists.{find_push_none, count_filter, count_push, in_any, any_in}
+use Rattle.std.specs.Prelude.{◌==◌, ◌||◌}
+use Rattle.nfs_tree.specs.{declared.row.Row.Row, Files.{root, most_links, is_name, is_entry, entry, links_in, has_row, has_entries, without_entry}}
 use Rattle.nfs_tree.specs.TreeInvariants.{Grounded, AreRows}
+use Rattle.nfs_xdr.specs.Tables.{In}
+use Rattle.nfs_xdr.proofs.Lists.{in_filter, stays_in, in_push, push_in, find_kept, find_push_some, find_push_none, count_filter, count_push, in_any, any_in}
 
 -- the same rows under tests that give the same
 pub rows_same : (rows : List Row) (dirs there dirs' there' : ℕ → Bool) → AreRows rows dirs there

@@ -1,17 +1,12 @@
 -- What each change of the slab and of the map makes of the list of rows.
 use Rattle.std.proofs.Common.{◌≡◌, ℕ, suc, ◌+◌, ◌≤◌, true, false, inl, inr, List, [], ◌∷◌, ◌++◌, Some, None, refl, sym, ◌∙◌, ap, arith, subst}
-use Rattle.std.specs.Prelude.{length, option_map, Option, IfSome}
-use Rattle.std.specs.Option.{option_and_then}
-use Rattle.std.specs.Ordering.{nat_cmp}
-use Rattle.std.specs.BTreeMap.{is_at, insert_entry}
 use Rattle.std.proofs.lemmas.Bool.Decides.{nat_tests}
+use Rattle.std.specs.{Prelude.{length, option_map, Option, IfSome}, Option.option_and_then, Ordering.nat_cmp, BTreeMap.{is_at, insert_entry}}
 use Rattle.std.specs.Map.{lookup, remove_entry}
 use Rattle.slab.specs.Slab.{Slab, get, Updates}
 use Rattle.nfs_xdr.specs.Tables.{IsRising, In, record_at, without_record}
 use Rattle.nfs_xdr.proofs.Tables.{IsRising-push, in_bounds}
-use Rattle.nfs_tree.specs.declared.row.Naming.{Naming}
-use Rattle.nfs_tree.specs.declared.row.Row.{Row}
-use Rattle.nfs_tree.specs.Indexed.{stored, placed, IsShelved, AreShelved}
+use Rattle.nfs_tree.specs.{declared.row.Naming.Naming, declared.row.Row.Row, Indexed.{stored, placed, IsShelved, AreShelved}}
 use Rattle.nfs_tree.proofs.StoredLemmas.{insert_last, free_vacant, stored_push, stored_apart, stored_remove, led_new, led_without, in_stored, AreStored-push, stored_find, filter_none, rising_keys, length-stored}
 
 abbrev pub cookie : Row → ℕ

@@ -1,18 +1,12 @@
 -- The keys of short names are equal where the directories and the names are.
 use Rattle.std.proofs.Common.{◌≡◌, ℕ, ◌-◌, ◌<◌, ◌≤◌, zero, suc, true, List, [], ◌∷◌, ◌++◌, length, take, drop, refl, sym, ◌∙◌, ap, arith, inl, inr}
-use Rattle.std.specs.Prelude.{◌==◌, ◌&&◌, bytes_eq, replicate, get_or, set}
-use Rattle.std.specs.Int.{to_be_bytes, from_be_bytes, w64}
-use Rattle.std.specs.BTreeMap.{is_at}
-use Rattle.std.proofs.lemmas.Bool.{cases_Bool, cases_lt, cases_eq, eq-eqb, eqb-true, and_parts, false≢true}
-use Rattle.std.proofs.lemmas.Bool.Decides.{nat_tests}
-use Rattle.std.proofs.lemmas.Nat.{be_bytes_8}
-use Rattle.std.proofs.lemmas.Slice.Eq.{bytes_eq-Decides}
+use Rattle.std.proofs.{lemmas.Bool.{cases_Bool, cases_lt, cases_eq, eq-eqb, eqb-true, and_parts, false≢true}, lemmas.Bool.Decides.nat_tests}
+use Rattle.std.proofs.{lemmas.Nat.be_bytes_8, lemmas.Slice.Eq.bytes_eq-Decides}
 use Rattle.std.proofs.lemmas.List.{take-append-drop, take_at, length-append, length-replicate, length-take, length-drop, drop-drop, drop-replicate, get_or_append_left, get_or-append_right, get_or-replicate, get_or-set_same, get_or-set_other, length-set, same_lists, get_or_past}
+use Rattle.std.specs.{Prelude.{◌==◌, ◌&&◌, bytes_eq, replicate, get_or, set}, Int.{to_be_bytes, from_be_bytes, w64}, BTreeMap.is_at}
 use Rattle.nfs_xdr.specs.Text.{IsBytes}
-use Rattle.nfs_xdr.proofs.Bytes.{IsBytes-drop}
-use Rattle.nfs_xdr.proofs.CodecLaws.{IsBytes-take}
-use Rattle.nfs_tree.specs.declared.by_name.ShortKey.{ShortKey}
-use Rattle.nfs_tree.specs.ByName.{padded, short_key, short_cmp}
+use Rattle.nfs_xdr.proofs.{Bytes.IsBytes-drop, CodecLaws.IsBytes-take}
+use Rattle.nfs_tree.specs.{declared.by_name.ShortKey.ShortKey, ByName.{padded, short_key, short_cmp}}
 
 pub length-padded : (name : List ℕ) → length name ≤ 23 → length (padded name) ≡ 24
 length-padded name short = omega (arith, length-append name (replicate (23 - length name) 0 ++ length name ∷ []), length-append (replicate (23 - length name) 0) (length name ∷ []), length-replicate {A = ℕ} (23 - length name) 0)

@@ -1,25 +1,13 @@
 -- Each call's tree keeps what every tree keeps.
-use Rattle.std.proofs.Common.{◌≡◌, ◌≢◌, ℕ, ◌+◌, true, false, not, List, map, Option}
-use Rattle.std.proofs.Common.{Some, None, refl, sym, ◌∙◌, ap, subst, arith}
-use Rattle.std.specs.Prelude.{◌==◌, filter, option_map, is_some, unwrap_or}
-use Rattle.std.specs.Option.{option_map_or}
-use Rattle.std.proofs.lemmas.Bool.{and_parts, eq-eqb, not-false, false≢true}
-use Rattle.std.proofs.lemmas.List.{length-map}
-use Rattle.nfs_xdr.specs.Tables.{In}
-use Rattle.nfs_xdr.proofs.Lists.{in_filter, in_map, find_in, length_filter, any_in}
-use Rattle.nfs_xdr.proofs.Tables.{IsRising-map, IsRising-filter}
-use Rattle.nfs_xdr.proofs.Checks.{all_passed}
-use Rattle.nfs_xdr.specs.declared.time.Time.{Time}
-use Rattle.nfs_tree.specs.declared.row.Row.{Row}
-use Rattle.nfs_tree.specs.declared.sets.Sets.{Sets}
-use Rattle.nfs_tree.specs.declared.stored.Stored.{Stored}
-use Rattle.nfs_tree.specs.Object.{is_directory, no_sets, modified}
-use Rattle.nfs_tree.specs.Files.{Files, root, stored_in, is_there, is_directory_in, is_directory_at, can_change, is_entry}
+use Rattle.std.proofs.Common.{◌≡◌, ◌≢◌, ℕ, ◌+◌, true, false, not, List, map, Option, Some, None, refl, sym, ◌∙◌, ap, subst, arith}
+use Rattle.std.proofs.{lemmas.Bool.{and_parts, eq-eqb, not-false, false≢true}, lemmas.List.length-map}
+use Rattle.std.specs.{Prelude.{◌==◌, filter, option_map, is_some, unwrap_or}, Option.option_map_or}
+use Rattle.nfs_xdr.specs.{Tables.In, declared.time.Time.Time}
+use Rattle.nfs_xdr.proofs.{Lists.{in_filter, in_map, find_in, length_filter, any_in}, Tables.{IsRising-map, IsRising-filter}, Checks.all_passed}
+use Rattle.nfs_tree.specs.{declared.row.Row.Row, declared.sets.Sets.Sets, declared.stored.Stored.Stored, Object.{is_directory, no_sets, modified}}
+use Rattle.nfs_tree.specs.Files.{Files, root, stored_in, is_there, is_directory_in, is_directory_at, can_change, is_entry, with_links_changed, without_entry}
 use Rattle.nfs_tree.specs.Files.{entry, has_name, named, has_row, has_entries, change_at, with_changed, with_entries_changed}
-use Rattle.nfs_tree.specs.Files.{with_links_changed, without_entry}
-use Rattle.nfs_tree.specs.Names.{forget, remove_checks, without_name}
-use Rattle.nfs_tree.specs.Calls.{remove_fault, set_checks, set_fault}
-use Rattle.nfs_tree.specs.TreeInvariants.{IsSized, IsTree}
+use Rattle.nfs_tree.specs.{Names.{forget, remove_checks, without_name}, Calls.{remove_fault, set_checks, set_fault}, TreeInvariants.{IsSized, IsTree}}
 use Rattle.nfs_tree.proofs.RowsKept.{rows_same, rows_dropped, no_entries, no_row, only_entry, entry_parts}
 use Rattle.nfs_tree.proofs.Objects.{Keeps, keeps_changed, there_map, directory_map, stored_dropped}
 

@@ -1,13 +1,10 @@
 -- Each directory with a row is reached by one walk.
-use Rattle.std.proofs.Common.{◌≡◌, ◌⊎◌, ℕ, zero, suc, Bool, true, List, [], ◌∷◌, ◌++◌, Option, Some, None, refl, sym, ◌∙◌, ap, inl}
-use Rattle.std.proofs.Common.{inr}
+use Rattle.std.proofs.Common.{◌≡◌, ◌⊎◌, ℕ, zero, suc, Bool, true, List, [], ◌∷◌, ◌++◌, Option, Some, None, refl, sym, ◌∙◌, ap, inl, inr}
 use Rattle.std.specs.Prelude.{option_and_then}
-use Rattle.nfs_tree.specs.declared.row.Row.{Row}
-use Rattle.nfs_tree.specs.Files.{Files, root, is_entry, entry, is_directory_at, is_there}
+use Rattle.nfs_tree.specs.{declared.row.Row.Row, Files.{Files, root, is_entry, entry, is_directory_at, is_there}, Walks.{walk, HasOneWalk, IsWellFormed}}
+use Rattle.nfs_tree.specs.TreeInvariants.{Grounded, AreRows, IsTree}
 use Rattle.nfs_xdr.specs.Tables.{In}
 use Rattle.nfs_xdr.proofs.Lists.{find_in}
-use Rattle.nfs_tree.specs.Walks.{walk, HasOneWalk, IsWellFormed}
-use Rattle.nfs_tree.specs.TreeInvariants.{Grounded, AreRows, IsTree}
 use Rattle.nfs_tree.proofs.RowsKept.{entry_parts}
 
 pub then_walk : (rows : List Row) (d : ℕ) (names : List (List ℕ)) (r : Row) → walk rows d names ≡ Some r.directory

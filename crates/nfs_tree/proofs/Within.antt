@@ -1,19 +1,12 @@
 -- A directory lies neither at nor below what stands in it.
 use Rattle.std.proofs.Common.{◌≡◌, ℕ, zero, suc, ◌≤◌, Bool, true, false, List, length, Option, Some, None, refl, sym, ◌∙◌, ap, subst, arith, inl, inr}
-use Rattle.std.specs.Prelude.{◌==◌, ◌&&◌, find, option_map, unwrap_or}
-use Rattle.std.specs.Option.{option_map_or}
 use Rattle.std.proofs.lemmas.Bool.{cases_Bool, eqb-true, false≢true}
+use Rattle.std.specs.{Prelude.{◌==◌, ◌&&◌, find, option_map, unwrap_or}, Option.option_map_or}
 use Rattle.nfs_xdr.specs.Tables.{In}
 use Rattle.nfs_xdr.proofs.Lists.{find_in}
-use Rattle.nfs_tree.specs.declared.row.Row.{Row}
-use Rattle.nfs_tree.specs.Files.{Files, is_entry, entry, is_directory_at, is_there, has_name, parent_in}
-use Rattle.nfs_tree.specs.Names.{Move, moved_object, is_at_or_below, is_below_itself}
-use Rattle.nfs_tree.specs.TreeInvariants.{Grounded, AreRows, IsTree}
-use Rattle.nfs_tree.proofs.RowsKept.{entry_parts}
-use Rattle.nfs_tree.proofs.Trees.{row_of}
-use Rattle.nfs_tree.proofs.Put.{vacant_of}
-use Rattle.nfs_tree.proofs.Move.{unique_of, depth_one}
-use Rattle.nfs_tree.proofs.Moved.{above_zero}
+use Rattle.nfs_tree.specs.{declared.row.Row.Row, Files.{Files, is_entry, entry, is_directory_at, is_there, has_name, parent_in}}
+use Rattle.nfs_tree.specs.{Names.{Move, moved_object, is_at_or_below, is_below_itself}, TreeInvariants.{Grounded, AreRows, IsTree}}
+use Rattle.nfs_tree.proofs.{RowsKept.entry_parts, Trees.row_of, Put.vacant_of, Move.{unique_of, depth_one}, Moved.above_zero}
 
 -- what the climb meets is no deeper than where it begins
 deeper : (rows : List Row) (top fuel d k : ℕ) → is_at_or_below rows top fuel d ≡ true → Grounded rows k top → (n : ℕ) × (k ≤ n) × Grounded rows n d

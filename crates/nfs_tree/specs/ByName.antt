@@ -1,14 +1,9 @@
 -- The cookies of rows by directory and name: a short name stands in the key itself, a longer one behind its directory.
 use Rattle.std.specs.Prelude.{◌≡◌, ℕ, ◌-◌, ◌<◌, ◌^◌, ◌==◌, ◌&&◌, cond, nat_le, List, [], ◌∷◌, ◌++◌, length, take, drop, replicate, Option, bytes_eq, if◌then◌else◌}
-use Rattle.std.specs.Int.{to_be_bytes, from_be_bytes, w64}
-use Rattle.std.specs.Ordering.{nat_cmp, ordering_then}
-use Rattle.std.specs.declared.cmp.Ordering.{Ordering}
-use Rattle.std.specs.Cmp.Lexicographic.{slice_cmp}
-use Rattle.std.specs.BTreeMap.{is_at}
-use Rattle.std.specs.Map.{lookup}
+use Rattle.std.specs.{Int.{to_be_bytes, from_be_bytes, w64}, Ordering.{nat_cmp, ordering_then}, declared.cmp.Ordering.Ordering, Cmp.Lexicographic.slice_cmp}
+use Rattle.std.specs.{BTreeMap.is_at, Map.lookup}
 use Rattle.nfs_xdr.specs.Text.{IsBytes}
-use Rattle.nfs_tree.specs.declared.by_name.ShortKey.{ShortKey}
-use Rattle.nfs_tree.specs.declared.by_name.ByName.{ByName}
+use Rattle.nfs_tree.specs.{declared.by_name.ShortKey.ShortKey, declared.by_name.ByName.ByName}
 
 -- a short name, zeros behind it, and its length: 24 bytes
 abbrev pub padded : List ℕ → List ℕ

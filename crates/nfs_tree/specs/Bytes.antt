@@ -2,10 +2,7 @@
 use Rattle.std.specs.Prelude.{ℕ, ◌+◌, ◌-◌, ◌==◌, nat_lt, Bool, not, ◌&&◌, if◌then◌else◌, List, length, take, drop, map, max, slice_index_or}
 use Rattle.std.specs.List.{range_with_len}
 use Rattle.nfs_xdr.specs.declared.time.Time.{Time}
-use Rattle.nfs_tree.specs.declared.sets.Sets.{Sets}
-use Rattle.nfs_tree.specs.declared.stored.Stored.{Stored}
-use Rattle.nfs_tree.specs.Object.{changed, modified, no_sets}
-use Rattle.nfs_tree.specs.Files.{Files, data_at}
+use Rattle.nfs_tree.specs.{declared.sets.Sets.Sets, declared.stored.Stored.Stored, Object.{changed, modified, no_sets}, Files.{Files, data_at}}
 
 -- at most so many bytes from a place on
 abbrev pub part : Files → ℕ → ℕ → ℕ → List ℕ

@@ -1,26 +1,15 @@
 -- What each call of a tree answers and leaves. A refusal leaves the tree; want of memory is answered only where the call grows, and leaves it too.
 use Rattle.std.specs.Prelude.{◌≡◌, Bool, true, Option, Some, None, Result, Ok, Err, IsOk, ◌||◌, All, ℕ, ◌==◌, ◌<◌, false, List, ◌+◌, if◌then◌else◌, nat_lt, not}
-use Rattle.std.specs.Prelude.{◌&&◌, [], ◌∷◌, length}
-use Rattle.std.specs.Option.{option_map_or}
-use Rattle.nfs_xdr.specs.Checks.{first_fault}
-use Rattle.nfs_xdr.specs.declared.time.Time.{Time}
-use Rattle.nfs_tree.specs.declared.fault.TreeFault.{TreeFault}
-use Rattle.nfs_tree.specs.declared.fault.TreeFault.TheVariants.{Memory, NoEnt, IsDir, Inval, Fbig, Counter}
+use Rattle.std.specs.{Prelude.{◌&&◌, [], ◌∷◌, length}, Option.option_map_or}
+use Rattle.nfs_xdr.specs.{Checks.first_fault, declared.time.Time.Time}
+use Rattle.nfs_tree.specs.{declared.fault.TreeFault.TreeFault, declared.fault.TreeFault.TheVariants.{Memory, NoEnt, IsDir, Inval, Fbig, Counter}}
 use Rattle.nfs_tree.specs.Files.{Files, root, last_count, stored_in, is_directory_at, has_row, raised, lookup, named, stays, most_bytes, is_there, can_change}
-use Rattle.nfs_tree.specs.Files.{with_changed}
-use Rattle.nfs_tree.specs.declared.stored.Stored.{Stored}
-use Rattle.nfs_tree.specs.Object.{is_regular}
-use Rattle.nfs_tree.specs.Create.{New, File, Directory, Link, create_checks, with_new}
-use Rattle.nfs_tree.specs.declared.sets.Sets.{Sets}
-use Rattle.nfs_tree.specs.declared.create.New.{New as Code}
-use Rattle.nfs_tree.specs.declared.create.New.TheVariants as code
-use Rattle.nfs_tree.specs.declared.done.Created.{Created}
-use Rattle.nfs_tree.specs.Names.{link_checks, with_link, remove_checks, without_name, Move, moves, rename_checks, with_moved}
-use Rattle.nfs_tree.specs.declared.rename.Place.{Place}
-use Rattle.nfs_tree.specs.declared.done.Change.{Change}
-use Rattle.nfs_tree.specs.declared.done.Removed.{Removed}
-use Rattle.nfs_tree.specs.declared.done.Renamed.{Renamed}
+use Rattle.nfs_tree.specs.{Files.with_changed, declared.stored.Stored.Stored, Object.is_regular, Create.{New, File, Directory, Link, create_checks, with_new}}
+use Rattle.nfs_tree.specs.{declared.sets.Sets.Sets, declared.create.New.{New as Code}, declared.done.Created.Created}
+use Rattle.nfs_tree.specs.{Names.{link_checks, with_link, remove_checks, without_name, Move, moves, rename_checks, with_moved}, declared.rename.Place.Place}
+use Rattle.nfs_tree.specs.{declared.done.Change.Change, declared.done.Removed.Removed, declared.done.Renamed.Renamed}
 use Rattle.nfs_tree.specs.Bytes.{with_written, has_bytes, with_resized}
+use Rattle.nfs_tree.specs.declared.create.New.TheVariants as code
 
 pub record Did (A : Type 0) : Type 0 where
   pub answer : Result A TreeFault

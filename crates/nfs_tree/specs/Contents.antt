@@ -1,7 +1,6 @@
 -- The pages of bytes, of which zeros have none, and how many bytes there are.
 use Rattle.std.specs.Prelude.{ℕ, List, []}
-use Rattle.nfs_tree.specs.declared.bytes.Contents.{Contents}
-use Rattle.nfs_tree.specs.declared.bytes.Contents.TheVariants.{Zeros, Paged}
+use Rattle.nfs_tree.specs.{declared.bytes.Contents.Contents, declared.bytes.Contents.TheVariants.{Zeros, Paged}}
 
 abbrev pub pages_of : Contents → List (List ℕ)
 pages_of (Zeros size) = []

@@ -1,7 +1,5 @@
 -- How many rows name each object beside its first.
-use Rattle.std.specs.Prelude.{◌≡◌, ℕ, ◌==◌, cond, unwrap_or}
-use Rattle.std.specs.BTreeMap.{get}
-use Rattle.std.specs.Ordering.{nat_cmp}
+use Rattle.std.specs.{Prelude.{◌≡◌, ℕ, ◌==◌, cond, unwrap_or}, BTreeMap.get, Ordering.nat_cmp}
 use Rattle.nfs_tree.specs.declared.counts.Counts.{Counts}
 
 abbrev pub further : Counts → ℕ → ℕ

@@ -1,15 +1,11 @@
 -- A new tree, and a new object in a directory (RFC 8881 sections 18.4 and 18.16).
 use Rattle.std.specs.Prelude.{ℕ, ◌+◌, nat_lt, nat_le, Bool, false, not, ◌&&◌, List, [], ◌∷◌, ◌++◌, length, Option, Some, None, unwrap_or, replicate}
 use Rattle.nfs_xdr.specs.declared.time.Time.{Time}
-use Rattle.nfs_tree.specs.declared.object.FileType.{FileType}
-use Rattle.nfs_tree.specs.declared.object.FileType.TheVariants as kind
-use Rattle.nfs_tree.specs.declared.object.Object.{Object}
-use Rattle.nfs_tree.specs.declared.sets.Sets.{Sets}
-use Rattle.nfs_tree.specs.declared.fault.TreeFault.{TreeFault}
-use Rattle.nfs_tree.specs.declared.fault.TreeFault.TheVariants.{NoEnt, Exist, NotDir, Inval, Fbig, NoSpc, Counter}
-use Rattle.nfs_tree.specs.Object.{no_sets}
+use Rattle.nfs_tree.specs.{declared.object.FileType.FileType, declared.object.Object.Object, declared.sets.Sets.Sets, declared.fault.TreeFault.TreeFault}
+use Rattle.nfs_tree.specs.{declared.fault.TreeFault.TheVariants.{NoEnt, Exist, NotDir, Inval, Fbig, NoSpc, Counter}, Object.no_sets}
 use Rattle.nfs_tree.specs.Files.{Files, root, last_count, most_objects, most_bytes, most_text, is_name, is_there, is_directory_at, has_name, can_change}
 use Rattle.nfs_tree.specs.Files.{with_entries_changed}
+use Rattle.nfs_tree.specs.declared.object.FileType.TheVariants as kind
 
 -- What is made: a file of so many zeros, with the verifier of an exclusive create; a directory; a symbolic link with its text.
 pub data New : Type 0 where

@@ -1,15 +1,9 @@
 -- The tree as two tables: objects by their numbers, and rows, each of which names an object in a directory (RFC 8881 sections 4.2 and 5.8).
 use Rattle.std.specs.Prelude.{ℕ, ◌==◌, nat_lt, nat_le, Bool, false, not, ◌&&◌, if◌then◌else◌, List, [], length, Option, filter, map, find, is_some, option_map}
-use Rattle.std.specs.Prelude.{unwrap_or, bytes_eq, ◌+◌}
-use Rattle.std.specs.List.{list_any}
-use Rattle.std.specs.Option.{option_map_or}
+use Rattle.std.specs.{Prelude.{unwrap_or, bytes_eq, ◌+◌}, List.list_any, Option.option_map_or}
 use Rattle.nfs_xdr.specs.declared.time.Time.{Time}
-use Rattle.nfs_tree.specs.declared.object.Object.{Object}
-use Rattle.nfs_tree.specs.declared.row.Row.{Row}
-use Rattle.nfs_tree.specs.declared.sets.Sets.{Sets}
-use Rattle.nfs_tree.specs.declared.stored.Stored.{Stored}
-use Rattle.nfs_tree.specs.Object.{is_directory, changed, modified, no_sets}
-use Rattle.nfs_tree.specs.declared.done.Change.{Change}
+use Rattle.nfs_tree.specs.{declared.object.Object.Object, declared.row.Row.Row, declared.sets.Sets.Sets, declared.stored.Stored.Stored}
+use Rattle.nfs_tree.specs.{Object.{is_directory, changed, modified, no_sets}, declared.done.Change.Change}
 
 -- Objects in rising order of their numbers, rows in rising order of their cookies, and the last number of each kind that was given.
 pub record Files : Type 0 where

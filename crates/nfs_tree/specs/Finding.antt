@@ -1,10 +1,6 @@
 -- What is found under a name in a directory: the object, and the cookie of its row.
 use Rattle.std.specs.Prelude.{◌≡◌, ℕ, List, Option, Some, option_map}
-use Rattle.nfs_tree.specs.declared.row.Found.{Found}
-use Rattle.nfs_tree.specs.declared.row.Row.{Row}
-use Rattle.nfs_tree.specs.declared.rename.Ends.{Ends}
-use Rattle.nfs_tree.specs.Files.{Files, entry, lookup}
-use Rattle.nfs_tree.specs.Names.{Move, moved_object}
+use Rattle.nfs_tree.specs.{declared.row.Found.Found, declared.row.Row.Row, declared.rename.Ends.Ends, Files.{Files, entry, lookup}, Names.{Move, moved_object}}
 
 abbrev pub found_of : Row → Found
 found_of r = record { object = r.object; cookie = r.cookie }

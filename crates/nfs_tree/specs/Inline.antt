@@ -1,7 +1,6 @@
 -- How the bytes of a name lie: in place where it is short.
 use Rattle.std.specs.Prelude.{ℕ, ◌≤◌, ⊤, List, take}
-use Rattle.nfs_tree.specs.declared.name.Kept.{Kept}
-use Rattle.nfs_tree.specs.declared.name.Kept.TheVariants.{Short, Long}
+use Rattle.nfs_tree.specs.{declared.name.Kept.Kept, declared.name.Kept.TheVariants.{Short, Long}}
 
 abbrev pub name_of : Kept → List ℕ
 name_of (Short len bytes) = take len bytes

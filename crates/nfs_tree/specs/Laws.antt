@@ -1,15 +1,9 @@
 -- Laws of trees.
 use Rattle.std.specs.Prelude.{◌≡◌, ◌≢◌, ◌↔◌, ℕ, IsTrue, true, false, List, length, Some, None, Ok}
 use Rattle.nfs_xdr.specs.declared.time.Time.{Time}
-use Rattle.nfs_tree.specs.declared.done.Created.{Created}
-use Rattle.nfs_tree.specs.declared.done.Removed.{Removed}
-use Rattle.nfs_tree.specs.declared.sets.Sets.{Sets}
-use Rattle.nfs_tree.specs.Files.{Files, root, is_directory_at, lookup, links_in, has_row, has_entries}
-use Rattle.nfs_tree.specs.Create.{New}
-use Rattle.nfs_tree.specs.Calls.{create, remove}
-use Rattle.nfs_tree.specs.Names.{is_at_or_below}
-use Rattle.nfs_tree.specs.Walks.{IsWellFormed, walk}
-use Rattle.nfs_tree.specs.TreeInvariants.{IsTree}
+use Rattle.nfs_tree.specs.{declared.done.Created.Created, declared.done.Removed.Removed, declared.sets.Sets.Sets}
+use Rattle.nfs_tree.specs.{Files.{Files, root, is_directory_at, lookup, links_in, has_row, has_entries}, Create.New, Calls.{create, remove}}
+use Rattle.nfs_tree.specs.{Names.is_at_or_below, Walks.{IsWellFormed, walk}, TreeInvariants.IsTree}
 
 -- what every tree keeps makes it well formed
 abbrev pub TreesAreWellFormed : Type 0

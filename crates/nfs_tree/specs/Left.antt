@@ -1,9 +1,7 @@
 -- What a listing has left of the pairs of a directory and a cookie, of which each row has one.
-use Rattle.std.specs.Prelude.{◌≡◌, ℕ, ◌<◌, ⊤, List, [], ◌∷◌, Option}
-use Rattle.std.specs.declared.cmp.Ordering.TheVariants.{Less}
+use Rattle.std.specs.{Prelude.{◌≡◌, ℕ, ◌<◌, ⊤, List, [], ◌∷◌, Option}, declared.cmp.Ordering.TheVariants.Less}
 use Rattle.nfs_xdr.specs.Tables.{In}
-use Rattle.nfs_tree.specs.declared.row.Row.{Row}
-use Rattle.nfs_tree.specs.Maps.{pair_cmp, has_pair, ArePairs, AreNamed}
+use Rattle.nfs_tree.specs.{declared.row.Row.Row, Maps.{pair_cmp, has_pair, ArePairs, AreNamed}}
 
 -- rows that are found by their cookies, and a pair for each, of its directory and its cookie
 pub record ArePaired (rows : List Row) (pairs : List ((ℕ × ℕ) × Unit {0})) : Type 0 where

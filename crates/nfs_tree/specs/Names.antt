@@ -2,9 +2,7 @@
 use Rattle.std.specs.Option.{option_map_or}
 use Rattle.std.specs.Prelude.{ℕ, zero, suc, ◌+◌, ◌==◌, nat_lt, nat_le, Bool, false, not, ◌&&◌, ◌||◌, if◌then◌else◌, List, [], ◌∷◌, ◌++◌, length, filter}
 use Rattle.nfs_xdr.specs.declared.time.Time.{Time}
-use Rattle.nfs_tree.specs.declared.row.Row.{Row}
-use Rattle.nfs_tree.specs.declared.stored.Stored.{Stored}
-use Rattle.nfs_tree.specs.declared.fault.TreeFault.{TreeFault}
+use Rattle.nfs_tree.specs.{declared.row.Row.Row, declared.stored.Stored.Stored, declared.fault.TreeFault.TreeFault}
 use Rattle.nfs_tree.specs.declared.fault.TreeFault.TheVariants.{NoEnt, Exist, NotDir, IsDir, NotEmpty, Inval, Mlink, Counter}
 use Rattle.nfs_tree.specs.Files.{Files, last_count, most_links, is_name, is_there, is_directory_at, has_name, named, parent_in, links_in, has_row, has_entries}
 use Rattle.nfs_tree.specs.Files.{can_change, with_entries_changed, with_links_changed, without_entry}

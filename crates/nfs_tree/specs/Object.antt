@@ -1,9 +1,7 @@
 -- An object's type and its attributes, and how they change (RFC 8881 sections 3.2 and 5.8).
 use Rattle.std.specs.Prelude.{◌+◌, Bool, true, false, Some, None, unwrap_or}
 use Rattle.nfs_xdr.specs.declared.time.Time.{Time}
-use Rattle.nfs_tree.specs.declared.object.FileType.{FileType}
-use Rattle.nfs_tree.specs.declared.object.FileType.TheVariants.{Regular, Directory, Link}
-use Rattle.nfs_tree.specs.declared.object.Object.{Object}
+use Rattle.nfs_tree.specs.{declared.object.FileType.FileType, declared.object.FileType.TheVariants.{Regular, Directory, Link}, declared.object.Object.Object}
 use Rattle.nfs_tree.specs.declared.sets.Sets.{Sets}
 
 abbrev pub is_directory : FileType → Bool

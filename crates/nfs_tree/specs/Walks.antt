@@ -1,8 +1,7 @@
 -- Walks along names (RFC 8881 section 4), and what holds of every tree.
 use Rattle.std.specs.Prelude.{◌≡◌, ℕ, true, List, [], ◌∷◌, Option, Some, option_and_then}
 use Rattle.nfs_xdr.specs.Tables.{In}
-use Rattle.nfs_tree.specs.declared.row.Row.{Row}
-use Rattle.nfs_tree.specs.Files.{Files, root, entry, is_there, is_directory_at}
+use Rattle.nfs_tree.specs.{declared.row.Row.Row, Files.{Files, root, entry, is_there, is_directory_at}}
 
 -- the object that names lead to, from a directory
 abbrev pub walk : List Row → ℕ → List (List ℕ) → Option ℕ

@@ -1,6 +1,5 @@
 -- Bytes behind others.
-use Rattle.std.proofs.Common.{◌≡◌, ℕ, ◌+◌, List, drop}
-use Rattle.std.proofs.lemmas.List.{get_or-drop}
+use Rattle.std.proofs.{Common.{◌≡◌, ℕ, ◌+◌, List, drop}, lemmas.List.get_or-drop}
 use Rattle.nfs_xdr.specs.Text.{IsBytes}
 
 pub IsBytes-drop : (n : ℕ) (bytes : List ℕ) → IsBytes bytes → IsBytes (drop n bytes)

@@ -1,18 +1,10 @@
 -- A linked list is read exactly where it is spelled.
 use Rattle.std.proofs.Common.{◌≡◌, ℕ, zero, suc, ◌+◌, ◌-◌, ◌<◌, ◌≤◌, Bool, true, false, cond, List, [], ◌∷◌, ◌++◌, length, Option, Some, None, subst, refl, sym}
-use Rattle.std.proofs.Common.{ap, ◌∙◌, append_assoc, arith}
+use Rattle.std.proofs.{Common.{ap, ◌∙◌, append_assoc, arith}, lemmas.Option.same_Some, lemmas.List.length-append}
 use Rattle.std.specs.List.{AllByRecursion}
-use Rattle.std.proofs.lemmas.Option.{same_Some}
-use Rattle.std.proofs.lemmas.List.{length-append}
 use Rattle.nfs_xdr.specs.Spelling as spelling
-use Rattle.nfs_xdr.specs.Reading.{◌>>=◌, flag_at}
-use Rattle.nfs_xdr.specs.Codec.{Codec}
-use Rattle.nfs_xdr.specs.Text.{IsBytes}
-use Rattle.nfs_xdr.specs.Lawful.{IsCodec}
-use Rattle.nfs_xdr.specs.Combinators.{passed}
-use Rattle.nfs_xdr.specs.Chain.{spell_chain, chain_at, chain}
-use Rattle.nfs_xdr.proofs.Putting.{length_number}
-use Rattle.nfs_xdr.proofs.CodecLaws.{bind_some, is_flag}
+use Rattle.nfs_xdr.specs.{Reading.{◌>>=◌, flag_at}, Codec.Codec, Text.IsBytes, Lawful.IsCodec, Combinators.passed, Chain.{spell_chain, chain_at, chain}}
+use Rattle.nfs_xdr.proofs.{Putting.length_number, CodecLaws.{bind_some, is_flag}}
 
 record IsChain {A : Type 0} (c : Codec A) (bytes : List ℕ) (xs : List A) (rest : List ℕ) : Type 0 where
   pub spelled : bytes ≡ spell_chain c.spell xs ++ rest

@@ -1,25 +1,16 @@
 -- Each codec's laws: what is read is spelled so, and what is spelled so is read.
 use Rattle.std.proofs.Common.{◌≡◌, ℕ, zero, suc, ◌+◌, ◌*◌, ◌%◌, ◌^◌, ◌<◌, ◌≤◌, ◌⊎◌, Bool, true, false, cond, ltb, eqb, List, [], ◌∷◌, ◌++◌, length, map, take}
 use Rattle.std.proofs.Common.{drop, replicate, Option, Some, None, Result, Ok, Err, refl, sym, ap, subst, ◌∙◌, append_assoc, add-zero, arith, inl, inr}
-use Rattle.std.specs.Int.{Width, byte_len, w32, w64, from_be_bytes, to_be_bytes}
-use Rattle.std.proofs.Math.Nat.{suc-mul, zero-mul}
-use Rattle.std.specs.Simd.{first_chunks}
-use Rattle.std.specs.List.{flat_map, AllByRecursion}
-use Rattle.std.proofs.lemmas.Bool.{cases_lt, ltb-false, le-ltb, lt-ltb, eqb-true, eq-eqb, and_parts}
-use Rattle.std.proofs.lemmas.Option.{same_Some}
+use Rattle.std.proofs.{Math.Nat.{suc-mul, zero-mul}, lemmas.Bool.{cases_lt, ltb-false, le-ltb, lt-ltb, eqb-true, eq-eqb, and_parts}, lemmas.Option.same_Some}
 use Rattle.std.proofs.lemmas.List.{take_at, drop_at, take-append-drop, length-append, length-take, length-drop, length-replicate, map-id, get_or-take}
 use Rattle.std.proofs.lemmas.List.{get_or_past, drop-drop, append-nil}
 use Rattle.std.proofs.lemmas.Nat.{be_bytes_4, be_bytes_8, from_be_bytes-to_be_bytes_4, from_be_bytes-to_be_bytes_8}
+use Rattle.std.specs.{Int.{Width, byte_len, w32, w64, from_be_bytes, to_be_bytes}, Simd.first_chunks, List.{flat_map, AllByRecursion}}
 use Rattle.nfs_xdr.proofs.Bytes.{IsBytes-drop}
 use Rattle.nfs_xdr.specs.Spelling as spelling
-use Rattle.nfs_xdr.specs.Spelling.{padding}
-use Rattle.nfs_xdr.specs.Reading.{◌>>=◌, number_at, flag_at, all_zero, fixed_at, opaque_at, pieces_at}
-use Rattle.nfs_xdr.specs.Readers.{ReadsBy, ReadsAs}
-use Rattle.nfs_xdr.specs.Codec.{Codec, number, hyper, flag, opaque, unbounded, ◌then◌, as_type, only, many_at, array}
-use Rattle.nfs_xdr.specs.Text.{IsBytes}
-use Rattle.nfs_xdr.specs.Lawful.{IsCodec, IsPrefixFree, IsSized}
-use Rattle.nfs_xdr.specs.Combinators.{fixed, nothing, few, spell_optional, optional, in_arm}
-use Rattle.nfs_xdr.specs.Codec.{led_by, choose, union, arm, bare, pieces}
+use Rattle.nfs_xdr.specs.{Spelling.padding, Reading.{◌>>=◌, number_at, flag_at, all_zero, fixed_at, opaque_at, pieces_at}, Readers.{ReadsBy, ReadsAs}}
+use Rattle.nfs_xdr.specs.Codec.{Codec, number, hyper, flag, opaque, unbounded, ◌then◌, as_type, only, many_at, array, led_by, choose, union, arm, bare, pieces}
+use Rattle.nfs_xdr.specs.{Text.IsBytes, Lawful.{IsCodec, IsPrefixFree, IsSized}, Combinators.{fixed, nothing, few, spell_optional, optional, in_arm}}
 
 -- steps
 

@@ -1,11 +1,8 @@
 -- Whatever is put together from items is read exactly where it is spelled, and is spelled as its text.
 use Rattle.std.proofs.Common.{ℕ, List, ◌++◌, ap, ◌∙◌}
-use Rattle.nfs_xdr.specs.Codec.{Codec, ◌then◌, led_by}
-use Rattle.nfs_xdr.specs.Lawful.{IsCodec}
+use Rattle.nfs_xdr.specs.{Codec.{Codec, ◌then◌, led_by}, Lawful.IsCodec, Text.{Text, IsReadable, BeginsNoOther}}
+use Rattle.nfs_xdr.specs.{Format.{Format, Number, Hyper, Flag, Fixed, Opaque, Then, Optional, Array, AtMost, LedBy, text, IsFormat}, FormatCodec.codec}
 use Rattle.nfs_xdr.specs.Spelling as spelling
-use Rattle.nfs_xdr.specs.Text.{Text, IsReadable, BeginsNoOther}
-use Rattle.nfs_xdr.specs.Format.{Format, Number, Hyper, Flag, Fixed, Opaque, Then, Optional, Array, AtMost, LedBy, text, IsFormat}
-use Rattle.nfs_xdr.specs.FormatCodec.{codec}
 use Rattle.nfs_xdr.proofs.CodecLaws.{is_number, is_hyper, is_flag, is_fixed, is_opaque, is_then, is_optional, is_array, is_few, is_led_by}
 use Rattle.nfs_xdr.proofs.TextLaws.{Spells, arrays, fews, optionals, numbers, hypers, flags, fixeds, opaques, readable, begins_no_other}
 

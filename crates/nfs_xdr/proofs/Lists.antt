@@ -1,12 +1,10 @@
 -- What is in a list, what is found in it, and how many pass a test, behind a filter, a map or a push.
 use Rattle.std.proofs.Common.{◌≡◌, ◌⊎◌, ℕ, zero, ◌+◌, ◌<◌, ◌≤◌, suc, Bool, true, false, cond, not, List, [], ◌∷◌, ◌++◌, map, length, get_or, Option}
-use Rattle.std.proofs.Common.{Some, None, refl, sym, ◌∙◌, ap, arith, inl, inr}
+use Rattle.std.proofs.{Common.{Some, None, refl, sym, ◌∙◌, ap, arith, inl, inr}, lemmas.Bool.{cases_Bool, lt-ltb, false≢true}}
+use Rattle.std.proofs.{lemmas.Option.{cond_some, slice_get-get_or, slice_get_within, get_or_from_slice_get, none-some}, lemmas.List.Folds.find_at}
+use Rattle.std.proofs.lemmas.List.Quantifiers.{position-Some}
 use Rattle.std.specs.Prelude.{if◌then◌else◌, ◌&&◌, ◌||◌, filter, find, position, nat_lt, slice_get, is_some, option_map, IsSomeAnd}
 use Rattle.std.specs.List.{list_any, position_or_len}
-use Rattle.std.proofs.lemmas.Bool.{cases_Bool, lt-ltb, false≢true}
-use Rattle.std.proofs.lemmas.Option.{cond_some, slice_get-get_or, slice_get_within, get_or_from_slice_get, none-some}
-use Rattle.std.proofs.lemmas.List.Folds.{find_at}
-use Rattle.std.proofs.lemmas.List.Quantifiers.{position-Some}
 use Rattle.nfs_xdr.specs.Tables.{In}
 
 module _ {X : Type 0} where

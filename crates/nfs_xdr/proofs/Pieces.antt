@@ -1,12 +1,8 @@
 -- Pieces of one size.
-use Rattle.std.proofs.Common.{◌≡◌, ℕ, zero, suc, ◌+◌, ◌*◌, ◌/◌, ◌<◌, ◌≤◌, List, length, take, drop, refl, ap, ◌∙◌, add-zero, sym, arith}
-use Rattle.std.proofs.Common.{Some}
-use Rattle.std.proofs.lemmas.Bool.{le-ltb}
+use Rattle.std.proofs.Common.{◌≡◌, ℕ, zero, suc, ◌+◌, ◌*◌, ◌/◌, ◌<◌, ◌≤◌, List, length, take, drop, refl, ap, ◌∙◌, add-zero, sym, arith, Some}
+use Rattle.std.proofs.{lemmas.Bool.le-ltb, Math.Nat.suc-mul, lemmas.Nat.div-mul-add, lemmas.List.{take-take, drop-take, length-take-le}}
 use Rattle.nfs_xdr.specs.Reading.{number_at, pieces_at}
 use Rattle.std.specs.Simd.{first_chunks}
-use Rattle.std.proofs.Math.Nat.{suc-mul}
-use Rattle.std.proofs.lemmas.Nat.{div-mul-add}
-use Rattle.std.proofs.lemmas.List.{take-take, drop-take, length-take-le}
 
 suc_times : (k n : ℕ) → suc k * n ≡ n + k * n
 suc_times k n = omega (arith, suc-mul k n)

@@ -1,8 +1,6 @@
 -- One text after another.
-use Rattle.std.proofs.Common.{◌≡◌, ℕ, ◌+◌, List, ◌++◌, length, append_assoc, refl, sym, ap, ◌∙◌}
-use Rattle.std.proofs.lemmas.List.{length-append}
-use Rattle.nfs_xdr.specs.Spelling.{number, hyper}
-use Rattle.nfs_xdr.specs.SheetState.{SheetState, Puts}
+use Rattle.std.proofs.{Common.{◌≡◌, ℕ, ◌+◌, List, ◌++◌, length, append_assoc, refl, sym, ap, ◌∙◌}, lemmas.List.length-append}
+use Rattle.nfs_xdr.specs.{Spelling.{number, hyper}, SheetState.{SheetState, Puts}}
 
 pub length_number : (n : ℕ) → length (number n) ≡ 4
 unfolding number

@@ -7,9 +7,7 @@ use Rattle.nfs_xdr.specs.declared.status.Status.TheVariants.{Denied, Locked, Sha
 use Rattle.nfs_xdr.specs.declared.status.Status.TheVariants.{BadStateId, NotSame, Symlink, AttrNotSupp, NoGrace, BadXdr, LocksHeld, OpenMode, BadOwner, BadChar}
 use Rattle.nfs_xdr.specs.declared.status.Status.TheVariants.{BadName, OpIllegal, BadSession, BadSlot, CompleteAlready, SeqMisordered, SequencePos, ReqTooBig}
 use Rattle.nfs_xdr.specs.declared.status.Status.TheVariants.{RepTooBig, TooManyOps, OpNotInSession, ClientIdBusy, SeqFalseRetry, BadHighSlot, NotOnlyOp}
-use Rattle.nfs_xdr.specs.declared.status.Status.TheVariants.{WrongType}
-use Rattle.nfs_xdr.specs.Status.{status_number}
-use Rattle.nfs_xdr.specs.StatusCodec.{status_of, statuses, status}
+use Rattle.nfs_xdr.specs.{declared.status.Status.TheVariants.WrongType, Status.status_number, StatusCodec.{status_of, statuses, status}}
 use Rattle.nfs_xdr.specs.Lawful.{IsListing, IsCodec}
 use Rattle.nfs_xdr.proofs.WordLaws.{is_listed}
 

@@ -1,19 +1,11 @@
 -- Tables in rising order: what find, filter, map and push leave of the order, and what is found behind them.
 use Rattle.std.proofs.Common.{◌≡◌, ◌⊎◌, ℕ, zero, ◌+◌, ◌<◌, ◌≤◌, suc, Bool, true, false, cond, List, [], ◌∷◌, ◌++◌, map, length, set, get_or, Option}
-use Rattle.std.proofs.Common.{Some, None, refl, sym, ◌∙◌, ap, subst, arith, inl, inr}
+use Rattle.std.proofs.{Common.{Some, None, refl, sym, ◌∙◌, ap, subst, arith, inl, inr}, lemmas.List.Elements.All-from_recursion, lemmas.Cmp.ranked}
+use Rattle.std.proofs.{lemmas.Bool.Decides.nat_tests, lemmas.Bool.{cases_Bool, cases_eq, cases_lt, ne_eqb, eq-eqb, eqb-true, lt-ltb, le-ltb, false≢true}}
+use Rattle.std.proofs.{lemmas.Option.slice_get-get_or, lemmas.List.Quantifiers.position-Some, lemmas.List.Sums.position_or_len_is}
 use Rattle.std.specs.Prelude.{◌==◌, if◌then◌else◌, All, filter, find, position, nat_lt, slice_get, is_some, option_map, Result, Ok, Err}
-use Rattle.std.specs.List.{AllByRecursion, position_or_len, remove}
-use Rattle.std.proofs.lemmas.List.Elements.{All-from_recursion}
-use Rattle.std.specs.Ordering.{nat_cmp, ordering_index}
-use Rattle.std.specs.declared.cmp.Ordering.TheVariants.{Less, Greater}
-use Rattle.std.specs.Result.{result_ok}
-use Rattle.std.specs.List.Sorted.{IsSearchInRange, IsBinarySearchResult, IsNonDecreasingBy, IsPartitionPoint}
-use Rattle.std.proofs.lemmas.Cmp.{ranked}
-use Rattle.std.proofs.lemmas.Bool.Decides.{nat_tests}
-use Rattle.std.proofs.lemmas.Bool.{cases_Bool, cases_eq, cases_lt, ne_eqb, eq-eqb, eqb-true, lt-ltb, le-ltb, false≢true}
-use Rattle.std.proofs.lemmas.Option.{slice_get-get_or}
-use Rattle.std.proofs.lemmas.List.Quantifiers.{position-Some}
-use Rattle.std.proofs.lemmas.List.Sums.{position_or_len_is}
+use Rattle.std.specs.{List.{AllByRecursion, position_or_len, remove}, Ordering.{nat_cmp, ordering_index}, declared.cmp.Ordering.TheVariants.{Less, Greater}}
+use Rattle.std.specs.{Result.result_ok, List.Sorted.{IsSearchInRange, IsBinarySearchResult, IsNonDecreasingBy, IsPartitionPoint}}
 use Rattle.nfs_xdr.specs.Tables.{IsRising, record_at, without_record, with_record, In}
 use Rattle.nfs_xdr.proofs.Lists.{in_filter, in_map, find_in, none_in, find_none, in_at, some_or_none, position_nowhere}
 

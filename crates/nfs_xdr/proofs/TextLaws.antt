@@ -1,17 +1,11 @@
 -- What a codec spells is a text, and its reader gives the values of the text.
-use Rattle.std.proofs.Common.{◌≡◌, ℕ, List, [], ◌∷◌, ◌++◌, length, Option, Some, None, refl, sym, ap, ◌∙◌, arith}
-use Rattle.std.specs.Int.{w32, from_be_bytes}
-use Rattle.std.specs.List.{flat_map, AllByRecursion}
-use Rattle.std.proofs.lemmas.Bool.{le-leb, leb-true}
+use Rattle.std.proofs.{Common.{◌≡◌, ℕ, List, [], ◌∷◌, ◌++◌, length, Option, Some, None, refl, sym, ap, ◌∙◌, arith}, lemmas.Bool.{le-leb, leb-true}}
+use Rattle.std.specs.{Int.{w32, from_be_bytes}, List.{flat_map, AllByRecursion}}
 use Rattle.nfs_xdr.specs.Codec as codec
 use Rattle.nfs_xdr.specs.Combinators as combinators
-use Rattle.nfs_xdr.specs.Codec.{Codec}
-use Rattle.nfs_xdr.specs.Lawful.{IsCodec}
-use Rattle.nfs_xdr.proofs.CodecLaws.{is_prefix_free}
-use Rattle.nfs_xdr.specs.AuthSys.{auth_sys}
-use Rattle.nfs_xdr.specs.Time.{time}
-use Rattle.nfs_xdr.specs.Wire.{authsys_parms, nfstime4}
+use Rattle.nfs_xdr.specs.{Codec.Codec, Lawful.IsCodec, AuthSys.auth_sys, Time.time, Wire.{authsys_parms, nfstime4}}
 use Rattle.nfs_xdr.specs.Text.{IsBytes, Text, uint32, uint64, bool, fixed, opaque, array, optional, Leads, IsReadable, BeginsNoOther}
+use Rattle.nfs_xdr.proofs.CodecLaws.{is_prefix_free}
 
 -- a codec that spells what the text says, of the same values
 pub record Spells {A : Type 0} (c : Codec A) (text : A → Text) : Type 0 where

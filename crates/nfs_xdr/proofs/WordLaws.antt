@@ -1,22 +1,12 @@
 -- Laws of the words that unions, enums and arrays of the protocol are put together from.
 use Rattle.std.proofs.Common.{◌≡◌, ◌≢◌, ℕ, ℤ, suc, ◌+◌, ◌-◌, ◌^◌, ◌<◌, ◌≤◌, eqb, List, [], ◌∷◌, ◌++◌, length, take, Option, Some}
-use Rattle.std.proofs.Common.{None, refl, sym, ap, ◌∙◌, arith, inl, inr}
-use Rattle.std.specs.Int.{w64, cast_signed, cast_unsigned}
-use Rattle.std.specs.Int.RustNames.{FitsSigned}
-use Rattle.std.specs.List.{AllByRecursion}
-use Rattle.std.proofs.lemmas.Option.{same_Some}
-use Rattle.std.proofs.lemmas.Bool.{eqb-true, eqb-false}
-use Rattle.std.proofs.lemmas.Int.{to_z-of_z, of_z-to_z}
-use Rattle.std.proofs.Math.Facts.{sfits_to_z, Fits-of_z}
-use Rattle.std.proofs.lemmas.List.{take_at, length-append}
+use Rattle.std.proofs.{Common.{None, refl, sym, ap, ◌∙◌, arith, inl, inr}, lemmas.Option.same_Some, lemmas.Bool.{eqb-true, eqb-false}}
+use Rattle.std.proofs.{lemmas.Int.{to_z-of_z, of_z-to_z}, Math.Facts.{sfits_to_z, Fits-of_z}, lemmas.List.{take_at, length-append}}
+use Rattle.std.specs.{Int.{w64, cast_signed, cast_unsigned}, Int.RustNames.FitsSigned, List.AllByRecursion}
 use Rattle.nfs_xdr.specs.Spelling as spelling
-use Rattle.nfs_xdr.specs.Reading.{◌>>=◌, number_at, hyper_at}
-use Rattle.nfs_xdr.specs.Codec.{Codec, signed, at_most, many_at}
-use Rattle.nfs_xdr.specs.Text.{IsBytes}
-use Rattle.nfs_xdr.specs.Lawful.{IsCodec, IsListing}
-use Rattle.nfs_xdr.specs.Combinators.{listed_at, listed, raw, passed, choose_or, union_or, union_by}
+use Rattle.nfs_xdr.specs.{Reading.{◌>>=◌, number_at, hyper_at}, Codec.{Codec, signed, at_most, many_at}, Text.IsBytes, Lawful.{IsCodec, IsListing}}
+use Rattle.nfs_xdr.specs.{Combinators.{listed_at, listed, raw, passed, choose_or, union_or, union_by}, Time.time}
 use Rattle.nfs_xdr.proofs.CodecLaws.{bind_some, taken_at, chosen, IsArm, is_number, is_hyper, is_only, is_then, is_as_type}
-use Rattle.nfs_xdr.specs.Time.{time}
 
 signed_fits : (n : ℕ) → n < 2 ^ 64 → FitsSigned w64 (cast_signed w64 n)
 signed_fits n lt = sfits_to_z {w = w64} {n = n} (record { fits = lt })

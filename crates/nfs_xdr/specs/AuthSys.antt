@@ -1,8 +1,6 @@
 -- The parameters of AUTH_SYS (RFC 5531 appendix A), which a credential has and the security parameters of callbacks may have.
-use Rattle.std.specs.Prelude.{ℕ, List}
-use Rattle.std.specs.Int.{w32, from_be_bytes}
-use Rattle.nfs_xdr.specs.Limits.{most_groups, most_machine_name}
-use Rattle.nfs_xdr.specs.Codec.{Codec, number, opaque, ◌then◌, as_type, pieces, at_most}
+use Rattle.std.specs.{Prelude.{ℕ, List}, Int.{w32, from_be_bytes}}
+use Rattle.nfs_xdr.specs.{Limits.{most_groups, most_machine_name}, Codec.{Codec, number, opaque, ◌then◌, as_type, pieces, at_most}}
 
 pub record AuthSys : Type 0 where
   pub stamp : ℕ

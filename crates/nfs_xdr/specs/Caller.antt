@@ -1,6 +1,5 @@
 -- Who makes a call, as a value (RFC 5531 section 10.1 and appendix A).
-use Rattle.std.specs.Prelude.{ℕ, List, map}
-use Rattle.std.specs.Int.{w32, from_be_bytes}
+use Rattle.std.specs.{Prelude.{ℕ, List, map}, Int.{w32, from_be_bytes}}
 use Rattle.nfs_xdr.specs.declared.who.Who.{Who}
 
 pub record Caller : Type 0 where

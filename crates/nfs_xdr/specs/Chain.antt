@@ -1,9 +1,7 @@
 -- A linked list: each item stands behind a flag that says that one follows, and a flag ends it (RFC 4506 section 4.19).
-use Rattle.std.specs.Prelude.{ℕ, zero, suc, List, [], ◌∷◌, ◌++◌, length, true, false, Option, Some, None, if◌then◌else◌}
-use Rattle.std.specs.List.{AllByRecursion}
+use Rattle.std.specs.{Prelude.{ℕ, zero, suc, List, [], ◌∷◌, ◌++◌, length, true, false, Option, Some, None, if◌then◌else◌}, List.AllByRecursion}
 use Rattle.nfs_xdr.specs.Spelling as spelling
-use Rattle.nfs_xdr.specs.Reading.{◌>>=◌, flag_at}
-use Rattle.nfs_xdr.specs.Codec.{Codec}
+use Rattle.nfs_xdr.specs.{Reading.{◌>>=◌, flag_at}, Codec.Codec}
 
 abbrev pub spell_chain : {A : Type 0} → (A → List ℕ) → List A → List ℕ
 spell_chain spell [] = spelling.flag false

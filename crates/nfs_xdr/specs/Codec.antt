@@ -1,12 +1,8 @@
 -- A codec of items of RFC 4506: how each value of a type is spelled, which values have a spelling, and how one is read from the front.
 use Rattle.std.specs.Prelude.{◌≡◌, ℕ, ℤ, zero, suc, ◌<◌, ◌≤◌, ◌^◌, ◌==◌, List, [], ◌∷◌, ◌++◌, length, Bool, IsTrue, Option, Some, None, nat_le, map}
-use Rattle.std.specs.Prelude.{if◌then◌else◌}
-use Rattle.std.specs.Int.{w64, cast_signed, cast_unsigned}
-use Rattle.std.specs.Int.RustNames.{FitsSigned}
-use Rattle.std.specs.List.{flat_map, AllByRecursion}
+use Rattle.std.specs.{Prelude.{if◌then◌else◌}, Int.{w64, cast_signed, cast_unsigned}, Int.RustNames.FitsSigned, List.{flat_map, AllByRecursion}}
 use Rattle.nfs_xdr.specs.Spelling as spelling
-use Rattle.nfs_xdr.specs.Text.{IsBytes}
-use Rattle.nfs_xdr.specs.Reading.{◌>>=◌, number_at, hyper_at, flag_at, opaque_at, pieces_at}
+use Rattle.nfs_xdr.specs.{Text.IsBytes, Reading.{◌>>=◌, number_at, hyper_at, flag_at, opaque_at, pieces_at}}
 
 -- A value that has a spelling is one that fits.
 pub record Codec (A : Type 0) : Type 1 where

@@ -1,10 +1,8 @@
 -- Codecs that codecs are put together by, beside those that the head of a call is read by (`specs/Codec.antt`; RFC 4506).
 use Rattle.std.specs.Prelude.{◌≡◌, ℕ, ◌≤◌, ◌-◌, ◌==◌, List, [], ◌∷◌, ◌++◌, length, true, false, Option, Some, None, nat_lt, take, MatchOption, if◌then◌else◌}
 use Rattle.std.specs.List.{AllByRecursion}
-use Rattle.nfs_xdr.specs.Codec.{Codec, many_at, array, arm}
-use Rattle.nfs_xdr.specs.Text.{IsBytes}
+use Rattle.nfs_xdr.specs.{Codec.{Codec, many_at, array, arm}, Text.IsBytes, Reading.{◌>>=◌, number_at, flag_at, fixed_at}}
 use Rattle.nfs_xdr.specs.Spelling as spelling
-use Rattle.nfs_xdr.specs.Reading.{◌>>=◌, number_at, flag_at, fixed_at}
 
 -- n bytes
 abbrev pub fixed : ℕ → Codec (List ℕ)

@@ -1,6 +1,5 @@
 -- The codec of each format.
-use Rattle.nfs_xdr.specs.Codec.{Codec, number, hyper, flag, opaque, ◌then◌, array, led_by}
-use Rattle.nfs_xdr.specs.Combinators.{fixed, optional, few}
+use Rattle.nfs_xdr.specs.{Codec.{Codec, number, hyper, flag, opaque, ◌then◌, array, led_by}, Combinators.{fixed, optional, few}}
 use Rattle.nfs_xdr.specs.Format.{Format, Number, Hyper, Flag, Fixed, Opaque, Then, Optional, Array, AtMost, LedBy, Meaning}
 
 abbrev pub codec : (f : Format) → Codec (Meaning f)

@@ -1,8 +1,6 @@
 -- When a codec reads what it spells, and nothing else.
 use Rattle.std.specs.Prelude.{◌≡◌, ℕ, ◌<◌, ◌^◌, List, [], ◌++◌, length, Some, None, nat_lt, take, drop, if◌then◌else◌}
-use Rattle.nfs_xdr.specs.Codec.{Codec}
-use Rattle.nfs_xdr.specs.Text.{IsBytes}
-use Rattle.nfs_xdr.specs.Combinators.{listed_at}
+use Rattle.nfs_xdr.specs.{Codec.Codec, Text.IsBytes, Combinators.listed_at}
 
 -- Reading and spelling are one another's inverse, whatever follows: what is read is spelled so and fits, and what fits
 -- and is spelled so is read.

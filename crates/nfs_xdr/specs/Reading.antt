@@ -1,8 +1,6 @@
 -- What stands at the front of bytes, of the items of RFC 4506: a value and the bytes behind it, or nothing that is spelled so.
 use Rattle.std.specs.Prelude.{ℕ, ◌+◌, ◌*◌, ◌==◌, List, length, take, drop, Bool, true, false, Option, Some, None, nat_lt, if◌then◌else◌}
-use Rattle.std.specs.Int.{w32, w64, from_be_bytes}
-use Rattle.std.specs.List.{list_all}
-use Rattle.std.specs.Simd.{first_chunks}
+use Rattle.std.specs.{Int.{w32, w64, from_be_bytes}, List.list_all, Simd.first_chunks}
 use Rattle.nfs_xdr.specs.Spelling.{padding}
 
 infixl 10 ◌>>=◌

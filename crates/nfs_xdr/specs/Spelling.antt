@@ -1,6 +1,5 @@
 -- The spelling of each kind of item (RFC 4506): a whole number of words of four bytes, big-endian.
-use Rattle.std.specs.Prelude.{ℕ, ◌-◌, ◌%◌, List, ◌++◌, length, Bool, true, false, replicate}
-use Rattle.std.specs.Int.{w32, w64, to_be_bytes}
+use Rattle.std.specs.{Prelude.{ℕ, ◌-◌, ◌%◌, List, ◌++◌, length, Bool, true, false, replicate}, Int.{w32, w64, to_be_bytes}}
 
 -- an unsigned int or an enum (sections 4.2 and 4.3)
 unfoldable pub number : ℕ → List ℕ

@@ -1,8 +1,6 @@
 -- The language of RFC 4506: each of its types as the text of its values.
-use Rattle.std.specs.Prelude.{◌≡◌, ◌↔◌, ℕ, ℤ, ◌<◌, ◌≤◌, ◌^◌, Bool, List, [], ◌++◌, length, get_or, Option, Some, None}
-use Rattle.std.specs.Int.{w64, cast_unsigned}
-use Rattle.std.specs.Int.RustNames.{FitsSigned}
-use Rattle.std.specs.List.{flat_map, AllByRecursion}
+use Rattle.std.specs.{Prelude.{◌≡◌, ◌↔◌, ℕ, ℤ, ◌<◌, ◌≤◌, ◌^◌, Bool, List, [], ◌++◌, length, get_or, Option, Some, None}, Int.{w64, cast_unsigned}}
+use Rattle.std.specs.{Int.RustNames.FitsSigned, List.{flat_map, AllByRecursion}}
 use Rattle.nfs_xdr.specs.Spelling as spelling
 
 -- each number is a byte

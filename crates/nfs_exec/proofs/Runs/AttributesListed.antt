@@ -1,33 +1,20 @@
 -- READDIR tells the lease in its place with each entry, whatever else is asked for.
 use Rattle.std.proofs.Common.{◌≡◌, ℕ, Bool, true, false, cond, List, [], ◌∷◌, Option, Some, None, take, drop, refl, sym, ◌∙◌, subst, inl, inr}
-use Rattle.std.specs.Prelude.{is_some}
 use Rattle.std.proofs.lemmas.Bool.{false≢true}
-use Rattle.nfs_xdr.specs.Spelling.{number}
-use Rattle.nfs_xdr.specs.Tables.{In}
+use Rattle.std.specs.Prelude.{is_some}
+use Rattle.nfs_xdr.specs.{Spelling.number, Tables.In}
 use Rattle.nfs_xdr.proofs.Lists.{in_map}
-use Rattle.nfs_compound.specs.declared.name_args.ReadDir.{ReadDir}
-use Rattle.nfs_compound.specs.declared.op.Item.TheVariants.{Operation}
+use Rattle.nfs_compound.specs.{declared.name_args.ReadDir.ReadDir, declared.op.Item.TheVariants.Operation}
 use Rattle.nfs_compound.specs.declared.op.Op.TheVariants as Op
-use Rattle.nfs_results.specs.declared.res.Entry.{Entry}
-use Rattle.nfs_results.specs.Largest.{given}
-use Rattle.nfs_results.specs.Results.{spell_result, status_of_result}
-use Rattle.nfs_tree.specs.declared.object.Object.{Object}
-use Rattle.nfs_tree.specs.Files.{Listed, listing, object_at}
-use Rattle.nfs_attrs.specs.declared.mask.Mask.{Mask}
-use Rattle.nfs_attrs.specs.Mask.{mask_of, has}
-use Rattle.nfs_attrs.specs.Attributes.{values_in, attributes}
-use Rattle.nfs_names.specs.declared.node.Node.{Node}
-use Rattle.nfs_names.specs.Attributes.{about}
-use Rattle.nfs_names.specs.Outcome as of_store
-use Rattle.nfs_names.specs.Outcome.{is_ok}
-use Rattle.nfs_names.specs.ReadDir.{attributes_at, entry_of, left, longest, fits, fitting, listed}
+use Rattle.nfs_results.specs.{declared.res.Entry.Entry, Largest.given, Results.{spell_result, status_of_result}}
+use Rattle.nfs_tree.specs.{declared.object.Object.Object, Files.{Listed, listing, object_at}}
+use Rattle.nfs_attrs.specs.{declared.mask.Mask.Mask, Mask.{mask_of, has}, Attributes.{values_in, attributes}}
+use Rattle.nfs_names.specs.{declared.node.Node.Node, Attributes.about, Outcome.is_ok, ReadDir.{attributes_at, entry_of, left, longest, fits, fitting, listed}}
 use Rattle.nfs_names.specs.State.{State}
-use Rattle.nfs_names.proofs.Entering.{listed_there}
-use Rattle.nfs_names.proofs.NameLaws.{by_read_dir}
-use Rattle.nfs_exec.specs.Runs.AttributesTold.{HasValue, EntriesTell}
-use Rattle.nfs_exec.specs.Runs.Ops.{RanOp}
-use Rattle.nfs_exec.proofs.Runs.OneRun.{IsRun, by_ok}
-use Rattle.nfs_exec.proofs.Runs.AttributesTold.{lease_long, lease_cut}
+use Rattle.nfs_names.specs.Outcome as of_store
+use Rattle.nfs_names.proofs.{Entering.listed_there, NameLaws.by_read_dir}
+use Rattle.nfs_exec.specs.{Runs.AttributesTold.{HasValue, EntriesTell}, Runs.Ops.RanOp}
+use Rattle.nfs_exec.proofs.{Runs.OneRun.{IsRun, by_ok}, Runs.AttributesTold.{lease_long, lease_cut}}
 
 lease_at : (s : State) (asked : Mask) (n : ℕ) (o : Option Object) → has asked 10 ≡ true → is_some o ≡ true → HasValue 10 (number s.lease) asked (attributes_at s asked n o)
 lease_at s asked n None is there = absurd (false≢true there)

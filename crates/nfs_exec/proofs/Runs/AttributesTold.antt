@@ -1,34 +1,21 @@
 -- GETATTR tells the change, the size and the lease in their places, whatever else is asked for.
 use Rattle.std.proofs.Common.{◌≡◌, ℕ, ◌+◌, Bool, true, false, cond, List, [], ◌∷◌, ◌++◌, length, take, drop, Option, Some, None, refl, sym, ◌∙◌, ap, arith}
-use Rattle.std.specs.Option.{option_map_or}
-use Rattle.std.specs.Prelude.{option_map, is_some, Ok}
-use Rattle.std.proofs.lemmas.Bool.{false≢true}
-use Rattle.std.proofs.lemmas.List.{length-append}
-use Rattle.std.proofs.lemmas.Grind.{flat_map-append}
-use Rattle.nfs_xdr.specs.Spelling.{number, hyper}
-use Rattle.nfs_xdr.specs.Text.{uint32, uint64}
+use Rattle.std.proofs.{lemmas.Bool.{false≢true}, lemmas.List.length-append, lemmas.Grind.flat_map-append}
+use Rattle.std.specs.{Option.option_map_or, Prelude.{option_map, is_some, Ok}}
+use Rattle.nfs_xdr.specs.{Spelling.{number, hyper}, Text.{uint32, uint64}}
 use Rattle.nfs_xdr.proofs.Putting.{length_number, length_hyper}
 use Rattle.nfs_compound.specs.declared.op.Item.TheVariants.{Operation}
 use Rattle.nfs_compound.specs.declared.op.Op.TheVariants as Op
 use Rattle.nfs_results.specs.declared.res.Res.TheVariants as Res
 use Rattle.nfs_results.specs.Results.{spell_result, status_of_result}
-use Rattle.nfs_tree.specs.declared.object.Object.{Object}
-use Rattle.nfs_tree.specs.declared.stored.Stored.{Stored}
-use Rattle.nfs_tree.specs.Files.{stored_in, change_of}
-use Rattle.nfs_attrs.specs.declared.about.About.{About}
-use Rattle.nfs_attrs.specs.declared.mask.Mask.{Mask}
-use Rattle.nfs_attrs.specs.Mask.{mask_of, has, trimmed_words, common}
+use Rattle.nfs_tree.specs.{declared.object.Object.Object, declared.stored.Stored.Stored, Files.{stored_in, change_of}}
+use Rattle.nfs_attrs.specs.{declared.about.About.About, declared.mask.Mask.Mask, Mask.{mask_of, has, trimmed_words, common}}
 use Rattle.nfs_attrs.specs.Attributes.{Attribute, read_only, read_write, type_number, value_of, values_in, readable, attributes, values}
-use Rattle.nfs_names.specs.declared.context.Context.{Context}
-use Rattle.nfs_names.specs.declared.node.Node.{Node}
-use Rattle.nfs_names.specs.Attributes.{about}
-use Rattle.nfs_names.specs.Checks.{current, node_at, node_as}
-use Rattle.nfs_names.specs.Outcome as of_store
-use Rattle.nfs_names.specs.Outcome.{is_ok}
+use Rattle.nfs_names.specs.{declared.context.Context.Context, declared.node.Node.Node, Attributes.about, Checks.{current, node_at, node_as}, Outcome.is_ok}
 use Rattle.nfs_names.specs.State.{State}
+use Rattle.nfs_names.specs.Outcome as of_store
 use Rattle.nfs_names.proofs.NameLaws.{by_get_attr}
-use Rattle.nfs_exec.specs.Runs.AttributesTold.{sizes, asked_from, TellsValue}
-use Rattle.nfs_exec.specs.Runs.Ops.{RanOp}
+use Rattle.nfs_exec.specs.{Runs.AttributesTold.{sizes, asked_from, TellsValue}, Runs.Ops.RanOp}
 use Rattle.nfs_exec.proofs.Runs.OneRun.{IsRun, by_ok}
 
 -- the values of the lines in front of one, and those of it and of the lines behind it

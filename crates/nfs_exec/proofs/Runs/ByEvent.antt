@@ -1,38 +1,23 @@
 -- What an event came to: nothing, an operation that stands alone, or the operations behind a SEQUENCE.
-use Rattle.std.proofs.Common.{◌≡◌, ℕ, Bool, true, false, cond, eqb, List, [], ◌∷◌, Option, Some, None, refl, inl, inr}
+use Rattle.std.proofs.{Common.{◌≡◌, ℕ, Bool, true, false, cond, eqb, List, [], ◌∷◌, Option, Some, None, refl, inl, inr}, lemmas.Bool.cases_Bool}
 use Rattle.std.specs.Prelude.{◌&&◌, is_some}
-use Rattle.std.proofs.lemmas.Bool.{cases_Bool}
-use Rattle.nfs_xdr.specs.Caller.{Caller}
-use Rattle.nfs_xdr.specs.declared.status.Status.{Status}
-use Rattle.nfs_xdr.specs.declared.status.Status.TheVariants.{Delay, MinorVersMismatch}
-use Rattle.nfs_compound.specs.declared.op.Item.{Item}
-use Rattle.nfs_compound.specs.declared.op.Item.TheVariants.{Operation}
-use Rattle.nfs_compound.specs.declared.op.Op.TheVariants as Op
-use Rattle.nfs_compound.specs.Request.{Request, item_number}
-use Rattle.nfs_compound.specs.declared.session_args.CreateSession.{CreateSession}
-use Rattle.nfs_compound.specs.declared.session_args.ExchangeId.{ExchangeId}
+use Rattle.nfs_xdr.specs.{Caller.Caller, declared.status.Status.Status, declared.status.Status.TheVariants.{Delay, MinorVersMismatch}}
+use Rattle.nfs_compound.specs.{declared.op.Item.Item, declared.op.Item.TheVariants.Operation, Request.{Request, item_number}}
+use Rattle.nfs_compound.specs.{declared.session_args.CreateSession.CreateSession, declared.session_args.ExchangeId.ExchangeId}
 use Rattle.nfs_compound.specs.declared.session_args.Sequence.{Sequence}
+use Rattle.nfs_compound.specs.declared.op.Op.TheVariants as Op
 use Rattle.nfs_clients.specs.CreateSession as clients
-use Rattle.nfs_clients.specs.CreateSession.{create_verdict}
-use Rattle.nfs_clients.specs.DestroyClientId.{destroy_fault}
+use Rattle.nfs_clients.specs.{CreateSession.create_verdict, DestroyClientId.destroy_fault, declared.destroy.DestroyFault.DestroyFault}
 use Rattle.nfs_clients.specs.declared.created.CreateResult.TheVariants as results
-use Rattle.nfs_clients.specs.declared.destroy.DestroyFault.{DestroyFault}
 use Rattle.nfs_results.specs.declared.res.Res.TheVariants as Res
-use Rattle.nfs_sessions.specs.Id.{id_of}
-use Rattle.nfs_sessions.specs.Sessions.{session_at, create, destroyed}
-use Rattle.nfs_sessions.specs.declared.channel.Channel.{Channel}
+use Rattle.nfs_sessions.specs.{Id.id_of, Sessions.{session_at, create, destroyed}, declared.channel.Channel.Channel}
 use Rattle.nfs_names.specs.Outcome.{is_ok}
-use Rattle.nfs_exec.specs.Step.Machine.{Machine, Outcome, refuses, with_result}
-use Rattle.nfs_exec.specs.Step.Place.{item_fault}
-use Rattle.nfs_exec.specs.Step.ExchangeId.{exchange_id, exchange_id_number}
+use Rattle.nfs_exec.specs.{Step.Machine.{Machine, Outcome, refuses, with_result}, Step.Place.item_fault, Step.ExchangeId.{exchange_id, exchange_id_number}}
 use Rattle.nfs_exec.specs.Step.CreateSession.{create_session_number, by_verdict, creates, wish_of}
-use Rattle.nfs_exec.specs.Step.Destroy.{destroy_session, destroyed_unless, has_session}
-use Rattle.nfs_exec.specs.Step.Run.{is_here, only}
-use Rattle.nfs_exec.specs.Step.Sequence as sequence
-use Rattle.nfs_exec.specs.Step.Sequence.{Sequenced, sequenced}
+use Rattle.nfs_exec.specs.{Step.Destroy.{destroy_session, destroyed_unless, has_session}, Step.Run.{is_here, only}, Step.Sequence.{Sequenced, sequenced}}
 use Rattle.nfs_exec.specs.Step.Compound.{Answered, answers, bare, carried_out, by_fault, first_item, in_session, by_first, compound}
-use Rattle.nfs_exec.specs.Step.Laws.{Asks, ran, first_runs, if_runs}
-use Rattle.nfs_exec.specs.Runs.Ops.{RanOp, ops_in, ops_of, ops_by}
+use Rattle.nfs_exec.specs.{Step.Laws.{Asks, ran, first_runs, if_runs}, Runs.Ops.{RanOp, ops_in, ops_of, ops_by}}
+use Rattle.nfs_exec.specs.Step.Sequence as sequence
 
 -- A compound, by what it answered, the operations that it ran, and the SEQUENCE behind which it ran them.
 pub by_answered : (P : Answered → List RanOp → Option Sequence → Type 0) (m : Machine) (r : Request) (who : Caller) (size now : ℕ) (choice : Option ℕ)

@@ -1,20 +1,15 @@
 -- Expiry ends all that a client has whose lease has run out, and nothing else.
 use Rattle.std.proofs.Common.{◌≡◌, inl, inr, ℕ, Bool, true, false, cond, not, List, [], ◌∷◌, Some, None, refl, sym, ◌∙◌, ap}
-use Rattle.std.specs.Prelude.{◌==◌, filter}
 use Rattle.std.proofs.lemmas.Bool.{cases_Bool, eqb-true, false≢true}
+use Rattle.std.specs.Prelude.{◌==◌, filter}
 use Rattle.nfs_xdr.proofs.Lists.{find_past, find_out, filter_past, in_filter, in_any}
 use Rattle.nfs_clients.specs.Roster.{ClientRecord}
 use Rattle.nfs_lease.specs.Renewals.{has_run_out}
 use Rattle.nfs_ranges.specs.declared.Kind.{Kind}
-use Rattle.nfs_opens.specs.declared.records.OpenState.{OpenState}
-use Rattle.nfs_opens.specs.declared.records.LockState.{LockState}
-use Rattle.nfs_opens.specs.Closing.{stands}
+use Rattle.nfs_opens.specs.{declared.records.OpenState.OpenState, declared.records.LockState.LockState, Closing.stands}
 use Rattle.nfs_sessions.specs.Sessions.{Session}
 use Rattle.nfs_files.proofs.OthersTables.{clients_gone}
-use Rattle.nfs_exec.specs.Step.Machine.{Machine}
-use Rattle.nfs_exec.specs.Step.Expiry.{expired}
-use Rattle.nfs_exec.specs.Runs.Own.{IsAsBefore}
-use Rattle.nfs_exec.specs.Runs.Ended.{HasNothing, StaysBy, WhatRunsOutEnds}
+use Rattle.nfs_exec.specs.{Step.Machine.Machine, Step.Expiry.expired, Runs.Own.IsAsBefore, Runs.Ended.{HasNothing, StaysBy, WhatRunsOutEnds}}
 
 none_left : {X : Type 0} (p q : X → Bool) (xs : List X) → ((x : X) → p x ≡ true → q x ≡ false) → filter p (filter q xs) ≡ []
 none_left p q [] out = refl

@@ -1,59 +1,30 @@
 -- What a GETFH gave leads back to its object.
 use Rattle.std.proofs.Common.{◌≡◌, ℕ, ◌+◌, ◌<◌, ◌≤◌, ◌^◌, Bool, true, false, cond, eqb, List, [], ◌∷◌, length, take, drop, get_or, Option, Some, None, refl, sym, ◌∙◌, ap, arith}
-use Rattle.std.specs.Prelude.{◌==◌, is_some, option_map, Ok}
-use Rattle.std.specs.Int.{w32, from_be_bytes}
-use Rattle.std.proofs.lemmas.Bool.{eqb-true, false≢true}
-use Rattle.std.proofs.lemmas.List.{drop_at, take_at, append-nil, length-append}
-use Rattle.std.proofs.lemmas.Nat.{from_be_bytes-to_be_bytes_4}
-use Rattle.nfs_xdr.specs.Caller.{Caller}
-use Rattle.nfs_xdr.specs.Limits.{fhsize}
-use Rattle.nfs_xdr.specs.Reading.{◌>>=◌}
-use Rattle.nfs_xdr.specs.Spelling.{number, fixed, opaque}
-use Rattle.nfs_xdr.specs.declared.status.Status.{Status}
+use Rattle.std.proofs.{lemmas.Bool.{eqb-true, false≢true}, lemmas.List.{drop_at, take_at, append-nil, length-append}, lemmas.Nat.from_be_bytes-to_be_bytes_4}
+use Rattle.std.specs.{Prelude.{◌==◌, is_some, option_map, Ok}, Int.{w32, from_be_bytes}}
+use Rattle.nfs_xdr.specs.{Caller.Caller, Limits.fhsize, Reading.{◌>>=◌}, Spelling.{number, fixed, opaque}, declared.status.Status.Status}
 use Rattle.nfs_xdr.specs.declared.status.Status.TheVariants.{Nfs4Ok, BadHandle, Stale, RepTooBig}
-use Rattle.nfs_xdr.proofs.Lists.{find_in}
-use Rattle.nfs_xdr.proofs.Putting.{length_number}
-use Rattle.nfs_xdr.proofs.Tables.{in_bounds}
-use Rattle.nfs_compound.specs.declared.op.Item.{Item}
-use Rattle.nfs_compound.specs.declared.op.Item.TheVariants.{Operation}
+use Rattle.nfs_xdr.proofs.{Lists.find_in, Putting.length_number, Tables.in_bounds}
+use Rattle.nfs_compound.specs.{declared.op.Item.Item, declared.op.Item.TheVariants.Operation, OpNum.op_number, Request.Request}
+use Rattle.nfs_compound.specs.declared.session_args.Sequence.{Sequence}
 use Rattle.nfs_compound.specs.declared.op.Op.TheVariants as Op
 use Rattle.nfs_compound.specs.declared.op_num.OpNum.TheVariants as Num
-use Rattle.nfs_compound.specs.OpNum.{op_number}
-use Rattle.nfs_compound.specs.Request.{Request}
-use Rattle.nfs_compound.specs.declared.session_args.Sequence.{Sequence}
 use Rattle.nfs_results.specs.declared.res.Res.TheVariants as Res
 use Rattle.nfs_results.specs.Results.{spell_result, done_head, status_of_result}
 use Rattle.nfs_results.proofs.Lengths.{length_head, length_spelled}
-use Rattle.nfs_tree.specs.declared.stored.Stored.{Stored}
-use Rattle.nfs_tree.specs.Files.{stored_in, object_at}
-use Rattle.nfs_tree.specs.TreeInvariants.{IsTree}
-use Rattle.nfs_attrs.specs.declared.handle.Handle.{Handle}
-use Rattle.nfs_attrs.specs.Handle.{handle, handle_of}
-use Rattle.nfs_attrs.specs.Wire.{nfs_fh4}
-use Rattle.nfs_attrs.proofs.Lengths.{length_handle}
-use Rattle.nfs_attrs.proofs.Texts.{is_handle, handles}
+use Rattle.nfs_tree.specs.{declared.stored.Stored.Stored, Files.{stored_in, object_at}, TreeInvariants.IsTree}
+use Rattle.nfs_attrs.specs.{declared.handle.Handle.Handle, Handle.{handle, handle_of}, Wire.nfs_fh4}
+use Rattle.nfs_attrs.proofs.{Lengths.length_handle, Texts.{is_handle, handles}}
 use Rattle.nfs_sessions.specs.Id.{id_of}
-use Rattle.nfs_names.specs.declared.context.Context.{Context}
-use Rattle.nfs_names.specs.declared.node.Node.{Node}
-use Rattle.nfs_names.specs.Checks.{current, node_at, node_as}
-use Rattle.nfs_names.specs.Context.{begins}
+use Rattle.nfs_names.specs.{declared.context.Context.Context, declared.node.Node.Node, Checks.{current, node_at, node_as}, Context.begins, Outcome.is_ok}
+use Rattle.nfs_names.specs.{PutFh.put_fh, State.State}
 use Rattle.nfs_names.specs.Outcome as of_store
-use Rattle.nfs_names.specs.Outcome.{is_ok}
-use Rattle.nfs_names.specs.PutFh.{put_fh}
-use Rattle.nfs_names.specs.State.{State}
 use Rattle.nfs_names.proofs.NameLaws.{by_get_fh, by_put_fh}
-use Rattle.nfs_exec.specs.Step.Compound.{renewed, begun}
-use Rattle.nfs_exec.specs.Runs.Handles.{Gives, Leads}
-use Rattle.nfs_exec.specs.Step.Laws.{MachineEvent, Expires, Asks}
-use Rattle.nfs_exec.specs.Step.Machine.{Machine}
-use Rattle.nfs_exec.specs.Step.Behind.{Step}
-use Rattle.nfs_exec.specs.Runs.Ops.{RanOp, done, ops, ops_in, ops_of, ops_by}
-use Rattle.nfs_exec.specs.Step.Run.{in_room, is_here, behind_here}
-use Rattle.nfs_exec.specs.Step.Sequence as sequence
+use Rattle.nfs_exec.specs.{Step.Compound.{renewed, begun}, Runs.Handles.{Gives, Leads}, Step.Laws.{MachineEvent, Expires, Asks}, Step.Machine.Machine}
+use Rattle.nfs_exec.specs.{Step.Behind.Step, Runs.Ops.{RanOp, done, ops, ops_in, ops_of, ops_by}, Step.Run.{in_room, is_here, behind_here}}
 use Rattle.nfs_exec.specs.Step.Sequence.{Sequenced, sequenced}
-use Rattle.nfs_exec.proofs.Step.Instances.{instance_kept}
-use Rattle.nfs_exec.proofs.Runs.OneRun.{IsRun, in_room_is, too_big, by_item}
-use Rattle.nfs_exec.proofs.Runs.KeptByRuns.{Is, whole_room}
+use Rattle.nfs_exec.specs.Step.Sequence as sequence
+use Rattle.nfs_exec.proofs.{Step.Instances.instance_kept, Runs.OneRun.{IsRun, in_room_is, too_big, by_item}, Runs.KeptByRuns.{Is, whole_room}}
 use Rattle.nfs_exec.proofs.Runs.WrittenRun.{used_there, put_run}
 
 -- Two opaques of few bytes that are spelled alike are alike.

@@ -1,11 +1,9 @@
 -- What a state keeps, through whole runs.
 use Rattle.std.proofs.Common.{◌≡◌, ℕ, ◌+◌, Bool, true, false, cond, eqb, ltb, List, [], ◌∷◌, length, Option, Some, None, refl, sym, subst, arith, inl, inr}
-use Rattle.std.specs.Prelude.{Result, Ok, Err, not}
 use Rattle.std.proofs.lemmas.Bool.{cases_Bool}
-use Rattle.nfs_xdr.specs.Tables.{In}
-use Rattle.nfs_xdr.specs.declared.status.Status.{Status}
-use Rattle.nfs_compound.specs.declared.op.Item.{Item}
-use Rattle.nfs_compound.specs.declared.op.Item.TheVariants.{Operation}
+use Rattle.std.specs.Prelude.{Result, Ok, Err, not}
+use Rattle.nfs_xdr.specs.{Tables.In, declared.status.Status.Status}
+use Rattle.nfs_compound.specs.{declared.op.Item.Item, declared.op.Item.TheVariants.Operation}
 use Rattle.nfs_compound.specs.declared.op.Op.TheVariants as Op
 use Rattle.nfs_results.specs.Largest.{largest}
 use Rattle.nfs_clients.specs.Marks.{has_reclaimed}
@@ -13,36 +11,18 @@ use Rattle.nfs_sessions.specs.Id.{id_of}
 use Rattle.nfs_lease.specs.Renewals.{has_run_out}
 use Rattle.nfs_opens.specs.TableInvariants.{IsTable}
 use Rattle.nfs_opens.proofs.TableLemmas.{table_new}
-use Rattle.nfs_names.specs.declared.context.Context.{Context}
-use Rattle.nfs_names.specs.declared.node.Node.{Node}
-use Rattle.nfs_names.specs.Checks.{current}
-use Rattle.nfs_names.specs.Context.{begins}
-use Rattle.nfs_names.specs.State.{State, moment}
-use Rattle.nfs_names.specs.Ending.{staying}
-use Rattle.nfs_names.proofs.Untouched.{leaves_each}
-use Rattle.nfs_names.proofs.Staying.{store_staying}
-use Rattle.nfs_names.proofs.StoreInvariants.{store_at_first}
-use Rattle.nfs_names.proofs.Ones.{each_of}
+use Rattle.nfs_names.specs.{declared.context.Context.Context, declared.node.Node.Node, Checks.current, Context.begins, State.{State, moment}, Ending.staying}
+use Rattle.nfs_names.specs.Outcome.{is_ok}
+use Rattle.nfs_names.proofs.{Untouched.leaves_each, Staying.store_staying, StoreInvariants.store_at_first, Ones.each_of}
 use Rattle.nfs_files.proofs.Outcomes as files
-use Rattle.nfs_files.proofs.Outcomes.{for_each}
+use Rattle.nfs_files.proofs.{Outcomes.for_each, TreeFiles.{IsWhole, tree_ended, tree_new}, TableSteps.{table_item, table_staying_is}, Steady.{Few, few_files}}
 use Rattle.nfs_names.proofs.Sound as of_names
 use Rattle.nfs_files.proofs.Sound as of_files
-use Rattle.nfs_names.specs.Outcome.{is_ok}
-use Rattle.nfs_exec.specs.Step.Machine.{Machine, starts, HasNoClashes}
-use Rattle.nfs_exec.specs.Step.Behind.{Step, step, on_store, moves_opens, marked_if, otherwise}
-use Rattle.nfs_exec.specs.Step.Run.{run, in_room, reserve, is_here, behind_here}
-use Rattle.nfs_exec.specs.Step.ReclaimComplete.{reclaim_complete, of_one, of_all}
-use Rattle.nfs_exec.specs.Step.CreateSession.{without_any_opens}
-use Rattle.nfs_exec.specs.Step.Compound.{renewed, begun}
-use Rattle.nfs_exec.specs.Step.Laws.{MachineEvent, Expires, Asks, stepped, all_stepped}
-use Rattle.nfs_exec.proofs.Step.Behind.{by_step, follow_kept}
-use Rattle.nfs_exec.proofs.Runs.ByEvent.{by_compound}
-use Rattle.nfs_exec.proofs.Step.AloneKeeps.{holds_whoever}
-use Rattle.nfs_exec.specs.Runs.Ops.{RanOp, ops, ops_by}
-use Rattle.nfs_exec.specs.Runs.NoClashes.{NoneInRuns}
-use Rattle.nfs_files.proofs.TreeFiles.{IsWhole, tree_ended, tree_new}
-use Rattle.nfs_files.proofs.TableSteps.{table_item, table_staying_is}
-use Rattle.nfs_files.proofs.Steady.{Few, few_files}
+use Rattle.nfs_exec.specs.{Step.Machine.{Machine, starts, HasNoClashes}, Step.Behind.{Step, step, on_store, moves_opens, marked_if, otherwise}}
+use Rattle.nfs_exec.specs.{Step.Run.{run, in_room, reserve, is_here, behind_here}, Step.ReclaimComplete.{reclaim_complete, of_one, of_all}}
+use Rattle.nfs_exec.specs.{Step.CreateSession.without_any_opens, Step.Compound.{renewed, begun}, Step.Laws.{MachineEvent, Expires, Asks, stepped, all_stepped}}
+use Rattle.nfs_exec.specs.{Runs.Ops.{RanOp, ops, ops_by}, Runs.NoClashes.NoneInRuns}
+use Rattle.nfs_exec.proofs.{Step.Behind.{by_step, follow_kept}, Runs.ByEvent.by_compound, Step.AloneKeeps.holds_whoever}
 
 abbrev pub Is : Machine → Type 0
 Is m = IsWhole m.store

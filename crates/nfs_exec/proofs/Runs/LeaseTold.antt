@@ -1,24 +1,14 @@
 -- How long a lease lasts, by what attribute 10 says, does not change; and GETATTR and READDIR say it.
 use Rattle.std.proofs.Common.{◌≡◌, ℕ, true, List, ◌∙◌, subst}
-use Rattle.nfs_xdr.specs.Tables.{In}
-use Rattle.nfs_xdr.specs.Spelling.{number}
-use Rattle.nfs_compound.specs.declared.name_args.ReadDir.{ReadDir}
-use Rattle.nfs_compound.specs.declared.op.Item.TheVariants.{Operation}
+use Rattle.nfs_xdr.specs.{Tables.In, Spelling.number}
+use Rattle.nfs_compound.specs.{declared.name_args.ReadDir.ReadDir, declared.op.Item.TheVariants.Operation}
 use Rattle.nfs_compound.specs.declared.op.Op.TheVariants as Op
 use Rattle.nfs_attrs.specs.Mask.{mask_of, has}
-use Rattle.nfs_names.specs.Outcome.{is_ok}
-use Rattle.nfs_names.specs.State.{moment}
+use Rattle.nfs_names.specs.{Outcome.is_ok, State.moment}
 use Rattle.nfs_files.proofs.Steady.{lease_names, lease_files}
-use Rattle.nfs_exec.specs.Step.Machine.{Machine}
-use Rattle.nfs_exec.specs.Step.Laws.{MachineEvent, stepped}
-use Rattle.nfs_exec.specs.Runs.AttributesTold.{TellsValue, EntriesTell}
-use Rattle.nfs_exec.specs.Runs.Ops.{RanOp, ops_by}
-use Rattle.nfs_exec.proofs.Runs.KeptByRuns.{Is}
-use Rattle.nfs_exec.proofs.Runs.OneRun.{IsRun, by_run}
-use Rattle.nfs_exec.proofs.Runs.OneWalk.{IsKept, Throughout, throughout}
-use Rattle.nfs_exec.proofs.Runs.WhatWasDone.{event_run}
-use Rattle.nfs_exec.proofs.Runs.AttributesListed.{lease_listed}
-use Rattle.nfs_exec.proofs.Runs.AttributesTold.{lease_in}
+use Rattle.nfs_exec.specs.{Step.Machine.Machine, Step.Laws.{MachineEvent, stepped}, Runs.AttributesTold.{TellsValue, EntriesTell}, Runs.Ops.{RanOp, ops_by}}
+use Rattle.nfs_exec.proofs.{Runs.KeptByRuns.Is, Runs.OneRun.{IsRun, by_run}, Runs.OneWalk.{IsKept, Throughout, throughout}, Runs.WhatWasDone.event_run}
+use Rattle.nfs_exec.proofs.{Runs.AttributesListed.lease_listed, Runs.AttributesTold.lease_in}
 
 abbrev pub Lasts : ℕ → Machine → Type 0
 Lasts lease m = m.store.lease ≡ lease

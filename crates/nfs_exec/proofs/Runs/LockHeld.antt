@@ -1,30 +1,19 @@
 -- A lock that was told, through the operations of an event.
-use Rattle.std.proofs.Common.{◌≡◌, ◌≤◌, Bool, true, false, List, ◌∷◌, ◌++◌, sym, ◌∙◌, ap, subst}
-use Rattle.std.specs.Prelude.{◌==◌, filter}
-use Rattle.std.specs.Option.{option_map_or}
-use Rattle.std.proofs.lemmas.Bool.{eq-eqb}
+use Rattle.std.proofs.{Common.{◌≡◌, ◌≤◌, Bool, true, false, List, ◌∷◌, ◌++◌, sym, ◌∙◌, ap, subst}, lemmas.Bool.eq-eqb}
+use Rattle.std.specs.{Prelude.{◌==◌, filter}, Option.option_map_or}
 use Rattle.nfs_xdr.specs.Tables.{In}
 use Rattle.nfs_xdr.proofs.Lists.{in_filter, stays_in}
-use Rattle.nfs_compound.specs.declared.op.Op.{Op}
-use Rattle.nfs_compound.specs.declared.op.Item.TheVariants.{Operation}
-use Rattle.nfs_opens.specs.declared.records.LockState.{LockState}
-use Rattle.nfs_opens.specs.Table.{Table}
-use Rattle.nfs_names.specs.Outcome.{is_ok}
-use Rattle.nfs_names.specs.State.{moment}
+use Rattle.nfs_compound.specs.{declared.op.Op.Op, declared.op.Item.TheVariants.Operation}
+use Rattle.nfs_opens.specs.{declared.records.LockState.LockState, Table.Table}
+use Rattle.nfs_names.specs.{Outcome.is_ok, State.moment}
 use Rattle.nfs_names.proofs.Untouched.{leaves_each}
-use Rattle.nfs_files.specs.LockTold.{LockTold, Stands}
-use Rattle.nfs_files.specs.Own.{HasAsBefore}
+use Rattle.nfs_files.specs.{LockTold.{LockTold, Stands}, Own.HasAsBefore}
 use Rattle.nfs_files.proofs.Inside as inside
 use Rattle.nfs_files.proofs.KeptOps.{spared, clashing}
-use Rattle.nfs_exec.specs.Step.Machine.{Machine}
-use Rattle.nfs_exec.specs.Step.Laws.{MachineEvent, stepped}
-use Rattle.nfs_exec.specs.Runs.LockHeld.{Spares, StandsBefore, Tells, the_lock, is_of}
+use Rattle.nfs_exec.specs.{Step.Machine.Machine, Step.Laws.{MachineEvent, stepped}, Runs.LockHeld.{Spares, StandsBefore, Tells, the_lock, is_of}}
 use Rattle.nfs_exec.specs.Runs.Ops.{RanOp, ops_by}
-use Rattle.nfs_exec.proofs.Runs.KeptByRuns.{Is}
-use Rattle.nfs_exec.proofs.Runs.OneRun.{IsRun, by_run}
-use Rattle.nfs_exec.proofs.Runs.WhatWasDone.{did_lock, spared_inside, told_stands}
-use Rattle.nfs_exec.proofs.Runs.OthersByRuns.{SparesClient, event_apart}
-use Rattle.nfs_exec.proofs.Runs.OneWalk.{Stays, IsTold, told_walked}
+use Rattle.nfs_exec.proofs.{Runs.KeptByRuns.Is, Runs.OneRun.{IsRun, by_run}, Runs.WhatWasDone.{did_lock, spared_inside, told_stands}}
+use Rattle.nfs_exec.proofs.{Runs.OthersByRuns.{SparesClient, event_apart}, Runs.OneWalk.{Stays, IsTold, told_walked}}
 
 -- what others leave
 pub lock_frame : (k : LockTold) (t u : Table) → HasAsBefore k.client t u → Stands k t → Stands k u

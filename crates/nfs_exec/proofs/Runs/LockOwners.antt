@@ -3,19 +3,14 @@ use Rattle.std.proofs.Common.{◌≡◌, ℕ, sym, ◌∙◌, ap, subst}
 use Rattle.std.specs.Prelude.{Ok}
 use Rattle.nfs_xdr.specs.Tables.{In}
 use Rattle.nfs_compound.specs.declared.lock_args.Lock as args
-use Rattle.nfs_compound.specs.declared.lock_args.Locker.TheVariants.{OpenOwner}
-use Rattle.nfs_compound.specs.declared.lock_args.OpenToLockOwner.{OpenToLockOwner}
+use Rattle.nfs_compound.specs.{declared.lock_args.Locker.TheVariants.OpenOwner, declared.lock_args.OpenToLockOwner.OpenToLockOwner}
 use Rattle.nfs_compound.specs.declared.op.Item.TheVariants.{Operation}
 use Rattle.nfs_compound.specs.declared.op.Op.TheVariants as Op
-use Rattle.nfs_opens.specs.declared.locking.Wish.{Wish}
-use Rattle.nfs_opens.specs.declared.records.LockState.{LockState}
-use Rattle.nfs_opens.specs.Table.{Table}
+use Rattle.nfs_opens.specs.{declared.locking.Wish.Wish, declared.records.LockState.LockState, Table.Table}
 use Rattle.nfs_names.specs.State.{moment}
 use Rattle.nfs_files.specs.Lock.{locking, locks_as}
-use Rattle.nfs_files.proofs.LockOwners.{under_owner}
-use Rattle.nfs_files.proofs.ToldLocks.{left_by}
-use Rattle.nfs_exec.specs.Runs.LockHeld.{LocksFor}
-use Rattle.nfs_exec.specs.Runs.Ops.{RanOp}
+use Rattle.nfs_files.proofs.{LockOwners.under_owner, ToldLocks.left_by}
+use Rattle.nfs_exec.specs.{Runs.LockHeld.LocksFor, Runs.Ops.RanOp}
 use Rattle.nfs_exec.proofs.Runs.WhatWasDone.{by_ok, did_lock, IsRun}
 
 asked_is : (b a : args.Lock) → Op.Lock a ≡ Op.Lock b → b ≡ a

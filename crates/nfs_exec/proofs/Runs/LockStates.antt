@@ -3,19 +3,12 @@ use Rattle.std.proofs.Common.{◌≡◌, ◌⊎◌, ℕ, ◌<◌, ◌≤◌, Boo
 use Rattle.std.specs.Prelude.{◌==◌, not, if◌then◌else◌}
 use Rattle.nfs_xdr.specs.Tables.{In}
 use Rattle.nfs_xdr.proofs.Lists.{in_filter, in_map, in_push}
-use Rattle.nfs_opens.specs.declared.records.LockState.{LockState}
-use Rattle.nfs_opens.specs.declared.records.OpenState.{OpenState}
-use Rattle.nfs_opens.specs.Closing.{not_under}
-use Rattle.nfs_opens.specs.Locking.{raised}
-use Rattle.nfs_opens.specs.Opening.{own_open, opens_by}
-use Rattle.nfs_opens.specs.Table.{Table, Asked}
-use Rattle.nfs_names.specs.Ending.{table_staying}
-use Rattle.nfs_names.specs.State.{moment}
+use Rattle.nfs_opens.specs.{declared.records.LockState.LockState, declared.records.OpenState.OpenState, Closing.not_under, Locking.raised}
+use Rattle.nfs_opens.specs.{Opening.{own_open, opens_by}, Table.{Table, Asked}}
+use Rattle.nfs_names.specs.{Ending.table_staying, State.moment}
 use Rattle.nfs_names.proofs.Untouched.{leaves_each}
-use Rattle.nfs_files.proofs.Effected.{kept_opens}
-use Rattle.nfs_files.proofs.Effects.{Effect, Opens, Closes, Locks, Begins, Unlocks, Frees, table_behind}
-use Rattle.nfs_exec.proofs.Runs.OneRun.{by_run}
-use Rattle.nfs_exec.proofs.Runs.OneWalk.{IsKept}
+use Rattle.nfs_files.proofs.{Effected.kept_opens, Effects.{Effect, Opens, Closes, Locks, Begins, Unlocks, Frees, table_behind}}
+use Rattle.nfs_exec.proofs.{Runs.OneRun.by_run, Runs.OneWalk.IsKept}
 
 -- the same lock state, whose seqid may have risen
 pub record IsAs (k l : LockState) : Type 0 where

@@ -1,74 +1,47 @@
 -- Nothing answers NFS4ERR_DELAY where memory is not refused.
 use Rattle.std.proofs.Common.{◌≡◌, ℕ, ◌+◌, Bool, true, false, cond, eqb, ltb, not, List, [], ◌∷◌, ◌++◌, length, Option, Some, None, refl, sym, ◌∙◌, ap, subst, inl, inr}
-use Rattle.std.specs.Prelude.{◌==◌, ◌&&◌, ◌||◌, nat_lt, nat_le, filter, is_some, unwrap_or, Result, Ok, Err, IfSome}
-use Rattle.std.specs.Option.{option_map, option_map_or}
 use Rattle.std.proofs.lemmas.Bool.{cases_Bool, and_parts}
-use Rattle.nfs_xdr.specs.Caller.{Caller}
-use Rattle.nfs_xdr.specs.Tables.{In}
-use Rattle.nfs_xdr.specs.Checks.{first_fault}
-use Rattle.nfs_xdr.specs.declared.status.Status.{Status}
+use Rattle.std.specs.{Prelude.{◌==◌, ◌&&◌, ◌||◌, nat_lt, nat_le, filter, is_some, unwrap_or, Result, Ok, Err, IfSome}, Option.{option_map, option_map_or}}
+use Rattle.nfs_xdr.specs.{Caller.Caller, Tables.In, Checks.first_fault, declared.status.Status.Status}
 use Rattle.nfs_xdr.specs.declared.status.Status.TheVariants.{RepTooBig, NotSupp, Delay, BadSession, BadSlot, BadHighSlot, SeqMisordered, SeqFalseRetry}
 use Rattle.nfs_xdr.specs.declared.status.Status.TheVariants.{ReqTooBig, TooManyOps, StaleClientId, ClidInUse, ClientIdBusy, NotOnlyOp, OpNotInSession}
 use Rattle.nfs_xdr.specs.declared.status.Status.TheVariants.{TooSmall, NoSpc, ServerFault, MinorVersMismatch}
 use Rattle.nfs_xdr.proofs.Lists.{in_filter, in_map, in_push, find_in}
-use Rattle.nfs_compound.specs.declared.op.Op.{Op}
-use Rattle.nfs_compound.specs.declared.op.Item.{Item}
-use Rattle.nfs_compound.specs.declared.op.Item.TheVariants.{Operation}
-use Rattle.nfs_compound.specs.Arguments.{arguments}
-use Rattle.nfs_compound.specs.Request.{Request, item_number}
-use Rattle.nfs_compound.specs.declared.session_args.CreateSession.{CreateSession}
-use Rattle.nfs_compound.specs.declared.session_args.Sequence.{Sequence}
-use Rattle.nfs_results.specs.Largest.{largest}
-use Rattle.nfs_results.specs.Results.{status_of_result, refusal}
+use Rattle.nfs_compound.specs.{declared.op.Op.Op, declared.op.Item.Item, declared.op.Item.TheVariants.Operation, Arguments.arguments}
+use Rattle.nfs_compound.specs.{Request.{Request, item_number}, declared.session_args.CreateSession.CreateSession, declared.session_args.Sequence.Sequence}
+use Rattle.nfs_results.specs.{Largest.largest, Results.{status_of_result, refusal}}
 use Rattle.nfs_clients.specs.Roster.{ClientRecord, Roster, client_at, with_changed, is_unconfirmed_of, confirmed_of}
-use Rattle.nfs_clients.specs.declared.exchange_id.ClientFault.TheVariants as Faults
 use Rattle.nfs_clients.specs.ExchangeId.{carries_confirmed, updates, same_verifier, same_user}
 use Rattle.nfs_clients.specs.ExchangeId.{Ask, Case, Refuses, Stays, Adds, has_room, case_by, if_room, case_of, new_client, does, fault_status}
-use Rattle.nfs_clients.specs.CreateSession as clients
-use Rattle.nfs_clients.specs.Marks.{has_reclaimed}
-use Rattle.nfs_clients.specs.declared.created.CreateResult.{CreateResult}
-use Rattle.nfs_clients.specs.declared.created.CreateResult.TheVariants as results
-use Rattle.nfs_clients.specs.DestroyClientId.{destroy_fault}
+use Rattle.nfs_clients.specs.{Marks.has_reclaimed, declared.created.CreateResult.CreateResult, DestroyClientId.destroy_fault}
 use Rattle.nfs_clients.specs.declared.destroy.DestroyFault.{DestroyFault}
+use Rattle.nfs_clients.specs.declared.exchange_id.ClientFault.TheVariants as Faults
+use Rattle.nfs_clients.specs.CreateSession as clients
+use Rattle.nfs_clients.specs.declared.created.CreateResult.TheVariants as results
 use Rattle.nfs_clients.specs.declared.destroy.DestroyFault.TheVariants as Destroys
 use Rattle.nfs_lease.specs.Renewals.{has_run_out}
-use Rattle.nfs_slots.specs.declared.slot.Verdict.{Verdict}
-use Rattle.nfs_slots.specs.declared.slot.Verdict.TheVariants.{Fresh, Again, FalseRetry, Misordered, NoSlot}
-use Rattle.nfs_sessions.specs.Id.{id_of}
-use Rattle.nfs_sessions.specs.SessionSlots.{GrantedSlots, judge}
+use Rattle.nfs_slots.specs.{declared.slot.Verdict.Verdict, declared.slot.Verdict.TheVariants.{Fresh, Again, FalseRetry, Misordered, NoSlot}}
+use Rattle.nfs_sessions.specs.{Id.id_of, SessionSlots.{GrantedSlots, judge}}
 use Rattle.nfs_sessions.specs.Sessions.{Session, SessionTable, session_at, create, create_checks, create_unless, create_fault, fault_status as session_status}
-use Rattle.nfs_sessions.specs.declared.channel.Wish.{Wish}
-use Rattle.nfs_sessions.specs.declared.id.SessionId.{SessionId}
-use Rattle.nfs_sessions.specs.declared.sessions.SessionFault.{SessionFault}
+use Rattle.nfs_sessions.specs.{declared.channel.Wish.Wish, declared.id.SessionId.SessionId, declared.sessions.SessionFault.SessionFault}
 use Rattle.nfs_sessions.specs.declared.sessions.SessionFault.TheVariants as Sessions
-use Rattle.nfs_names.specs.declared.context.Context.{Context}
-use Rattle.nfs_names.specs.Context.{begins}
-use Rattle.nfs_names.specs.State.{State, moment}
-use Rattle.nfs_names.specs.Outcome.{Outcome as OfStore, or_delay as or_delay_there, is_delay, is_ok}
-use Rattle.nfs_names.specs.Checks.{current}
+use Rattle.nfs_names.specs.{declared.context.Context.Context, Context.begins, State.{State, moment}}
+use Rattle.nfs_names.specs.{Outcome.{Outcome as OfStore, or_delay as or_delay_there, is_delay, is_ok}, Checks.current}
 use Rattle.nfs_names.specs.Operation as names
-use Rattle.nfs_names.proofs.Faulted.{status_of_refusal}
-use Rattle.nfs_names.proofs.Ones.{each_of}
+use Rattle.nfs_names.proofs.{Faulted.status_of_refusal, Ones.each_of}
 use Rattle.nfs_files.proofs.Outcomes as files
-use Rattle.nfs_files.proofs.Outcomes.{for_each}
+use Rattle.nfs_files.proofs.{Outcomes.for_each, Prompt.{IsPrompt, all_pass, first_passes, not_true, first_prompt, current_prompt, names_prompt}}
+use Rattle.nfs_files.proofs.PromptFiles.{files_prompt}
 use Rattle.nfs_exec.specs.Step.Machine.{Machine, Outcome, or_delay, refuses as exec_refuses, starts}
 use Rattle.nfs_exec.specs.Step.Behind.{step, on_store, moves_opens, marked_if, otherwise}
 use Rattle.nfs_exec.specs.Step.CreateSession.{create_session_number, by_verdict, creates, by_created, made_body, wish_of}
-use Rattle.nfs_exec.specs.Step.Destroy.{destroy_session, destroyed_unless, has_session}
-use Rattle.nfs_exec.specs.Step.ExchangeId.{exchange_id, exchange_id_number, exchanged, ask_of}
-use Rattle.nfs_exec.specs.Step.ReclaimComplete.{reclaim_complete, of_one, of_all}
-use Rattle.nfs_exec.specs.Step.Run.{in_room, reserve, is_here, behind_here}
-use Rattle.nfs_exec.specs.Step.Place.{stands_alone, is_sequence, place_fault, item_fault, status_behind}
+use Rattle.nfs_exec.specs.{Step.Destroy.{destroy_session, destroyed_unless, has_session}, Step.ExchangeId.{exchange_id, exchange_id_number, exchanged, ask_of}}
+use Rattle.nfs_exec.specs.{Step.ReclaimComplete.{reclaim_complete, of_one, of_all}, Step.Run.{in_room, reserve, is_here, behind_here}}
+use Rattle.nfs_exec.specs.{Step.Place.{stands_alone, is_sequence, place_fault, item_fault, status_behind}, Step.Sequence.{compared, Sequenced, sequenced}}
+use Rattle.nfs_exec.specs.{Step.Compound.{carried_out, by_fault, first_item, bare, renewed, begun, in_session, by_first}, Step.Delayed.NothingDelays}
+use Rattle.nfs_exec.specs.{Step.Laws.{MachineEvent, Expires, Asks, stepped, all_stepped}, Runs.Ops.{RanOp, ops, ops_in, ops_of}}
 use Rattle.nfs_exec.specs.Step.Sequence as sequence
-use Rattle.nfs_exec.specs.Step.Sequence.{compared, Sequenced, sequenced}
-use Rattle.nfs_exec.specs.Step.Compound.{carried_out, by_fault, first_item, bare, renewed, begun, in_session, by_first}
-use Rattle.nfs_exec.specs.Step.Delayed.{NothingDelays}
-use Rattle.nfs_exec.specs.Step.Laws.{MachineEvent, Expires, Asks, stepped, all_stepped}
-use Rattle.nfs_exec.specs.Runs.Ops.{RanOp, ops, ops_in, ops_of}
-use Rattle.nfs_exec.proofs.Step.Behind.{IsKeptByEach, by_step, kept_run}
-use Rattle.nfs_exec.proofs.Runs.KeptByRuns.{in_more}
-use Rattle.nfs_files.proofs.Prompt.{IsPrompt, all_pass, first_passes, not_true, first_prompt, current_prompt, names_prompt}
-use Rattle.nfs_files.proofs.PromptFiles.{files_prompt}
+use Rattle.nfs_exec.proofs.{Step.Behind.{IsKeptByEach, by_step, kept_run}, Runs.KeptByRuns.in_more}
 
 -- One operation behind SEQUENCE.
 

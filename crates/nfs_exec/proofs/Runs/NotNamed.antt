@@ -1,52 +1,34 @@
 -- A request that does not name a client leaves it all that it has.
 use Rattle.std.proofs.Common.{◌≡◌, ◌≢◌, ℕ, suc, ◌≤◌, Bool, true, false, cond, not, List, ◌∷◌, Option, Some, None, Result, Ok, Err, refl, sym, ◌∙◌, ap, arith, inl, inr}
-use Rattle.std.specs.Prelude.{◌==◌, ◌&&◌, ◌||◌, filter, find, bytes_eq, is_some, option_map}
-use Rattle.std.specs.Option.{option_map_or}
 use Rattle.std.proofs.lemmas.Bool.{cases_Bool, eqb-true, ne_eqb, eqb-false, and_parts, false≢true}
-use Rattle.nfs_xdr.specs.Caller.{Caller}
-use Rattle.nfs_xdr.specs.Tables.{In}
-use Rattle.nfs_xdr.specs.declared.status.Status.{Status}
-use Rattle.nfs_xdr.specs.declared.status.Status.TheVariants.{Delay}
-use Rattle.nfs_xdr.proofs.Lists.{find_in, find_kept, find_push_some, filter_past}
-use Rattle.nfs_xdr.proofs.Tables.{at_without, in_bounds, in_once}
-use Rattle.nfs_compound.specs.declared.op.Item.{Item}
-use Rattle.nfs_compound.specs.declared.op.Item.TheVariants.{Operation}
-use Rattle.nfs_compound.specs.declared.op.Op.TheVariants as Op
-use Rattle.nfs_compound.specs.Request.{Request, item_number}
+use Rattle.std.specs.{Prelude.{◌==◌, ◌&&◌, ◌||◌, filter, find, bytes_eq, is_some, option_map}, Option.option_map_or}
+use Rattle.nfs_xdr.specs.{Caller.Caller, Tables.In, declared.status.Status.Status, declared.status.Status.TheVariants.Delay}
+use Rattle.nfs_xdr.proofs.{Lists.{find_in, find_kept, find_push_some, filter_past}, Tables.{at_without, in_bounds, in_once}}
+use Rattle.nfs_compound.specs.{declared.op.Item.Item, declared.op.Item.TheVariants.Operation, Request.{Request, item_number}}
 use Rattle.nfs_compound.specs.declared.session_args.CreateSession.{CreateSession}
+use Rattle.nfs_compound.specs.declared.op.Op.TheVariants as Op
 use Rattle.nfs_clients.specs.Roster.{ClientRecord, Roster, IsRoster, id_of as client_id, next_id, client_at, is_unconfirmed_of, unconfirmed_of}
 use Rattle.nfs_clients.specs.ExchangeId.{Ask, Case, Refuses, Stays, Adds, case_of, does, new_client}
-use Rattle.nfs_clients.specs.CreateSession as clients
 use Rattle.nfs_clients.specs.CreateSession.{leaving, leaving_by, without_any, confirms, keeps, with_confirmed, is_other_confirmed_of}
-use Rattle.nfs_clients.specs.DestroyClientId.{destroy_fault}
+use Rattle.nfs_clients.specs.{DestroyClientId.destroy_fault, declared.destroy.DestroyFault.DestroyFault}
+use Rattle.nfs_clients.specs.CreateSession as clients
 use Rattle.nfs_clients.specs.declared.created.CreateResult.TheVariants as results
-use Rattle.nfs_clients.specs.declared.destroy.DestroyFault.{DestroyFault}
 use Rattle.nfs_clients.proofs.Members.{mild_keeps}
-use Rattle.nfs_sessions.specs.Id.{id_of}
-use Rattle.nfs_sessions.specs.declared.channel.Wish.{Wish}
-use Rattle.nfs_sessions.specs.declared.id.SessionId.{SessionId}
-use Rattle.nfs_sessions.specs.declared.sessions.SessionFault.{SessionFault}
+use Rattle.nfs_sessions.specs.{Id.id_of, declared.channel.Wish.Wish, declared.id.SessionId.SessionId, declared.sessions.SessionFault.SessionFault}
 use Rattle.nfs_sessions.specs.SessionSlots.{GrantedSlots}
 use Rattle.nfs_sessions.specs.Sessions.{Session, SessionTable, is_session, session_at, create, create_unless, create_fault, with_slots}
 use Rattle.nfs_lease.specs.Renewals.{Book, has_run_out, with_lease, with_renewal, without_lease}
-use Rattle.nfs_names.specs.Context.{begins}
-use Rattle.nfs_names.specs.Outcome.{is_ok}
-use Rattle.nfs_exec.specs.Step.Machine.{Machine, IsMachine, Outcome, or_delay, refuses}
-use Rattle.nfs_exec.specs.Step.Place.{item_fault}
+use Rattle.nfs_names.specs.{Context.begins, Outcome.is_ok}
+use Rattle.nfs_exec.specs.{Step.Machine.{Machine, IsMachine, Outcome, or_delay, refuses}, Step.Place.item_fault}
 use Rattle.nfs_exec.specs.Step.ExchangeId.{exchange_id, exchange_id_number, exchanged, ask_of, without_any_lease}
 use Rattle.nfs_exec.specs.Step.CreateSession.{create_session_number, by_verdict, creates, by_created, made_body, wish_of, without_any_sessions}
-use Rattle.nfs_exec.specs.Step.Destroy.{destroy_session, destroyed_unless, has_session}
-use Rattle.nfs_exec.specs.Step.Run.{run, is_here, behind_here}
-use Rattle.nfs_exec.specs.Step.Sequence as sequence
-use Rattle.nfs_exec.specs.Step.Compound.{carried_out, by_fault, first_item, renewed, begun, compound}
-use Rattle.nfs_exec.specs.Step.Expiry.{expired}
+use Rattle.nfs_exec.specs.{Step.Destroy.{destroy_session, destroyed_unless, has_session}, Step.Run.{run, is_here, behind_here}}
+use Rattle.nfs_exec.specs.{Step.Compound.{carried_out, by_fault, first_item, renewed, begun, compound}, Step.Expiry.expired}
 use Rattle.nfs_exec.specs.Runs.Own.{sessions_of, IsAsBefore, has_owner, is_named_in}
-use Rattle.nfs_exec.proofs.Runs.ByEvent.{by_answered}
-use Rattle.nfs_exec.proofs.Step.Behind.{run_leases, run_sessions}
-use Rattle.nfs_exec.proofs.Runs.KeptByRuns.{Is}
+use Rattle.nfs_exec.specs.Step.Sequence as sequence
+use Rattle.nfs_exec.proofs.{Runs.ByEvent.by_answered, Step.Behind.{run_leases, run_sessions}, Runs.KeptByRuns.Is}
+use Rattle.nfs_exec.proofs.{Runs.OthersByOps.{known_apart_from, run_apart}, Runs.OthersByRuns.alone_apart}
 use Rattle.nfs_files.proofs.OthersTables.{same, both, clients_gone, filter_changed, filter_pushed}
-use Rattle.nfs_exec.proofs.Runs.OthersByOps.{known_apart_from, run_apart}
-use Rattle.nfs_exec.proofs.Runs.OthersByRuns.{alone_apart}
 
 pub as_it_was : (client : ℕ) (m : Machine) → IsAsBefore client m m
 as_it_was client m = record { known = refl; sessions = refl; lease = refl; own = same client m.store.opens }

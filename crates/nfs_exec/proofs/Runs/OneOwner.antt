@@ -1,15 +1,10 @@
 -- Two LOCKs of new lock owners that are told the same lock state are of one owner.
 use Rattle.std.proofs.Common.{◌≡◌, suc, sym, ◌∙◌, arith, inl, inr}
 use Rattle.nfs_xdr.proofs.Tables.{in_bounds}
-use Rattle.nfs_opens.specs.declared.records.LockState.{LockState}
-use Rattle.nfs_opens.specs.Table.{Table}
-use Rattle.nfs_exec.proofs.Runs.LockStates.{Descends}
-use Rattle.nfs_exec.specs.Runs.Ops.{RanOp}
-use Rattle.nfs_exec.specs.Runs.LockOwners.{AreOne}
-use Rattle.nfs_exec.proofs.Runs.WhatWasDone.{told_there}
-use Rattle.nfs_exec.proofs.Runs.OneRun.{IsRun}
-use Rattle.nfs_exec.proofs.Runs.LockOwners.{owned_behind, owned_client}
+use Rattle.nfs_opens.specs.{declared.records.LockState.LockState, Table.Table}
+use Rattle.nfs_exec.proofs.{Runs.LockStates.Descends, Runs.WhatWasDone.told_there, Runs.OneRun.IsRun, Runs.LockOwners.{owned_behind, owned_client}}
 use Rattle.nfs_exec.proofs.Runs.KeptByRuns.{Is}
+use Rattle.nfs_exec.specs.{Runs.Ops.RanOp, Runs.LockOwners.AreOne}
 
 pub are_one : (first second : RanOp) → IsRun first → Is first.behind → IsRun second → Is second.behind
     → Descends first.behind.store.opens second.behind.store.opens → AreOne first second

@@ -1,26 +1,16 @@
 -- What an operation that was run came to, by whose operation it is.
-use Rattle.std.proofs.Common.{◌≡◌, ℕ, ◌+◌, Bool, true, false, ltb, List, None, refl, sym, ◌∙◌, ap, subst, inl, inr}
+use Rattle.std.proofs.{Common.{◌≡◌, ℕ, ◌+◌, Bool, true, false, ltb, List, None, refl, sym, ◌∙◌, ap, subst, inl, inr}, lemmas.Bool.cases_Bool}
 use Rattle.std.specs.Option.{ForSome}
-use Rattle.std.proofs.lemmas.Bool.{cases_Bool}
-use Rattle.nfs_xdr.specs.declared.status.Status.{Status}
-use Rattle.nfs_xdr.specs.declared.status.Status.TheVariants.{RepTooBig}
-use Rattle.nfs_compound.specs.declared.op.Item.{Item}
-use Rattle.nfs_compound.specs.Request.{item_number}
-use Rattle.nfs_results.specs.Largest.{largest}
-use Rattle.nfs_results.specs.Results.{spell_result, status_of_result}
-use Rattle.nfs_names.specs.declared.context.Context.{Context}
+use Rattle.nfs_xdr.specs.{declared.status.Status.Status, declared.status.Status.TheVariants.RepTooBig}
+use Rattle.nfs_compound.specs.{declared.op.Item.Item, Request.item_number}
+use Rattle.nfs_results.specs.{Largest.largest, Results.{spell_result, status_of_result}}
+use Rattle.nfs_names.specs.{declared.context.Context.Context, Outcome.is_ok, State.{State, moment}}
 use Rattle.nfs_names.specs.Operation as names
-use Rattle.nfs_names.specs.Outcome.{is_ok}
-use Rattle.nfs_names.specs.State.{State, moment}
 use Rattle.nfs_files.specs.Operation as table
 use Rattle.nfs_files.proofs.Outcomes.{comes_to, for_each}
-use Rattle.nfs_exec.specs.Step.Machine.{Machine}
-use Rattle.nfs_exec.specs.Step.Behind.{Step, step, stays, on_store, moves_opens, marked_if, otherwise}
-use Rattle.nfs_exec.specs.Step.Run.{in_room, reserve}
+use Rattle.nfs_exec.specs.{Step.Machine.Machine, Step.Behind.{Step, step, stays, on_store, moves_opens, marked_if, otherwise}, Step.Run.{in_room, reserve}}
 use Rattle.nfs_exec.specs.Runs.Ops.{RanOp, done}
-use Rattle.nfs_exec.proofs.Step.Behind.{by_step}
-use Rattle.nfs_exec.proofs.Step.RefusalsFit.{refused_status}
-use Rattle.nfs_exec.proofs.Runs.KeptByRuns.{Is, otherwise_store}
+use Rattle.nfs_exec.proofs.{Step.Behind.by_step, Step.RefusalsFit.refused_status, Runs.KeptByRuns.{Is, otherwise_store}}
 
 -- an operation is refused for want of room, or is what it is
 pub in_room_is : (P : Step → Type 0) (limit sofar now : ℕ) (refused : Bool) (m : Machine) (x : Context) (i : Item) → P (stays m x i RepTooBig)

@@ -1,71 +1,42 @@
 -- A CREATE_SESSION makes one session, and its repeat none.
 use Rattle.std.proofs.Common.{◌≡◌, ◌≢◌, ℕ, ◌+◌, ◌-◌, ◌^◌, ◌<◌, Bool, true, false, cond, eqb, not, List, [], ◌∷◌, ◌++◌, length, take, drop, Option, Some, None, refl, sym, ◌∙◌, ap, subst, arith, inl, inr}
+use Rattle.std.proofs.{lemmas.Bool.{cases_Bool, eqb-true, eqb-false, eq-eqb, ne_eqb, and_parts, false≢true}, lemmas.List.{length-append, take_at, drop_at}}
 use Rattle.std.specs.Prelude.{◌==◌, ◌⊎◌, ◌&&◌, find, option_map, is_some, Result, Ok, Err}
-use Rattle.std.proofs.lemmas.Bool.{cases_Bool, eqb-true, eqb-false, eq-eqb, ne_eqb, and_parts, false≢true}
-use Rattle.std.proofs.lemmas.List.{length-append, take_at, drop_at}
-use Rattle.nfs_xdr.specs.Caller.{Caller}
-use Rattle.nfs_xdr.specs.Tables.{In}
-use Rattle.nfs_xdr.specs.Spelling.{hyper, opaque}
-use Rattle.nfs_xdr.specs.declared.status.Status.{Status}
+use Rattle.nfs_xdr.specs.{Caller.Caller, Tables.In, Spelling.{hyper, opaque}, declared.status.Status.Status}
 use Rattle.nfs_xdr.specs.declared.status.Status.TheVariants.{Nfs4Ok, Delay, StaleClientId, SeqMisordered, ClidInUse, MinorVersMismatch}
 use Rattle.nfs_xdr.proofs.Lists.{find_in, in_filter, in_push, push_in, stays_in, find_push_none, find_past, find_none}
 use Rattle.nfs_compound.specs.declared.op_num.OpNum.TheVariants as Num
-use Rattle.nfs_compound.specs.OpNum.{op_number}
-use Rattle.nfs_compound.specs.declared.op.Item.{Item}
-use Rattle.nfs_compound.specs.declared.op.Item.TheVariants.{Operation}
+use Rattle.nfs_compound.specs.{OpNum.op_number, declared.op.Item.Item, declared.op.Item.TheVariants.Operation, Request.{Request, item_number}}
+use Rattle.nfs_compound.specs.{declared.session_args.CreateSession.CreateSession, declared.session_args.Sequence.Sequence}
 use Rattle.nfs_compound.specs.declared.op.Op.TheVariants as Op
-use Rattle.nfs_compound.specs.Request.{Request, item_number}
-use Rattle.nfs_compound.specs.declared.session_args.CreateSession.{CreateSession}
-use Rattle.nfs_compound.specs.declared.session_args.Sequence.{Sequence}
 use Rattle.nfs_results.specs.declared.res.Res.TheVariants as Res
 use Rattle.nfs_results.specs.Results.{spell_result, done_head, spell_compound_head}
 use Rattle.nfs_results.specs.Items as item
 use Rattle.nfs_results.proofs.Lengths.{length_head, length_spelled}
 use Rattle.nfs_results.proofs.Heads as heads
-use Rattle.nfs_clients.specs.Roster.{ClientRecord, Roster, IsRoster, client_at, is_confirmed_of}
-use Rattle.nfs_clients.specs.ExchangeId.{case_of}
-use Rattle.nfs_clients.specs.CreateSession as clients
+use Rattle.nfs_clients.specs.{Roster.{ClientRecord, Roster, IsRoster, client_at, is_confirmed_of}, ExchangeId.case_of}
 use Rattle.nfs_clients.specs.CreateSession.{following, create_verdict, leaving, leaving_by, is_other_confirmed_of, with_kept, with_confirmed}
-use Rattle.nfs_clients.specs.Marks.{has_reclaimed}
-use Rattle.nfs_clients.specs.DestroyClientId.{destroy_fault}
+use Rattle.nfs_clients.specs.{Marks.has_reclaimed, DestroyClientId.destroy_fault, declared.destroy.DestroyFault.DestroyFault}
+use Rattle.nfs_clients.specs.CreateSession as clients
 use Rattle.nfs_clients.specs.declared.created.CreateResult.TheVariants as results
-use Rattle.nfs_clients.specs.declared.destroy.DestroyFault.{DestroyFault}
-use Rattle.nfs_sessions.specs.declared.id.SessionId.{SessionId}
-use Rattle.nfs_sessions.specs.declared.channel.Wish.{Wish}
-use Rattle.nfs_sessions.specs.declared.sessions.SessionFault.{SessionFault}
-use Rattle.nfs_sessions.specs.Id.{id_of, id_bytes}
+use Rattle.nfs_sessions.specs.{declared.id.SessionId.SessionId, declared.channel.Wish.Wish, declared.sessions.SessionFault.SessionFault, Id.{id_of, id_bytes}}
 use Rattle.nfs_sessions.specs.Sessions.{Session, SessionTable, is_session, session_at, create, create_unless, create_fault, fault_status, with_session}
-use Rattle.nfs_sessions.specs.SessionSlots.{unused}
-use Rattle.nfs_sessions.specs.Channel.{granted}
+use Rattle.nfs_sessions.specs.{SessionSlots.unused, Channel.granted}
 use Rattle.nfs_lease.specs.Renewals.{has_run_out}
-use Rattle.nfs_names.specs.declared.context.Context.{Context}
-use Rattle.nfs_names.specs.declared.node.Node.{Node}
-use Rattle.nfs_names.specs.Context.{begins}
-use Rattle.nfs_names.specs.Checks.{current}
-use Rattle.nfs_names.specs.State.{moment}
-use Rattle.nfs_names.specs.Ending.{has_open}
+use Rattle.nfs_names.specs.{declared.context.Context.Context, declared.node.Node.Node, Context.begins, Checks.current, State.moment, Ending.has_open}
+use Rattle.nfs_names.specs.Outcome.{is_ok}
 use Rattle.nfs_files.proofs.Outcomes as files
 use Rattle.nfs_files.proofs.Outcomes.{for_each}
-use Rattle.nfs_names.specs.Outcome.{is_ok}
-use Rattle.nfs_exec.specs.Step.Machine.{Machine, Outcome, or_delay, refuses, starts}
-use Rattle.nfs_exec.specs.Step.Behind.{step, on_store, moves_opens, marked_if, otherwise}
-use Rattle.nfs_exec.specs.Step.Run.{run, in_room, is_here, behind_here}
-use Rattle.nfs_exec.specs.Step.Place.{item_fault}
-use Rattle.nfs_exec.specs.Step.ReclaimComplete.{reclaim_complete, of_one, of_all}
+use Rattle.nfs_exec.specs.{Step.Machine.{Machine, Outcome, or_delay, refuses, starts}, Step.Behind.{step, on_store, moves_opens, marked_if, otherwise}}
+use Rattle.nfs_exec.specs.{Step.Run.{run, in_room, is_here, behind_here}, Step.Place.item_fault, Step.ReclaimComplete.{reclaim_complete, of_one, of_all}}
 use Rattle.nfs_exec.specs.Step.ExchangeId.{exchange_id, exchange_id_number, ask_of}
 use Rattle.nfs_exec.specs.Step.CreateSession.{create_session_number, by_verdict, creates, by_created, confirmed, made_body, wish_of, without_any_sessions}
-use Rattle.nfs_exec.specs.Step.Destroy.{destroy_session, destroyed_unless, has_session}
-use Rattle.nfs_exec.specs.Step.Sequence as sequence
-use Rattle.nfs_exec.specs.Step.Sequence.{Sequenced, sequenced}
+use Rattle.nfs_exec.specs.{Step.Destroy.{destroy_session, destroyed_unless, has_session}, Step.Sequence.{Sequenced, sequenced}}
 use Rattle.nfs_exec.specs.Step.Compound.{carried_out, by_fault, first_item, renewed, begun, bare, Answered, in_session, by_first, compound}
-use Rattle.nfs_exec.specs.Step.Laws.{MachineEvent, Expires, Asks, stepped, all_stepped}
-use Rattle.nfs_exec.specs.Runs.OneSession.{asks_of, asks_session, Gives, MakesOne, GivesOne}
-use Rattle.nfs_exec.proofs.Step.Behind.{by_step, follow_kept}
-use Rattle.nfs_exec.proofs.Step.Creating.{length_id}
-use Rattle.nfs_exec.proofs.Runs.WhatWasDone.{in_room_is}
-use Rattle.nfs_exec.proofs.Runs.SlotNumbers.{IsCounted}
-use Rattle.nfs_exec.proofs.Runs.SlotNumbersAlong.{counted_all}
-use Rattle.nfs_exec.proofs.Runs.SessionNumbers.{After, IsAgain, IsNext, IsCarried, ToldBy, more, after_own, after_carried}
+use Rattle.nfs_exec.specs.{Step.Laws.{MachineEvent, Expires, Asks, stepped, all_stepped}, Runs.OneSession.{asks_of, asks_session, Gives, MakesOne, GivesOne}}
+use Rattle.nfs_exec.specs.Step.Sequence as sequence
+use Rattle.nfs_exec.proofs.{Step.Behind.{by_step, follow_kept}, Step.Creating.length_id, Runs.WhatWasDone.in_room_is, Runs.SlotNumbers.IsCounted}
+use Rattle.nfs_exec.proofs.{Runs.SlotNumbersAlong.counted_all, Runs.SessionNumbers.{After, IsAgain, IsNext, IsCarried, ToldBy, more, after_own, after_carried}}
 use Rattle.nfs_exec.proofs.Runs.SessionNumbers.{carried_case, carried_confirmed, verdict_again, verdict_next, after_again, after_next, not_next, same_kept, next_is_new}
 use Rattle.nfs_exec.proofs.Runs.SessionNumbers.{tells_more, tells_carried, tells_refused, tells_made}
 

@@ -1,48 +1,25 @@
 -- An open that was told, through the operations of an event.
-use Rattle.std.proofs.Common.{◌≡◌, ◌≢◌, ℕ, Bool, true, false, cond, List, ◌∷◌, ◌++◌, Some, None, refl, sym, ◌∙◌, ap, subst}
-use Rattle.std.specs.Prelude.{◌==◌, filter}
-use Rattle.std.specs.Option.{option_map_or}
-use Rattle.std.proofs.lemmas.Bool.{eq-eqb, true≢false}
+use Rattle.std.proofs.{Common.{◌≡◌, ◌≢◌, ℕ, Bool, true, false, cond, List, ◌∷◌, ◌++◌, Some, None, refl, sym, ◌∙◌, ap, subst}, lemmas.Bool.{eq-eqb, true≢false}}
 use Rattle.std.proofs.lemmas.Option.{none-some}
-use Rattle.nfs_xdr.specs.Tables.{In}
-use Rattle.nfs_xdr.specs.declared.status.Status.{Status}
-use Rattle.nfs_xdr.specs.declared.status.Status.TheVariants.{RepTooBig}
+use Rattle.std.specs.{Prelude.{◌==◌, filter}, Option.option_map_or}
+use Rattle.nfs_xdr.specs.{Tables.In, declared.status.Status.Status, declared.status.Status.TheVariants.RepTooBig, declared.time.Time.Time}
 use Rattle.nfs_xdr.proofs.Lists.{in_filter, stays_in}
-use Rattle.nfs_compound.specs.declared.open_args.Open.{Open}
-use Rattle.nfs_compound.specs.declared.op_num.OpNum.TheVariants as Num
-use Rattle.nfs_compound.specs.OpNum.{op_number}
-use Rattle.nfs_compound.specs.declared.op.Op.{Op}
-use Rattle.nfs_compound.specs.declared.op.Item.{Item}
-use Rattle.nfs_compound.specs.declared.op.Item.TheVariants.{Operation}
+use Rattle.nfs_compound.specs.{declared.open_args.Open.Open, OpNum.op_number, declared.op.Op.Op, declared.op.Item.Item, declared.op.Item.TheVariants.Operation}
 use Rattle.nfs_compound.specs.Request.{item_number}
+use Rattle.nfs_compound.specs.declared.op_num.OpNum.TheVariants as Num
 use Rattle.nfs_results.specs.Results.{spell_result, refusal}
-use Rattle.nfs_opens.specs.declared.records.OpenState.{OpenState}
-use Rattle.nfs_opens.specs.Opening.{own_open}
-use Rattle.nfs_opens.specs.Table.{Table}
-use Rattle.nfs_xdr.specs.declared.time.Time.{Time}
-use Rattle.nfs_names.specs.declared.context.Context.{Context}
-use Rattle.nfs_names.specs.Outcome.{Outcome as OfStore, is_ok}
-use Rattle.nfs_names.specs.State.{State, moment}
+use Rattle.nfs_opens.specs.{declared.records.OpenState.OpenState, Opening.own_open, Table.Table}
+use Rattle.nfs_names.specs.{declared.context.Context.Context, Outcome.{Outcome as OfStore, is_ok}, State.{State, moment}}
 use Rattle.nfs_names.specs.Operation as names
 use Rattle.nfs_names.proofs.Untouched.{leaves_each}
 use Rattle.nfs_files.specs.Operation as table
-use Rattle.nfs_files.specs.Open.{asking}
-use Rattle.nfs_files.specs.OpenDowngrade.{bits}
-use Rattle.nfs_files.specs.Own.{HasAsBefore}
-use Rattle.nfs_files.specs.OpenTold.{names_open, OpenTold, Bits, bits_with, bits_had, bits_behind, IsOpenWith, claimed}
-use Rattle.nfs_files.specs.OpenLaws.{IsToldOpen}
-use Rattle.nfs_files.proofs.Inside.{Closes}
-use Rattle.nfs_files.proofs.ToldOpens.{same_opens, short_names_none, told_open_left, told_opens, opens_refused}
-use Rattle.nfs_exec.specs.Step.Machine.{Machine}
-use Rattle.nfs_exec.specs.Step.Laws.{MachineEvent, stepped}
-use Rattle.nfs_exec.specs.Runs.Ops.{RanOp, ops_by}
-use Rattle.nfs_exec.specs.Runs.LockHeld.{ClosesOf, is_of}
+use Rattle.nfs_files.specs.{Open.asking, OpenDowngrade.bits, Own.HasAsBefore}
+use Rattle.nfs_files.specs.{OpenTold.{names_open, OpenTold, Bits, bits_with, bits_had, bits_behind, IsOpenWith, claimed}, OpenLaws.IsToldOpen}
+use Rattle.nfs_files.proofs.{Inside.Closes, ToldOpens.{same_opens, short_names_none, told_open_left, told_opens, opens_refused}}
+use Rattle.nfs_exec.specs.{Step.Machine.Machine, Step.Laws.{MachineEvent, stepped}, Runs.Ops.{RanOp, ops_by}, Runs.LockHeld.{ClosesOf, is_of}}
 use Rattle.nfs_exec.specs.Runs.OpenHeld.{IsOpenBefore, the_open, TellsOpen}
-use Rattle.nfs_exec.proofs.Runs.KeptByRuns.{Is}
-use Rattle.nfs_exec.proofs.Runs.OneRun.{IsRun, by_item, by_run}
-use Rattle.nfs_exec.proofs.Runs.WhatWasDone.{told_close, event_run}
-use Rattle.nfs_exec.proofs.Runs.OthersByRuns.{SparesClient, event_apart}
-use Rattle.nfs_exec.proofs.Runs.OneWalk.{Stays, IsTold, told_walked}
+use Rattle.nfs_exec.proofs.{Runs.KeptByRuns.Is, Runs.OneRun.{IsRun, by_item, by_run}, Runs.WhatWasDone.{told_close, event_run}}
+use Rattle.nfs_exec.proofs.{Runs.OthersByRuns.{SparesClient, event_apart}, Runs.OneWalk.{Stays, IsTold, told_walked}}
 
 -- what others leave
 open_frame : (k : OpenTold) (b : Bits) (t u : Table) → HasAsBefore k.client t u → IsOpenWith k b t → IsOpenWith k b u

@@ -1,28 +1,18 @@
 -- The operations of a run are those that it runs.
 use Rattle.std.proofs.Common.{◌≡◌, ℕ, suc, ◌+◌, Bool, true, false, cond, eqb, List, [], ◌∷◌, ◌++◌, length, append-nil, Option, Some, None, refl, ap, ◌∙◌, sym}
 use Rattle.std.proofs.lemmas.Bool.{true≢false, false≢true}
-use Rattle.nfs_xdr.specs.Caller.{Caller}
-use Rattle.nfs_xdr.specs.declared.status.Status.TheVariants.{MinorVersMismatch}
-use Rattle.nfs_compound.specs.declared.op.Item.{Item}
-use Rattle.nfs_compound.specs.declared.op.Item.TheVariants.{Operation}
+use Rattle.nfs_xdr.specs.{Caller.Caller, declared.status.Status.TheVariants.MinorVersMismatch}
+use Rattle.nfs_compound.specs.{declared.op.Item.Item, declared.op.Item.TheVariants.Operation, Request.Request, declared.session_args.Sequence.Sequence}
 use Rattle.nfs_compound.specs.declared.op.Op.TheVariants as Op
-use Rattle.nfs_compound.specs.Request.{Request}
-use Rattle.nfs_compound.specs.declared.session_args.Sequence.{Sequence}
 use Rattle.nfs_results.specs.declared.res.Res.TheVariants as Res
 use Rattle.nfs_results.specs.Results.{spell_result, spell_compound_head}
-use Rattle.nfs_sessions.specs.declared.channel.Channel.{Channel}
-use Rattle.nfs_names.specs.declared.context.Context.{Context}
-use Rattle.nfs_names.specs.Outcome.{is_ok}
-use Rattle.nfs_exec.specs.Step.Machine.{Machine}
-use Rattle.nfs_exec.specs.Step.Behind.{Step}
-use Rattle.nfs_exec.specs.Step.Run.{Ran, run, in_room, follow, is_here, behind_here}
-use Rattle.nfs_exec.specs.Step.Sequence as sequence
-use Rattle.nfs_exec.specs.Step.Sequence.{Sequenced, sequenced, accepted}
-use Rattle.nfs_exec.specs.Step.Compound.{bare, begun, renewed, run_in, in_session, by_first}
+use Rattle.nfs_sessions.specs.{declared.channel.Channel.Channel, Id.id_of}
+use Rattle.nfs_names.specs.{declared.context.Context.Context, Outcome.is_ok, Context.begins}
+use Rattle.nfs_exec.specs.{Step.Machine.Machine, Step.Behind.Step, Step.Run.{Ran, run, in_room, follow, is_here, behind_here}}
+use Rattle.nfs_exec.specs.{Step.Sequence.{Sequenced, sequenced, accepted}, Step.Compound.{bare, begun, renewed, run_in, in_session, by_first}}
 use Rattle.nfs_exec.specs.Step.Laws.{if_runs, first_runs}
-use Rattle.nfs_names.specs.Context.{begins}
-use Rattle.nfs_sessions.specs.Id.{id_of}
 use Rattle.nfs_exec.specs.Runs.Ops.{RanOp, done, ops, ops_in, ops_of, last_status, results_of, IsRunOf, OpsAreRun, OpsAreRunIn, AnswersAreTheirs}
+use Rattle.nfs_exec.specs.Step.Sequence as sequence
 
 followed : (m : Machine) (x : Context) (item : Item) (items : List Item) (s : Step) (rest : Ran) (more : List RanOp) → IsRunOf s.outcome.machine items rest more
     → (b : Bool) → is_ok s.outcome.status ≡ b → IsRunOf m (item ∷ items) (follow s.outcome rest) (done m x item s ∷ cond b more [])

@@ -1,32 +1,21 @@
 -- The operations of a compound leave another client what it has.
 use Rattle.std.proofs.Common.{◌≡◌, ◌≢◌, ℕ, ◌+◌, Bool, true, false, ltb, List, [], ◌∷◌, length, Option, refl, sym, ◌∙◌, ap, subst, inl, inr}
-use Rattle.std.specs.Prelude.{Result, Ok, Err}
 use Rattle.std.proofs.lemmas.Bool.{cases_Bool, ne_eqb}
+use Rattle.std.specs.Prelude.{Result, Ok, Err}
 use Rattle.nfs_xdr.specs.declared.status.Status.{Status}
 use Rattle.nfs_xdr.proofs.Tables.{at_with}
-use Rattle.nfs_compound.specs.declared.op.Item.{Item}
-use Rattle.nfs_compound.specs.declared.op.Item.TheVariants.{Operation}
+use Rattle.nfs_compound.specs.{declared.op.Item.Item, declared.op.Item.TheVariants.Operation}
 use Rattle.nfs_compound.specs.declared.op.Op.TheVariants as Op
-use Rattle.nfs_clients.specs.Roster.{ClientRecord, Roster, client_at, with_changed}
-use Rattle.nfs_clients.specs.Marks.{has_reclaimed}
-use Rattle.nfs_names.specs.declared.context.Context.{Context}
-use Rattle.nfs_names.specs.declared.node.Node.{Node}
-use Rattle.nfs_names.specs.Checks.{current}
-use Rattle.nfs_names.specs.State.{State, moment}
+use Rattle.nfs_clients.specs.{Roster.{ClientRecord, Roster, client_at, with_changed}, Marks.has_reclaimed}
+use Rattle.nfs_names.specs.{declared.context.Context.Context, declared.node.Node.Node, Checks.current, State.{State, moment}}
 use Rattle.nfs_names.proofs.Untouched.{leaves_each}
 use Rattle.nfs_files.proofs.Outcomes as files
-use Rattle.nfs_files.proofs.Outcomes.{for_each}
-use Rattle.nfs_files.proofs.Effected.{same_client}
+use Rattle.nfs_files.proofs.{Outcomes.for_each, Effected.same_client, OthersTables.{same, both}, OthersOps.{is_other, item_apart}}
 use Rattle.nfs_results.specs.Largest.{largest}
-use Rattle.nfs_exec.specs.Step.Machine.{Machine}
-use Rattle.nfs_exec.specs.Step.Behind.{step, on_store, moves_opens, marked_if, otherwise}
-use Rattle.nfs_exec.specs.Step.ReclaimComplete.{reclaim_complete, of_one, of_all}
-use Rattle.nfs_exec.specs.Step.Run.{run, in_room, reserve, is_here, behind_here}
+use Rattle.nfs_exec.specs.{Step.Machine.Machine, Step.Behind.{step, on_store, moves_opens, marked_if, otherwise}}
+use Rattle.nfs_exec.specs.{Step.ReclaimComplete.{reclaim_complete, of_one, of_all}, Step.Run.{run, in_room, reserve, is_here, behind_here}}
 use Rattle.nfs_files.specs.Own.{HasAsBefore}
-use Rattle.nfs_exec.proofs.Step.Behind.{by_step, follow_kept, other_context}
-use Rattle.nfs_exec.proofs.Runs.KeptByRuns.{Is, whole_room, otherwise_store}
-use Rattle.nfs_files.proofs.OthersTables.{same, both}
-use Rattle.nfs_files.proofs.OthersOps.{is_other, item_apart}
+use Rattle.nfs_exec.proofs.{Step.Behind.{by_step, follow_kept, other_context}, Runs.KeptByRuns.{Is, whole_room, otherwise_store}}
 
 -- In a compound: the other has what it had, its record is as it was, and the client that asks is the same.
 

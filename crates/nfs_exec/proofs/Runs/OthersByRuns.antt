@@ -1,26 +1,17 @@
 -- A compound that runs in no session of a client leaves it what it has.
-use Rattle.std.proofs.Common.{◌≡◌, ℕ, false, not, Option, Some, None, sym, ap}
-use Rattle.std.specs.Prelude.{◌==◌}
-use Rattle.std.specs.Option.{option_map_or}
-use Rattle.std.proofs.lemmas.Bool.{ne_eqb, eqb-false}
+use Rattle.std.proofs.{Common.{◌≡◌, ℕ, false, not, Option, Some, None, sym, ap}, lemmas.Bool.{ne_eqb, eqb-false}}
+use Rattle.std.specs.{Prelude.{◌==◌}, Option.option_map_or}
 use Rattle.nfs_xdr.specs.Caller.{Caller}
 use Rattle.nfs_compound.specs.Request.{Request}
 use Rattle.nfs_sessions.specs.Id.{id_of}
 use Rattle.nfs_lease.specs.Renewals.{has_run_out}
 use Rattle.nfs_opens.specs.Table.{Table}
 use Rattle.nfs_names.specs.Context.{begins}
-use Rattle.nfs_exec.specs.Step.Machine.{Machine}
-use Rattle.nfs_exec.specs.Step.CreateSession.{without_any_opens}
-use Rattle.nfs_exec.specs.Step.Run.{is_here, behind_here}
-use Rattle.nfs_exec.specs.Step.Compound.{renewed, begun, compound}
-use Rattle.nfs_exec.specs.Step.Laws.{MachineEvent, Expires, Asks, stepped}
-use Rattle.nfs_exec.specs.Runs.LockHeld.{is_of, replaces, renews}
+use Rattle.nfs_exec.specs.{Step.Machine.Machine, Step.CreateSession.without_any_opens, Step.Run.{is_here, behind_here}}
+use Rattle.nfs_exec.specs.{Step.Compound.{renewed, begun, compound}, Step.Laws.{MachineEvent, Expires, Asks, stepped}, Runs.LockHeld.{is_of, replaces, renews}}
 use Rattle.nfs_files.specs.Own.{HasAsBefore}
-use Rattle.nfs_exec.proofs.Runs.ByEvent.{by_answered}
-use Rattle.nfs_exec.proofs.Step.AloneKeeps.{HoldsForOthers, holds_alone}
+use Rattle.nfs_exec.proofs.{Runs.ByEvent.by_answered, Step.AloneKeeps.{HoldsForOthers, holds_alone}, Runs.OthersByOps.run_apart, Runs.KeptByRuns.Is}
 use Rattle.nfs_files.proofs.OthersTables.{same, both, clients_gone}
-use Rattle.nfs_exec.proofs.Runs.OthersByOps.{run_apart}
-use Rattle.nfs_exec.proofs.Runs.KeptByRuns.{Is}
 
 pub alone_apart : (c : ℕ) (t : Table) → HoldsForOthers c (λ s. HasAsBefore c t s.opens)
 alone_apart c t s None other is = is

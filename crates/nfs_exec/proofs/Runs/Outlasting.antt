@@ -1,44 +1,27 @@
 -- A compound that neither renews a client's lease nor begins it leaves it as it was, or ends it.
 use Rattle.std.proofs.Common.{◌≡◌, ◌⊎◌, ℕ, Bool, true, false, cond, eqb, List, [], ◌∷◌, Option, Some, None, Result, Ok, Err, refl, sym, ◌∙◌, subst, inl, inr}
-use Rattle.std.specs.Prelude.{◌&&◌, ◌||◌, ◌==◌, is_some}
-use Rattle.std.specs.Option.{option_map_or}
 use Rattle.std.proofs.lemmas.Bool.{cases_Bool, eqb-false, ne_eqb, false≢true}
-use Rattle.nfs_xdr.specs.Caller.{Caller}
-use Rattle.nfs_xdr.specs.declared.status.Status.{Status}
-use Rattle.nfs_xdr.specs.declared.status.Status.TheVariants.{Delay, MinorVersMismatch}
-use Rattle.nfs_compound.specs.declared.op.Item.{Item}
-use Rattle.nfs_compound.specs.declared.op.Item.TheVariants.{Operation}
+use Rattle.std.specs.{Prelude.{◌&&◌, ◌||◌, ◌==◌, is_some}, Option.option_map_or}
+use Rattle.nfs_xdr.specs.{Caller.Caller, declared.status.Status.Status, declared.status.Status.TheVariants.{Delay, MinorVersMismatch}}
+use Rattle.nfs_compound.specs.{declared.op.Item.Item, declared.op.Item.TheVariants.Operation, Request.{Request, item_number}}
+use Rattle.nfs_compound.specs.{declared.session_args.CreateSession.CreateSession, declared.session_args.Sequence.Sequence}
 use Rattle.nfs_compound.specs.declared.op.Op.TheVariants as Op
-use Rattle.nfs_compound.specs.Request.{Request, item_number}
-use Rattle.nfs_compound.specs.declared.session_args.CreateSession.{CreateSession}
-use Rattle.nfs_compound.specs.declared.session_args.Sequence.{Sequence}
 use Rattle.nfs_results.specs.Results.{status_of_result}
-use Rattle.nfs_clients.specs.declared.exchange_id.Exchanged.{Exchanged}
-use Rattle.nfs_clients.specs.declared.exchange_id.ClientFault.{ClientFault}
-use Rattle.nfs_clients.specs.declared.destroy.DestroyFault.{DestroyFault}
+use Rattle.nfs_clients.specs.{declared.exchange_id.Exchanged.Exchanged, declared.exchange_id.ClientFault.ClientFault}
+use Rattle.nfs_clients.specs.{declared.destroy.DestroyFault.DestroyFault, DestroyClientId.destroy_fault, ExchangeId.exchange}
 use Rattle.nfs_clients.specs.declared.created.CreateResult.TheVariants as kept
 use Rattle.nfs_clients.specs.CreateSession as clients
-use Rattle.nfs_clients.specs.DestroyClientId.{destroy_fault}
-use Rattle.nfs_clients.specs.ExchangeId.{exchange}
-use Rattle.nfs_sessions.specs.declared.id.SessionId.{SessionId}
-use Rattle.nfs_sessions.specs.declared.sessions.SessionFault.{SessionFault}
-use Rattle.nfs_sessions.specs.Id.{id_of}
+use Rattle.nfs_sessions.specs.{declared.id.SessionId.SessionId, declared.sessions.SessionFault.SessionFault, Id.id_of}
 use Rattle.nfs_sessions.specs.Sessions.{SessionTable, create, session_at}
 use Rattle.nfs_lease.specs.Renewals.{Book, with_lease, with_renewal, without_lease}
-use Rattle.nfs_names.specs.Context.{begins}
-use Rattle.nfs_names.specs.Outcome.{is_ok}
-use Rattle.nfs_exec.specs.Step.Machine.{Machine, Outcome, or_delay, refuses}
-use Rattle.nfs_exec.specs.Step.Place.{item_fault}
+use Rattle.nfs_names.specs.{Context.begins, Outcome.is_ok}
+use Rattle.nfs_exec.specs.{Step.Machine.{Machine, Outcome, or_delay, refuses}, Step.Place.item_fault}
 use Rattle.nfs_exec.specs.Step.ExchangeId.{exchange_id, exchange_id_number, leases_behind, without_any_lease, ask_of, answered}
 use Rattle.nfs_exec.specs.Step.CreateSession.{create_session_number, by_verdict, creates, by_created, wish_of}
-use Rattle.nfs_exec.specs.Step.Destroy.{destroy_session, destroyed_unless, has_session}
-use Rattle.nfs_exec.specs.Step.Sequence as sequence
-use Rattle.nfs_exec.specs.Step.Sequence.{Sequenced, sequenced}
-use Rattle.nfs_exec.specs.Step.Run.{is_here, behind_here}
+use Rattle.nfs_exec.specs.{Step.Destroy.{destroy_session, destroyed_unless, has_session}, Step.Sequence.{Sequenced, sequenced}, Step.Run.{is_here, behind_here}}
 use Rattle.nfs_exec.specs.Step.Compound.{carried_out, by_fault, first_item, renewed, begun, bare, in_session, by_first, compound}
-use Rattle.nfs_exec.specs.Step.Laws.{Asks, first_runs, if_runs}
-use Rattle.nfs_exec.specs.Runs.LockHeld.{is_of}
-use Rattle.nfs_exec.specs.Runs.Renewing.{adds, is_new, is_for, renews_alone, renews_or_begins}
+use Rattle.nfs_exec.specs.{Step.Laws.{Asks, first_runs, if_runs}, Runs.LockHeld.is_of, Runs.Renewing.{adds, is_new, is_for, renews_alone, renews_or_begins}}
+use Rattle.nfs_exec.specs.Step.Sequence as sequence
 use Rattle.nfs_exec.proofs.Step.Behind.{run_leases}
 
 abbrev pub IsStill : ℕ → Book → Book → Type 0

@@ -1,23 +1,15 @@
 -- How late a client's lease was renewed last.
 use Rattle.std.proofs.Common.{◌≡◌, ℕ, ◌+◌, ◌≤◌, Bool, true, false, cond, eqb, Option, Some, None, refl, sym, subst, arith, inl, inr}
-use Rattle.std.specs.Prelude.{◌-◌, option_map}
-use Rattle.std.specs.Option.{option_map_or}
 use Rattle.std.proofs.lemmas.Bool.{cases_Bool, eqb-true, eq-eqb, le-ltb, false≢true}
+use Rattle.std.specs.{Prelude.{◌-◌, option_map}, Option.option_map_or}
 use Rattle.nfs_xdr.specs.Caller.{Caller}
-use Rattle.nfs_compound.specs.Request.{Request}
-use Rattle.nfs_compound.specs.declared.session_args.Sequence.{Sequence}
+use Rattle.nfs_compound.specs.{Request.Request, declared.session_args.Sequence.Sequence}
 use Rattle.nfs_sessions.specs.Id.{id_of}
 use Rattle.nfs_lease.specs.Renewals.{Book, is_out, has_run_out}
 use Rattle.nfs_names.specs.Context.{begins}
-use Rattle.nfs_exec.specs.Step.Machine.{Machine}
-use Rattle.nfs_exec.specs.Step.Expiry.{leases_kept}
-use Rattle.nfs_exec.specs.Step.Run.{behind_here}
-use Rattle.nfs_exec.specs.Step.Compound.{renewed, begun, compound}
-use Rattle.nfs_exec.specs.Step.Laws.{Asks}
+use Rattle.nfs_exec.specs.{Step.Machine.Machine, Step.Expiry.leases_kept, Step.Run.behind_here, Step.Compound.{renewed, begun, compound}, Step.Laws.Asks}
 use Rattle.nfs_exec.specs.Runs.LockHeld.{is_of, renews}
-use Rattle.nfs_exec.proofs.Step.Behind.{run_leases}
-use Rattle.nfs_exec.proofs.Runs.ByEvent.{by_compound}
-use Rattle.nfs_exec.proofs.Step.LeaseMoments.{IsHeld, compound_held}
+use Rattle.nfs_exec.proofs.{Step.Behind.run_leases, Runs.ByEvent.by_compound, Step.LeaseMoments.{IsHeld, compound_held}}
 
 -- a lease of the client that stands was renewed no earlier
 abbrev pub AtLeast : ℕ → ℕ → Book → Type 0

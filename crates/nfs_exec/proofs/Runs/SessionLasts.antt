@@ -1,38 +1,23 @@
 -- A session lasts through a compound that neither ends it nor puts another id in the place of its client.
 use Rattle.std.proofs.Common.{◌≡◌, ◌≢◌, inl, inr, ℕ, Bool, true, false, cond, not, List, Option, Some, None, refl, sym, ◌∙◌, ap, subst}
-use Rattle.std.specs.Prelude.{◌==◌, ◌&&◌, filter, is_some, option_map}
 use Rattle.std.proofs.lemmas.Bool.{eqb-true, ne_eqb, eq-eqb, and_parts, and_from, false≢true}
+use Rattle.std.specs.Prelude.{◌==◌, ◌&&◌, filter, is_some, option_map}
 use Rattle.nfs_xdr.specs.Caller.{Caller}
 use Rattle.nfs_xdr.proofs.Lists.{find_past, find_push_some, find_map, some_or_none}
-use Rattle.nfs_compound.specs.declared.op.Item.{Item}
-use Rattle.nfs_compound.specs.declared.op.Item.TheVariants.{Operation}
+use Rattle.nfs_compound.specs.{declared.op.Item.Item, declared.op.Item.TheVariants.Operation, Request.Request}
+use Rattle.nfs_compound.specs.{declared.session_args.CreateSession.CreateSession, declared.session_args.Sequence.Sequence}
 use Rattle.nfs_compound.specs.declared.op.Op.TheVariants as Op
-use Rattle.nfs_compound.specs.Request.{Request}
-use Rattle.nfs_compound.specs.declared.session_args.CreateSession.{CreateSession}
-use Rattle.nfs_compound.specs.declared.session_args.Sequence.{Sequence}
 use Rattle.nfs_clients.specs.CreateSession as clients
-use Rattle.nfs_sessions.specs.Id.{id_of}
-use Rattle.nfs_sessions.specs.Laws.{is_id}
-use Rattle.nfs_sessions.specs.declared.channel.Wish.{Wish}
-use Rattle.nfs_sessions.specs.declared.id.SessionId.{SessionId}
-use Rattle.nfs_sessions.specs.declared.sessions.SessionFault.{SessionFault}
+use Rattle.nfs_sessions.specs.{Id.id_of, Laws.is_id, declared.channel.Wish.Wish, declared.id.SessionId.SessionId, declared.sessions.SessionFault.SessionFault}
 use Rattle.nfs_sessions.specs.SessionSlots.{GrantedSlots}
-use Rattle.nfs_sessions.specs.SessionSlots as slots
 use Rattle.nfs_sessions.specs.Sessions.{Session, SessionTable, is_session, session_at, create_unless, create_fault, with_session, with_slots, keep}
-use Rattle.nfs_names.specs.Context.{begins}
-use Rattle.nfs_names.specs.Outcome.{is_ok}
-use Rattle.nfs_exec.specs.Step.Machine.{Machine, Outcome}
-use Rattle.nfs_exec.specs.Step.CreateSession.{by_created, wish_of, without_any_sessions}
-use Rattle.nfs_exec.specs.Step.Run.{is_here, behind_here}
+use Rattle.nfs_sessions.specs.SessionSlots as slots
+use Rattle.nfs_names.specs.{Context.begins, Outcome.is_ok}
+use Rattle.nfs_exec.specs.{Step.Machine.{Machine, Outcome}, Step.CreateSession.{by_created, wish_of, without_any_sessions}, Step.Run.{is_here, behind_here}}
+use Rattle.nfs_exec.specs.{Step.Sequence.compared, Step.Compound.{first_item, renewed, begun, in_session, compound}, Step.Laws.Asks}
+use Rattle.nfs_exec.specs.{Runs.LockHeld.{takes_place, replaces}, Runs.SessionLasts.{is_end, ends_session}}
 use Rattle.nfs_exec.specs.Step.Sequence as sequence
-use Rattle.nfs_exec.specs.Step.Sequence.{compared}
-use Rattle.nfs_exec.specs.Step.Compound.{first_item, renewed, begun, in_session, compound}
-use Rattle.nfs_exec.specs.Step.Laws.{Asks}
-use Rattle.nfs_exec.specs.Runs.LockHeld.{takes_place, replaces}
-use Rattle.nfs_exec.specs.Runs.SessionLasts.{is_end, ends_session}
-use Rattle.nfs_exec.proofs.Step.Behind.{run_sessions}
-use Rattle.nfs_exec.proofs.Runs.ByEvent.{by_answered, by_alone}
-use Rattle.nfs_exec.proofs.Step.AloneKeeps.{not_leaving}
+use Rattle.nfs_exec.proofs.{Step.Behind.run_sessions, Runs.ByEvent.{by_answered, by_alone}, Step.AloneKeeps.not_leaving}
 use Rattle.nfs_exec.proofs.Runs.SessionsBehind.{ran_in, told_compound}
 
 -- the session stands

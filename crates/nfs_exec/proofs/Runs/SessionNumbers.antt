@@ -1,17 +1,14 @@
 -- The number of a client's record: each result that is kept moves it on by one, and nothing else changes it or what is kept.
 use Rattle.std.proofs.Common.{◌≡◌, ◌≢◌, ℕ, ◌+◌, ◌%◌, ◌^◌, ◌-◌, ◌<◌, ◌≤◌, Bool, true, false, cond, not, List, Option, Some, None, refl, sym, ◌∙◌, ap, subst, arith, inl, inr}
-use Rattle.std.specs.Prelude.{◌==◌, ◌⊎◌, filter}
-use Rattle.std.specs.Option.{option_map_or}
 use Rattle.std.proofs.lemmas.Bool.{cases_Bool, cases_eq, eqb-true, eq-eqb, ne_eqb}
-use Rattle.nfs_xdr.specs.declared.status.Status.{Status}
-use Rattle.nfs_xdr.specs.Tables.{In}
-use Rattle.nfs_xdr.proofs.Lists.{in_filter, in_push, in_map, find_in}
-use Rattle.nfs_xdr.proofs.Tables.{in_bounds, at_of_in}
+use Rattle.std.specs.{Prelude.{◌==◌, ◌⊎◌, filter}, Option.option_map_or}
+use Rattle.nfs_xdr.specs.{declared.status.Status.Status, Tables.In}
+use Rattle.nfs_xdr.proofs.{Lists.{in_filter, in_push, in_map, find_in}, Tables.{in_bounds, at_of_in}}
 use Rattle.nfs_clients.specs.declared.created.CreateResult.{CreateResult}
-use Rattle.nfs_clients.specs.declared.created.CreateResult.TheVariants as results
 use Rattle.nfs_clients.specs.Roster.{ClientRecord, Roster, IsRoster, id_of, next_id, client_at, is_unconfirmed_of, with_changed}
 use Rattle.nfs_clients.specs.ExchangeId.{Ask, Case, Refuses, Stays, Adds, does, new_client, with_new}
 use Rattle.nfs_clients.specs.CreateSession.{Again, Misordered, InUse, Runs, following, verdict_by, status_uses_up, uses_up, keeps, with_kept, without_any, leaving, confirms, with_confirmed}
+use Rattle.nfs_clients.specs.declared.created.CreateResult.TheVariants as results
 
 -- Each record of the client's id has the number that is k behind the one that follows this one; and if that is none, the result of this one is kept.
 pub record IsAfter (n number k : ℕ) (body : List ℕ) (t : Roster) : Type 0 where

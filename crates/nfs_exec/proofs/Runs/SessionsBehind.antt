@@ -1,33 +1,22 @@
 -- What a compound of which nothing runs in a session leaves of the table of sessions, and what one that runs leaves there.
 use Rattle.std.proofs.Common.{◌≡◌, ℕ, Bool, List, Option, Some, None, refl, ap, subst}
 use Rattle.std.specs.Prelude.{◌==◌, not, if◌then◌else◌}
-use Rattle.nfs_xdr.specs.Caller.{Caller}
-use Rattle.nfs_xdr.specs.declared.status.Status.{Status}
-use Rattle.nfs_compound.specs.declared.op.Item.{Item}
-use Rattle.nfs_compound.specs.Request.{Request}
-use Rattle.nfs_compound.specs.declared.session_args.CreateSession.{CreateSession}
+use Rattle.nfs_xdr.specs.{Caller.Caller, declared.status.Status.Status}
+use Rattle.nfs_compound.specs.{declared.op.Item.Item, Request.Request, declared.session_args.CreateSession.CreateSession}
 use Rattle.nfs_compound.specs.declared.session_args.Sequence.{Sequence}
 use Rattle.nfs_clients.specs.declared.created.CreateResult.TheVariants as result
 use Rattle.nfs_clients.specs.CreateSession as clients
 use Rattle.nfs_slots.specs.declared.slot.Verdict.{Verdict}
 use Rattle.nfs_slots.specs.declared.slot.Verdict.TheVariants as slot
-use Rattle.nfs_sessions.specs.declared.channel.Channel.{Channel}
-use Rattle.nfs_sessions.specs.declared.channel.Wish.{Wish}
-use Rattle.nfs_sessions.specs.declared.sessions.SessionFault.{SessionFault}
-use Rattle.nfs_sessions.specs.Id.{id_of}
+use Rattle.nfs_sessions.specs.{declared.channel.Channel.Channel, declared.channel.Wish.Wish, declared.sessions.SessionFault.SessionFault, Id.id_of}
 use Rattle.nfs_sessions.specs.SessionSlots.{GrantedSlots, judge}
 use Rattle.nfs_sessions.specs.Sessions.{Session, SessionTable, is_session, session_at, create_unless, create_fault, with_session, keep}
 use Rattle.nfs_names.specs.Context.{begins}
-use Rattle.nfs_exec.specs.Step.Machine.{Machine}
-use Rattle.nfs_exec.specs.Step.CreateSession.{by_verdict, by_created, wish_of, without_any_sessions}
+use Rattle.nfs_exec.specs.{Step.Machine.Machine, Step.CreateSession.{by_verdict, by_created, wish_of, without_any_sessions}}
+use Rattle.nfs_exec.specs.{Step.Sequence.{compared, unless, by_session, slot_fault}, Step.Run.{is_here, behind_here}}
+use Rattle.nfs_exec.specs.{Step.Compound.{Answered, first_item, renewed, begun, in_session, compound}, Step.Laws.first_runs}
 use Rattle.nfs_exec.specs.Step.Sequence as sequence
-use Rattle.nfs_exec.specs.Step.Sequence.{compared, unless, by_session, slot_fault}
-use Rattle.nfs_exec.specs.Step.Run.{is_here, behind_here}
-use Rattle.nfs_exec.specs.Step.Compound.{Answered, first_item, renewed, begun, in_session, compound}
-use Rattle.nfs_exec.specs.Step.Laws.{first_runs}
-use Rattle.nfs_exec.proofs.Step.Behind.{run_sessions}
-use Rattle.nfs_exec.proofs.Runs.ByEvent.{by_answered, by_compound, by_alone}
-use Rattle.nfs_exec.proofs.Runs.SlotNumbers.{IsHeld}
+use Rattle.nfs_exec.proofs.{Step.Behind.run_sessions, Runs.ByEvent.{by_answered, by_compound, by_alone}, Runs.SlotNumbers.IsHeld}
 
 -- the SEQUENCE behind which the compound runs
 abbrev pub ran_in : Machine → Request → Caller → ℕ → Option Sequence

@@ -1,22 +1,15 @@
 -- The number of a slot's last request: each request that runs on the slot moves it on by one, and nothing else changes it.
 use Rattle.std.proofs.Common.{◌≡◌, ℕ, ◌+◌, ◌%◌, ◌^◌, ◌-◌, ◌<◌, ◌≤◌, suc, zero, Bool, true, false, cond, List, [], ◌∷◌, set, Option}
-use Rattle.std.proofs.Common.{Some, None, refl, sym, ◌∙◌, ap, subst, arith, inl, inr}
-use Rattle.std.specs.Prelude.{◌==◌, filter, slice_get}
-use Rattle.std.specs.Option.{option_map_or}
-use Rattle.std.proofs.lemmas.Bool.{cases_Bool, eqb-true, eq-eqb, and_parts, false≢true}
+use Rattle.std.proofs.{Common.{Some, None, refl, sym, ◌∙◌, ap, subst, arith, inl, inr}, lemmas.Bool.{cases_Bool, eqb-true, eq-eqb, and_parts, false≢true}}
+use Rattle.std.specs.{Prelude.{◌==◌, filter, slice_get}, Option.option_map_or}
 use Rattle.nfs_xdr.specs.Tables.{In}
 use Rattle.nfs_xdr.proofs.Lists.{in_filter, in_push, in_map, find_in}
 use Rattle.nfs_compound.specs.declared.session_args.Sequence.{Sequence}
-use Rattle.nfs_slots.specs.declared.slot.Verdict.TheVariants.{Fresh, NoSlot}
-use Rattle.nfs_slots.specs.Slot.{SlotState, judge_slot, next_number}
+use Rattle.nfs_slots.specs.{declared.slot.Verdict.TheVariants.{Fresh, NoSlot}, Slot.{SlotState, judge_slot, next_number}}
 use Rattle.nfs_slots.proofs.TableLemmas.{fresh_number, next_small, slice_get-set_other}
-use Rattle.nfs_sessions.specs.declared.channel.Wish.{Wish}
-use Rattle.nfs_sessions.specs.declared.id.SessionId.{SessionId}
-use Rattle.nfs_sessions.specs.Id.{id_of}
-use Rattle.nfs_sessions.specs.Laws.{is_id}
-use Rattle.nfs_sessions.specs.SessionSlots.{GrantedSlots, judge}
-use Rattle.nfs_sessions.specs.SessionSlots as slots
+use Rattle.nfs_sessions.specs.{declared.channel.Wish.Wish, declared.id.SessionId.SessionId, Id.id_of, Laws.is_id, SessionSlots.{GrantedSlots, judge}}
 use Rattle.nfs_sessions.specs.Sessions.{Session, SessionTable, is_session, session_at, with_session, keep}
+use Rattle.nfs_sessions.specs.SessionSlots as slots
 use Rattle.nfs_exec.specs.Step.Laws.{is_on}
 
 -- What holds of a table whatever session is made, and whatever sessions end.

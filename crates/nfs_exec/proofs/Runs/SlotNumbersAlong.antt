@@ -1,15 +1,10 @@
 -- The numbers of a slot along whatever comes to a server.
 use Rattle.std.proofs.Common.{◌≡◌, ℕ, ◌+◌, false, cond, arith, List, [], ◌∷◌, Option, Some, None, refl, sym, subst}
-use Rattle.std.specs.Prelude.{not}
-use Rattle.std.specs.Option.{option_map_or}
+use Rattle.std.specs.{Prelude.not, Option.option_map_or}
 use Rattle.nfs_compound.specs.declared.session_args.Sequence.{Sequence}
-use Rattle.nfs_sessions.specs.declared.id.SessionId.{SessionId}
-use Rattle.nfs_sessions.specs.Id.{id_of}
-use Rattle.nfs_sessions.specs.Sessions.{SessionTable}
+use Rattle.nfs_sessions.specs.{declared.id.SessionId.SessionId, Id.id_of, Sessions.SessionTable}
 use Rattle.nfs_lease.specs.Renewals.{has_run_out}
-use Rattle.nfs_exec.specs.Step.Machine.{Machine, starts}
-use Rattle.nfs_exec.specs.Step.Sequence.{compared}
-use Rattle.nfs_exec.specs.Step.Compound.{compound}
+use Rattle.nfs_exec.specs.{Step.Machine.{Machine, starts}, Step.Sequence.compared, Step.Compound.compound}
 use Rattle.nfs_exec.specs.Step.Laws.{MachineEvent, Expires, Asks, stepped, all_stepped, ran, is_on, runs_on, NeverRunsAgain}
 use Rattle.nfs_exec.proofs.Runs.SlotNumbers.{IsHeld, KeepsReply, IsCounted, IsLast, held_counted, held_last, counted_kept, last_first, last_kept, runs_again}
 use Rattle.nfs_exec.proofs.Runs.SessionsBehind.{quiet_compound, told_compound}

@@ -1,47 +1,27 @@
 -- What clients asked and were answered, against the inside of the operations that were run.
 use Rattle.std.proofs.Common.{◌≡◌, ℕ, ◌+◌, ◌≤◌, Bool, true, false, List, [], ◌∷◌, length, Option, Some, None, refl, sym, ◌∙◌, ap, subst, inl, inr, arith}
-use Rattle.std.specs.Prelude.{◌==◌, option_map, find}
-use Rattle.std.specs.Option.{option_map_or}
 use Rattle.std.proofs.lemmas.Bool.{cases_Bool, eq-eqb, eqb-true}
-use Rattle.nfs_xdr.specs.Tables.{In}
-use Rattle.nfs_xdr.specs.declared.status.Status.{Status}
-use Rattle.nfs_xdr.specs.declared.status.Status.TheVariants.{RepTooBig}
+use Rattle.std.specs.{Prelude.{◌==◌, option_map, find}, Option.option_map_or}
+use Rattle.nfs_xdr.specs.{Tables.In, declared.status.Status.Status, declared.status.Status.TheVariants.RepTooBig}
 use Rattle.nfs_xdr.proofs.Lists.{find_in}
 use Rattle.nfs_compound.specs.declared.lock_args.Lock as args
 use Rattle.nfs_compound.specs.declared.op_num.OpNum.TheVariants as Num
-use Rattle.nfs_compound.specs.declared.op.Op.{Op}
-use Rattle.nfs_compound.specs.declared.op.Item.{Item}
-use Rattle.nfs_compound.specs.declared.op.Item.TheVariants.{Operation}
-use Rattle.nfs_compound.specs.declared.session_args.Sequence.{Sequence}
+use Rattle.nfs_compound.specs.{declared.op.Op.Op, declared.op.Item.Item, declared.op.Item.TheVariants.Operation, declared.session_args.Sequence.Sequence}
 use Rattle.nfs_sessions.specs.Id.{id_of}
-use Rattle.nfs_opens.specs.declared.locking.Wish.{Wish}
-use Rattle.nfs_opens.specs.declared.records.LockState.{LockState}
-use Rattle.nfs_opens.specs.Table.{Table, lock_at}
-use Rattle.nfs_names.specs.declared.context.Context.{Context}
-use Rattle.nfs_names.specs.Context.{begins}
-use Rattle.nfs_names.specs.State.{moment}
+use Rattle.nfs_opens.specs.{declared.locking.Wish.Wish, declared.records.LockState.LockState, Table.{Table, lock_at}}
+use Rattle.nfs_names.specs.{declared.context.Context.Context, Context.begins, State.moment, Outcome.is_ok}
 use Rattle.nfs_names.proofs.Untouched.{leaves_each}
 use Rattle.nfs_files.proofs.Outcomes as files
-use Rattle.nfs_files.proofs.Outcomes.{for_each}
+use Rattle.nfs_files.proofs.{Outcomes.for_each, Inside.{Locks, Unlocks, Closes}, Effected.same_client}
+use Rattle.nfs_files.proofs.ToldGrants.{IsTold, IsToldClosed, lock_tells, unlock_tells, close_tells, lock_grants_told, lock_refused, told_held, told_is_ok, told_client}
 use Rattle.nfs_files.specs.LockTold.{Names, LockTold, Stands}
 use Rattle.nfs_files.proofs.Inside as inside
-use Rattle.nfs_files.proofs.Inside.{Locks, Unlocks, Closes}
-use Rattle.nfs_files.proofs.Effected.{same_client}
 use Rattle.nfs_files.proofs.ToldLocks as told
-use Rattle.nfs_files.proofs.ToldGrants.{IsTold, IsToldClosed, lock_tells, unlock_tells, close_tells, lock_grants_told, lock_refused, told_held, told_is_ok, told_client}
-use Rattle.nfs_names.specs.Outcome.{is_ok}
-use Rattle.nfs_exec.specs.Step.Machine.{Machine}
-use Rattle.nfs_exec.specs.Step.Behind.{step, on_store, moves_opens, marked_if, otherwise}
-use Rattle.nfs_exec.specs.Step.Run.{in_room, is_here, behind_here}
-use Rattle.nfs_exec.specs.Step.Compound.{renewed, begun}
-use Rattle.nfs_exec.specs.Step.Laws.{MachineEvent, Expires, Asks, ran}
-use Rattle.nfs_exec.specs.Runs.Ops.{RanOp, ops, ops_by}
+use Rattle.nfs_exec.specs.{Step.Machine.Machine, Step.Behind.{step, on_store, moves_opens, marked_if, otherwise}, Step.Run.{in_room, is_here, behind_here}}
+use Rattle.nfs_exec.specs.{Step.Compound.{renewed, begun}, Step.Laws.{MachineEvent, Expires, Asks, ran}, Runs.Ops.{RanOp, ops, ops_by}}
 use Rattle.nfs_exec.specs.Runs.LockHeld.{LocksFor, UnlocksFor, ClosesOf, Spares, Tells, is_of, renews}
-use Rattle.nfs_exec.proofs.Step.Behind.{by_step}
-use Rattle.nfs_exec.proofs.Runs.ByEvent.{by_compound}
+use Rattle.nfs_exec.proofs.{Step.Behind.by_step, Runs.ByEvent.by_compound, Runs.OneRun.by_item, Runs.KeptByRuns.{Is, whole_room, in_more, event_ops}}
 pub use Rattle.nfs_exec.proofs.Runs.OneRun.{IsRun, in_room_is, by_ok}
-use Rattle.nfs_exec.proofs.Runs.OneRun.{by_item}
-use Rattle.nfs_exec.proofs.Runs.KeptByRuns.{Is, whole_room, in_more, event_ops}
 
 -- One LOCK, LOCKU or CLOSE.
 

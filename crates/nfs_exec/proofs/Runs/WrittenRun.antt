@@ -1,37 +1,25 @@
 -- A byte that was told, through the operations of an event.
 use Rattle.std.proofs.Common.{◌≡◌, ℕ, ◌+◌, Bool, true, false, List, ◌∷◌, ◌++◌, get_or, Option, Some, None, refl, sym, ◌∙◌, ap, subst, arith, inl, inr}
-use Rattle.std.specs.Prelude.{◌==◌, ◌||◌, is_some, option_map}
-use Rattle.std.specs.Option.{option_map_or}
 use Rattle.std.proofs.lemmas.Bool.{cases_Bool, cases_eq, eqb-true, eq-eqb, false≢true}
-use Rattle.nfs_xdr.specs.declared.status.Status.TheVariants.{RepTooBig, Stale}
-use Rattle.nfs_xdr.specs.Spelling.{number}
+use Rattle.std.specs.{Prelude.{◌==◌, ◌||◌, is_some, option_map}, Option.option_map_or}
+use Rattle.nfs_xdr.specs.{declared.status.Status.TheVariants.{RepTooBig, Stale}, Spelling.number}
 use Rattle.nfs_xdr.proofs.Lists.{in_any}
 use Rattle.nfs_compound.specs.declared.op_num.OpNum.TheVariants as Num
 use Rattle.nfs_compound.specs.declared.op.Item.TheVariants.{Operation}
 use Rattle.nfs_compound.specs.declared.op.Op.TheVariants as Op
 use Rattle.nfs_results.specs.declared.res.Res.TheVariants as Res
 use Rattle.nfs_results.specs.Results.{spell_result}
-use Rattle.nfs_tree.specs.declared.object.FileType.{FileType}
-use Rattle.nfs_tree.specs.declared.row.Row.{Row}
-use Rattle.nfs_tree.specs.declared.stored.Stored.{Stored}
-use Rattle.nfs_tree.specs.Object.{is_directory, is_regular}
+use Rattle.nfs_tree.specs.{declared.object.FileType.FileType, declared.row.Row.Row, declared.stored.Stored.Stored, Object.{is_directory, is_regular}}
 use Rattle.nfs_tree.specs.Files.{root, stored_in, object_at, is_there, has_row}
 use Rattle.nfs_attrs.specs.Handle.{handle_of}
-use Rattle.nfs_names.specs.declared.context.Context.{Context}
-use Rattle.nfs_names.specs.Context.{at_object}
+use Rattle.nfs_names.specs.{declared.context.Context.Context, Context.at_object, PutFh.put_fh, State.{State, moment, is_open, is_used}}
 use Rattle.nfs_names.specs.Outcome as outcome
-use Rattle.nfs_names.specs.PutFh.{put_fh}
-use Rattle.nfs_names.specs.State.{State, moment, is_open, is_used}
 use Rattle.nfs_files.specs.Written.{Byte, Lasts, Writes, Spares, Reads, GivesIt}
-use Rattle.nfs_files.proofs.TreeFiles.{IsWhole}
-use Rattle.nfs_files.proofs.WrittenOps.{lasts_staying, spared_bytes_last, names_leave_bytes}
+use Rattle.nfs_files.proofs.{TreeFiles.IsWhole, WrittenOps.{lasts_staying, spared_bytes_last, names_leave_bytes}}
 use Rattle.nfs_files.proofs.WrittenTold.{short, writes_leave_bytes, reads_give_bytes}
-use Rattle.nfs_exec.specs.Step.Machine.{Machine, starts}
-use Rattle.nfs_exec.specs.Step.Laws.{MachineEvent, stepped, all_stepped}
-use Rattle.nfs_exec.specs.Runs.Ops.{RanOp, ops_by}
+use Rattle.nfs_exec.specs.{Step.Machine.{Machine, starts}, Step.Laws.{MachineEvent, stepped, all_stepped}, Runs.Ops.{RanOp, ops_by}}
 use Rattle.nfs_exec.specs.Runs.WrittenRun.{WritesIt, SparesIt, the_byte, AreSpared, StandsBefore, StandsWhile, StandsInRuns}
-use Rattle.nfs_exec.proofs.Runs.OneRun.{IsRun, by_item, by_run}
-use Rattle.nfs_exec.proofs.Runs.OneWalk.{Stays, event_walked, told_walked, kept_ended}
+use Rattle.nfs_exec.proofs.{Runs.OneRun.{IsRun, by_item, by_run}, Runs.OneWalk.{Stays, event_walked, told_walked, kept_ended}}
 use Rattle.nfs_exec.proofs.Runs.KeptByRuns.{Is, whole_events, start_whole}
 
 abbrev pub LastsIn : Byte → Machine → Type 0

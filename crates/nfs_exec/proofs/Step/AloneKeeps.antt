@@ -1,27 +1,17 @@
 -- What holds of a store, and of it where clients other than one end, holds behind an operation that stands alone, if that is no CREATE_SESSION by which another id
 -- takes that client's place.
 use Rattle.std.proofs.Common.{◌≡◌, ◌≢◌, ℕ, suc, ◌+◌, ◌<◌, Bool, true, false, not, List, [], ◌∷◌, Option, Some, None, refl, sym, ◌∙◌, ap, subst, arith, inl, inr}
-use Rattle.std.specs.Prelude.{◌==◌, ◌&&◌, find, option_map, bytes_eq, Result, Ok, Err}
-use Rattle.std.specs.Option.{option_map_or}
 use Rattle.std.proofs.lemmas.Bool.{cases_Bool, eq-eqb, ne_eqb, eqb-true, and_parts, and_from, false≢true}
-use Rattle.nfs_xdr.specs.Caller.{Caller}
-use Rattle.nfs_xdr.specs.Tables.{In}
+use Rattle.std.specs.{Prelude.{◌==◌, ◌&&◌, find, option_map, bytes_eq, Result, Ok, Err}, Option.option_map_or}
+use Rattle.nfs_xdr.specs.{Caller.Caller, Tables.In}
 use Rattle.nfs_xdr.proofs.Lists.{any_in, in_any, find_in}
-use Rattle.nfs_compound.specs.declared.op.Item.{Item}
-use Rattle.nfs_compound.specs.declared.op.Item.TheVariants.{Operation}
+use Rattle.nfs_compound.specs.{declared.op.Item.Item, declared.op.Item.TheVariants.Operation, declared.session_args.CreateSession.CreateSession}
 use Rattle.nfs_compound.specs.declared.op.Op.TheVariants as Op
-use Rattle.nfs_compound.specs.declared.session_args.CreateSession.{CreateSession}
 use Rattle.nfs_clients.specs.CreateSession as clients
-use Rattle.nfs_clients.specs.CreateSession.{leaving, leaving_by, is_other_confirmed_of}
-use Rattle.nfs_clients.specs.Roster.{ClientRecord, Roster, client_at}
-use Rattle.nfs_sessions.specs.Sessions.{SessionTable, create}
-use Rattle.nfs_sessions.specs.declared.id.SessionId.{SessionId}
-use Rattle.nfs_sessions.specs.declared.sessions.SessionFault.{SessionFault}
-use Rattle.nfs_names.specs.State.{State}
-use Rattle.nfs_names.specs.Outcome.{is_ok}
-use Rattle.nfs_exec.specs.Step.Machine.{Machine}
-use Rattle.nfs_exec.specs.Step.CreateSession.{by_created, wish_of, without_any_opens}
-use Rattle.nfs_exec.specs.Step.Compound.{first_item}
+use Rattle.nfs_clients.specs.{CreateSession.{leaving, leaving_by, is_other_confirmed_of}, Roster.{ClientRecord, Roster, client_at}}
+use Rattle.nfs_sessions.specs.{Sessions.{SessionTable, create}, declared.id.SessionId.SessionId, declared.sessions.SessionFault.SessionFault}
+use Rattle.nfs_names.specs.{State.State, Outcome.is_ok}
+use Rattle.nfs_exec.specs.{Step.Machine.Machine, Step.CreateSession.{by_created, wish_of, without_any_opens}, Step.Compound.first_item}
 use Rattle.nfs_exec.specs.Runs.LockHeld.{is_of_owner, takes_place}
 use Rattle.nfs_exec.proofs.Runs.ByEvent.{by_alone}
 

@@ -1,20 +1,10 @@
 -- An operation that stands alone: that its result is small, and what it comes to.
 use Rattle.std.proofs.Common.{◌≡◌, ℕ, ◌+◌, ◌≤◌, Bool, length, Option, Some, None, refl, sym, ◌∙◌, ap, subst, arith}
-use Rattle.nfs_xdr.specs.Caller.{Caller}
-use Rattle.nfs_xdr.specs.SheetState.{SheetState, HasRoom, Puts}
-use Rattle.nfs_xdr.specs.declared.status.Status.{Status}
-use Rattle.nfs_xdr.specs.declared.status.Status.TheVariants.{NotSupp}
-use Rattle.nfs_compound.specs.declared.op.Item.{Item}
-use Rattle.nfs_compound.specs.declared.op.Item.TheVariants.{Operation}
-use Rattle.nfs_compound.specs.Request.{item_number}
-use Rattle.nfs_compound.specs.declared.op.Op.{Op}
-use Rattle.nfs_results.specs.declared.res.Res.{Res}
-use Rattle.nfs_results.specs.Results.{spell_result, status_of_result, refusal}
-use Rattle.nfs_results.specs.ResultCodec.{HasArrays}
+use Rattle.nfs_xdr.specs.{Caller.Caller, SheetState.{SheetState, HasRoom, Puts}, declared.status.Status.Status, declared.status.Status.TheVariants.NotSupp}
+use Rattle.nfs_compound.specs.{declared.op.Item.Item, declared.op.Item.TheVariants.Operation, Request.item_number, declared.op.Op.Op}
+use Rattle.nfs_results.specs.{declared.res.Res.Res, Results.{spell_result, status_of_result, refusal}, ResultCodec.HasArrays}
 use Rattle.nfs_names.specs.Outcome.{is_delay}
-use Rattle.nfs_exec.specs.Step.Machine.{Machine, Outcome, with_result, refuses}
-use Rattle.nfs_exec.specs.Step.Place.{item_fault}
-use Rattle.nfs_exec.specs.Step.Compound.{carried_out, by_fault, first_item}
+use Rattle.nfs_exec.specs.{Step.Machine.{Machine, Outcome, with_result, refuses}, Step.Place.item_fault, Step.Compound.{carried_out, by_fault, first_item}}
 use Rattle.nfs_exec.specs.Step.View.{Does, IsSmall}
 
 pub small_fits : (sheet : SheetState) (r : Res) → length sheet.bytes + 92 ≤ sheet.room → IsSmall r → HasArrays r → HasRoom sheet (spell_result r)

@@ -1,41 +1,22 @@
 -- What one operation behind a SEQUENCE leaves as it is.
 use Rattle.std.proofs.Common.{◌≡◌, ℕ, Bool, true, false, eqb, ltb, List, [], ◌∷◌, ◌+◌, ◌≤◌, length, Option, Some, None, Result, Ok, Err, refl, ◌∙◌}
-use Rattle.std.proofs.Common.{ap, subst, sym, cond, arith, inl, inr}
-use Rattle.std.specs.Prelude.{IsTrue, IsSomeAnd, ◌||◌}
-use Rattle.std.specs.Option.{ForSome, option_map_or}
-use Rattle.std.proofs.lemmas.Bool.{cases_Bool}
-use Rattle.std.proofs.lemmas.List.{length-append}
-use Rattle.nfs_xdr.specs.declared.status.Status.{Status}
-use Rattle.nfs_xdr.specs.declared.status.Status.TheVariants.{Nfs4Ok, NoFileHandle, Stale}
-use Rattle.nfs_compound.specs.declared.op.Item.{Item}
-use Rattle.nfs_compound.specs.declared.op.Item.TheVariants.{Operation}
-use Rattle.nfs_compound.specs.declared.op.Op.{Op}
-use Rattle.nfs_results.specs.Largest.{largest}
-use Rattle.nfs_xdr.specs.SheetState.{SheetState, Puts}
-use Rattle.nfs_results.specs.declared.res.Res.{Res}
-use Rattle.nfs_results.specs.Results.{spell_result, status_of_result, head}
-use Rattle.nfs_results.specs.Refusals.{can_refuse}
+use Rattle.std.proofs.{Common.{ap, subst, sym, cond, arith, inl, inr}, lemmas.Bool.cases_Bool, lemmas.List.length-append}
+use Rattle.std.specs.{Prelude.{IsTrue, IsSomeAnd, ◌||◌}, Option.{ForSome, option_map_or}}
+use Rattle.nfs_xdr.specs.{declared.status.Status.Status, declared.status.Status.TheVariants.{Nfs4Ok, NoFileHandle, Stale}, SheetState.{SheetState, Puts}}
+use Rattle.nfs_compound.specs.{declared.op.Item.Item, declared.op.Item.TheVariants.Operation, declared.op.Op.Op}
+use Rattle.nfs_results.specs.{Largest.largest, declared.res.Res.Res, Results.{spell_result, status_of_result, head}, Refusals.can_refuse}
 use Rattle.nfs_results.proofs.Lengths.{length_head}
-use Rattle.nfs_tree.specs.declared.object.Object.{Object}
-use Rattle.nfs_tree.specs.Files.{object_at}
-use Rattle.nfs_names.specs.State.{State, moment}
-use Rattle.nfs_names.specs.declared.context.Context.{Context}
-use Rattle.nfs_names.specs.declared.node.Node.{Node}
-use Rattle.nfs_names.specs.Checks.{current, node_at, node_as}
+use Rattle.nfs_tree.specs.{declared.object.Object.Object, Files.object_at}
+use Rattle.nfs_names.specs.{State.{State, moment}, declared.context.Context.Context, declared.node.Node.Node, Checks.{current, node_at, node_as}}
+use Rattle.nfs_names.specs.{Comes.{Comes, MayCome}, Ending.has_open, Outcome.{Outcome as OfStore, is_delay, is_ok}}
 use Rattle.nfs_names.specs.Operation as names
 use Rattle.nfs_files.specs.Operation as files
-use Rattle.nfs_clients.specs.Roster.{Roster}
-use Rattle.nfs_clients.specs.Marks.{has_reclaimed, with_open}
-use Rattle.nfs_names.specs.Comes.{Comes, MayCome}
-use Rattle.nfs_names.specs.Ending.{has_open}
-use Rattle.nfs_names.specs.Outcome.{Outcome as OfStore, is_delay, is_ok}
+use Rattle.nfs_clients.specs.{Roster.Roster, Marks.{has_reclaimed, with_open}}
 use Rattle.nfs_lease.specs.Renewals.{Book}
 use Rattle.nfs_sessions.specs.Sessions.{SessionTable}
-use Rattle.nfs_exec.specs.Step.Machine.{Machine, Outcome, with_result, with_mark}
-use Rattle.nfs_exec.specs.Step.Place.{status_behind}
+use Rattle.nfs_exec.specs.{Step.Machine.{Machine, Outcome, with_result, with_mark}, Step.Place.status_behind}
 use Rattle.nfs_exec.specs.Step.ReclaimComplete.{reclaim_complete, of_one, of_all}
-use Rattle.nfs_exec.specs.Step.Behind.{Step, step, on_store, moves_opens, marked_if, otherwise, stays}
-use Rattle.nfs_exec.specs.Step.View.{Steps}
+use Rattle.nfs_exec.specs.{Step.Behind.{Step, step, on_store, moves_opens, marked_if, otherwise, stays}, Step.View.Steps}
 use Rattle.nfs_exec.specs.Step.Run.{Ran, run, in_room, follow, is_here, behind_here, reserve}
 
 -- What it answers can be put, and is short.

@@ -1,24 +1,15 @@
 -- What a repeat is compared by is all but the four bytes of sa_highest_slotid.
 use Rattle.std.proofs.Common.{◌≡◌, ℕ, zero, suc, ◌+◌, ◌≤◌, ◌<◌, ◌^◌, List, [], ◌∷◌, ◌++◌, length, take, drop, Option, Some, None, refl, sym, ap, ◌∙◌, subst, arith, inl, inr, append_assoc}
+use Rattle.std.proofs.{lemmas.Bool.{cases_Bool, eqb-true}, lemmas.Option.same_Some, lemmas.List.{take_at, drop_at}, Math.Seq.drop-append-add}
 use Rattle.std.specs.Prelude.{◌==◌}
-use Rattle.std.proofs.lemmas.Bool.{cases_Bool, eqb-true}
-use Rattle.std.proofs.lemmas.Option.{same_Some}
-use Rattle.std.proofs.lemmas.List.{take_at, drop_at}
-use Rattle.std.proofs.Math.Seq.{drop-append-add}
 use Rattle.nfs_xdr.specs.Spelling as spelling
-use Rattle.nfs_xdr.specs.Spelling.{padding}
-use Rattle.nfs_xdr.specs.Reading.{number_at}
-use Rattle.nfs_xdr.specs.Text.{uint32}
-use Rattle.nfs_xdr.proofs.CodecLaws.{is_number}
-use Rattle.nfs_xdr.proofs.Putting.{length_number}
+use Rattle.nfs_xdr.specs.{Spelling.padding, Reading.number_at, Text.uint32}
+use Rattle.nfs_xdr.proofs.{CodecLaws.is_number, Putting.length_number}
 use Rattle.nfs_results.proofs.Lengths.{lengths}
-use Rattle.nfs_compound.specs.declared.op.Item.{Item}
-use Rattle.nfs_compound.specs.declared.op.Item.TheVariants.{Operation}
-use Rattle.nfs_compound.specs.declared.op.Op.TheVariants as Op
-use Rattle.nfs_compound.specs.declared.session_args.Sequence.{Sequence}
+use Rattle.nfs_compound.specs.{declared.op.Item.Item, declared.op.Item.TheVariants.Operation, declared.session_args.Sequence.Sequence}
 use Rattle.nfs_compound.specs.Request.{Request, Lists, HasBody, IsRequest}
-use Rattle.nfs_exec.specs.Step.Sequence.{highest_at, compared, sequence_number}
-use Rattle.nfs_exec.specs.Step.Executing.{first_sequence, sequence_of}
+use Rattle.nfs_compound.specs.declared.op.Op.TheVariants as Op
+use Rattle.nfs_exec.specs.{Step.Sequence.{highest_at, compared, sequence_number}, Step.Executing.{first_sequence, sequence_of}}
 use Rattle.nfs_exec.specs.Step.Compared.{before_highest, IsCut, ComparesAllButHighest, DifferThereAlone}
 
 -- the body of a compound that SEQUENCE begins

@@ -1,31 +1,16 @@
 -- The whole compound: which of its cases a request is.
-use Rattle.std.proofs.Common.{◌≡◌, ℕ, Bool, List, ◌∷◌, ◌++◌, Option, Some, None, refl, sym, ◌∙◌, ap, subst}
-use Rattle.std.proofs.lemmas.Bool.{eq-eqb}
-use Rattle.nfs_xdr.specs.Caller.{Caller}
-use Rattle.nfs_xdr.specs.SheetState.{SheetState, Puts}
-use Rattle.nfs_xdr.specs.declared.status.Status.{Status}
-use Rattle.nfs_xdr.specs.declared.status.Status.TheVariants.{Nfs4Ok}
-use Rattle.nfs_compound.specs.declared.op.Item.{Item}
-use Rattle.nfs_compound.specs.declared.op.Item.TheVariants.{Operation}
+use Rattle.std.proofs.{Common.{◌≡◌, ℕ, Bool, List, ◌∷◌, ◌++◌, Option, Some, None, refl, sym, ◌∙◌, ap, subst}, lemmas.Bool.eq-eqb}
+use Rattle.nfs_xdr.specs.{Caller.Caller, SheetState.{SheetState, Puts}, declared.status.Status.Status, declared.status.Status.TheVariants.Nfs4Ok}
+use Rattle.nfs_compound.specs.{declared.op.Item.Item, declared.op.Item.TheVariants.Operation, Request.Request, declared.session_args.Sequence.Sequence}
 use Rattle.nfs_compound.specs.declared.op.Op.TheVariants as Op
-use Rattle.nfs_compound.specs.Request.{Request}
-use Rattle.nfs_compound.specs.declared.session_args.Sequence.{Sequence}
-use Rattle.nfs_results.specs.Results.{spell_compound_head}
-use Rattle.nfs_results.specs.OpenHead.{HeadsAt, SetsHead}
-use Rattle.nfs_slots.specs.declared.slot.Verdict.{Verdict}
-use Rattle.nfs_slots.specs.declared.slot.Verdict.TheVariants.{Fresh, Again, FalseRetry, Misordered, NoSlot}
-use Rattle.nfs_sessions.specs.SessionSlots.{GrantedSlots, judge}
-use Rattle.nfs_sessions.specs.Sessions.{Session, session_at}
-use Rattle.nfs_sessions.specs.Id.{id_of}
+use Rattle.nfs_results.specs.{Results.spell_compound_head, OpenHead.{HeadsAt, SetsHead}}
+use Rattle.nfs_slots.specs.{declared.slot.Verdict.Verdict, declared.slot.Verdict.TheVariants.{Fresh, Again, FalseRetry, Misordered, NoSlot}}
+use Rattle.nfs_sessions.specs.{SessionSlots.{GrantedSlots, judge}, Sessions.{Session, session_at}, Id.id_of}
 use Rattle.nfs_names.specs.Outcome.{is_delay}
 use Rattle.nfs_exec.specs.Step.Machine.{Machine}
 use Rattle.nfs_exec.specs.Step.Sequence.{compared, Sequenced, Refuses, Repeats, Runs, unless, by_verdict, by_session, slot_fault, sequenced}
-use Rattle.nfs_exec.specs.Step.Run.{only}
-use Rattle.nfs_exec.specs.Step.Compound.{Answered, answers, first_item, in_session, by_first, compound}
-use Rattle.nfs_exec.specs.Step.Run.{is_here}
-use Rattle.nfs_exec.specs.Step.View.{Does, Answers}
-use Rattle.nfs_exec.proofs.Step.Running.{choice_of, chosen}
-use Rattle.nfs_exec.proofs.Step.RepliesKept.{closed_one}
+use Rattle.nfs_exec.specs.{Step.Run.{only, is_here}, Step.Compound.{Answered, answers, first_item, in_session, by_first, compound}, Step.View.{Does, Answers}}
+use Rattle.nfs_exec.proofs.{Step.Running.{choice_of, chosen}, Step.RepliesKept.closed_one}
 
 -- what is left of the list decides nothing
 

@@ -1,37 +1,23 @@
 -- CREATE_SESSION: the bytes of its result, and what the code's steps come to.
 use Rattle.std.proofs.Common.{◌≡◌, ℕ, ◌+◌, ◌-◌, ◌≤◌, Bool, true, false, List, ◌++◌, length, take, drop, Option, Some, None, Result, Ok, Err, refl, sym, ◌∙◌, ap}
-use Rattle.std.proofs.Common.{subst, arith}
+use Rattle.std.proofs.{Common.{subst, arith}, lemmas.List.{length-append, length-drop, take_all}, Math.Seq.drop-append_seam}
 use Rattle.std.specs.Prelude.{IsOk}
-use Rattle.std.proofs.lemmas.List.{length-append, length-drop, take_all}
-use Rattle.std.proofs.Math.Seq.{drop-append_seam}
-use Rattle.nfs_xdr.specs.SheetState.{SheetState, HasRoom, Puts}
-use Rattle.nfs_xdr.specs.declared.status.Status.{Status}
-use Rattle.nfs_xdr.specs.declared.status.Status.TheVariants.{Nfs4Ok, Delay}
+use Rattle.nfs_xdr.specs.{SheetState.{SheetState, HasRoom, Puts}, declared.status.Status.Status, declared.status.Status.TheVariants.{Nfs4Ok, Delay}}
 use Rattle.nfs_xdr.specs.Spelling.{hyper}
 use Rattle.nfs_xdr.proofs.Putting.{length_hyper}
-use Rattle.nfs_compound.specs.declared.session_args.CreateSession.{CreateSession}
-use Rattle.nfs_compound.specs.declared.op.Item.TheVariants.{Operation}
+use Rattle.nfs_compound.specs.{declared.session_args.CreateSession.CreateSession, declared.op.Item.TheVariants.Operation}
 use Rattle.nfs_compound.specs.declared.op.Op.TheVariants as Op
-use Rattle.nfs_results.specs.declared.res.Res.{Res}
-use Rattle.nfs_results.specs.Results.{spell_result, head, operation_of, status_of_result, done_head}
-use Rattle.nfs_results.specs.Parts.{parts}
+use Rattle.nfs_results.specs.{declared.res.Res.Res, Results.{spell_result, head, operation_of, status_of_result, done_head}, Parts.parts}
 use Rattle.nfs_compound.specs.declared.op_num.OpNum.TheVariants as Num
 use Rattle.nfs_results.proofs.Lengths.{length_result, length_head}
-use Rattle.nfs_clients.specs.Roster.{Roster}
-use Rattle.nfs_clients.specs.declared.created.CreateResult.TheVariants.{Refused}
-use Rattle.nfs_clients.specs.CreateSession.{Verdict, with_kept}
+use Rattle.nfs_clients.specs.{Roster.Roster, declared.created.CreateResult.TheVariants.Refused, CreateSession.{Verdict, with_kept}}
 use Rattle.nfs_clients.proofs.Members.{not_kept}
-use Rattle.nfs_sessions.specs.declared.id.SessionId.{SessionId}
-use Rattle.nfs_sessions.specs.declared.channel.Wish.{Wish}
-use Rattle.nfs_sessions.specs.declared.sessions.SessionFault.{SessionFault}
-use Rattle.nfs_sessions.specs.declared.sessions.SessionFault.TheVariants.{TooSmall, NoSpc, ServerFault, Memory}
-use Rattle.nfs_sessions.specs.Id.{id_bytes}
-use Rattle.nfs_sessions.specs.Sessions.{SessionTable, Created, create, create_unless, create_fault, fault_status}
-use Rattle.nfs_sessions.specs.SessionTables.{CreatesOrWants}
+use Rattle.nfs_sessions.specs.{declared.id.SessionId.SessionId, declared.channel.Wish.Wish, declared.sessions.SessionFault.SessionFault}
+use Rattle.nfs_sessions.specs.{declared.sessions.SessionFault.TheVariants.{TooSmall, NoSpc, ServerFault, Memory}, Id.id_bytes}
+use Rattle.nfs_sessions.specs.{Sessions.{SessionTable, Created, create, create_unless, create_fault, fault_status}, SessionTables.CreatesOrWants}
 use Rattle.nfs_names.specs.Outcome.{is_delay}
 use Rattle.nfs_exec.specs.Step.Machine.{Machine, Outcome, or_delay, refuses}
-use Rattle.nfs_exec.specs.Step.CreateSession.{create_session_number, session_made, made_body, by_verdict, by_created, creates, confirmed}
-use Rattle.nfs_exec.specs.Step.View.{Does}
+use Rattle.nfs_exec.specs.{Step.CreateSession.{create_session_number, session_made, made_body, by_verdict, by_created, creates, confirmed}, Step.View.Does}
 
 pub length_id : (id : SessionId) → length (id_bytes id) ≡ 16
 length_id id = length-append (hyper id.client) (hyper id.counter) ∙ omega (arith, length_hyper id.client, length_hyper id.counter)

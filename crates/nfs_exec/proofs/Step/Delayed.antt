@@ -1,63 +1,36 @@
 -- Memory refused at a place makes no difference, or cuts the compound there.
 use Rattle.std.proofs.Common.{◌≡◌, ◌⊎◌, ℕ, zero, suc, ◌+◌, ◌≤◌, Bool, true, false, cond, eqb, ltb, List, [], ◌∷◌, ◌++◌, length, take, Option, Some, None}
-use Rattle.std.proofs.Common.{refl, sym, ◌∙◌, ap, arith, inl, inr}
-use Rattle.std.specs.Prelude.{◌&&◌, ◌||◌, not, nat_lt, slice_get}
-use Rattle.std.specs.Option.{option_map, option_map_or}
-use Rattle.std.specs.Option.{option_map_or}
-use Rattle.std.proofs.lemmas.Bool.{cases_Bool, eqb-true, eq-eqb, le-ltb, ltb-false, false≢true}
+use Rattle.std.proofs.{Common.{refl, sym, ◌∙◌, ap, arith, inl, inr}, lemmas.Bool.{cases_Bool, eqb-true, eq-eqb, le-ltb, ltb-false, false≢true}}
 use Rattle.std.proofs.lemmas.List.{append_assoc}
-use Rattle.nfs_xdr.specs.Caller.{Caller}
-use Rattle.nfs_xdr.specs.Checks.{first_fault}
-use Rattle.nfs_xdr.specs.Spelling.{number, opaque}
-use Rattle.nfs_xdr.specs.Tables.{In, with_record}
-use Rattle.nfs_xdr.specs.declared.status.Status.{Status}
+use Rattle.std.specs.{Prelude.{◌&&◌, ◌||◌, not, nat_lt, slice_get}, Option.{option_map, option_map_or}}
+use Rattle.nfs_xdr.specs.{Caller.Caller, Checks.first_fault, Spelling.{number, opaque}, Tables.{In, with_record}, declared.status.Status.Status}
 use Rattle.nfs_xdr.specs.declared.status.Status.TheVariants.{Nfs4Ok, MinorVersMismatch, Delay, NotOnlyOp, OpNotInSession}
 use Rattle.nfs_xdr.proofs.Tables.{at_of_in}
-use Rattle.nfs_compound.specs.Arguments.{arguments}
-use Rattle.nfs_compound.specs.declared.op.Op.{Op}
-use Rattle.nfs_compound.specs.declared.op.Item.{Item}
-use Rattle.nfs_compound.specs.declared.op.Item.TheVariants.{Operation, Fault}
-use Rattle.nfs_compound.specs.Request.{Request, item_number}
-use Rattle.nfs_compound.specs.declared.session_args.CreateSession.{CreateSession}
-use Rattle.nfs_compound.specs.declared.op_num.OpNum.{OpNum}
+use Rattle.nfs_compound.specs.{Arguments.arguments, declared.op.Op.Op, declared.op.Item.Item, declared.op.Item.TheVariants.{Operation, Fault}}
+use Rattle.nfs_compound.specs.{Request.{Request, item_number}, declared.session_args.CreateSession.CreateSession, declared.op_num.OpNum.OpNum}
 use Rattle.nfs_compound.specs.declared.session_args.Sequence.{Sequence}
-use Rattle.nfs_results.specs.Largest.{largest}
+use Rattle.nfs_results.specs.{Largest.largest, Results.{refusal, spell_result, spell_compound_head, status_of_result}}
 use Rattle.nfs_results.specs.declared.res.Res.TheVariants as Res
-use Rattle.nfs_results.specs.Results.{refusal, spell_result, spell_compound_head, status_of_result}
-use Rattle.nfs_clients.specs.Roster.{ClientRecord, client_at, id_of as client_id, next_id}
+use Rattle.nfs_clients.specs.{Roster.{ClientRecord, client_at, id_of as client_id, next_id}, Marks.has_open_by}
 use Rattle.nfs_clients.specs.CreateSession as clients
-use Rattle.nfs_clients.specs.Marks.{has_open_by}
 use Rattle.nfs_clients.proofs.Members.{the_id}
-use Rattle.nfs_slots.specs.declared.slot.Verdict.TheVariants.{Fresh, NoSlot}
-use Rattle.nfs_slots.specs.Slot.{SlotState, judge_slot, next_number}
+use Rattle.nfs_slots.specs.{declared.slot.Verdict.TheVariants.{Fresh, NoSlot}, Slot.{SlotState, judge_slot, next_number}}
 use Rattle.nfs_slots.proofs.TableLemmas.{fresh_number}
-use Rattle.nfs_sessions.specs.Id.{id_of}
-use Rattle.nfs_sessions.specs.SessionSlots.{judge}
-use Rattle.nfs_sessions.specs.Sessions.{Session, session_at, create}
-use Rattle.nfs_sessions.specs.declared.channel.Channel.{Channel}
-use Rattle.nfs_names.specs.declared.context.Context.{Context}
-use Rattle.nfs_names.specs.Context.{begins}
-use Rattle.nfs_names.specs.Ending.{has_open}
-use Rattle.nfs_names.specs.State.{State, moment}
+use Rattle.nfs_sessions.specs.{Id.id_of, SessionSlots.judge, Sessions.{Session, session_at, create}, declared.channel.Channel.Channel}
+use Rattle.nfs_names.specs.{declared.context.Context.Context, Context.begins, Ending.has_open, State.{State, moment}, Outcome.{Outcome as OfStore, is_ok}}
 use Rattle.nfs_names.specs.Outcome as of_store
-use Rattle.nfs_names.specs.Outcome.{Outcome as OfStore, is_ok}
 use Rattle.nfs_names.specs.Operation as names
 use Rattle.nfs_names.proofs.Faulted.{status_of_refusal}
 use Rattle.nfs_files.specs.Operation as files
 use Rattle.nfs_exec.specs.Step.Machine.{Machine, IsMachine, Outcome, or_delay, refuses, with_result, with_mark, is_confirmed}
-use Rattle.nfs_exec.specs.Step.Place.{item_fault, place_fault, stands_alone, is_sequence}
-use Rattle.nfs_exec.specs.Step.ExchangeId.{exchange_id, exchange_id_number}
+use Rattle.nfs_exec.specs.{Step.Place.{item_fault, place_fault, stands_alone, is_sequence}, Step.ExchangeId.{exchange_id, exchange_id_number}}
 use Rattle.nfs_exec.specs.Step.CreateSession.{create_session_number, by_verdict, creates, wish_of}
-use Rattle.nfs_exec.specs.Step.Sequence as sequence
 use Rattle.nfs_exec.specs.Step.Sequence.{compared, Sequenced, sequenced, unless, by_session, slot_fault, accepted}
-use Rattle.nfs_exec.specs.Step.Behind.{Step, stays, step, on_store, moves_opens, marked_if, otherwise}
-use Rattle.nfs_exec.specs.Step.Run.{Ran, run, in_room, reserve, follow, only}
-use Rattle.nfs_exec.specs.Step.Compound.{Answered, answers, carried_out, by_fault, first_item, renewed, begun, runs_behind, keeps, in_session, by_first}
-use Rattle.nfs_exec.specs.Step.Compound.{bare}
-use Rattle.nfs_exec.specs.Step.Laws.{if_runs, first_runs}
-use Rattle.nfs_exec.specs.Step.Delayed.{grows, kept_by, with_ok, DelayIsACut}
-use Rattle.nfs_exec.proofs.Step.Invariant.{of_renewed, of_room, runs_for, Stands}
-use Rattle.nfs_exec.proofs.Step.RepliesKept.{runs_means}
+use Rattle.nfs_exec.specs.{Step.Behind.{Step, stays, step, on_store, moves_opens, marked_if, otherwise}, Step.Run.{Ran, run, in_room, reserve, follow, only}}
+use Rattle.nfs_exec.specs.Step.Compound.{Answered, answers, carried_out, by_fault, first_item, renewed, begun, runs_behind, keeps, in_session, by_first, bare}
+use Rattle.nfs_exec.specs.{Step.Laws.{if_runs, first_runs}, Step.Delayed.{grows, kept_by, with_ok, DelayIsACut}}
+use Rattle.nfs_exec.specs.Step.Sequence as sequence
+use Rattle.nfs_exec.proofs.{Step.Invariant.{of_renewed, of_room, runs_for, Stands}, Step.RepliesKept.runs_means}
 
 -- The mark of a client's open is set already.
 

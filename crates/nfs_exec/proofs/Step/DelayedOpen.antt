@@ -3,11 +3,8 @@ use Rattle.std.proofs.Common.{refl}
 use Rattle.nfs_xdr.specs.Spelling.{number, hyper}
 use Rattle.nfs_compound.specs.Stateid.{stateid}
 use Rattle.nfs_results.specs.Items.{sequence, change_info, attr_set, open_ok}
-use Rattle.nfs_attrs.specs.Attributes.{attributes}
-use Rattle.nfs_attrs.specs.SettingsCodec.{settings, settings_of}
-use Rattle.nfs_names.specs.Checks.{current, permits}
-use Rattle.nfs_names.specs.Create.{wanted_of}
-use Rattle.nfs_names.specs.PutRootFh.{put_root_fh}
+use Rattle.nfs_attrs.specs.{Attributes.attributes, SettingsCodec.{settings, settings_of}}
+use Rattle.nfs_names.specs.{Checks.{current, permits}, Create.wanted_of, PutRootFh.put_root_fh}
 use Rattle.nfs_files.specs.Open.{asked_for, open_file}
 use Rattle.nfs_exec.specs.Step.DelayedOpen.{IsWorked}
 

@@ -3,13 +3,9 @@ use Rattle.std.proofs.Common.{◌≡◌, ℕ, false, List, None, refl, sym, ◌�
 use Rattle.std.specs.Prelude.{not, is_some}
 use Rattle.nfs_xdr.specs.declared.status.Status.TheVariants.{BadSession}
 use Rattle.nfs_xdr.proofs.Lists.{filter_all, none_in}
-use Rattle.nfs_sessions.specs.Id.{id_of}
-use Rattle.nfs_sessions.specs.declared.id.SessionId.{SessionId}
-use Rattle.nfs_sessions.specs.Sessions.{SessionTable, is_session, session_at, destroyed}
-use Rattle.nfs_results.specs.declared.res.Res.{Res}
-use Rattle.nfs_results.specs.Results.{refusal}
-use Rattle.nfs_exec.specs.Step.Machine.{Machine, with_result}
-use Rattle.nfs_exec.specs.Step.Destroy.{destroy_session}
+use Rattle.nfs_sessions.specs.{Id.id_of, declared.id.SessionId.SessionId, Sessions.{SessionTable, is_session, session_at, destroyed}}
+use Rattle.nfs_results.specs.{declared.res.Res.Res, Results.refusal}
+use Rattle.nfs_exec.specs.{Step.Machine.{Machine, with_result}, Step.Destroy.destroy_session}
 use Rattle.nfs_exec.proofs.Step.LeaseTakenBack.{none_of}
 
 none_destroyed : (t : SessionTable) (id : SessionId) → session_at t id ≡ None → destroyed t id ≡ t

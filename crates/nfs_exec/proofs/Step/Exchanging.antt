@@ -1,23 +1,18 @@
 -- EXCHANGE_ID: what the code's steps come to.
-use Rattle.std.proofs.Common.{◌≡◌, ℕ, ◌<◌, Bool, true, false, None, Ok, Err, refl, ◌∙◌}
+use Rattle.std.proofs.{Common.{◌≡◌, ℕ, ◌<◌, Bool, true, false, None, Ok, Err, refl, ◌∙◌}, lemmas.Bool.{and_parts, ltb-true}}
 use Rattle.std.specs.Prelude.{◌||◌, nat_lt, is_some, length}
-use Rattle.std.proofs.lemmas.Bool.{and_parts, ltb-true}
-use Rattle.nfs_clients.specs.declared.exchange_id.Exchanged.{Exchanged}
-use Rattle.nfs_clients.specs.declared.exchange_id.ClientFault.{ClientFault}
+use Rattle.nfs_clients.specs.{declared.exchange_id.Exchanged.Exchanged, declared.exchange_id.ClientFault.ClientFault}
 use Rattle.nfs_clients.specs.declared.exchange_id.ClientFault.TheVariants.{Inval, NoEnt, NotSame, Perm, ClidInUse, ServerFault, Memory}
 use Rattle.nfs_clients.specs.Roster.{Roster, client_at, confirmed_of, next_id, last_counter, most_records, unconfirmed_of}
 use Rattle.nfs_clients.specs.ExchangeId.{Ask, Case, Refuses, Stays, Adds, has_room, if_room, case_by, case_of, does}
-use Rattle.nfs_clients.specs.Calls.{exchange_fault, refusal_of, ExchangesOrWants}
-use Rattle.nfs_clients.specs.ExchangeId.{fault_status, answer_standing, answer_added}
-use Rattle.nfs_xdr.specs.Checks.{judged}
-use Rattle.nfs_xdr.specs.Caller.{Caller}
+use Rattle.nfs_clients.specs.{Calls.{exchange_fault, refusal_of, ExchangesOrWants}, ExchangeId.{fault_status, answer_standing, answer_added}}
+use Rattle.nfs_xdr.specs.{Checks.judged, Caller.Caller}
 use Rattle.nfs_compound.specs.declared.session_args.ExchangeId.{ExchangeId}
 use Rattle.nfs_lease.specs.Renewals.{Book, with_lease, without_lease}
 use Rattle.nfs_results.specs.declared.res.Res.TheVariants as Res
 use Rattle.nfs_names.specs.Outcome.{is_delay}
 use Rattle.nfs_exec.specs.Step.Machine.{Machine, IsMachine, with_result, or_delay}
-use Rattle.nfs_exec.specs.Step.ExchangeId.{exchange_id, exchange_id_number, granted, ask_of, exchanged}
-use Rattle.nfs_exec.specs.Step.View.{settled}
+use Rattle.nfs_exec.specs.{Step.ExchangeId.{exchange_id, exchange_id_number, granted, ask_of, exchanged}, Step.View.settled}
 use Rattle.nfs_exec.proofs.Step.LeaseTakenBack.{unleased, taken_back}
 
 no_room : (case : Case) → if_room false case ≡ Adds → ⊥

@@ -1,19 +1,15 @@
 -- A client whose lease has run out goes, and what the moment leaves is the same.
-use Rattle.std.proofs.Common.{◌≡◌, ℕ, ◌+◌, ◌<◌, arith, Bool, true, false, cond, eqb, Option, Some, None, refl, ◌∙◌, ap, inl, inr}
-use Rattle.std.specs.Prelude.{not, ◌&&◌, is_some}
-use Rattle.std.proofs.Math.Path.{fun_ext}
+use Rattle.std.proofs.{Common.{◌≡◌, ℕ, ◌+◌, ◌<◌, arith, Bool, true, false, cond, eqb, Option, Some, None, refl, ◌∙◌, ap, inl, inr}, Math.Path.fun_ext}
 use Rattle.std.proofs.lemmas.Bool.{cases_eq, ne_eqb, eq-eqb}
+use Rattle.std.specs.Prelude.{not, ◌&&◌, is_some}
 use Rattle.nfs_xdr.proofs.Lists.{filter_all, filter_both}
 use Rattle.nfs_clients.specs.Roster.{ClientRecord}
 use Rattle.nfs_sessions.specs.Sessions.{Session}
 use Rattle.nfs_lease.specs.Renewals.{Book, is_out, has_run_out, without_lease}
-use Rattle.nfs_names.specs.StoreInvariants.{IsStore}
-use Rattle.nfs_names.specs.Ending.{staying}
+use Rattle.nfs_names.specs.{StoreInvariants.IsStore, Ending.staying}
 use Rattle.nfs_opens.specs.TableInvariants.{IsTable}
 use Rattle.nfs_names.proofs.Staying.{staying_twice, staying_everybody, swapped}
-use Rattle.nfs_exec.specs.Step.Machine.{Machine}
-use Rattle.nfs_exec.specs.Step.Expiry.{expired}
-use Rattle.nfs_exec.specs.Step.View.{without_client}
+use Rattle.nfs_exec.specs.{Step.Machine.Machine, Step.Expiry.expired, Step.View.without_client}
 
 -- who stays behind the client stays at the moment, and nobody else
 stays : (b : Book) (now client c : ℕ) → has_run_out b now client ≡ true

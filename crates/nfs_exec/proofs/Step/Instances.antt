@@ -1,26 +1,18 @@
 -- No operation changes the instance of the server, which its filehandles bear.
-use Rattle.std.proofs.Common.{◌≡◌, ℕ, Bool, Option, Some, None, refl, ◌∙◌, inl, inr}
+use Rattle.std.proofs.{Common.{◌≡◌, ℕ, Bool, Option, Some, None, refl, ◌∙◌, inl, inr}, lemmas.Bool.cases_Bool}
 use Rattle.std.specs.Option.{ForSome}
-use Rattle.std.proofs.lemmas.Bool.{cases_Bool}
 use Rattle.nfs_xdr.specs.declared.time.Time.{Time}
 use Rattle.nfs_compound.specs.declared.op.Item.{Item}
-use Rattle.nfs_tree.specs.Files.{lookup as looked_up, named}
-use Rattle.nfs_tree.specs.Names.{with_moved, without_name}
+use Rattle.nfs_tree.specs.{Files.{lookup as looked_up, named}, Names.{with_moved, without_name}}
 use Rattle.nfs_opens.specs.Closing as closing
-use Rattle.nfs_names.specs.declared.context.Context.{Context}
-use Rattle.nfs_names.specs.State.{State, moment, is_used, without_unused, with_tree}
-use Rattle.nfs_names.specs.Ending.{with_opens}
-use Rattle.nfs_names.specs.Operation as names
+use Rattle.nfs_names.specs.{declared.context.Context.Context, State.{State, moment, is_used, without_unused, with_tree}, Ending.with_opens}
 use Rattle.nfs_names.specs.Rename.{without_replaced}
+use Rattle.nfs_names.specs.Operation as names
 use Rattle.nfs_names.proofs.Effects as names_effects
-use Rattle.nfs_names.proofs.Effects.{Removes, Moves}
+use Rattle.nfs_names.proofs.{Effects.{Removes, Moves}, Ones.each_of}
 use Rattle.nfs_names.proofs.Effected as names_effected
-use Rattle.nfs_names.proofs.Ones.{each_of}
-use Rattle.nfs_files.proofs.Outcomes.{comes_to}
-use Rattle.nfs_files.proofs.Effects.{Effect, Names, Closes, behind}
-use Rattle.nfs_files.proofs.Effected.{kept_item}
-use Rattle.nfs_exec.proofs.Runs.OneRun.{by_run}
-use Rattle.nfs_exec.proofs.Runs.OneWalk.{IsKept}
+use Rattle.nfs_files.proofs.{Outcomes.comes_to, Effects.{Effect, Names, Closes, behind}, Effected.kept_item}
+use Rattle.nfs_exec.proofs.{Runs.OneRun.by_run, Runs.OneWalk.IsKept}
 
 unused_instance : (s : State) (n : ℕ) → (without_unused s n).instance ≡ s.instance
 unused_instance s n = elim (cases_Bool (is_used s n)) [ inl stays ↦ rw stays refl | inr goes ↦ rw goes refl ]

@@ -1,74 +1,42 @@
 -- What holds of every machine is kept by each step.
 use Rattle.std.proofs.Common.{◌≡◌, ◌≢◌, ℕ, ◌+◌, ◌<◌, Bool, true, false, cond, eqb, ltb, List, [], ◌∷◌, length, Option, Some, None, Result, Ok, Err, refl, sym}
-use Rattle.std.proofs.Common.{◌∙◌, ap, subst, arith, inl, inr}
-use Rattle.std.specs.Prelude.{not, ◌&&◌, ◌||◌, filter, is_some, option_map, ◌⊎◌}
-use Rattle.std.specs.Option.{option_map_or}
-use Rattle.std.specs.List.{list_any}
-use Rattle.std.proofs.lemmas.Bool.{cases_Bool, cases_eq, ne_eqb, eq-eqb, eqb-true, and_parts, false≢true}
-use Rattle.nfs_xdr.specs.Caller.{Caller}
-use Rattle.nfs_xdr.specs.declared.status.Status.{Status}
-use Rattle.nfs_xdr.specs.Tables.{In, record_at}
-use Rattle.nfs_xdr.proofs.Lists.{in_filter, in_push, in_map, find_in}
-use Rattle.nfs_xdr.proofs.Tables.{at_of_in, at_without, at_with, at_push}
-use Rattle.nfs_compound.specs.declared.op.Item.{Item}
-use Rattle.nfs_compound.specs.declared.op.Item.TheVariants.{Operation}
+use Rattle.std.proofs.{Common.{◌∙◌, ap, subst, arith, inl, inr}, lemmas.Bool.{cases_Bool, cases_eq, ne_eqb, eq-eqb, eqb-true, and_parts, false≢true}}
+use Rattle.std.specs.{Prelude.{not, ◌&&◌, ◌||◌, filter, is_some, option_map, ◌⊎◌}, Option.option_map_or, List.list_any}
+use Rattle.nfs_xdr.specs.{Caller.Caller, declared.status.Status.Status, Tables.{In, record_at}}
+use Rattle.nfs_xdr.proofs.{Lists.{in_filter, in_push, in_map, find_in}, Tables.{at_of_in, at_without, at_with, at_push}}
+use Rattle.nfs_compound.specs.{declared.op.Item.Item, declared.op.Item.TheVariants.Operation, Request.Request}
+use Rattle.nfs_compound.specs.{declared.session_args.CreateSession.CreateSession, declared.session_args.Sequence.Sequence}
 use Rattle.nfs_compound.specs.declared.op.Op.TheVariants as Op
-use Rattle.nfs_compound.specs.Request.{Request}
-use Rattle.nfs_compound.specs.declared.session_args.CreateSession.{CreateSession}
-use Rattle.nfs_compound.specs.declared.session_args.Sequence.{Sequence}
 use Rattle.nfs_clients.specs.Roster.{ClientRecord, Roster, IsRoster, id_of as client_id, client_at, without, is_unconfirmed_of, unconfirmed_of, confirmed_of}
-use Rattle.nfs_clients.specs.Roster.{next_id}
-use Rattle.nfs_clients.specs.ExchangeId.{Ask, Case, Refuses, Stays, Adds, has_room, case_by, case_of, does, new_client, with_new}
-use Rattle.nfs_clients.specs.CreateSession as clients
+use Rattle.nfs_clients.specs.{Roster.next_id, ExchangeId.{Ask, Case, Refuses, Stays, Adds, has_room, case_by, case_of, does, new_client, with_new}}
 use Rattle.nfs_clients.specs.CreateSession.{leaving, without_any, with_confirmed, with_kept, confirms, keeps, verdict_by}
-use Rattle.nfs_clients.specs.Marks.{has_open, has_open_by, has_reclaimed, with_reclaimed, with_open}
-use Rattle.nfs_clients.specs.declared.created.CreateResult.{CreateResult}
-use Rattle.nfs_clients.specs.declared.created.CreateResult.TheVariants.{Done, Refused}
-use Rattle.nfs_clients.specs.declared.destroy.DestroyFault.TheVariants.{Stale, Busy}
+use Rattle.nfs_clients.specs.{Marks.{has_open, has_open_by, has_reclaimed, with_reclaimed, with_open}, declared.created.CreateResult.CreateResult}
+use Rattle.nfs_clients.specs.{declared.created.CreateResult.TheVariants.{Done, Refused}, declared.destroy.DestroyFault.TheVariants.{Stale, Busy}}
+use Rattle.nfs_clients.specs.CreateSession as clients
 use Rattle.nfs_clients.proofs.Members.{the_id, mild_keeps, mild_reclaims, mild_holds, fresh, roster_filter, roster_changed, roster_without, roster_confirmed}
 use Rattle.nfs_clients.proofs.Members.{roster_new, without_unconfirmed}
-use Rattle.nfs_sessions.specs.declared.id.SessionId.{SessionId}
-use Rattle.nfs_sessions.specs.declared.channel.Channel.{Channel}
-use Rattle.nfs_sessions.specs.declared.channel.Wish.{Wish}
-use Rattle.nfs_sessions.specs.declared.sessions.SessionFault.{SessionFault}
-use Rattle.nfs_sessions.specs.Id.{id_of}
-use Rattle.nfs_sessions.specs.SessionSlots.{GrantedSlots}
-use Rattle.nfs_sessions.specs.Sessions.{Session, SessionTable, is_session, session_at, create_unless, create_fault, fault_status, with_session}
-use Rattle.nfs_sessions.specs.Sessions.{with_slots}
+use Rattle.nfs_sessions.specs.{declared.id.SessionId.SessionId, declared.channel.Channel.Channel, declared.channel.Wish.Wish}
+use Rattle.nfs_sessions.specs.{declared.sessions.SessionFault.SessionFault, Id.id_of, SessionSlots.GrantedSlots}
+use Rattle.nfs_sessions.specs.Sessions.{Session, SessionTable, is_session, session_at, create_unless, create_fault, fault_status, with_session, with_slots}
 use Rattle.nfs_sessions.specs.Sessions as sessions
 use Rattle.nfs_lease.specs.Renewals.{Book, has_run_out, with_lease, with_renewal, without_lease}
 use Rattle.nfs_exec.specs.Step.Machine.{Machine, IsMachine, starts, with_mark, is_client, is_confirmed}
 use Rattle.nfs_exec.specs.Step.ExchangeId.{ask_of, leases_behind, without_any_lease}
-use Rattle.nfs_exec.specs.Step.CreateSession.{by_created, confirmed, wish_of, without_any_sessions, without_any_opens}
-use Rattle.nfs_exec.specs.Step.Destroy.{has_session}
+use Rattle.nfs_exec.specs.{Step.CreateSession.{by_created, confirmed, wish_of, without_any_sessions, without_any_opens}, Step.Destroy.has_session}
+use Rattle.nfs_exec.specs.{Step.Sequence.sequenced, Step.Compound.{first_item, renewed, begun, run_in, compound}, Step.Expiry.expired}
+use Rattle.nfs_exec.specs.{Step.ReclaimComplete.{reclaim_complete, of_one, of_all}, Step.Behind.{Step, step, on_store, moves_opens, marked_if, otherwise}}
+use Rattle.nfs_exec.specs.Step.Run.{run, in_room, reserve, is_here, behind_here}
 use Rattle.nfs_exec.specs.Step.Sequence as sequence
-use Rattle.nfs_exec.specs.Step.Sequence.{sequenced}
-use Rattle.nfs_exec.specs.Step.Compound.{first_item, renewed, begun, run_in, compound}
-use Rattle.nfs_exec.specs.Step.Expiry.{expired}
-use Rattle.nfs_exec.proofs.Step.Exchanging.{room_of}
-use Rattle.nfs_names.specs.declared.context.Context.{Context}
-use Rattle.nfs_names.specs.Context.{begins}
-use Rattle.nfs_names.specs.Ending.{has_open as has_open_in}
-use Rattle.nfs_names.specs.declared.node.Node.{Node}
-use Rattle.nfs_names.specs.Checks.{current}
-use Rattle.nfs_names.specs.Outcome.{Outcome as OfStore}
-use Rattle.nfs_names.specs.State.{State, moment}
+use Rattle.nfs_exec.proofs.{Step.Exchanging.room_of, Step.Behind.{by_step, follow_kept}, Runs.ByEvent.{by_compound, by_alone}, Step.RepliesKept.runs_means}
+use Rattle.nfs_exec.proofs.Step.OpenMarks.{changed_holds, keeps_holds, confirms_holds, kept_holds, gone_holds, new_holds, open_staying}
+use Rattle.nfs_names.specs.{declared.context.Context.Context, Context.begins, Ending.{has_open as has_open_in}, declared.node.Node.Node, Checks.current}
+use Rattle.nfs_names.specs.{Outcome.{Outcome as OfStore}, State.{State, moment}}
 use Rattle.nfs_names.proofs.Untouched.{Leaves, leaves_each}
-use Rattle.nfs_opens.specs.Table.{Table}
-use Rattle.nfs_opens.specs.TableInvariants.{IsTable}
+use Rattle.nfs_opens.specs.{Table.Table, TableInvariants.IsTable}
 use Rattle.nfs_opens.proofs.TableLemmas.{table_new}
 use Rattle.nfs_files.proofs.Outcomes as files
-use Rattle.nfs_files.proofs.Outcomes.{for_each}
-use Rattle.nfs_files.proofs.TableSteps.{table_staying_is}
-use Rattle.nfs_files.proofs.OwnOpens.{Spares, Everybody, OthersThan, spares_all, spares_others}
+use Rattle.nfs_files.proofs.{Outcomes.for_each, TableSteps.table_staying_is, OwnOpens.{Spares, Everybody, OthersThan, spares_all, spares_others}}
 use Rattle.nfs_results.specs.Largest.{largest}
-use Rattle.nfs_exec.specs.Step.ReclaimComplete.{reclaim_complete, of_one, of_all}
-use Rattle.nfs_exec.specs.Step.Behind.{Step, step, on_store, moves_opens, marked_if, otherwise}
-use Rattle.nfs_exec.specs.Step.Run.{run, in_room, reserve, is_here, behind_here}
-use Rattle.nfs_exec.proofs.Step.Behind.{by_step, follow_kept}
-use Rattle.nfs_exec.proofs.Runs.ByEvent.{by_compound, by_alone}
-use Rattle.nfs_exec.proofs.Step.RepliesKept.{runs_means}
-use Rattle.nfs_exec.proofs.Step.OpenMarks.{changed_holds, keeps_holds, confirms_holds, kept_holds, gone_holds, new_holds, open_staying}
 
 pub of_start : (mode instance lease : ℕ) → instance < 4294967296 → IsMachine (starts mode instance lease)
 of_start mode instance lease small = record {

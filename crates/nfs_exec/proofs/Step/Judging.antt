@@ -1,13 +1,10 @@
 -- SEQUENCE: what the code's judgement comes to.
 use Rattle.std.proofs.Common.{◌≡◌, ℕ, ◌+◌, List, ◌++◌, take, drop, Option, Some, None, refl, ap, ◌∙◌}
 use Rattle.std.specs.Prelude.{option_map}
-use Rattle.nfs_xdr.specs.Caller.{Caller}
-use Rattle.nfs_xdr.specs.declared.status.Status.{Status}
-use Rattle.nfs_compound.specs.Request.{Request}
-use Rattle.nfs_compound.specs.declared.session_args.Sequence.{Sequence}
+use Rattle.nfs_xdr.specs.{Caller.Caller, declared.status.Status.Status}
+use Rattle.nfs_compound.specs.{Request.Request, declared.session_args.Sequence.Sequence}
 use Rattle.nfs_slots.specs.declared.slot.Verdict.TheVariants.{Fresh}
-use Rattle.nfs_sessions.specs.SessionSlots.{GrantedSlots, judge}
-use Rattle.nfs_sessions.specs.Sessions.{Session}
+use Rattle.nfs_sessions.specs.{SessionSlots.{GrantedSlots, judge}, Sessions.Session}
 use Rattle.nfs_exec.specs.Step.Sequence.{highest_at, compared, Refuses, by_session, slot_fault, fresh_fault}
 
 -- the two slices that the code gives are what is compared

@@ -3,34 +3,18 @@ use Rattle.std.proofs.Common.{◌≡◌, ℕ, ◌-◌, Bool, false, arith, eqb, 
 use Rattle.std.proofs.lemmas.Bool.{cases_Bool, le-ltb}
 use Rattle.std.specs.Prelude.{◌==◌, not, option_map}
 use Rattle.nfs_xdr.specs.Caller.{Caller}
-use Rattle.nfs_compound.specs.declared.op.Item.{Item}
-use Rattle.nfs_compound.specs.Request.{Request}
-use Rattle.nfs_compound.specs.declared.session_args.CreateSession.{CreateSession}
-use Rattle.nfs_clients.specs.declared.exchange_id.Exchanged.{Exchanged}
-use Rattle.nfs_clients.specs.declared.exchange_id.ClientFault.{ClientFault}
+use Rattle.nfs_compound.specs.{declared.op.Item.Item, Request.Request, declared.session_args.CreateSession.CreateSession}
+use Rattle.nfs_clients.specs.{declared.exchange_id.Exchanged.Exchanged, declared.exchange_id.ClientFault.ClientFault, ExchangeId.exchange}
 use Rattle.nfs_clients.specs.CreateSession as clients
-use Rattle.nfs_clients.specs.ExchangeId.{exchange}
-use Rattle.nfs_sessions.specs.declared.id.SessionId.{SessionId}
-use Rattle.nfs_sessions.specs.declared.sessions.SessionFault.{SessionFault}
-use Rattle.nfs_sessions.specs.Id.{id_of}
-use Rattle.nfs_sessions.specs.Sessions.{SessionTable, create}
-use Rattle.nfs_lease.specs.Renewals.{Book, is_out, has_run_out, with_lease, with_renewal, without_lease}
-use Rattle.nfs_lease.specs.Queue.{IsLatest}
+use Rattle.nfs_sessions.specs.{declared.id.SessionId.SessionId, declared.sessions.SessionFault.SessionFault, Id.id_of, Sessions.{SessionTable, create}}
+use Rattle.nfs_lease.specs.{Renewals.{Book, is_out, has_run_out, with_lease, with_renewal, without_lease}, Queue.IsLatest}
 use Rattle.nfs_lease.proofs.Latest.{latest_lease, latest_renewal, latest_without}
-use Rattle.nfs_exec.specs.Step.Machine.{Machine}
-use Rattle.nfs_exec.specs.Step.Expiry.{expired, leases_kept}
-use Rattle.nfs_exec.specs.Step.Laws.{ExpiryFindsNothing}
-use Rattle.nfs_exec.specs.Step.ExchangeId.{leases_behind, without_any_lease, ask_of}
-use Rattle.nfs_exec.specs.Step.CreateSession.{by_created, wish_of, without_any_opens}
-use Rattle.nfs_names.specs.Context.{begins}
-use Rattle.nfs_names.specs.State.{State}
-use Rattle.nfs_names.specs.StoreInvariants.{IsStore}
+use Rattle.nfs_exec.specs.{Step.Machine.Machine, Step.Expiry.{expired, leases_kept}, Step.Laws.ExpiryFindsNothing}
+use Rattle.nfs_exec.specs.{Step.ExchangeId.{leases_behind, without_any_lease, ask_of}, Step.CreateSession.{by_created, wish_of, without_any_opens}}
+use Rattle.nfs_exec.specs.{Step.Run.{is_here, behind_here}, Step.Compound.{first_item, renewed, begun, compound}}
+use Rattle.nfs_names.specs.{Context.begins, State.State, StoreInvariants.IsStore}
 use Rattle.nfs_names.proofs.Staying.{store_staying}
-use Rattle.nfs_exec.specs.Step.Run.{is_here, behind_here}
-use Rattle.nfs_exec.proofs.Step.Behind.{run_leases}
-use Rattle.nfs_exec.proofs.Runs.ByEvent.{by_compound, by_alone}
-use Rattle.nfs_exec.proofs.Step.AloneKeeps.{holds_whoever}
-use Rattle.nfs_exec.specs.Step.Compound.{first_item, renewed, begun, compound}
+use Rattle.nfs_exec.proofs.{Step.Behind.run_leases, Runs.ByEvent.{by_compound, by_alone}, Step.AloneKeeps.holds_whoever}
 
 -- What holds of leases whatever lease begins or is renewed now, and whatever lease ends.
 pub record IsHeld (P : Book → Type 0) (now : ℕ) : Type 0 where

@@ -1,9 +1,6 @@
 -- What changes of leases come to when one is taken back.
-use Rattle.std.proofs.Common.{◌≡◌, ℕ, false, Option, Some, None, refl, sym, ◌∙◌, ap}
+use Rattle.std.proofs.{Common.{◌≡◌, ℕ, false, Option, Some, None, refl, sym, ◌∙◌, ap, inl, inr}, Math.Path.fun_ext, lemmas.Bool.{cases_eq, ne_eqb, eq-eqb}}
 use Rattle.std.specs.Prelude.{is_some}
-use Rattle.std.proofs.Math.Path.{fun_ext}
-use Rattle.std.proofs.lemmas.Bool.{cases_eq, ne_eqb, eq-eqb}
-use Rattle.std.proofs.Common.{inl, inr}
 use Rattle.nfs_clients.specs.Roster.{client_at}
 use Rattle.nfs_lease.specs.Renewals.{Book, with_lease, without_lease}
 use Rattle.nfs_exec.specs.Step.Machine.{Machine, IsMachine}

@@ -1,17 +1,13 @@
 -- Who has an open: by the marks of client records, and in the store.
 use Rattle.std.proofs.Common.{◌≡◌, ℕ, Bool, true, false, cond, eqb, List, [], ◌∷◌, Option, Some, None, refl, ◌∙◌, ap, inl, inr}
-use Rattle.std.specs.Prelude.{not, ◌&&◌, filter, is_some, option_map}
-use Rattle.std.specs.List.{list_any}
 use Rattle.std.proofs.lemmas.Bool.{cases_Bool, cases_eq, ne_eqb, eq-eqb}
+use Rattle.std.specs.{Prelude.{not, ◌&&◌, filter, is_some, option_map}, List.list_any}
 use Rattle.nfs_xdr.proofs.Tables.{at_with}
-use Rattle.nfs_clients.specs.Roster.{ClientRecord, Roster, client_at, with_changed}
-use Rattle.nfs_clients.specs.CreateSession.{confirms, following, keeps, uses_up}
-use Rattle.nfs_clients.specs.Marks.{has_open, has_open_by}
-use Rattle.nfs_clients.specs.declared.created.CreateResult.{CreateResult}
+use Rattle.nfs_clients.specs.{Roster.{ClientRecord, Roster, client_at, with_changed}, CreateSession.{confirms, following, keeps, uses_up}}
+use Rattle.nfs_clients.specs.{Marks.{has_open, has_open_by}, declared.created.CreateResult.CreateResult}
 use Rattle.nfs_clients.proofs.Members.{the_id}
 use Rattle.nfs_opens.specs.declared.records.OpenState.{OpenState}
-use Rattle.nfs_names.specs.State.{State}
-use Rattle.nfs_names.specs.Ending.{staying}
+use Rattle.nfs_names.specs.{State.State, Ending.staying}
 use Rattle.nfs_names.specs.Ending as store
 
 -- The marks.

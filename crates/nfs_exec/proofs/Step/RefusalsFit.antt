@@ -1,46 +1,24 @@
 -- Refusals are results that a reply can bear, of no more than their largest size.
 use Rattle.std.proofs.Common.{◌≡◌, ℕ, ◌≤◌, zero, suc, Bool, true, false, eqb, leb, ltb, cond, ◌&&◌, ◌||◌, List, [], ◌∷◌, Option, Some, None, refl, sym, ◌∙◌, ap}
-use Rattle.std.proofs.Common.{subst, arith, inl, inr}
+use Rattle.std.proofs.{Common.{subst, arith, inl, inr, length}, lemmas.Bool.{cases_Bool, and_right, le-leb, leb-true, eqb-true, ne_eqb, and_parts}}
+use Rattle.std.proofs.lemmas.List.{length-append, append-nil}
 use Rattle.std.specs.Prelude.{IsTrue, not, is_some}
-use Rattle.std.proofs.lemmas.Bool.{cases_Bool, and_right, le-leb, leb-true, eqb-true, ne_eqb, and_parts}
 use Rattle.nfs_xdr.specs.declared.status.Status.{Status}
 use Rattle.nfs_xdr.specs.declared.status.Status.TheVariants.{NotSupp, Inval, BadXdr, NotOnlyOp, OpNotInSession, SequencePos, RepTooBig, BadSession}
-use Rattle.nfs_xdr.specs.declared.status.Status.TheVariants.{StaleClientId, ClientIdBusy}
-use Rattle.nfs_xdr.specs.Status.{status_number}
-use Rattle.nfs_compound.specs.declared.op_num.OpNum.{OpNum}
-use Rattle.nfs_compound.proofs.OpNumLaws.{op_between}
-use Rattle.nfs_compound.specs.declared.op_num.OpNum.TheVariants.{ExchangeId}
-use Rattle.nfs_compound.specs.OpNum.{op_number, op_nums, op_num}
-use Rattle.nfs_compound.specs.declared.op.Op.{Op}
-use Rattle.nfs_compound.specs.declared.op.Item.{Item}
-use Rattle.nfs_compound.specs.declared.op.Item.TheVariants.{Operation, Fault}
-use Rattle.nfs_compound.specs.Arguments.{arguments}
-use Rattle.nfs_compound.specs.OpCodec.{flaw, fault_of, fault_at}
-use Rattle.nfs_compound.specs.Request.{Request, Lists, HasBody, item_number}
-use Rattle.nfs_compound.proofs.GrammarLaws.{some_answer}
-use Rattle.nfs_results.specs.Results.{refusal}
-use Rattle.nfs_results.specs.Refusals.{bears, tells, can_refuse}
-use Rattle.nfs_results.specs.Parts.{is_legal}
-use Rattle.nfs_results.specs.declared.res.Res.{Res}
-use Rattle.nfs_results.specs.Results.{head, spell_result, status_of_result}
-use Rattle.nfs_results.specs.ResultCodec.{IsBounded}
-use Rattle.nfs_results.specs.Largest.{number_of}
-use Rattle.nfs_results.specs.MayAnswer.{MayAnswer}
-use Rattle.nfs_results.proofs.Lengths.{length_result, length_head}
-use Rattle.nfs_results.specs.Items.{attr_set}
-use Rattle.nfs_xdr.proofs.Putting.{length_number}
-use Rattle.std.proofs.lemmas.List.{length-append, append-nil}
-use Rattle.nfs_xdr.specs.Spelling.{number}
-use Rattle.nfs_compound.specs.ArgCodecs.{protected}
-use Rattle.nfs_compound.specs.declared.session_args.ExchangeId.{ExchangeId as ExchangeArgs}
-use Rattle.nfs_clients.specs.declared.destroy.DestroyFault.{DestroyFault}
-use Rattle.nfs_clients.specs.declared.destroy.DestroyFault.TheVariants.{Stale, Busy}
-use Rattle.nfs_clients.specs.DestroyClientId.{destroy_status}
-use Rattle.nfs_xdr.specs.Tables.{In}
+use Rattle.nfs_xdr.specs.{declared.status.Status.TheVariants.{StaleClientId, ClientIdBusy}, Status.status_number, Spelling.number, Tables.In}
 use Rattle.nfs_xdr.specs.Combinators.{listed_at}
-use Rattle.std.proofs.Common.{length}
-use Rattle.nfs_exec.specs.Step.Place.{stands_alone, is_sequence, item_fault, status_behind}
-use Rattle.nfs_exec.specs.Step.View.{CanBear, IsSmall, IsOpened}
+use Rattle.nfs_compound.specs.{declared.op_num.OpNum.OpNum, declared.op_num.OpNum.TheVariants.ExchangeId, OpNum.{op_number, op_nums, op_num}, declared.op.Op.Op}
+use Rattle.nfs_compound.specs.{declared.op.Item.Item, declared.op.Item.TheVariants.{Operation, Fault}, Arguments.arguments, OpCodec.{flaw, fault_of, fault_at}}
+use Rattle.nfs_compound.specs.{Request.{Request, Lists, HasBody, item_number}, ArgCodecs.protected}
+use Rattle.nfs_compound.specs.declared.session_args.ExchangeId.{ExchangeId as ExchangeArgs}
+use Rattle.nfs_compound.proofs.{OpNumLaws.op_between, GrammarLaws.some_answer}
+use Rattle.nfs_results.specs.{Results.{refusal, head, spell_result, status_of_result}, Refusals.{bears, tells, can_refuse}, Parts.is_legal}
+use Rattle.nfs_results.specs.{declared.res.Res.Res, ResultCodec.IsBounded, Largest.number_of, MayAnswer.MayAnswer, Items.attr_set}
+use Rattle.nfs_results.proofs.Lengths.{length_result, length_head}
+use Rattle.nfs_xdr.proofs.Putting.{length_number}
+use Rattle.nfs_clients.specs.{declared.destroy.DestroyFault.DestroyFault, declared.destroy.DestroyFault.TheVariants.{Stale, Busy}}
+use Rattle.nfs_clients.specs.DestroyClientId.{destroy_status}
+use Rattle.nfs_exec.specs.{Step.Place.{stands_alone, is_sequence, item_fault, status_behind}, Step.View.{CanBear, IsSmall, IsOpened}}
 
 -- a status that every operation of the minor version can be refused with, with nothing behind it
 abbrev IsCommon : Status → Type 0

@@ -1,16 +1,13 @@
 -- Repeats, refused SEQUENCEs, and expiry twice.
-use Rattle.std.proofs.Common.{◌≡◌, ℕ, ◌-◌, ◌≤◌, Bool, true, Option, Some, None, refl, ◌∙◌, ap, arith, inl, inr}
-use Rattle.std.specs.Prelude.{not, ◌&&◌}
-use Rattle.std.proofs.Math.Path.{fun_ext}
+use Rattle.std.proofs.{Common.{◌≡◌, ℕ, ◌-◌, ◌≤◌, Bool, true, Option, Some, None, refl, ◌∙◌, ap, arith, inl, inr}, Math.Path.fun_ext}
 use Rattle.std.proofs.lemmas.Bool.{cases_Bool, eq-eqb, ltb-true, lt-ltb}
+use Rattle.std.specs.Prelude.{not, ◌&&◌}
 use Rattle.nfs_clients.specs.Roster.{ClientRecord}
 use Rattle.nfs_sessions.specs.Sessions.{Session}
 use Rattle.nfs_lease.specs.Renewals.{Book, is_out, has_run_out}
-use Rattle.nfs_exec.specs.Step.Compound.{in_session}
-use Rattle.nfs_exec.specs.Step.Expiry.{expired, leases_kept}
+use Rattle.nfs_exec.specs.{Step.Compound.in_session, Step.Expiry.{expired, leases_kept}, Step.Laws.{RepeatsChangeNothing, RefusalsChangeNothing, ExpiresOnce}}
 use Rattle.nfs_names.specs.Ending.{staying}
 use Rattle.nfs_names.proofs.Staying.{staying_twice, swapped}
-use Rattle.nfs_exec.specs.Step.Laws.{RepeatsChangeNothing, RefusalsChangeNothing, ExpiresOnce}
 use Rattle.nfs_xdr.proofs.Lists.{filter_both}
 
 pub repeats : RepeatsChangeNothing

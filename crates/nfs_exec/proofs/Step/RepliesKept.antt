@@ -1,45 +1,25 @@
 -- A request that runs in a session: its room, the head that is closed over its results, and the reply that its slot keeps.
 use Rattle.std.proofs.Common.{◌≡◌, ℕ, suc, ◌+◌, ◌-◌, ◌≤◌, ◌<◌, Bool, true, false, cond, ltb, List, [], ◌∷◌, ◌++◌, length, take, drop, Option, Some, None, refl}
-use Rattle.std.proofs.Common.{sym, ◌∙◌, ap, subst, arith, inl, inr}
-use Rattle.std.proofs.lemmas.Bool.{cases_Bool, ltb-false}
-use Rattle.std.proofs.lemmas.List.{length-append, length-take, length-drop, append_assoc}
-use Rattle.std.proofs.Math.Seq.{drop-append_seam}
-use Rattle.nfs_xdr.specs.Caller.{Caller}
-use Rattle.nfs_xdr.specs.SheetState.{SheetState, HasRoom, Puts}
-use Rattle.nfs_xdr.specs.declared.status.Status.{Status}
-use Rattle.nfs_xdr.specs.declared.status.Status.TheVariants.{Nfs4Ok}
-use Rattle.nfs_compound.specs.declared.op.Item.{Item}
-use Rattle.nfs_compound.specs.declared.op.Item.TheVariants.{Operation}
+use Rattle.std.proofs.{Common.{sym, ◌∙◌, ap, subst, arith, inl, inr}, lemmas.Bool.{cases_Bool, ltb-false}}
+use Rattle.std.proofs.{lemmas.List.{length-append, length-take, length-drop, append_assoc}, Math.Seq.drop-append_seam}
+use Rattle.nfs_xdr.specs.{Caller.Caller, SheetState.{SheetState, HasRoom, Puts}, declared.status.Status.Status, declared.status.Status.TheVariants.Nfs4Ok}
+use Rattle.nfs_xdr.specs.{Spelling.{number, opaque}, Status.status_number}
+use Rattle.nfs_compound.specs.{declared.op.Item.Item, declared.op.Item.TheVariants.Operation, Request.Request, declared.session_args.Sequence.Sequence}
 use Rattle.nfs_compound.specs.declared.op.Op.TheVariants as Op
-use Rattle.nfs_compound.specs.Request.{Request}
-use Rattle.nfs_compound.specs.declared.session_args.Sequence.{Sequence}
-use Rattle.nfs_slots.specs.declared.slot.Verdict.{Verdict}
-use Rattle.nfs_slots.specs.declared.slot.Verdict.TheVariants.{Fresh, Again, FalseRetry, Misordered, NoSlot}
-use Rattle.nfs_results.specs.declared.res.Res.{Res}
-use Rattle.nfs_results.specs.Results.{spell_result, refusal, spell_compound_head}
-use Rattle.nfs_exec.proofs.Step.RefusalsFit.{refusal_short}
-use Rattle.nfs_results.specs.OpenHead.{HeadsAt, HasHead, SetsHead}
+use Rattle.nfs_slots.specs.{declared.slot.Verdict.Verdict, declared.slot.Verdict.TheVariants.{Fresh, Again, FalseRetry, Misordered, NoSlot}}
+use Rattle.nfs_results.specs.{declared.res.Res.Res, Results.{spell_result, refusal, spell_compound_head}, OpenHead.{HeadsAt, HasHead, SetsHead}}
+use Rattle.nfs_exec.proofs.{Step.RefusalsFit.refusal_short, Step.Creating.the_rest}
 use Rattle.nfs_results.proofs.Lengths.{length_result, length_head_within}
-use Rattle.nfs_sessions.specs.declared.channel.Channel.{Channel}
-use Rattle.nfs_sessions.specs.SessionSlots.{GrantedSlots, judge}
-use Rattle.nfs_sessions.specs.Sessions.{session_at, Session, SessionTable, keep}
-use Rattle.nfs_names.specs.Outcome.{is_ok}
+use Rattle.nfs_sessions.specs.{declared.channel.Channel.Channel, SessionSlots.{GrantedSlots, judge}, Sessions.{session_at, Session, SessionTable, keep}}
+use Rattle.nfs_sessions.specs.{declared.id.SessionId.SessionId, Id.id_of, SessionTables.MayKeep}
+use Rattle.nfs_names.specs.{Outcome.is_ok, declared.context.Context.Context}
 use Rattle.nfs_exec.specs.Step.Machine.{Machine, Outcome}
 use Rattle.nfs_exec.specs.Step.Sequence.{highest_at, compared, Sequenced, Runs, unless, by_verdict, by_session, slot_fault, fresh_fault, accepted}
-use Rattle.nfs_names.specs.declared.context.Context.{Context}
-use Rattle.nfs_exec.specs.Step.Run.{Ran, run, in_room, follow, is_here, behind_here}
-use Rattle.nfs_exec.specs.Step.Compound.{renewed}
-use Rattle.nfs_lease.specs.Renewals.{Book, with_renewal}
-use Rattle.nfs_exec.specs.declared.run.Ran.{Ran as Told}
+use Rattle.nfs_exec.specs.{Step.Run.{Ran, run, in_room, follow, is_here, behind_here}, Step.Compound.renewed, declared.run.Ran.{Ran as Told}}
 use Rattle.nfs_exec.specs.Step.View.{RunsTo, HasReplyRoom}
-use Rattle.nfs_xdr.specs.Spelling.{number, opaque}
-use Rattle.nfs_xdr.specs.Status.{status_number}
+use Rattle.nfs_lease.specs.Renewals.{Book, with_renewal}
 use Rattle.nfs_xdr.proofs.Putting.{length_number}
-use Rattle.nfs_exec.proofs.Step.Creating.{the_rest}
-use Rattle.nfs_sessions.specs.declared.id.SessionId.{SessionId}
-use Rattle.nfs_sessions.specs.Id.{id_of}
 use Rattle.std.specs.Option.{IsSomeAnd}
-use Rattle.nfs_sessions.specs.SessionTables.{MayKeep}
 
 -- what it means that a request runs
 pub record IsFresh (r : Request) (who : Caller) (size : ℕ) (s : Sequence) (o : Option Session) (c : Channel) : Type 0 where

@@ -1,19 +1,10 @@
 -- The operations behind a SEQUENCE: what the loop over them has come to.
 use Rattle.std.proofs.Common.{◌≡◌, ℕ, zero, suc, ◌+◌, ◌-◌, ◌≤◌, Bool, true, false, List, [], ◌∷◌, ◌++◌, length, Option, Some, None, refl, sym, ◌∙◌, ap, subst}
-use Rattle.std.proofs.Common.{arith, inr}
-use Rattle.std.proofs.lemmas.List.{length-append, append_assoc, append-nil}
-use Rattle.nfs_xdr.specs.Tables.{In}
-use Rattle.nfs_xdr.specs.SheetState.{SheetState, Puts}
-use Rattle.nfs_xdr.specs.declared.status.Status.{Status}
-use Rattle.nfs_xdr.specs.declared.status.Status.TheVariants.{Nfs4Ok}
-use Rattle.nfs_compound.specs.declared.op.Item.{Item}
-use Rattle.nfs_compound.specs.Request.{Request}
-use Rattle.nfs_names.specs.declared.context.Context.{Context}
-use Rattle.nfs_names.specs.StoreInvariants.{IsStore}
-use Rattle.nfs_names.specs.Outcome.{is_delay, is_ok}
-use Rattle.nfs_exec.specs.Step.Machine.{Machine, Outcome}
-use Rattle.nfs_exec.specs.Step.Behind.{Step}
-use Rattle.nfs_exec.specs.Step.Run.{Ran, run, in_room, follow, only, is_here, behind_here}
+use Rattle.std.proofs.{Common.{arith, inr}, lemmas.List.{length-append, append_assoc, append-nil}}
+use Rattle.nfs_xdr.specs.{Tables.In, SheetState.{SheetState, Puts}, declared.status.Status.Status, declared.status.Status.TheVariants.Nfs4Ok}
+use Rattle.nfs_compound.specs.{declared.op.Item.Item, Request.Request}
+use Rattle.nfs_names.specs.{declared.context.Context.Context, StoreInvariants.IsStore, Outcome.{is_delay, is_ok}}
+use Rattle.nfs_exec.specs.{Step.Machine.{Machine, Outcome}, Step.Behind.Step, Step.Run.{Ran, run, in_room, follow, only, is_here, behind_here}}
 use Rattle.nfs_exec.specs.Step.View.{RunsTo, Steps, CanBear}
 
 -- The place at which memory was refused: here, or one place further than from behind.

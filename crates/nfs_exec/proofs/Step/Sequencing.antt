@@ -1,23 +1,14 @@
 -- What SEQUENCE makes of a number.
-use Rattle.std.proofs.Common.{◌≡◌, ℕ, Bool, true, false, List, [], ◌∷◌, Option, Some, None, refl, sym, ◌∙◌, ap}
-use Rattle.std.specs.Prelude.{◌==◌, ◌&&◌, not, nat_le, nat_lt, bytes_eq, slice_get, if◌then◌else◌}
-use Rattle.std.specs.Option.{option_map_or}
-use Rattle.std.proofs.lemmas.Bool.{eqb-true, eq-eqb, true≢false}
+use Rattle.std.proofs.{Common.{◌≡◌, ℕ, Bool, true, false, List, [], ◌∷◌, Option, Some, None, refl, sym, ◌∙◌, ap}, lemmas.Bool.{eqb-true, eq-eqb, true≢false}}
 use Rattle.std.proofs.lemmas.Slice.Eq.{bytes_eq-Decides}
-use Rattle.nfs_xdr.specs.Caller.{Caller}
-use Rattle.nfs_xdr.specs.Checks.{first_fault}
-use Rattle.nfs_xdr.specs.declared.status.Status.{Status}
+use Rattle.std.specs.{Prelude.{◌==◌, ◌&&◌, not, nat_le, nat_lt, bytes_eq, slice_get, if◌then◌else◌}, Option.option_map_or}
+use Rattle.nfs_xdr.specs.{Caller.Caller, Checks.first_fault, declared.status.Status.Status}
 use Rattle.nfs_xdr.specs.declared.status.Status.TheVariants.{BadSlot, BadHighSlot, SeqFalseRetry, ReqTooBig, TooManyOps}
-use Rattle.nfs_compound.specs.declared.session_args.Sequence.{Sequence}
-use Rattle.nfs_compound.specs.Request.{Request}
-use Rattle.nfs_slots.specs.Slot.{SlotState, judge_slot, next_number}
-use Rattle.nfs_slots.specs.declared.slot.Verdict.{Verdict}
+use Rattle.nfs_compound.specs.{declared.session_args.Sequence.Sequence, Request.Request}
+use Rattle.nfs_slots.specs.{Slot.{SlotState, judge_slot, next_number}, declared.slot.Verdict.Verdict}
 use Rattle.nfs_slots.specs.declared.slot.Verdict.TheVariants.{Fresh, Again, FalseRetry, Misordered, NoSlot}
-use Rattle.nfs_sessions.specs.Id.{id_of}
-use Rattle.nfs_sessions.specs.SessionSlots.{GrantedSlots, judge}
-use Rattle.nfs_sessions.specs.Sessions.{Session, session_at}
-use Rattle.nfs_exec.specs.Step.Machine.{Machine}
-use Rattle.nfs_exec.specs.Step.Sequence.{Sequenced, Refuses, Runs, compared, unless, by_verdict, by_session, slot_fault, fresh_fault}
+use Rattle.nfs_sessions.specs.{Id.id_of, SessionSlots.{GrantedSlots, judge}, Sessions.{Session, session_at}}
+use Rattle.nfs_exec.specs.{Step.Machine.Machine, Step.Sequence.{Sequenced, Refuses, Runs, compared, unless, by_verdict, by_session, slot_fault, fresh_fault}}
 use Rattle.nfs_exec.specs.Step.Sequencing.{IsOn, TookAnother, NextNumberRuns, FalseRetriesAreTrue}
 
 pub next_runs : NextNumberRuns

@@ -2,14 +2,9 @@
 -- 18.23).
 use Rattle.std.specs.Prelude.{◌≡◌, ℕ, ◌+◌, List, [], ◌∷◌, ◌++◌, length, take, if◌then◌else◌}
 use Rattle.nfs_xdr.specs.Tables.{In}
-use Rattle.nfs_results.specs.declared.res.Entry.{Entry}
-use Rattle.nfs_results.specs.declared.res.Fattr.{Fattr}
-use Rattle.nfs_results.specs.declared.res.ReadDirOk.{ReadDirOk}
+use Rattle.nfs_results.specs.{declared.res.Entry.Entry, declared.res.Fattr.Fattr, declared.res.ReadDirOk.ReadDirOk, Results.spell_result}
 use Rattle.nfs_results.specs.declared.res.Res.TheVariants as Res
-use Rattle.nfs_results.specs.Results.{spell_result}
-use Rattle.nfs_attrs.specs.declared.mask.Mask.{Mask}
-use Rattle.nfs_attrs.specs.Mask.{has, trimmed_words, common}
-use Rattle.nfs_attrs.specs.Attributes.{readable}
+use Rattle.nfs_attrs.specs.{declared.mask.Mask.Mask, Mask.{has, trimmed_words, common}, Attributes.readable}
 
 -- The bytes of attributes 0 to 9: the three words of supported_attrs and their count; type; fh_expire_type; change; size; link_support; symlink_support; named_attr; the
 -- two numbers of fsid; unique_handles.

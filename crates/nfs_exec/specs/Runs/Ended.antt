@@ -6,9 +6,7 @@ use Rattle.nfs_lease.specs.Renewals.{has_run_out}
 use Rattle.nfs_ranges.specs.declared.Kind.{Kind}
 use Rattle.nfs_opens.specs.declared.records.LockState.{LockState}
 use Rattle.nfs_files.specs.Own.{opens_of, locks_of}
-use Rattle.nfs_exec.specs.Step.Machine.{Machine}
-use Rattle.nfs_exec.specs.Step.Expiry.{expired}
-use Rattle.nfs_exec.specs.Runs.Own.{sessions_of, IsAsBefore}
+use Rattle.nfs_exec.specs.{Step.Machine.Machine, Step.Expiry.expired, Runs.Own.{sessions_of, IsAsBefore}}
 
 -- it has no record, no session, no lease, no open and no lock state
 pub record HasNothing (client : ℕ) (m : Machine) : Type 0 where

@@ -1,11 +1,9 @@
 -- A filehandle is a file: what a GETFH gave for an object leads back to it, and never to another (RFC 8881 sections 4.2, 18.8 and 18.19).
 use Rattle.std.specs.Prelude.{◌≡◌, ℕ, ◌≤◌, true, List, [], ◌∷◌, length, Some}
-use Rattle.nfs_xdr.specs.Limits.{fhsize}
-use Rattle.nfs_xdr.specs.declared.status.Status.TheVariants.{BadHandle, Stale}
-use Rattle.nfs_compound.specs.declared.op.Item.TheVariants.{Operation}
+use Rattle.nfs_xdr.specs.{Limits.fhsize, declared.status.Status.TheVariants.{BadHandle, Stale}}
+use Rattle.nfs_compound.specs.{declared.op.Item.TheVariants.Operation, OpNum.op_number}
 use Rattle.nfs_compound.specs.declared.op.Op.TheVariants as Op
 use Rattle.nfs_compound.specs.declared.op_num.OpNum.TheVariants as Num
-use Rattle.nfs_compound.specs.OpNum.{op_number}
 use Rattle.nfs_results.specs.declared.res.Res.TheVariants as Res
 use Rattle.nfs_results.specs.Results.{spell_result, refusal}
 use Rattle.nfs_names.specs.State.{is_used}

@@ -1,37 +1,22 @@
 -- A lock that was told, and what ends it: what a client asked and was answered (RFC 8881 sections 8.3, 9.1, 18.2, 18.10 and 18.12). That is an operation
 -- that answers NFS4_OK and unlocks a byte of it, locks one in another way or closes its open; and the end of its client.
-use Rattle.std.specs.Prelude.{◌≡◌, ℕ, ◌≤◌, ◌==◌, ◌&&◌, not, Bool, false, List, [], ◌∷◌, Option, Some, Ok, option_map, bytes_eq}
-use Rattle.std.specs.List.{list_any}
+use Rattle.std.specs.{Prelude.{◌≡◌, ℕ, ◌≤◌, ◌==◌, ◌&&◌, not, Bool, false, List, [], ◌∷◌, Option, Some, Ok, option_map, bytes_eq}, List.list_any}
 use Rattle.std.specs.Option.{option_map_or}
-use Rattle.nfs_xdr.specs.Caller.{Caller}
-use Rattle.nfs_xdr.specs.Tables.{In}
+use Rattle.nfs_xdr.specs.{Caller.Caller, Tables.In}
 use Rattle.nfs_compound.specs.declared.lock_args.Lock as args
-use Rattle.nfs_compound.specs.declared.lock_args.LockU.{LockU}
-use Rattle.nfs_compound.specs.declared.open_args.Close.{Close}
+use Rattle.nfs_compound.specs.{declared.lock_args.LockU.LockU, declared.open_args.Close.Close, declared.op.Item.Item, declared.op.Item.TheVariants.Operation}
+use Rattle.nfs_compound.specs.{declared.session_args.Sequence.Sequence, Request.Request}
 use Rattle.nfs_compound.specs.declared.op_num.OpNum.TheVariants as Num
-use Rattle.nfs_compound.specs.declared.op.Item.{Item}
-use Rattle.nfs_compound.specs.declared.op.Item.TheVariants.{Operation}
 use Rattle.nfs_compound.specs.declared.op.Op.TheVariants as Op
-use Rattle.nfs_compound.specs.declared.session_args.Sequence.{Sequence}
-use Rattle.nfs_compound.specs.Request.{Request}
 use Rattle.nfs_sessions.specs.Id.{id_of}
 use Rattle.nfs_clients.specs.Roster.{ClientRecord, Roster, client_at}
-use Rattle.nfs_opens.specs.declared.locking.Wish.{Wish}
-use Rattle.nfs_opens.specs.declared.records.LockState.{LockState}
-use Rattle.nfs_opens.specs.declared.stateid.CurrentSeqid.TheVariants.{Own}
-use Rattle.nfs_opens.specs.declared.stateid.StateId.{StateId}
-use Rattle.nfs_opens.specs.Table.{lock_at}
+use Rattle.nfs_opens.specs.{declared.locking.Wish.Wish, declared.records.LockState.LockState, declared.stateid.CurrentSeqid.TheVariants.Own}
+use Rattle.nfs_opens.specs.{declared.stateid.StateId.StateId, Table.lock_at}
 use Rattle.nfs_names.specs.Outcome.{is_ok}
-use Rattle.nfs_files.specs.StateIds.{meant}
-use Rattle.nfs_files.specs.Ranges.{wished}
-use Rattle.nfs_files.specs.LockTold.{Names, LockTold, Stands, IsAlike, IsBeside, Clashes}
-use Rattle.nfs_exec.specs.Step.Machine.{Machine}
-use Rattle.nfs_exec.specs.Step.Run.{is_here}
-use Rattle.nfs_exec.specs.Step.Compound.{first_item}
+use Rattle.nfs_files.specs.{StateIds.meant, Ranges.wished, LockTold.{Names, LockTold, Stands, IsAlike, IsBeside, Clashes}}
+use Rattle.nfs_exec.specs.{Step.Machine.Machine, Step.Run.is_here, Step.Compound.first_item, Runs.Kept.{Kept, While}}
+use Rattle.nfs_exec.specs.{Step.Laws.{MachineEvent, Expires, Asks, ran}, Runs.Ops.RanOp}
 use Rattle.nfs_exec.specs.Runs.Kept as kept
-use Rattle.nfs_exec.specs.Runs.Kept.{Kept, While}
-use Rattle.nfs_exec.specs.Step.Laws.{MachineEvent, Expires, Asks, ran}
-use Rattle.nfs_exec.specs.Runs.Ops.{RanOp}
 
 -- a LOCK for the bytes of a wish that answered NFS4_OK and the stateid of lock state n
 pub record LocksFor (d : RanOp) (n : ℕ) (w : Wish) : Type 0 where

@@ -1,13 +1,11 @@
 -- Whose a lock state is, by the LOCKs that name it (RFC 8881 sections 8.2.5 and 18.10): by the lock owner's string that a LOCK of a new lock owner gives, and by the
 -- client whose session it came in.
 use Rattle.std.specs.Prelude.{◌≡◌, ◌≢◌, ◌⊎◌, ℕ, ◌≤◌, true, Some}
-use Rattle.nfs_compound.specs.declared.lock_args.Locker.TheVariants.{OpenOwner}
-use Rattle.nfs_compound.specs.declared.lock_args.OpenToLockOwner.{OpenToLockOwner}
+use Rattle.nfs_compound.specs.{declared.lock_args.Locker.TheVariants.OpenOwner, declared.lock_args.OpenToLockOwner.OpenToLockOwner}
 use Rattle.nfs_ranges.specs.Told.{meets}
 use Rattle.nfs_opens.specs.declared.locking.Wish.{Wish}
 use Rattle.nfs_files.specs.LockTold.{LockTold}
-use Rattle.nfs_exec.specs.Runs.LockHeld.{LocksFor}
-use Rattle.nfs_exec.specs.Runs.Ops.{RanOp}
+use Rattle.nfs_exec.specs.{Runs.LockHeld.LocksFor, Runs.Ops.RanOp}
 
 -- two LOCKs of new lock owners that are answered NFS4_OK and the stateid of the same lock state are of one string and of one client
 abbrev pub AreOne : (first second : RanOp) → Type 0

@@ -2,9 +2,7 @@
 -- each operation that a compound runs.
 use Rattle.std.specs.Prelude.{ℕ, List}
 use Rattle.nfs_xdr.specs.Tables.{In}
-use Rattle.nfs_exec.specs.Step.Machine.{Machine, starts, HasNoClashes}
-use Rattle.nfs_exec.specs.Step.Laws.{MachineEvent, all_stepped}
-use Rattle.nfs_exec.specs.Runs.Ops.{RanOp, ops_by}
+use Rattle.nfs_exec.specs.{Step.Machine.{Machine, starts, HasNoClashes}, Step.Laws.{MachineEvent, all_stepped}, Runs.Ops.{RanOp, ops_by}}
 
 -- No byte has a writer beside another holder, and no two opens of different owners clash.
 pub record HasNone (m : Machine) (e : MachineEvent) : Type 0 where

@@ -1,21 +1,13 @@
 -- One session a CREATE_SESSION (RFC 8881 section 18.36.4): what it asked for and was answered, and which sessions it leaves.
 use Rattle.std.specs.Prelude.{◌≡◌, ◌⊎◌, ℕ, ◌==◌, Bool, true, false, List, ◌∷◌, ◌++◌, length, Option, None, is_some}
-use Rattle.nfs_xdr.specs.Caller.{Caller}
-use Rattle.nfs_xdr.specs.Tables.{In}
-use Rattle.nfs_xdr.specs.declared.status.Status.TheVariants.{Nfs4Ok}
-use Rattle.nfs_compound.specs.declared.op.Item.{Item}
-use Rattle.nfs_compound.specs.declared.op.Item.TheVariants.{Operation}
-use Rattle.nfs_compound.specs.declared.op.Op.TheVariants as Op
-use Rattle.nfs_compound.specs.Request.{Request}
+use Rattle.nfs_xdr.specs.{Caller.Caller, Tables.In, declared.status.Status.TheVariants.Nfs4Ok}
+use Rattle.nfs_compound.specs.{declared.op.Item.Item, declared.op.Item.TheVariants.Operation, Request.Request}
 use Rattle.nfs_compound.specs.declared.session_args.CreateSession.{CreateSession}
+use Rattle.nfs_compound.specs.declared.op.Op.TheVariants as Op
 use Rattle.nfs_compound.specs.declared.op_num.OpNum.TheVariants as Num
 use Rattle.nfs_results.specs.Results.{done_head, spell_compound_head}
-use Rattle.nfs_sessions.specs.declared.id.SessionId.{SessionId}
-use Rattle.nfs_sessions.specs.Id.{id_bytes}
-use Rattle.nfs_sessions.specs.Sessions.{Session, SessionTable, is_session, session_at}
-use Rattle.nfs_exec.specs.Step.Machine.{Machine, starts}
-use Rattle.nfs_exec.specs.Step.Compound.{compound}
-use Rattle.nfs_exec.specs.Step.Laws.{MachineEvent, Expires, Asks, stepped, all_stepped}
+use Rattle.nfs_sessions.specs.{declared.id.SessionId.SessionId, Id.id_bytes, Sessions.{Session, SessionTable, is_session, session_at}}
+use Rattle.nfs_exec.specs.{Step.Machine.{Machine, starts}, Step.Compound.compound, Step.Laws.{MachineEvent, Expires, Asks, stepped, all_stepped}}
 
 -- it asks for a session of the client: CREATE_SESSION stands first
 abbrev pub asks_of : ℕ → List Item → Bool

@@ -2,16 +2,12 @@
 -- A CLOSE of it that answers NFS4_OK ends it, and so does the end of its client.
 use Rattle.std.specs.Prelude.{◌≡◌, ℕ, true, List, [], ◌∷◌, Some}
 use Rattle.nfs_xdr.specs.Tables.{In}
-use Rattle.nfs_compound.specs.declared.open_args.Open.{Open}
+use Rattle.nfs_compound.specs.{declared.open_args.Open.Open, declared.op.Item.TheVariants.Operation}
 use Rattle.nfs_compound.specs.declared.op_num.OpNum.TheVariants as Num
-use Rattle.nfs_compound.specs.declared.op.Item.TheVariants.{Operation}
 use Rattle.nfs_compound.specs.declared.op.Op.TheVariants as Op
 use Rattle.nfs_opens.specs.Opening.{own_open}
-use Rattle.nfs_files.specs.Open.{asking}
-use Rattle.nfs_files.specs.OpenTold.{names_open, OpenTold, Bits, bits_with, bits_had, bits_behind, IsOpenWith, claimed, forbids}
-use Rattle.nfs_exec.specs.Runs.Kept.{Kept, While, AreSpared, after_all}
-use Rattle.nfs_exec.specs.Runs.Ops.{RanOp}
-use Rattle.nfs_exec.specs.Runs.LockHeld.{ClosesOf}
+use Rattle.nfs_files.specs.{Open.asking, OpenTold.{names_open, OpenTold, Bits, bits_with, bits_had, bits_behind, IsOpenWith, claimed, forbids}}
+use Rattle.nfs_exec.specs.{Runs.Kept.{Kept, While, AreSpared, after_all}, Runs.Ops.RanOp, Runs.LockHeld.ClosesOf}
 
 -- an OPEN of a file that answered NFS4_OK and the stateid of open n; behind it the claim leads to the file
 pub record OpensAs (d : RanOp) (n file : ℕ) : Type 0 where

@@ -1,25 +1,14 @@
 -- The operations that a compound runs behind its SEQUENCE, one by one (RFC 8881 section 2.3). That they are those of `run` is a law (OpsAreRun).
 use Rattle.std.specs.Prelude.{◌≡◌, ℕ, suc, ◌+◌, ◌==◌, true, false, List, [], ◌∷◌, ◌++◌, length, flat_map, Option, Some, if◌then◌else◌}
-use Rattle.nfs_xdr.specs.declared.status.Status.{Status}
-use Rattle.nfs_xdr.specs.declared.status.Status.TheVariants.{Nfs4Ok}
-use Rattle.nfs_xdr.specs.Caller.{Caller}
-use Rattle.nfs_compound.specs.declared.op.Item.{Item}
-use Rattle.nfs_compound.specs.declared.op.Item.TheVariants.{Operation}
+use Rattle.nfs_xdr.specs.{declared.status.Status.Status, declared.status.Status.TheVariants.Nfs4Ok, Caller.Caller}
+use Rattle.nfs_compound.specs.{declared.op.Item.Item, declared.op.Item.TheVariants.Operation, Request.Request, declared.session_args.Sequence.Sequence}
 use Rattle.nfs_compound.specs.declared.op.Op.TheVariants as Op
-use Rattle.nfs_compound.specs.Request.{Request}
-use Rattle.nfs_compound.specs.declared.session_args.Sequence.{Sequence}
 use Rattle.nfs_results.specs.declared.res.Res.TheVariants as Res
 use Rattle.nfs_results.specs.Results.{spell_result, spell_compound_head}
-use Rattle.nfs_sessions.specs.Id.{id_of}
-use Rattle.nfs_sessions.specs.declared.channel.Channel.{Channel}
-use Rattle.nfs_names.specs.declared.context.Context.{Context}
-use Rattle.nfs_names.specs.Context.{begins}
-use Rattle.nfs_names.specs.Outcome.{is_ok}
-use Rattle.nfs_exec.specs.Step.Machine.{Machine}
-use Rattle.nfs_exec.specs.Step.Sequence.{Sequenced, Runs, sequenced, accepted}
-use Rattle.nfs_exec.specs.Step.Behind.{Step}
-use Rattle.nfs_exec.specs.Step.Run.{Ran, run, in_room, is_here, behind_here}
-use Rattle.nfs_exec.specs.Step.Compound.{begun, renewed, run_in, compound}
+use Rattle.nfs_sessions.specs.{Id.id_of, declared.channel.Channel.Channel}
+use Rattle.nfs_names.specs.{declared.context.Context.Context, Context.begins, Outcome.is_ok}
+use Rattle.nfs_exec.specs.{Step.Machine.Machine, Step.Sequence.{Sequenced, Runs, sequenced, accepted}, Step.Behind.Step}
+use Rattle.nfs_exec.specs.{Step.Run.{Ran, run, in_room, is_here, behind_here}, Step.Compound.{begun, renewed, run_in, compound}}
 use Rattle.nfs_exec.specs.Step.Laws.{MachineEvent, Expires, Asks, ran}
 
 -- an operation that was run: the machine and the context before it, its status and the bytes of its result, and the machine behind it

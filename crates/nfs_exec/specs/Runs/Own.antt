@@ -1,16 +1,12 @@
 -- What a client has: its record, its sessions, its lease, its opens, its lock states and the bytes that these hold (RFC 8881 sections 2.4, 2.10, 8.2, 8.3,
 -- 9.1 and 9.7); and which requests name it.
-use Rattle.std.specs.Prelude.{◌≡◌, ℕ, ◌==◌, ◌||◌, Bool, false, List, ◌∷◌, filter, bytes_eq}
-use Rattle.std.specs.Option.{option_map_or}
-use Rattle.nfs_compound.specs.declared.op.Item.{Item}
-use Rattle.nfs_compound.specs.declared.op.Item.TheVariants.{Operation}
+use Rattle.std.specs.{Prelude.{◌≡◌, ℕ, ◌==◌, ◌||◌, Bool, false, List, ◌∷◌, filter, bytes_eq}, Option.option_map_or}
+use Rattle.nfs_compound.specs.{declared.op.Item.Item, declared.op.Item.TheVariants.Operation}
 use Rattle.nfs_compound.specs.declared.op.Op.TheVariants as Op
 use Rattle.nfs_clients.specs.Roster.{Roster, client_at}
-use Rattle.nfs_sessions.specs.Id.{id_of}
-use Rattle.nfs_sessions.specs.Sessions.{Session, SessionTable}
+use Rattle.nfs_sessions.specs.{Id.id_of, Sessions.{Session, SessionTable}}
 use Rattle.nfs_files.specs.Own.{HasAsBefore}
-use Rattle.nfs_exec.specs.Step.Machine.{Machine}
-use Rattle.nfs_exec.specs.Step.Laws.{MachineEvent, Expires, Asks}
+use Rattle.nfs_exec.specs.{Step.Machine.Machine, Step.Laws.{MachineEvent, Expires, Asks}}
 
 abbrev pub sessions_of : ℕ → SessionTable → List Session
 sessions_of client t = filter (λ s. s.client == client) t.sessions

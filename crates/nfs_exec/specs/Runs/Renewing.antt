@@ -1,20 +1,12 @@
 -- Which events renew a client's lease or begin it (RFC 8881 sections 8.3, 18.35 and 18.36).
 use Rattle.std.specs.Prelude.{ℕ, ◌==◌, ◌&&◌, ◌||◌, Bool, true, false, List, [], ◌∷◌, Option, Result, Ok, Err}
 use Rattle.nfs_xdr.specs.Caller.{Caller}
-use Rattle.nfs_compound.specs.declared.op.Item.{Item}
-use Rattle.nfs_compound.specs.declared.op.Item.TheVariants.{Operation}
+use Rattle.nfs_compound.specs.{declared.op.Item.Item, declared.op.Item.TheVariants.Operation, Request.Request}
 use Rattle.nfs_compound.specs.declared.op.Op.TheVariants as Op
-use Rattle.nfs_compound.specs.Request.{Request}
-use Rattle.nfs_clients.specs.declared.exchange_id.Exchanged.{Exchanged}
-use Rattle.nfs_clients.specs.declared.exchange_id.ClientFault.{ClientFault}
-use Rattle.nfs_clients.specs.CreateSession.{Verdict, Runs, create_verdict}
-use Rattle.nfs_clients.specs.ExchangeId.{exchange}
+use Rattle.nfs_clients.specs.{declared.exchange_id.Exchanged.Exchanged, declared.exchange_id.ClientFault.ClientFault}
+use Rattle.nfs_clients.specs.{CreateSession.{Verdict, Runs, create_verdict}, ExchangeId.exchange}
 use Rattle.nfs_names.specs.Outcome.{is_ok}
-use Rattle.nfs_exec.specs.Step.Machine.{Machine}
-use Rattle.nfs_exec.specs.Step.ExchangeId.{ask_of}
-use Rattle.nfs_exec.specs.Step.Run.{is_here}
-use Rattle.nfs_exec.specs.Step.Compound.{first_item}
-use Rattle.nfs_exec.specs.Step.Laws.{MachineEvent, Expires, Asks}
+use Rattle.nfs_exec.specs.{Step.Machine.Machine, Step.ExchangeId.ask_of, Step.Run.is_here, Step.Compound.first_item, Step.Laws.{MachineEvent, Expires, Asks}}
 use Rattle.nfs_exec.specs.Runs.LockHeld.{renews}
 
 -- the client's record was added

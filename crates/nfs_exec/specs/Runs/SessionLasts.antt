@@ -1,18 +1,11 @@
 -- Which requests end a session: a DESTROY_SESSION of it that stands alone and is answered NFS4_OK (RFC 8881 section 18.37).
 use Rattle.std.specs.Prelude.{ℕ, ◌==◌, ◌&&◌, Bool, false, List, [], ◌∷◌, Option}
 use Rattle.nfs_xdr.specs.Caller.{Caller}
-use Rattle.nfs_compound.specs.declared.op.Item.{Item}
-use Rattle.nfs_compound.specs.declared.op.Item.TheVariants.{Operation}
+use Rattle.nfs_compound.specs.{declared.op.Item.Item, declared.op.Item.TheVariants.Operation, Request.Request}
 use Rattle.nfs_compound.specs.declared.op.Op.TheVariants as Op
-use Rattle.nfs_compound.specs.Request.{Request}
-use Rattle.nfs_sessions.specs.declared.id.SessionId.{SessionId}
-use Rattle.nfs_sessions.specs.Id.{id_of}
-use Rattle.nfs_sessions.specs.Laws.{is_id}
+use Rattle.nfs_sessions.specs.{declared.id.SessionId.SessionId, Id.id_of, Laws.is_id}
 use Rattle.nfs_names.specs.Outcome.{is_ok}
-use Rattle.nfs_exec.specs.Step.Machine.{Machine}
-use Rattle.nfs_exec.specs.Step.Run.{is_here}
-use Rattle.nfs_exec.specs.Step.Compound.{first_item}
-use Rattle.nfs_exec.specs.Step.Laws.{MachineEvent, Expires, Asks}
+use Rattle.nfs_exec.specs.{Step.Machine.Machine, Step.Run.is_here, Step.Compound.first_item, Step.Laws.{MachineEvent, Expires, Asks}}
 
 abbrev pub is_end : SessionId → Item → Bool
 is_end id (Operation (Op.DestroySession sessionid)) = is_id id (id_of sessionid)

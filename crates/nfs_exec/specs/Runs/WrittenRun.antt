@@ -1,10 +1,8 @@
 -- A byte that was written, before and behind each operation of a compound (RFC 8881 sections 18.16, 18.22, 18.30 and 18.32).
 use Rattle.std.specs.Prelude.{◌≡◌, ℕ, true, List, [], ◌∷◌, ◌++◌, Some}
-use Rattle.nfs_xdr.specs.Tables.{In}
-use Rattle.nfs_xdr.specs.declared.status.Status.TheVariants.{Stale}
+use Rattle.nfs_xdr.specs.{Tables.In, declared.status.Status.TheVariants.Stale}
 use Rattle.nfs_compound.specs.declared.op_num.OpNum.TheVariants as Num
-use Rattle.nfs_compound.specs.OpNum.{op_number}
-use Rattle.nfs_compound.specs.declared.op.Item.TheVariants.{Operation}
+use Rattle.nfs_compound.specs.{OpNum.op_number, declared.op.Item.TheVariants.Operation}
 use Rattle.nfs_compound.specs.declared.op.Op.TheVariants as Op
 use Rattle.nfs_results.specs.Results.{spell_result, refusal}
 use Rattle.nfs_tree.specs.Files.{data_at}
@@ -12,10 +10,7 @@ use Rattle.nfs_attrs.specs.Handle.{handle_of}
 use Rattle.nfs_names.specs.State.{is_used}
 use Rattle.nfs_files.specs.Written.{Byte, StandsIn, Lasts, Writes, Spares, Reads, GivesIt}
 use Rattle.nfs_exec.specs.Runs.Kept as kept
-use Rattle.nfs_exec.specs.Runs.Kept.{Kept, While}
-use Rattle.nfs_exec.specs.Step.Machine.{starts}
-use Rattle.nfs_exec.specs.Step.Laws.{MachineEvent, stepped, all_stepped}
-use Rattle.nfs_exec.specs.Runs.Ops.{RanOp, ops_by}
+use Rattle.nfs_exec.specs.{Runs.Kept.{Kept, While}, Step.Machine.starts, Step.Laws.{MachineEvent, stepped, all_stepped}, Runs.Ops.{RanOp, ops_by}}
 
 -- a WRITE told it
 abbrev pub WritesIt : Byte → RanOp → Type 0

@@ -1,19 +1,12 @@
 -- One operation behind a SEQUENCE (RFC 8881 section 2.10.6.4): what it comes to, and the context in which the next one runs.
-use Rattle.std.specs.Prelude.{ℕ, Bool, true, false, if◌then◌else◌}
-use Rattle.std.specs.Option.{option_map_or}
+use Rattle.std.specs.{Prelude.{ℕ, Bool, true, false, if◌then◌else◌}, Option.option_map_or}
 use Rattle.nfs_xdr.specs.declared.status.Status.{Status}
-use Rattle.nfs_compound.specs.Request.{item_number}
-use Rattle.nfs_compound.specs.declared.op.Item.{Item}
-use Rattle.nfs_compound.specs.declared.op.Item.TheVariants.{Operation}
+use Rattle.nfs_compound.specs.{Request.item_number, declared.op.Item.Item, declared.op.Item.TheVariants.Operation}
 use Rattle.nfs_compound.specs.declared.op.Op.TheVariants as Op
-use Rattle.nfs_names.specs.declared.context.Context.{Context}
-use Rattle.nfs_names.specs.State.{moment}
-use Rattle.nfs_names.specs.Outcome.{Outcome as OfStore}
+use Rattle.nfs_names.specs.{declared.context.Context.Context, State.moment, Outcome.{Outcome as OfStore}}
 use Rattle.nfs_names.specs.Operation as names
 use Rattle.nfs_files.specs.Operation as files
-use Rattle.nfs_exec.specs.Step.Machine.{Machine, Outcome, with_result, refuses, with_mark}
-use Rattle.nfs_exec.specs.Step.Place.{status_behind}
-use Rattle.nfs_exec.specs.Step.ReclaimComplete.{reclaim_complete}
+use Rattle.nfs_exec.specs.{Step.Machine.{Machine, Outcome, with_result, refuses, with_mark}, Step.Place.status_behind, Step.ReclaimComplete.reclaim_complete}
 
 pub record Step : Type 0 where
   pub outcome : Outcome

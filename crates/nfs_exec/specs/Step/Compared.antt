@@ -1,12 +1,9 @@
 -- What a repeat is compared by, by the text of the wire (RFC 8881 sections 2.10.6.1 and 18.46.1): the arguments of a compound that SEQUENCE begins, but
 -- for sa_highest_slotid.
 use Rattle.std.specs.Prelude.{◌≡◌, List, ℕ, ◌++◌, Some}
-use Rattle.nfs_xdr.specs.Limits.{opaque_limit}
-use Rattle.nfs_xdr.specs.Text.{Text, ◌then◌, uint32, enum, fixed, opaque}
-use Rattle.nfs_compound.specs.declared.session_args.Sequence.{Sequence}
-use Rattle.nfs_compound.specs.Request.{Request, IsRequest}
-use Rattle.nfs_exec.specs.Step.Sequence.{compared, sequence_number}
-use Rattle.nfs_exec.specs.Step.Executing.{sequence_of}
+use Rattle.nfs_xdr.specs.{Limits.opaque_limit, Text.{Text, ◌then◌, uint32, enum, fixed, opaque}}
+use Rattle.nfs_compound.specs.{declared.session_args.Sequence.Sequence, Request.{Request, IsRequest}}
+use Rattle.nfs_exec.specs.{Step.Sequence.{compared, sequence_number}, Step.Executing.sequence_of}
 
 -- what stands before the field
 abbrev pub before_highest : Request → Sequence → Text

@@ -1,26 +1,16 @@
 -- A compound (RFC 8881 sections 2.3, 2.10.6.4 and 16.2): what it answers, and the machine behind it.
 use Rattle.std.specs.Prelude.{◌+◌, ℕ, ◌==◌, Bool, List, [], ◌∷◌, ◌++◌, length, Option, Some, None, if◌then◌else◌}
-use Rattle.nfs_xdr.specs.declared.status.Status.{Status}
-use Rattle.nfs_xdr.specs.declared.status.Status.TheVariants.{Nfs4Ok, MinorVersMismatch, NotSupp}
-use Rattle.nfs_xdr.specs.Caller.{Caller}
-use Rattle.nfs_compound.specs.declared.op.Item.{Item}
-use Rattle.nfs_compound.specs.declared.op.Item.TheVariants.{Operation}
-use Rattle.nfs_compound.specs.declared.op.Op.TheVariants as Op
-use Rattle.nfs_compound.specs.declared.session_args.Sequence.{Sequence}
+use Rattle.nfs_xdr.specs.{declared.status.Status.Status, declared.status.Status.TheVariants.{Nfs4Ok, MinorVersMismatch, NotSupp}, Caller.Caller}
+use Rattle.nfs_compound.specs.{declared.op.Item.Item, declared.op.Item.TheVariants.Operation, declared.session_args.Sequence.Sequence}
 use Rattle.nfs_compound.specs.Request.{Request, item_number}
+use Rattle.nfs_compound.specs.declared.op.Op.TheVariants as Op
 use Rattle.nfs_results.specs.declared.res.Res.TheVariants as Res
 use Rattle.nfs_results.specs.Results.{spell_result, spell_compound_head}
 use Rattle.nfs_names.specs.Context.{begins}
 use Rattle.nfs_lease.specs.Renewals.{with_renewal}
-use Rattle.nfs_sessions.specs.declared.channel.Channel.{Channel}
-use Rattle.nfs_sessions.specs.SessionSlots.{rpc_head}
-use Rattle.nfs_sessions.specs.Id.{id_of}
-use Rattle.nfs_sessions.specs.Sessions.{keep}
-use Rattle.nfs_exec.specs.Step.Machine.{Machine, Outcome, with_result, refuses, or_delay}
-use Rattle.nfs_exec.specs.Step.Place.{item_fault}
-use Rattle.nfs_exec.specs.Step.ExchangeId.{exchange_id, exchange_id_number}
-use Rattle.nfs_exec.specs.Step.CreateSession.{create_session}
-use Rattle.nfs_exec.specs.Step.Destroy.{destroy_session, destroy_client}
+use Rattle.nfs_sessions.specs.{declared.channel.Channel.Channel, SessionSlots.rpc_head, Id.id_of, Sessions.keep}
+use Rattle.nfs_exec.specs.{Step.Machine.{Machine, Outcome, with_result, refuses, or_delay}, Step.Place.item_fault}
+use Rattle.nfs_exec.specs.{Step.ExchangeId.{exchange_id, exchange_id_number}, Step.CreateSession.create_session, Step.Destroy.{destroy_session, destroy_client}}
 use Rattle.nfs_exec.specs.Step.Sequence.{Sequenced, Refuses, Repeats, Runs, compared, sequenced, accepted, sequence_number}
 use Rattle.nfs_exec.specs.Step.Run.{Ran, run, finished, only, follow, is_here, behind_here}
 

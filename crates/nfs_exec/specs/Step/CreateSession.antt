@@ -1,31 +1,19 @@
 -- CREATE_SESSION (RFC 8881 section 18.36): the table of clients judges its number, the table of sessions what it asks for.
 -- What a number came to is kept with its client, and answered again for that number.
 use Rattle.std.specs.Prelude.{ℕ, ◌==◌, not, Bool, List, ◌++◌, Option, Some, None, Result, Ok, Err}
-use Rattle.nfs_xdr.specs.declared.status.Status.TheVariants.{Nfs4Ok, StaleClientId, SeqMisordered, ClidInUse}
+use Rattle.nfs_xdr.specs.{declared.status.Status.TheVariants.{Nfs4Ok, StaleClientId, SeqMisordered, ClidInUse}, Caller.Caller}
 use Rattle.nfs_compound.specs.declared.op_num.OpNum.TheVariants as Num
-use Rattle.nfs_compound.specs.OpNum.{op_number}
-use Rattle.nfs_compound.specs.declared.channel_attrs.ChannelAttrs.{ChannelAttrs}
-use Rattle.nfs_compound.specs.declared.session_args.CreateSession.{CreateSession}
-use Rattle.nfs_results.specs.declared.res.CreateSessionOk.{CreateSessionOk}
+use Rattle.nfs_compound.specs.{OpNum.op_number, declared.channel_attrs.ChannelAttrs.ChannelAttrs, declared.session_args.CreateSession.CreateSession}
+use Rattle.nfs_results.specs.{declared.res.CreateSessionOk.CreateSessionOk, Parts.parts, Results.done_head}
 use Rattle.nfs_results.specs.declared.res.Res.TheVariants as Res
-use Rattle.nfs_results.specs.Parts.{parts}
-use Rattle.nfs_results.specs.Results.{done_head}
-use Rattle.nfs_clients.specs.declared.created.CreateResult.{CreateResult}
-use Rattle.nfs_clients.specs.declared.created.CreateResult.TheVariants.{Done, Refused}
+use Rattle.nfs_clients.specs.{declared.created.CreateResult.CreateResult, declared.created.CreateResult.TheVariants.{Done, Refused}}
 use Rattle.nfs_clients.specs.CreateSession.{Verdict, Stale, Again, Misordered, InUse, Runs, create_verdict, leaving, with_confirmed, with_kept}
-use Rattle.nfs_sessions.specs.declared.channel.Channel.{Channel}
-use Rattle.nfs_sessions.specs.declared.channel.Wish.{Wish}
-use Rattle.nfs_sessions.specs.declared.id.SessionId.{SessionId}
-use Rattle.nfs_sessions.specs.declared.sessions.SessionFault.{SessionFault}
-use Rattle.nfs_sessions.specs.Channel.{granted}
-use Rattle.nfs_sessions.specs.Id.{id_bytes}
+use Rattle.nfs_sessions.specs.{declared.channel.Channel.Channel, declared.channel.Wish.Wish, declared.id.SessionId.SessionId}
+use Rattle.nfs_sessions.specs.{declared.sessions.SessionFault.SessionFault, Channel.granted, Id.id_bytes}
 use Rattle.nfs_sessions.specs.Sessions.{SessionTable, Created, create, fault_status, without_client}
 use Rattle.nfs_lease.specs.Renewals.{with_renewal}
-use Rattle.nfs_names.specs.State.{State}
-use Rattle.nfs_names.specs.Ending.{staying}
-use Rattle.nfs_xdr.specs.Caller.{Caller}
-use Rattle.nfs_exec.specs.Step.Machine.{Machine, Outcome, refuses, or_delay}
-use Rattle.nfs_exec.specs.Step.ExchangeId.{without_any_lease}
+use Rattle.nfs_names.specs.{State.State, Ending.staying}
+use Rattle.nfs_exec.specs.{Step.Machine.{Machine, Outcome, refuses, or_delay}, Step.ExchangeId.without_any_lease}
 
 abbrev pub create_session_number : ℕ
 create_session_number = op_number Num.CreateSession

@@ -1,26 +1,15 @@
 -- Memory refused at a place of a compound (RFC 8881 sections 2.3, 2.10.6 and 15.1.1.3): it makes no difference, or the operation there
 -- answers NFS4ERR_DELAY, and what is left is as if the compound ended in front of it.
 use Rattle.std.specs.Prelude.{◌≡◌, ◌⊎◌, ℕ, suc, ◌≤◌, ◌||◌, Bool, true, false, List, ◌++◌, take, slice_get, Option, Some, None}
-use Rattle.nfs_xdr.specs.declared.status.Status.{Status}
-use Rattle.nfs_xdr.specs.declared.status.Status.TheVariants.{Nfs4Ok, Delay}
-use Rattle.nfs_xdr.specs.Tables.{In}
-use Rattle.nfs_xdr.specs.Caller.{Caller}
-use Rattle.nfs_compound.specs.declared.op.Op.{Op}
-use Rattle.nfs_compound.specs.declared.op.Item.{Item}
-use Rattle.nfs_compound.specs.declared.op.Item.TheVariants.{Operation, Fault}
-use Rattle.nfs_compound.specs.Request.{Request, item_number}
+use Rattle.nfs_xdr.specs.{declared.status.Status.Status, declared.status.Status.TheVariants.{Nfs4Ok, Delay}, Tables.In, Caller.Caller}
+use Rattle.nfs_compound.specs.{declared.op.Op.Op, declared.op.Item.Item, declared.op.Item.TheVariants.{Operation, Fault}, Request.{Request, item_number}}
 use Rattle.nfs_compound.specs.declared.session_args.Sequence.{Sequence}
 use Rattle.nfs_results.specs.Results.{refusal, spell_result, spell_compound_head}
-use Rattle.nfs_names.specs.declared.context.Context.{Context}
-use Rattle.nfs_names.specs.State.{State}
+use Rattle.nfs_names.specs.{declared.context.Context.Context, State.State, Outcome.is_delay}
 use Rattle.nfs_names.specs.Operation as names
 use Rattle.nfs_files.specs.Operation as files
-use Rattle.nfs_names.specs.Outcome.{is_delay}
-use Rattle.nfs_exec.specs.Step.Machine.{Machine, IsMachine, starts}
-use Rattle.nfs_exec.specs.Step.Sequence.{Refuses, sequenced}
-use Rattle.nfs_exec.specs.Step.Compound.{Answered, first_item, keeps, compound}
-use Rattle.nfs_exec.specs.Step.Laws.{MachineEvent, Asks, all_stepped, first_runs}
-use Rattle.nfs_exec.specs.Runs.Ops.{RanOp, ops_by}
+use Rattle.nfs_exec.specs.{Step.Machine.{Machine, IsMachine, starts}, Step.Sequence.{Refuses, sequenced}, Step.Compound.{Answered, first_item, keeps, compound}}
+use Rattle.nfs_exec.specs.{Step.Laws.{MachineEvent, Asks, all_stepped, first_runs}, Runs.Ops.{RanOp, ops_by}}
 
 -- What may want memory: the operations on the tree and on open files that are said to, and the two that make clients and sessions.
 abbrev pub grows : State → Context → Item → Bool

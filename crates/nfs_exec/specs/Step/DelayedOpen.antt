@@ -3,15 +3,10 @@
 -- to be made, and memory is refused; it sends the same request again; and then it asks under number 2.
 use Rattle.std.specs.Prelude.{◌≡◌, ℕ, ◌+◌, ◌*◌, ◌^◌, false, List, [], ◌∷◌, length, map, replicate, flat_map, Option, Some, None}
 use Rattle.nfs_xdr.specs.Spelling.{number}
-use Rattle.nfs_compound.specs.declared.channel_attrs.ChannelAttrs.{ChannelAttrs}
-use Rattle.nfs_compound.specs.declared.op.Op.{Op}
-use Rattle.nfs_compound.specs.declared.op.Item.TheVariants.{Operation}
-use Rattle.nfs_compound.specs.declared.open_args.OpenHow.TheVariants.{Create}
-use Rattle.nfs_compound.specs.declared.open_args.CreateHow.TheVariants.{Exclusive}
-use Rattle.nfs_compound.specs.declared.open_args.OpenClaim.TheVariants.{Null}
-use Rattle.nfs_compound.specs.Request.{Request}
-use Rattle.nfs_exec.specs.Step.Machine.{Machine, starts}
-use Rattle.nfs_exec.specs.Step.Compound.{Answered, compound}
+use Rattle.nfs_compound.specs.{declared.channel_attrs.ChannelAttrs.ChannelAttrs, declared.op.Op.Op, declared.op.Item.TheVariants.Operation}
+use Rattle.nfs_compound.specs.{declared.open_args.OpenHow.TheVariants.Create, declared.open_args.CreateHow.TheVariants.Exclusive}
+use Rattle.nfs_compound.specs.{declared.open_args.OpenClaim.TheVariants.Null, Request.Request}
+use Rattle.nfs_exec.specs.{Step.Machine.{Machine, starts}, Step.Compound.{Answered, compound}}
 
 abbrev pub words : List ℕ → List ℕ
 words xs = flat_map number xs

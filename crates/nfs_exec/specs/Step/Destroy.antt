@@ -1,16 +1,12 @@
 -- DESTROY_SESSION (RFC 8881 section 18.37) and DESTROY_CLIENTID (section 18.50).
-use Rattle.std.specs.Prelude.{ℕ, Bool, ◌==◌, List, Option, Some, None, is_some, if◌then◌else◌}
-use Rattle.std.specs.List.{list_any}
+use Rattle.std.specs.{Prelude.{ℕ, Bool, ◌==◌, List, Option, Some, None, is_some, if◌then◌else◌}, List.list_any}
 use Rattle.nfs_xdr.specs.declared.status.Status.TheVariants.{BadSession}
 use Rattle.nfs_compound.specs.declared.op_num.OpNum.TheVariants as Num
 use Rattle.nfs_compound.specs.OpNum.{op_number}
 use Rattle.nfs_results.specs.declared.res.Res.TheVariants as Res
-use Rattle.nfs_sessions.specs.Id.{id_of}
-use Rattle.nfs_sessions.specs.Sessions.{SessionTable, session_at}
+use Rattle.nfs_sessions.specs.{Id.id_of, Sessions.{SessionTable, session_at}}
 use Rattle.nfs_sessions.specs.Sessions as sessions
-use Rattle.nfs_clients.specs.declared.destroy.DestroyFault.{DestroyFault}
-use Rattle.nfs_clients.specs.Roster.{without}
-use Rattle.nfs_clients.specs.DestroyClientId.{destroy_fault, destroy_status}
+use Rattle.nfs_clients.specs.{declared.destroy.DestroyFault.DestroyFault, Roster.without, DestroyClientId.{destroy_fault, destroy_status}}
 use Rattle.nfs_lease.specs.Renewals.{without_lease}
 use Rattle.nfs_exec.specs.Step.Machine.{Machine, Outcome, with_result, refuses}
 

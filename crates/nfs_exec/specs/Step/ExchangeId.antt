@@ -2,12 +2,9 @@
 -- it replaces loses its own.
 use Rattle.std.specs.Prelude.{ℕ, List, [], ◌∷◌, Bool, true, false, Option, Some, None, Result, Ok, Err, if◌then◌else◌}
 use Rattle.nfs_compound.specs.declared.op_num.OpNum.TheVariants as Num
-use Rattle.nfs_compound.specs.OpNum.{op_number}
-use Rattle.nfs_compound.specs.declared.session_args.ExchangeId.{ExchangeId}
-use Rattle.nfs_results.specs.declared.res.ExchangeIdOk.{ExchangeIdOk}
-use Rattle.nfs_results.specs.declared.res.Res.{Res}
-use Rattle.nfs_clients.specs.declared.exchange_id.Exchanged.{Exchanged}
-use Rattle.nfs_clients.specs.declared.exchange_id.ClientFault.{ClientFault}
+use Rattle.nfs_compound.specs.{OpNum.op_number, declared.session_args.ExchangeId.ExchangeId}
+use Rattle.nfs_results.specs.{declared.res.ExchangeIdOk.ExchangeIdOk, declared.res.Res.Res}
+use Rattle.nfs_clients.specs.{declared.exchange_id.Exchanged.Exchanged, declared.exchange_id.ClientFault.ClientFault}
 use Rattle.nfs_clients.specs.ExchangeId.{Ask, Did, asks, exchange, fault_status}
 use Rattle.nfs_lease.specs.Renewals.{Book, with_lease, without_lease}
 use Rattle.nfs_xdr.specs.Caller.{Caller}

@@ -2,14 +2,9 @@
 -- that stands alone outside a session.
 use Rattle.std.specs.Prelude.{ℕ, ◌==◌, ◌&&◌, ◌||◌, nat_lt, not, Bool, false, List, ◌∷◌, Option, Some, None, is_some, if◌then◌else◌}
 use Rattle.nfs_xdr.specs.Caller.{Caller}
-use Rattle.nfs_compound.specs.declared.op.Item.{Item}
-use Rattle.nfs_compound.specs.declared.op.Item.TheVariants.{Operation}
+use Rattle.nfs_compound.specs.{declared.op.Item.Item, declared.op.Item.TheVariants.Operation, declared.session_args.Sequence.Sequence, Request.Request}
 use Rattle.nfs_compound.specs.declared.op.Op.TheVariants as Op
-use Rattle.nfs_compound.specs.declared.session_args.Sequence.{Sequence}
-use Rattle.nfs_compound.specs.Request.{Request}
-use Rattle.nfs_exec.specs.Step.Machine.{Machine}
-use Rattle.nfs_exec.specs.Step.Place.{stands_alone}
-use Rattle.nfs_exec.specs.Step.Laws.{first_runs}
+use Rattle.nfs_exec.specs.{Step.Machine.Machine, Step.Place.stands_alone, Step.Laws.first_runs}
 
 -- SEQUENCE in front of the operations
 abbrev pub first_sequence : List Item → Option Sequence

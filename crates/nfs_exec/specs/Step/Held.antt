@@ -1,7 +1,6 @@
 -- How many of each kind of state stand between two records.
 use Rattle.std.specs.Prelude.{length}
-use Rattle.nfs_exec.specs.declared.held.Held.{Held}
-use Rattle.nfs_exec.specs.Step.Machine.{Machine}
+use Rattle.nfs_exec.specs.{declared.held.Held.Held, Step.Machine.Machine}
 
 abbrev pub held : Machine → Held
 held m = record {

@@ -1,22 +1,12 @@
 -- Laws of compounds and of expiry, over the definitions alone.
-use Rattle.std.specs.Prelude.{◌≡◌, ◌≤◌, ℕ, ◌+◌, ◌-◌, ◌^◌, ◌==◌, Bool, false, ◌&&◌, List, [], ◌∷◌, Option, Some, None, if◌then◌else◌}
-use Rattle.std.specs.Option.{option_map_or}
-use Rattle.nfs_xdr.specs.declared.status.Status.{Status}
-use Rattle.nfs_xdr.specs.Caller.{Caller}
-use Rattle.nfs_compound.specs.declared.session_args.Sequence.{Sequence}
-use Rattle.nfs_compound.specs.declared.op.Item.{Item}
-use Rattle.nfs_compound.specs.declared.op.Item.TheVariants.{Operation}
+use Rattle.std.specs.{Prelude.{◌≡◌, ◌≤◌, ℕ, ◌+◌, ◌-◌, ◌^◌, ◌==◌, Bool, false, ◌&&◌, List, [], ◌∷◌, Option, Some, None, if◌then◌else◌}, Option.option_map_or}
+use Rattle.nfs_xdr.specs.{declared.status.Status.Status, Caller.Caller}
+use Rattle.nfs_compound.specs.{declared.session_args.Sequence.Sequence, declared.op.Item.Item, declared.op.Item.TheVariants.Operation, Request.Request}
 use Rattle.nfs_compound.specs.declared.op.Op.TheVariants as Op
-use Rattle.nfs_compound.specs.Request.{Request}
 use Rattle.nfs_lease.specs.Renewals.{has_run_out}
-use Rattle.nfs_sessions.specs.declared.id.SessionId.{SessionId}
-use Rattle.nfs_sessions.specs.Id.{id_of}
-use Rattle.nfs_sessions.specs.Laws.{is_id}
-use Rattle.nfs_exec.specs.Step.Machine.{Machine, starts, refuses}
-use Rattle.nfs_exec.specs.Step.Sequence.{Sequenced, Refuses, Repeats, Runs, sequenced, sequence_number}
-use Rattle.nfs_exec.specs.Step.Run.{only}
-use Rattle.nfs_exec.specs.Step.Compound.{answers, compound}
-use Rattle.nfs_exec.specs.Step.Expiry.{expired}
+use Rattle.nfs_sessions.specs.{declared.id.SessionId.SessionId, Id.id_of, Laws.is_id}
+use Rattle.nfs_exec.specs.{Step.Machine.{Machine, starts, refuses}, Step.Sequence.{Sequenced, Refuses, Repeats, Runs, sequenced, sequence_number}}
+use Rattle.nfs_exec.specs.{Step.Run.only, Step.Compound.{answers, compound}, Step.Expiry.expired}
 
 -- The request begins with this SEQUENCE, which comes to this.
 pub record Begins (m : Machine) (r : Request) (who : Caller) (size : ℕ) (s : Sequence) (v : Sequenced) : Type 0 where

@@ -1,21 +1,12 @@
 -- What stands between two records: the meanings of the server's tables; and what one operation comes to.
-use Rattle.std.specs.Prelude.{◌≡◌, ℕ, Bool, true, false, ◌&&◌, List, is_some, if◌then◌else◌}
-use Rattle.std.specs.Option.{option_map_or}
-use Rattle.nfs_xdr.specs.declared.status.Status.{Status}
-use Rattle.nfs_xdr.specs.declared.status.Status.TheVariants.{Delay}
-use Rattle.nfs_xdr.specs.Tables.{In}
-use Rattle.nfs_results.specs.declared.res.Res.{Res}
-use Rattle.nfs_results.specs.Results.{status_of_result, spell_result, refusal}
-use Rattle.nfs_opens.specs.declared.records.OpenState.{OpenState}
+use Rattle.std.specs.{Prelude.{◌≡◌, ℕ, Bool, true, false, ◌&&◌, List, is_some, if◌then◌else◌}, Option.option_map_or}
+use Rattle.nfs_xdr.specs.{declared.status.Status.Status, declared.status.Status.TheVariants.Delay, Tables.In}
+use Rattle.nfs_results.specs.{declared.res.Res.Res, Results.{status_of_result, spell_result, refusal}}
+use Rattle.nfs_opens.specs.{declared.records.OpenState.OpenState, Table.{clashes_with, as_asked}, TableInvariants.IsTable}
 use Rattle.nfs_ranges.specs.Holders.{HasNoClash}
-use Rattle.nfs_opens.specs.Table.{clashes_with, as_asked}
-use Rattle.nfs_opens.specs.TableInvariants.{IsTable}
-use Rattle.nfs_names.specs.Outcome.{is_ok}
-use Rattle.nfs_names.specs.Ending.{has_open}
-use Rattle.nfs_names.specs.State.{State, new_store, moment, state_of}
+use Rattle.nfs_names.specs.{Outcome.is_ok, Ending.has_open, State.{State, new_store, moment, state_of}}
 use Rattle.nfs_lease.specs.Renewals.{Book, no_leases, leases_of}
-use Rattle.nfs_clients.specs.Roster.{Roster, IsRoster, no_clients, client_at}
-use Rattle.nfs_clients.specs.Marks.{with_open}
+use Rattle.nfs_clients.specs.{Roster.{Roster, IsRoster, no_clients, client_at}, Marks.with_open}
 use Rattle.nfs_clients.specs.Marks as marked
 use Rattle.nfs_sessions.specs.Sessions.{Session, SessionTable, no_sessions}
 use Rattle.nfs_exec.specs.declared.tables.Tables.{Tables}

@@ -1,11 +1,8 @@
 -- What may stand in which place of a compound (RFC 8881 sections 2.10.6.4 and 15.1.3), and that it is short.
 use Rattle.std.specs.Prelude.{ℕ, ◌||◌, ◌&&◌, nat_lt, not, Bool, true, false, [], ◌∷◌, Option, Some}
-use Rattle.nfs_xdr.specs.Checks.{first_fault}
-use Rattle.nfs_xdr.specs.declared.status.Status.{Status}
+use Rattle.nfs_xdr.specs.{Checks.first_fault, declared.status.Status.Status}
 use Rattle.nfs_xdr.specs.declared.status.Status.TheVariants.{NotOnlyOp, NotSupp, OpNotInSession, SequencePos}
-use Rattle.nfs_compound.specs.declared.op.Op.{Op}
-use Rattle.nfs_compound.specs.declared.op.Item.{Item}
-use Rattle.nfs_compound.specs.declared.op.Item.TheVariants.{Operation, Fault}
+use Rattle.nfs_compound.specs.{declared.op.Op.Op, declared.op.Item.Item, declared.op.Item.TheVariants.{Operation, Fault}}
 
 -- the operations that stand alone in a compound outside a session
 abbrev pub stands_alone : Op → Bool

@@ -1,14 +1,11 @@
 -- RECLAIM_COMPLETE (RFC 8881 section 18.51): a client has nothing, or nothing more, to reclaim.
 use Rattle.std.specs.Prelude.{Bool, Result, Ok, Err, if◌then◌else◌}
-use Rattle.nfs_xdr.specs.declared.status.Status.{Status}
-use Rattle.nfs_xdr.specs.declared.status.Status.TheVariants.{CompleteAlready}
+use Rattle.nfs_xdr.specs.{declared.status.Status.Status, declared.status.Status.TheVariants.CompleteAlready}
 use Rattle.nfs_compound.specs.declared.op_num.OpNum.TheVariants as Num
 use Rattle.nfs_compound.specs.OpNum.{op_number}
 use Rattle.nfs_results.specs.declared.res.Res.TheVariants as Res
 use Rattle.nfs_clients.specs.Marks.{has_reclaimed, with_reclaimed}
-use Rattle.nfs_names.specs.declared.context.Context.{Context}
-use Rattle.nfs_names.specs.declared.node.Node.{Node}
-use Rattle.nfs_names.specs.Checks.{current}
+use Rattle.nfs_names.specs.{declared.context.Context.Context, declared.node.Node.Node, Checks.current}
 use Rattle.nfs_exec.specs.Step.Machine.{Machine, Outcome, with_result, refuses}
 
 -- of the current filehandle's file system: the client's mark is neither looked at nor set

@@ -1,14 +1,11 @@
 -- The operations of a compound behind its SEQUENCE, one after the other (RFC 8881 section 2.3): they stop at the first whose
 -- status is not NFS4_OK, and what was done stays done.
 use Rattle.std.specs.Prelude.{ℕ, zero, suc, ◌+◌, nat_lt, Bool, true, false, List, [], ◌∷◌, ◌++◌, length, Option, Some, None, if◌then◌else◌}
-use Rattle.nfs_xdr.specs.declared.status.Status.{Status}
-use Rattle.nfs_xdr.specs.declared.status.Status.TheVariants.{Nfs4Ok, RepTooBig}
+use Rattle.nfs_xdr.specs.{declared.status.Status.Status, declared.status.Status.TheVariants.{Nfs4Ok, RepTooBig}}
 use Rattle.nfs_compound.specs.declared.op.Item.{Item}
 use Rattle.nfs_results.specs.Largest.{largest}
-use Rattle.nfs_names.specs.declared.context.Context.{Context}
-use Rattle.nfs_names.specs.Outcome.{is_ok}
-use Rattle.nfs_exec.specs.Step.Machine.{Machine, Outcome}
-use Rattle.nfs_exec.specs.Step.Behind.{Step, stays, step}
+use Rattle.nfs_names.specs.{declared.context.Context.Context, Outcome.is_ok}
+use Rattle.nfs_exec.specs.{Step.Machine.{Machine, Outcome}, Step.Behind.{Step, stays, step}}
 
 -- The place at which memory was refused, if any, is counted from here ..
 abbrev pub is_here : Option ℕ → Bool

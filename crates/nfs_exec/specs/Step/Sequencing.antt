@@ -1,14 +1,10 @@
 -- What SEQUENCE makes of a number, on a slot whose last request may have been given up (RFC 8881 section 2.10.6.1).
 use Rattle.std.specs.Prelude.{◌≡◌, ℕ, true, Some, None, slice_get}
-use Rattle.nfs_xdr.specs.Caller.{Caller}
-use Rattle.nfs_xdr.specs.declared.status.Status.TheVariants.{SeqFalseRetry}
-use Rattle.nfs_compound.specs.declared.session_args.Sequence.{Sequence}
-use Rattle.nfs_compound.specs.Request.{Request}
+use Rattle.nfs_xdr.specs.{Caller.Caller, declared.status.Status.TheVariants.SeqFalseRetry}
+use Rattle.nfs_compound.specs.{declared.session_args.Sequence.Sequence, Request.Request}
 use Rattle.nfs_slots.specs.Slot.{SlotState, next_number}
-use Rattle.nfs_sessions.specs.Id.{id_of}
-use Rattle.nfs_sessions.specs.Sessions.{Session, session_at}
-use Rattle.nfs_exec.specs.Step.Machine.{Machine}
-use Rattle.nfs_exec.specs.Step.Sequence.{Refuses, Runs, compared, sequenced, slot_fault, fresh_fault}
+use Rattle.nfs_sessions.specs.{Id.id_of, Sessions.{Session, session_at}}
+use Rattle.nfs_exec.specs.{Step.Machine.Machine, Step.Sequence.{Refuses, Runs, compared, sequenced, slot_fault, fresh_fault}}
 
 -- the slot that a SEQUENCE names
 pub record IsOn (m : Machine) (s : Sequence) (session : Session) (x : SlotState) : Type 0 where

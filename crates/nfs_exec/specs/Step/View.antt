@@ -1,43 +1,20 @@
 -- What the code's tables and answers say.
 use Rattle.std.specs.Prelude.{◌≡◌, ℕ, ◌+◌, ◌^◌, ◌<◌, ◌≤◌, ◌==◌, length, not, Option, if◌then◌else◌, List, IsTrue, ◌||◌, ◌&&◌}
-use Rattle.nfs_xdr.specs.declared.status.Status.{Status}
-use Rattle.nfs_xdr.specs.SheetState.{SheetState, Puts}
-use Rattle.nfs_xdr.specs.Caller.{Caller}
-use Rattle.nfs_xdr.specs.Limits.{opaque_limit}
-use Rattle.nfs_xdr.specs.Tables.{In}
-use Rattle.nfs_compound.specs.declared.op.Item.{Item}
-use Rattle.nfs_compound.specs.declared.op.Item.TheVariants.{Operation, Fault}
-use Rattle.nfs_compound.specs.Request.{Request, IsRequest}
-use Rattle.nfs_compound.specs.declared.session_args.Sequence.{Sequence}
-use Rattle.nfs_compound.specs.declared.op_num.OpNum.TheVariants.{SetAttr}
-use Rattle.nfs_compound.specs.OpNum.{op_number}
-use Rattle.nfs_results.specs.declared.res.Res.{Res}
-use Rattle.nfs_results.specs.Parts.{is_legal}
-use Rattle.nfs_results.specs.Refusals.{can_refuse}
-use Rattle.nfs_results.specs.ResultCodec.{IsBounded, HasArrays}
-use Rattle.nfs_results.specs.Results.{spell_result}
-use Rattle.nfs_names.specs.declared.context.Context.{Context}
-use Rattle.nfs_names.specs.State.{state_of}
-use Rattle.nfs_names.specs.StoreInvariants.{IsStore}
-use Rattle.nfs_names.specs.Ending.{staying}
+use Rattle.nfs_xdr.specs.{declared.status.Status.Status, SheetState.{SheetState, Puts}, Caller.Caller, Limits.opaque_limit, Tables.In}
+use Rattle.nfs_compound.specs.{declared.op.Item.Item, declared.op.Item.TheVariants.{Operation, Fault}, Request.{Request, IsRequest}}
+use Rattle.nfs_compound.specs.{declared.session_args.Sequence.Sequence, declared.op_num.OpNum.TheVariants.SetAttr, OpNum.op_number}
+use Rattle.nfs_results.specs.{declared.res.Res.Res, Parts.is_legal, Refusals.can_refuse, ResultCodec.{IsBounded, HasArrays}, Results.spell_result}
+use Rattle.nfs_names.specs.{declared.context.Context.Context, State.state_of, StoreInvariants.IsStore, Ending.staying}
 use Rattle.nfs_lease.specs.Renewals.{Book, without_lease}
-use Rattle.nfs_clients.specs.Roster.{without}
-use Rattle.nfs_clients.specs.declared.exchange_id.Exchanged.{Exchanged}
-use Rattle.nfs_sessions.specs.SessionTables.{IsGranted}
-use Rattle.nfs_sessions.specs.SessionSlots.{rpc_head}
-use Rattle.nfs_sessions.specs.declared.channel.Channel.{Channel}
+use Rattle.nfs_clients.specs.{Roster.without, declared.exchange_id.Exchanged.Exchanged}
+use Rattle.nfs_sessions.specs.{SessionTables.IsGranted, SessionSlots.rpc_head, declared.channel.Channel.Channel}
 use Rattle.nfs_sessions.specs.Sessions as sessions
-use Rattle.nfs_exec.specs.declared.tables.Tables.{Tables}
-use Rattle.nfs_exec.specs.declared.sequence.Sequenced.{Sequenced as Code}
+use Rattle.nfs_exec.specs.{declared.tables.Tables.Tables, declared.sequence.Sequenced.{Sequenced as Code}}
+use Rattle.nfs_exec.specs.{Step.Machine.{Machine, IsMachine, Outcome, machine_of}, Step.Behind.Step, Step.Compound.{answers, runs_behind, Answered}}
+use Rattle.nfs_exec.specs.{Step.Run.Ran, Step.ExchangeId.without_any_lease, Step.CreateSession.{without_any_sessions, without_any_opens}}
+use Rattle.nfs_exec.specs.Step.Sequence.{Sequenced, Refuses, Repeats, Runs}
 use Rattle.nfs_exec.specs.declared.sequence.Sequenced.TheVariants as code
 use Rattle.nfs_exec.specs.declared.run.Ran as code_run
-use Rattle.nfs_exec.specs.Step.Machine.{Machine, IsMachine, Outcome, machine_of}
-use Rattle.nfs_exec.specs.Step.Behind.{Step}
-use Rattle.nfs_exec.specs.Step.Compound.{answers, runs_behind, Answered}
-use Rattle.nfs_exec.specs.Step.Run.{Ran}
-use Rattle.nfs_exec.specs.Step.ExchangeId.{without_any_lease}
-use Rattle.nfs_exec.specs.Step.CreateSession.{without_any_sessions, without_any_opens}
-use Rattle.nfs_exec.specs.Step.Sequence.{Sequenced, Refuses, Repeats, Runs}
 
 -- The request was just opened.
 pub record IsOpened (r : Request) : Type 0 where

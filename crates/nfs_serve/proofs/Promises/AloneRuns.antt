@@ -1,7 +1,6 @@
 -- A list of records against its executing ones alone.
-use Rattle.std.proofs.Common.{◌≡◌, ℕ, Bool, true, false, List, [], ◌∷◌, Option, refl, sym, ◌∙◌, ap, subst, arith}
+use Rattle.std.proofs.{Common.{◌≡◌, ℕ, Bool, true, false, List, [], ◌∷◌, Option, refl, sym, ◌∙◌, ap, subst, arith}, lemmas.Bool.{true≢false}}
 use Rattle.std.specs.Prelude.{max, ◌≤◌, if◌then◌else◌}
-use Rattle.std.proofs.lemmas.Bool.{true≢false}
 use Rattle.nfs_serve.specs.Promises.Endpoint.{Answer, Server, Arrival, Stepped, stepped, ran}
 use Rattle.nfs_serve.specs.Promises.Alone.{taken, alone, answers, executing_answers, ExecutingAlone, StaysSettled}
 use Rattle.nfs_serve.proofs.Promises.ServerLaws.{KeepsTime}

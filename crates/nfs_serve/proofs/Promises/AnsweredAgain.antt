@@ -1,35 +1,23 @@
 -- A lost reply can be had again: what executed stands on its slot until another does, and is answered from there.
 use Rattle.std.proofs.Common.{◌≡◌, ◌⊎◌, inl, inr, ℕ, true, List, [], ◌∷◌, length, Option, Some, None, refl, sym, ◌∙◌, ap, arith}
-use Rattle.std.specs.Prelude.{◌==◌, not, slice_get, option_map}
-use Rattle.std.proofs.lemmas.Bool.{cases_Bool, lt-leb, eqb-true, eq-eqb, ne_eqb}
-use Rattle.std.proofs.lemmas.Option.{same_Some, slice_get_within}
+use Rattle.std.proofs.{lemmas.Bool.{cases_Bool, lt-leb, eqb-true, eq-eqb, ne_eqb}, lemmas.Option.{same_Some, slice_get_within}}
 use Rattle.std.proofs.lemmas.Slice.Eq.{bytes_eq-Decides}
-use Rattle.nfs_xdr.specs.Caller.{Caller}
-use Rattle.nfs_xdr.specs.Text.{IsBytes}
+use Rattle.std.specs.Prelude.{◌==◌, not, slice_get, option_map}
+use Rattle.nfs_xdr.specs.{Caller.Caller, Text.IsBytes}
 use Rattle.nfs_rpc.specs.CallHead.{Call, Accepted, call_of}
-use Rattle.nfs_compound.specs.declared.op.Item.{Item}
-use Rattle.nfs_compound.specs.declared.op.Item.TheVariants.{Operation}
+use Rattle.nfs_compound.specs.{declared.op.Item.Item, declared.op.Item.TheVariants.Operation, declared.session_args.Sequence.Sequence, Request.Request}
 use Rattle.nfs_compound.specs.declared.op.Op.TheVariants as Op
-use Rattle.nfs_compound.specs.declared.session_args.Sequence.{Sequence}
-use Rattle.nfs_compound.specs.Request.{Request}
 use Rattle.nfs_lease.specs.Renewals.{has_run_out}
-use Rattle.nfs_slots.specs.Slot.{SlotState, judge_slot, next_number}
-use Rattle.nfs_slots.specs.declared.slot.Verdict.TheVariants.{Again}
-use Rattle.nfs_sessions.specs.Id.{id_of}
-use Rattle.nfs_sessions.specs.Sessions.{Session, session_at}
-use Rattle.nfs_exec.specs.Step.Executing.{first_sequence, sequence_of}
+use Rattle.nfs_slots.specs.{Slot.{SlotState, judge_slot, next_number}, declared.slot.Verdict.TheVariants.Again}
+use Rattle.nfs_sessions.specs.{Id.id_of, Sessions.{Session, session_at}}
+use Rattle.nfs_exec.specs.{Step.Executing.{first_sequence, sequence_of}, Step.Sequence.{compared, Repeats, by_session}, Step.Compound.compound}
 use Rattle.nfs_exec.specs.Step.Sequence as sequence
-use Rattle.nfs_exec.specs.Step.Sequence.{compared, Repeats, by_session}
-use Rattle.nfs_exec.specs.Step.Compound.{compound}
 use Rattle.nfs_exec.proofs.Step.Repeating.{repeats}
 use Rattle.nfs_serve.specs.Step.{asked_of, State, Stepped, answered, step}
 use Rattle.nfs_serve.specs.Promises.Endpoint.{Place, Compound, Heading, Answer, Server, Arrival, stepped, ran}
-use Rattle.nfs_serve.specs.Promises.Seen.{ReplyReader, slot_in, ticked, seen, server}
-use Rattle.nfs_serve.specs.Promises.AnsweredAgain.{AreElsewhere, Stands, AnsweredAgain}
-use Rattle.nfs_serve.proofs.Promises.ServerLaws.{Runs, KeepsSlots}
-use Rattle.nfs_serve.proofs.Promises.SlotsLeft.{fewer_leaves}
-use Rattle.nfs_serve.proofs.Promises.Slotted.{IsSlotted, ticked_slotted, step_slotted, ran_slotted}
-use Rattle.nfs_serve.proofs.Promises.Replies.{answer_found}
+use Rattle.nfs_serve.specs.{Promises.Seen.{ReplyReader, slot_in, ticked, seen, server}, Promises.AnsweredAgain.{AreElsewhere, Stands, AnsweredAgain}}
+use Rattle.nfs_serve.proofs.{Promises.ServerLaws.{Runs, KeepsSlots}, Promises.SlotsLeft.fewer_leaves}
+use Rattle.nfs_serve.proofs.{Promises.Slotted.{IsSlotted, ticked_slotted, step_slotted, ran_slotted}, Promises.Replies.answer_found}
 use Rattle.nfs_serve.proofs.Promises.KeptSlots.{taken, Heads, heads, stepped_is, keeps_slots}
 
 -- Of any server that keeps the laws of slots.

@@ -1,17 +1,12 @@
 -- Each call is answered under its xid.
-use Rattle.std.proofs.Common.{◌≡◌, ℕ, List, ◌++◌, Option, Some, None, ◌∙◌, ap}
-use Rattle.std.proofs.lemmas.List.{append_assoc}
+use Rattle.std.proofs.{Common.{◌≡◌, ℕ, List, ◌++◌, Option, Some, None, ◌∙◌, ap}, lemmas.List.append_assoc}
 use Rattle.nfs_xdr.specs.Spelling.{number}
-use Rattle.nfs_rpc.specs.declared.refusal.Refusal.TheVariants.{Silent, Mismatch, Auth, Accept}
-use Rattle.nfs_rpc.specs.declared.call.Procedure.{Procedure}
+use Rattle.nfs_rpc.specs.{declared.refusal.Refusal.TheVariants.{Silent, Mismatch, Auth, Accept}, declared.call.Procedure.Procedure}
+use Rattle.nfs_rpc.specs.{CallHead.{Call, Called, Accepted, Refused, call_of}, Reply.{spell_head, spell_refusal}}
 use Rattle.nfs_rpc.specs.declared.call.Procedure.TheVariants as Procedures
-use Rattle.nfs_rpc.specs.CallHead.{Call, Called, Accepted, Refused, call_of}
-use Rattle.nfs_rpc.specs.Reply.{spell_head, spell_refusal}
-use Rattle.nfs_compound.specs.Request.{Request}
-use Rattle.nfs_compound.specs.ReadRequest.{request_at}
+use Rattle.nfs_compound.specs.{Request.Request, ReadRequest.request_at}
 use Rattle.nfs_exec.specs.Step.Compound.{compound}
-use Rattle.nfs_serve.specs.Step.{State, with_arguments, by_procedure, reply_to, step}
-use Rattle.nfs_serve.specs.Promises.Answering.{xid_of, IsUnder, EachIsAnswered}
+use Rattle.nfs_serve.specs.{Step.{State, with_arguments, by_procedure, reply_to, step}, Promises.Answering.{xid_of, IsUnder, EachIsAnswered}}
 
 -- what begins with an xid and REPLY does so with more behind it
 front : (xid rest more : List ℕ) → (xid ++ (number 1 ++ rest)) ++ more ≡ xid ++ (number 1 ++ (rest ++ more))

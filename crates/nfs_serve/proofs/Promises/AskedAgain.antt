@@ -1,21 +1,13 @@
 -- The run in which a lost reply is had again, computed.
-use Rattle.std.proofs.Common.{◌≡◌, ℕ, ◌≤◌, true, Option, Some, refl, sym, ◌∙◌, ap, subst, arith}
+use Rattle.std.proofs.{Common.{◌≡◌, ℕ, ◌≤◌, true, Option, Some, refl, sym, ◌∙◌, ap, subst, arith}, lemmas.Bool.leb-true}
 use Rattle.std.specs.Option.{option_map_or}
-use Rattle.std.proofs.lemmas.Bool.{leb-true}
-use Rattle.nfs_rpc.specs.CallHead.{Call, Called, Accepted, Refused, call_of}
-use Rattle.nfs_rpc.specs.Reply.{spell_refusal}
+use Rattle.nfs_rpc.specs.{CallHead.{Call, Called, Accepted, Refused, call_of}, Reply.spell_refusal}
 use Rattle.nfs_compound.specs.Request.{Request}
 use Rattle.nfs_slots.specs.Slot.{SlotState, unused_slot}
-use Rattle.nfs_serve.specs.Step.{asked_of}
-use Rattle.nfs_serve.specs.Promises.Endpoint.{Place, Heading, ran}
-use Rattle.nfs_serve.specs.Promises.Seen.{ReplyReader, ticked}
-use Rattle.nfs_serve.specs.Promises.LostReply.{here, place, compound, packet, answer}
-use Rattle.nfs_serve.specs.Promises.AnsweredAgain.{AreElsewhere, Stands}
-use Rattle.nfs_serve.specs.Promises.FreshRuns.{Passes}
-use Rattle.nfs_serve.specs.Promises.AskedAgain.{lost, between, again, start, behind, IsFreshThere, IsHadAgain, IsUnderItsXid}
-use Rattle.nfs_serve.proofs.Promises.Computing.{computing}
-use Rattle.nfs_serve.proofs.Promises.LostReply.{is_bytes}
-use Rattle.nfs_serve.proofs.Promises.Replies.{found, found_by}
+use Rattle.nfs_serve.specs.{Step.asked_of, Promises.Endpoint.{Place, Heading, ran}, Promises.Seen.{ReplyReader, ticked}}
+use Rattle.nfs_serve.specs.{Promises.LostReply.{here, place, compound, packet, answer}, Promises.AnsweredAgain.{AreElsewhere, Stands}}
+use Rattle.nfs_serve.specs.{Promises.FreshRuns.Passes, Promises.AskedAgain.{lost, between, again, start, behind, IsFreshThere, IsHadAgain, IsUnderItsXid}}
+use Rattle.nfs_serve.proofs.{Promises.Computing.computing, Promises.LostReply.is_bytes, Promises.Replies.{found, found_by}}
 
 -- what is on slot 0, or on none, is not on slot 1
 other_slot : (o : Option Heading) (h : Heading) → option_map_or (λ (h : Heading). h.place.slot) o 0 ≡ 0 → o ≡ Some h → h.place ≡ place → ⊥

@@ -4,8 +4,7 @@ use Rattle.nfs_xdr.specs.Tables.{In}
 use Rattle.nfs_serve.specs.Promises.Endpoint.{Place, Compound, Answer, Server, Arrival, ran}
 use Rattle.nfs_serve.specs.Promises.Network.{Callers, Packet, Line, Network, NetworkEvent, Sends, Resends, Arrives, Asks, Intrudes, Accepts, after, IsOfOneCompound, MayAccept, May, Schedule, IsUnused, begins, ExactlyOnce}
 use Rattle.nfs_serve.specs.Promises.Numbered.{CanAccept, Can, Happens}
-use Rattle.nfs_serve.proofs.Promises.ServerLaws.{KeepsSlots}
-use Rattle.nfs_serve.proofs.Promises.NetworkLists.{last_one}
+use Rattle.nfs_serve.proofs.{Promises.ServerLaws.KeepsSlots, Promises.NetworkLists.last_one}
 use Rattle.nfs_serve.proofs.Promises.NetworkEvents.{Begun, IsNetwork, begun_waits, event_keeps, begins_is, exactly_once_by_number}
 
 -- each xid of a caller is of one compound

@@ -4,9 +4,7 @@ use Rattle.std.proofs.Common.{◌≡◌, ℕ, Bool, List, [], ◌∷◌, ◌++�
 use Rattle.nfs_tree.specs.Files.{Files}
 use Rattle.nfs_names.specs.State as store
 use Rattle.nfs_names.specs.Ending.{staying}
-use Rattle.nfs_exec.specs.Step.Machine.{Machine}
-use Rattle.nfs_exec.specs.Step.Laws.{MachineEvent, stepped, ran}
-use Rattle.nfs_exec.specs.Runs.Ops.{RanOp, ops_by, left_by, AreChained}
+use Rattle.nfs_exec.specs.{Step.Machine.Machine, Step.Laws.{MachineEvent, stepped, ran}, Runs.Ops.{RanOp, ops_by, left_by, AreChained}}
 use Rattle.nfs_exec.proofs.Runs.OneWalk.{EventDid, Ran, Idled, event_did, kept_ended}
 
 pub record Through (P : Files → Type 0) (m behind : Machine) (ds : List RanOp) : Type 0 where

@@ -3,27 +3,14 @@ use Rattle.std.proofs.Common.{◌≡◌, ℕ, true, List, Option, Some, None, re
 use Rattle.std.specs.Prelude.{option_map, is_some, if◌then◌else◌, Ok}
 use Rattle.nfs_results.specs.declared.res.Res.TheVariants as Res
 use Rattle.nfs_results.specs.Results.{spell_result}
-use Rattle.nfs_tree.specs.declared.object.Object.{Object}
-use Rattle.nfs_tree.specs.declared.stored.Stored.{Stored}
-use Rattle.nfs_tree.specs.Object.{is_directory}
-use Rattle.nfs_tree.specs.Files.{Files, stored_in, is_there, links_in}
-use Rattle.nfs_attrs.specs.Mask.{mask_of, common, trimmed_words}
-use Rattle.nfs_attrs.specs.Attributes.{readable, values}
-use Rattle.nfs_names.specs.declared.context.Context.{Context}
-use Rattle.nfs_names.specs.declared.node.Node.{Node}
+use Rattle.nfs_tree.specs.{declared.object.Object.Object, declared.stored.Stored.Stored, Object.is_directory, Files.{Files, stored_in, is_there, links_in}}
+use Rattle.nfs_attrs.specs.{Mask.{mask_of, common, trimmed_words}, Attributes.{readable, values}}
+use Rattle.nfs_names.specs.{declared.context.Context.Context, declared.node.Node.Node, Attributes.about, Checks.{node_as, node_at, current}}
 use Rattle.nfs_names.specs.State as store
-use Rattle.nfs_names.specs.Attributes.{about}
-use Rattle.nfs_names.specs.Checks.{node_as, node_at, current}
 use Rattle.nfs_exec.specs.Runs.Ops.{RanOp}
-use Rattle.nfs_exec.proofs.Step.Instances.{instance_kept}
-use Rattle.nfs_exec.proofs.Runs.AttributesTold.{told}
-use Rattle.nfs_exec.proofs.Runs.LeaseTold.{lease_kept}
-use Rattle.nfs_exec.proofs.Runs.OneRun.{IsRun}
-use Rattle.nfs_serve.specs.Step.{new_state}
-use Rattle.nfs_serve.specs.Promises.Points.{reached}
-use Rattle.nfs_serve.specs.Promises.ChangeTells.{GetsOf, AttributesAreAlike}
-use Rattle.nfs_serve.proofs.Promises.Points.{IsSound, sound_all, sound_new}
-use Rattle.nfs_serve.proofs.Promises.LaterRecords.{op_done, first_there, later_keeps, later_done}
+use Rattle.nfs_exec.proofs.{Step.Instances.instance_kept, Runs.AttributesTold.told, Runs.LeaseTold.lease_kept, Runs.OneRun.IsRun}
+use Rattle.nfs_serve.specs.{Step.new_state, Promises.Points.reached, Promises.ChangeTells.{GetsOf, AttributesAreAlike}}
+use Rattle.nfs_serve.proofs.{Promises.Points.{IsSound, sound_all, sound_new}, Promises.LaterRecords.{op_done, first_there, later_keeps, later_done}}
 use Rattle.nfs_serve.proofs.Promises.ChangeTells.{change_tells}
 
 unfoldable pub attributes_text : (words : List ℕ) (n links instance lease : ℕ) (o : Object) → List ℕ

@@ -1,12 +1,8 @@
 -- Names and listings of a directory whose change is the same.
 use Rattle.std.proofs.Common.{◌≡◌, ◌⊎◌, inl, inr, ℕ, Bool, true, false, cond, eqb, not, List, [], ◌∷◌, map, Option, Some, None, refl, sym, ◌∙◌, ap, subst}
-use Rattle.std.specs.Prelude.{◌==◌, ◌&&◌, nat_lt, find, filter, option_map, is_some, bytes_eq, Ok, ok_or}
-use Rattle.std.specs.List.{list_all}
 use Rattle.std.proofs.lemmas.Bool.{and_parts, false≢true}
-use Rattle.nfs_xdr.specs.Checks.{first_fault, judged}
-use Rattle.nfs_xdr.specs.Status.{status_number}
-use Rattle.nfs_xdr.specs.Tables.{In}
-use Rattle.nfs_xdr.specs.declared.status.Status.{Status}
+use Rattle.std.specs.{Prelude.{◌==◌, ◌&&◌, nat_lt, find, filter, option_map, is_some, bytes_eq, Ok, ok_or}, List.list_all}
+use Rattle.nfs_xdr.specs.{Checks.{first_fault, judged}, Status.status_number, Tables.In, declared.status.Status.Status}
 use Rattle.nfs_xdr.specs.declared.status.Status.TheVariants.{Nfs4Ok, NoEnt, RepTooBig, Stale, Symlink}
 use Rattle.nfs_xdr.proofs.Lists.{find_past, filter_past}
 use Rattle.nfs_compound.specs.declared.op.Item.TheVariants.{Operation}
@@ -14,26 +10,16 @@ use Rattle.nfs_compound.specs.declared.op.Op.TheVariants as Op
 use Rattle.nfs_compound.specs.declared.op_num.OpNum.TheVariants as Num
 use Rattle.nfs_results.specs.declared.res.Res.TheVariants as Res
 use Rattle.nfs_results.specs.Results.{status_of_result}
-use Rattle.nfs_tree.specs.declared.object.Object.{Object}
-use Rattle.nfs_tree.specs.declared.row.Row.{Row}
-use Rattle.nfs_tree.specs.Files.{Files, object_at, is_entry, lookup as found, listing, listed}
+use Rattle.nfs_tree.specs.{declared.object.Object.Object, declared.row.Row.Row, Files.{Files, object_at, is_entry, lookup as found, listing, listed}}
 use Rattle.nfs_attrs.specs.Permissions.{execute}
 use Rattle.nfs_opens.specs.Steps.{◌>>=◌, ◌>>◌, in_order}
-use Rattle.nfs_names.specs.declared.context.Context.{Context}
-use Rattle.nfs_names.specs.declared.node.Node.{Node}
-use Rattle.nfs_names.specs.Context.{at_object}
+use Rattle.nfs_names.specs.{declared.context.Context.Context, declared.node.Node.Node, Context.at_object}
+use Rattle.nfs_names.specs.{Checks.{node_as, node_at, current, no_directory, denied, name_checks}, Lookup.{is_link, lookup}, Outcome.{Outcome, or_refusal}}
 use Rattle.nfs_names.specs.State as store
-use Rattle.nfs_names.specs.Checks.{node_as, node_at, current, no_directory, denied, name_checks}
-use Rattle.nfs_names.specs.Lookup.{is_link, lookup}
-use Rattle.nfs_names.specs.Outcome.{Outcome, or_refusal}
 use Rattle.nfs_exec.specs.Runs.Ops.{RanOp}
 use Rattle.nfs_exec.proofs.Runs.OneRun.{IsRun, by_item}
-use Rattle.nfs_serve.specs.Step.{State, new_state}
-use Rattle.nfs_serve.specs.Promises.Points.{reached}
-use Rattle.nfs_serve.specs.Promises.ChangeTells.{entries_in}
-use Rattle.nfs_serve.specs.Promises.ChangeNames.{LooksUp, NamesAreAlike}
-use Rattle.nfs_serve.proofs.Promises.ChangeTells.{change_tells}
-use Rattle.nfs_serve.proofs.Promises.LaterRecords.{op_done, first_there, later_done}
+use Rattle.nfs_serve.specs.{Step.{State, new_state}, Promises.Points.reached, Promises.ChangeTells.entries_in, Promises.ChangeNames.{LooksUp, NamesAreAlike}}
+use Rattle.nfs_serve.proofs.{Promises.ChangeTells.change_tells, Promises.LaterRecords.{op_done, first_there, later_done}}
 use Rattle.nfs_serve.proofs.Promises.Points.{IsSound, sound_all, sound_new}
 
 -- The entries of a directory say where its names lead, and what is listed.

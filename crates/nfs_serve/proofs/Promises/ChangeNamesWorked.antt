@@ -1,17 +1,12 @@
 -- The run of a name that is looked up twice, and the wrong answers, computed.
 use Rattle.std.proofs.Common.{◌≡◌, inl, true, List, [], ◌∷◌, ◌++◌, length, take, drop, Some, refl, sym, subst, arith}
-use Rattle.nfs_xdr.specs.Tables.{In}
-use Rattle.nfs_xdr.specs.declared.status.Status.TheVariants.{Nfs4Ok}
+use Rattle.nfs_xdr.specs.{Tables.In, declared.status.Status.TheVariants.Nfs4Ok}
 use Rattle.nfs_tree.specs.Files.{root, is_there, change_of, lookup}
 use Rattle.nfs_exec.specs.Runs.Ops.{RanOp}
 use Rattle.nfs_exec.proofs.Runs.OneWalk.{in_back}
-use Rattle.nfs_serve.specs.Promises.Points.{ops_of}
-use Rattle.nfs_serve.specs.Promises.WrittenWorked.{closed, reads}
-use Rattle.nfs_serve.specs.Promises.ChangeWorked.{reads_again, read_once}
-use Rattle.nfs_serve.specs.Promises.ChangeNames.{LooksUp}
-use Rattle.nfs_serve.specs.Promises.ChangeNamesWorked.{name, lookup_in, IsFoundAgain, FindingsAreRefused}
-use Rattle.nfs_serve.proofs.Promises.HeldLock.{nothing}
-use Rattle.nfs_serve.proofs.Promises.Computing.{computing}
+use Rattle.nfs_serve.specs.{Promises.Points.ops_of, Promises.WrittenWorked.{closed, reads}, Promises.ChangeWorked.{reads_again, read_once}}
+use Rattle.nfs_serve.specs.{Promises.ChangeNames.LooksUp, Promises.ChangeNamesWorked.{name, lookup_in, IsFoundAgain, FindingsAreRefused}}
+use Rattle.nfs_serve.proofs.{Promises.HeldLock.nothing, Promises.Computing.computing}
 
 second : (x : RanOp) (ds : List RanOp) → length ds ≡ 3 → ds ≡ take 1 ds ++ lookup_in x ds ∷ drop 2 ds
 second x [] e = absurd (omega arith)

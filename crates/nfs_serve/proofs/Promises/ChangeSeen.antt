@@ -1,36 +1,23 @@
 -- What is reported of a directory's change is so, and an operation that changes an object raises its change, in whatever run.
-use Rattle.std.proofs.Common.{◌≡◌, ◌≢◌, ◌⊎◌, inl, inr, ℕ, ◌<◌, ◌≤◌, true, false, ◌∷◌, length, Some, sym, subst, arith}
+use Rattle.std.proofs.{Common.{◌≡◌, ◌≢◌, ◌⊎◌, inl, inr, ℕ, ◌<◌, ◌≤◌, true, false, ◌∷◌, length, Some, sym, subst, arith}, lemmas.Bool.{lt-ltb, false≢true}}
 use Rattle.std.specs.Prelude.{◌&&◌}
-use Rattle.std.proofs.lemmas.Bool.{lt-ltb, false≢true}
 use Rattle.nfs_xdr.specs.Tables.{In}
 use Rattle.nfs_compound.specs.declared.op.Item.TheVariants.{Operation}
 use Rattle.nfs_compound.specs.declared.op.Op.TheVariants as Op
 use Rattle.nfs_compound.specs.declared.op_num.OpNum.TheVariants as Num
-use Rattle.nfs_results.specs.declared.res.ChangeInfo.{ChangeInfo}
-use Rattle.nfs_results.specs.declared.res.CreateOk.{CreateOk}
-use Rattle.nfs_results.specs.declared.res.OpenOk.{OpenOk}
-use Rattle.nfs_results.specs.declared.res.RenameOk.{RenameOk}
-use Rattle.nfs_results.specs.declared.res.Res.TheVariants as Res
+use Rattle.nfs_results.specs.{declared.res.ChangeInfo.ChangeInfo, declared.res.CreateOk.CreateOk, declared.res.OpenOk.OpenOk, declared.res.RenameOk.RenameOk}
 use Rattle.nfs_results.specs.Results.{spell_result}
+use Rattle.nfs_results.specs.declared.res.Res.TheVariants as Res
 use Rattle.nfs_tree.specs.Files.{Files, is_there, change_of}
 use Rattle.nfs_names.specs.State as store
-use Rattle.nfs_names.specs.State.{moment}
-use Rattle.nfs_names.specs.Create.{create}
-use Rattle.nfs_names.specs.Link.{link}
+use Rattle.nfs_names.specs.{State.moment, Create.create, Link.link, Outcome.is_ok, Rename.{renamed, rename}}
 use Rattle.nfs_names.specs.Operation as names
-use Rattle.nfs_names.specs.Outcome.{is_ok}
-use Rattle.nfs_names.specs.Rename.{renamed, rename}
 use Rattle.nfs_names.proofs.Ones.{by_delay}
 use Rattle.nfs_exec.specs.Runs.Ops.{RanOp}
-use Rattle.nfs_exec.proofs.Runs.OneRun.{IsRun, by_ok}
-use Rattle.nfs_exec.proofs.Runs.OneWalk.{in_back}
-use Rattle.nfs_serve.specs.Step.{State, new_state}
-use Rattle.nfs_serve.specs.Promises.Points.{state_after, reached}
-use Rattle.nfs_serve.specs.Promises.ChangeTells.{RunsIn}
+use Rattle.nfs_exec.proofs.{Runs.OneRun.{IsRun, by_ok}, Runs.OneWalk.in_back}
+use Rattle.nfs_serve.specs.{Step.{State, new_state}, Promises.Points.{state_after, reached}, Promises.ChangeTells.RunsIn}
 use Rattle.nfs_serve.specs.Promises.ChangeSeen.{IsTheirs, ReportsOf, ReportsAreTrue, Changes, Writes, Sets, Empties, Creates, Links, Removes, ChangesAreNew}
-use Rattle.nfs_serve.proofs.Promises.ChangeTells.{change_tells}
-use Rattle.nfs_serve.proofs.Promises.LaterRecords.{op_done, later_done}
-use Rattle.nfs_serve.proofs.Promises.Points.{IsSound, sound_all, sound_new}
+use Rattle.nfs_serve.proofs.{Promises.ChangeTells.change_tells, Promises.LaterRecords.{op_done, later_done}, Promises.Points.{IsSound, sound_all, sound_new}}
 use Rattle.nfs_files.proofs.ChangesTold.{Theirs, Done, CreateTells, LinkTells, RenameTells, Raises, create_tells, remove_tells, link_tells, rename_tells, open_tells, write_raises, set_attr_raises, open_raises}
 
 -- An operation that was run, and answered NFS4_OK.

@@ -1,22 +1,14 @@
 -- The run of a change that is seen, and the wrong reports, computed.
-use Rattle.std.proofs.Common.{◌≡◌, ℕ, ◌<◌, true, false, [], ◌∷◌, ◌++◌, take, refl, arith}
-use Rattle.std.proofs.lemmas.Bool.{false≢true, ltb-true}
+use Rattle.std.proofs.{Common.{◌≡◌, ℕ, ◌<◌, true, false, [], ◌∷◌, ◌++◌, take, refl, arith}, lemmas.Bool.{false≢true, ltb-true}}
 use Rattle.nfs_compound.specs.declared.file_args.StableHow.TheVariants.{Unstable}
 use Rattle.nfs_names.specs.Context.{anonymous}
-use Rattle.nfs_results.specs.declared.res.OpenOk.{OpenOk}
+use Rattle.nfs_results.specs.{declared.res.OpenOk.OpenOk, Results.spell_result}
 use Rattle.nfs_results.specs.declared.res.Res.TheVariants as Res
-use Rattle.nfs_results.specs.Results.{spell_result}
 use Rattle.nfs_tree.specs.Files.{root, is_there, change_of}
 use Rattle.nfs_exec.specs.Runs.Ops.{RanOp}
-use Rattle.nfs_serve.specs.Promises.Points.{ops_of}
-use Rattle.nfs_serve.specs.Promises.Exchanges.{words}
-use Rattle.nfs_serve.specs.Promises.HeldLock.{start, last_of}
-use Rattle.nfs_serve.specs.Promises.WrittenWorked.{makes, made, writes}
-use Rattle.nfs_serve.specs.Promises.ChangeSeen.{IsTheirs, Changes, Writes}
-use Rattle.nfs_serve.specs.Promises.ChangeSeenWorked.{IsSeen, ReportsAreRefused}
-use Rattle.nfs_serve.proofs.Promises.HeldLock.{nothing, three}
-use Rattle.nfs_serve.proofs.Promises.Computing.{computing}
-use Rattle.nfs_serve.proofs.Promises.FileReadWorked.{opening, make_ops}
+use Rattle.nfs_serve.specs.{Promises.Points.ops_of, Promises.Exchanges.words, Promises.HeldLock.{start, last_of}, Promises.WrittenWorked.{makes, made, writes}}
+use Rattle.nfs_serve.specs.{Promises.ChangeSeen.{IsTheirs, Changes, Writes}, Promises.ChangeSeenWorked.{IsSeen, ReportsAreRefused}}
+use Rattle.nfs_serve.proofs.{Promises.HeldLock.{nothing, three}, Promises.Computing.computing, Promises.FileReadWorked.{opening, make_ops}}
 
 abbrev write : RanOp
 write = last_of nothing (ops_of made writes)

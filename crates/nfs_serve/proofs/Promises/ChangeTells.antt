@@ -1,69 +1,40 @@
 -- The change attribute tells, through whatever records come.
 use Rattle.std.proofs.Common.{◌≡◌, ◌≢◌, ◌⊎◌, inl, inr, ℕ, ◌+◌, ◌<◌, ◌≤◌, Bool, true, false, cond, not, List, [], ◌∷◌, ◌++◌, map, length, take, drop, Option, Some, None, refl, sym, ◌∙◌, ap, subst, arith}
-use Rattle.std.specs.Prelude.{◌==◌, nat_le, filter, option_map, is_some, if◌then◌else◌, Ok}
-use Rattle.std.specs.Option.{ForSome, option_map_or}
 use Rattle.std.proofs.lemmas.Bool.{cases_Bool, cases_eq, eq-eqb, ne_eqb, eqb-true, false≢true}
-use Rattle.nfs_xdr.specs.declared.time.Time.{Time}
-use Rattle.nfs_xdr.specs.declared.status.Status.TheVariants.{RepTooBig}
-use Rattle.nfs_compound.specs.declared.file_args.Read.{Read}
+use Rattle.std.specs.{Prelude.{◌==◌, nat_le, filter, option_map, is_some, if◌then◌else◌, Ok}, Option.{ForSome, option_map_or}}
+use Rattle.nfs_xdr.specs.{declared.time.Time.Time, declared.status.Status.TheVariants.RepTooBig, Tables.In}
+use Rattle.nfs_compound.specs.{declared.file_args.Read.Read, declared.op.Item.Item, declared.op.Item.TheVariants.Operation}
 use Rattle.nfs_compound.specs.declared.op_num.OpNum.TheVariants as Num
-use Rattle.nfs_results.specs.Largest.{given}
+use Rattle.nfs_results.specs.{Largest.given, Results.{spell_result, done_head}}
 use Rattle.nfs_results.specs.declared.res.Res.TheVariants as Res
-use Rattle.nfs_results.specs.Results.{spell_result, done_head}
-use Rattle.nfs_names.specs.declared.node.Node.{Node}
-use Rattle.nfs_names.specs.Checks.{node_as, node_at, current}
-use Rattle.nfs_names.proofs.Found.{ok_is, checked_ok}
+use Rattle.nfs_names.specs.{declared.node.Node.Node, Checks.{node_as, node_at, current}, declared.context.Context.Context}
+use Rattle.nfs_names.specs.{State.{with_tree, is_used, without_unused, moment}, Ending.{with_opens, table_staying, staying}, Rename.without_replaced}
+use Rattle.nfs_names.specs.Outcome.{checked}
+use Rattle.nfs_names.proofs.{Found.{ok_is, checked_ok}, Ones.each_of, Effects.{Makes, Links, Removes, Moves}}
 use Rattle.nfs_files.specs.Bytes.{file_checks, reading, may_use, readable}
 use Rattle.nfs_files.specs.Read as of_read
-use Rattle.nfs_files.proofs.Passing.{if_passed_ok}
-use Rattle.nfs_files.proofs.WrittenOps.{by_found}
-use Rattle.nfs_files.proofs.WrittenTold.{short}
-use Rattle.nfs_xdr.specs.Tables.{In}
+use Rattle.nfs_files.proofs.{Passing.if_passed_ok, WrittenOps.by_found, WrittenTold.short, Effects.{Names, Writes, Resizes, Changes, Closes}}
 use Rattle.nfs_xdr.proofs.Lists.{find_in, find_past, find_out, find_push_other, filter_past}
-use Rattle.nfs_compound.specs.declared.op.Item.{Item}
-use Rattle.nfs_compound.specs.declared.op.Item.TheVariants.{Operation}
 use Rattle.nfs_compound.specs.declared.op.Op.TheVariants as Op
-use Rattle.nfs_tree.specs.declared.row.Row.{Row}
-use Rattle.nfs_tree.specs.declared.sets.Sets.{Sets}
-use Rattle.nfs_tree.specs.declared.stored.Stored.{Stored}
-use Rattle.nfs_tree.specs.Object.{modified, no_sets}
+use Rattle.nfs_tree.specs.{declared.row.Row.Row, declared.sets.Sets.Sets, declared.stored.Stored.Stored, Object.{modified, no_sets}}
 use Rattle.nfs_tree.specs.Files.{Files, root, stored_in, is_there, change_of, change_at, with_changed, with_entries_changed, with_links_changed, without_entry, lookup, named}
 use Rattle.nfs_tree.specs.Create.{New, with_new, new_object, data_of}
-use Rattle.nfs_tree.specs.Names.{with_link, without_name, forget, Move, moves, replaced_object, with_both_changed, with_moved}
-use Rattle.nfs_tree.specs.Calls.{rename_fault}
-use Rattle.nfs_tree.specs.Bytes.{written, resized, with_bytes, with_written, with_resized}
-use Rattle.nfs_tree.proofs.Objects.{keeps_changed, stored_map, stored_within}
-use Rattle.nfs_tree.specs.TreeInvariants.{IsTree}
-use Rattle.nfs_tree.proofs.Moved.{move_granted}
-use Rattle.nfs_tree.proofs.Trees.{entry_names}
-use Rattle.nfs_opens.specs.TableInvariants.{IsTable}
-use Rattle.nfs_opens.specs.Closing.{without_open}
-use Rattle.nfs_names.specs.declared.context.Context.{Context}
+use Rattle.nfs_tree.specs.{Names.{with_link, without_name, forget, Move, moves, replaced_object, with_both_changed, with_moved}, Calls.rename_fault}
+use Rattle.nfs_tree.specs.{Bytes.{written, resized, with_bytes, with_written, with_resized}, TreeInvariants.IsTree}
+use Rattle.nfs_tree.proofs.{Objects.{keeps_changed, stored_map, stored_within}, Moved.move_granted, Trees.entry_names}
+use Rattle.nfs_opens.specs.{TableInvariants.IsTable, Closing.without_open}
 use Rattle.nfs_names.specs.State as store
-use Rattle.nfs_names.specs.State.{with_tree, is_used, without_unused, moment}
-use Rattle.nfs_names.specs.Ending.{with_opens, table_staying, staying}
-use Rattle.nfs_names.specs.Rename.{without_replaced}
-use Rattle.nfs_names.specs.Outcome.{checked}
 use Rattle.nfs_names.specs.Operation as names
-use Rattle.nfs_names.proofs.Ones.{each_of}
 use Rattle.nfs_names.proofs.Sound as names_sound
 use Rattle.nfs_names.proofs.Effects as names_effects
-use Rattle.nfs_names.proofs.Effects.{Makes, Links, Removes, Moves}
 use Rattle.nfs_names.proofs.Effected as names_effected
 use Rattle.nfs_files.proofs.Effects as files_effects
-use Rattle.nfs_files.proofs.Effects.{Names, Writes, Resizes, Changes, Closes}
 use Rattle.nfs_files.proofs.Effected as files_effected
 use Rattle.nfs_files.proofs.Sound as files_sound
 use Rattle.nfs_files.proofs.Outcomes as files
-use Rattle.nfs_exec.specs.Step.Machine.{Machine}
-use Rattle.nfs_exec.specs.Runs.Ops.{RanOp}
-use Rattle.nfs_exec.proofs.Runs.AttributesTold.{change_in}
-use Rattle.nfs_exec.proofs.Runs.KeptByRuns.{Is}
-use Rattle.nfs_exec.proofs.Runs.OneRun.{IsRun, by_item, by_run}
-use Rattle.nfs_exec.proofs.Runs.OneWalk.{IsKept}
-use Rattle.nfs_serve.specs.Step.{new_state}
-use Rattle.nfs_serve.specs.Promises.Points.{reached}
-use Rattle.nfs_serve.specs.Promises.ChangeTells.{Tells, ChangeTells, ReadsOf, ReadsAreAlike, ChangeIsTold}
+use Rattle.nfs_exec.specs.{Step.Machine.Machine, Runs.Ops.RanOp}
+use Rattle.nfs_exec.proofs.{Runs.AttributesTold.change_in, Runs.KeptByRuns.Is, Runs.OneRun.{IsRun, by_item, by_run}, Runs.OneWalk.IsKept}
+use Rattle.nfs_serve.specs.{Step.new_state, Promises.Points.reached, Promises.ChangeTells.{Tells, ChangeTells, ReadsOf, ReadsAreAlike, ChangeIsTold}}
 use Rattle.nfs_serve.proofs.Promises.Points.{IsSound, sound_all, sound_new}
 use Rattle.nfs_serve.proofs.Promises.SameRows.{SameRows, rows_are, rows_on, rows_push, rows_without, rows_moved}
 use Rattle.nfs_serve.proofs.Promises.LaterRecords.{op_done, first_there, later_keeps, later_done}

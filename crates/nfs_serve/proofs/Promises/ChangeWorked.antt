@@ -1,30 +1,21 @@
 -- The run of a change that tells, and the wrong steps, computed.
 use Rattle.std.proofs.Common.{◌≡◌, inl, ℕ, ◌<◌, true, List, [], ◌∷◌, ◌++◌, length, get_or, take, Option, Some, refl, sym, ◌∙◌, ap, subst, arith}
-use Rattle.std.specs.Prelude.{◌==◌}
-use Rattle.std.specs.Option.{option_map_or}
-use Rattle.nfs_compound.specs.declared.file_args.Read.{Read}
-use Rattle.nfs_compound.specs.declared.op.Item.TheVariants.{Operation}
+use Rattle.std.specs.{Prelude.{◌==◌}, Option.option_map_or}
+use Rattle.nfs_compound.specs.{declared.file_args.Read.Read, declared.op.Item.TheVariants.Operation}
 use Rattle.nfs_compound.specs.declared.op.Op.TheVariants as Op
 use Rattle.nfs_compound.specs.declared.op_num.OpNum.TheVariants as Num
-use Rattle.nfs_names.specs.Context.{anonymous}
+use Rattle.nfs_names.specs.{Context.anonymous, GetAttr.get_attr}
 use Rattle.nfs_results.specs.Items as results
 use Rattle.nfs_results.specs.Results.{done_head}
 use Rattle.nfs_attrs.specs.Attributes.{values}
-use Rattle.nfs_names.specs.GetAttr.{get_attr}
-use Rattle.nfs_tree.specs.declared.row.Row.{Row}
-use Rattle.nfs_tree.specs.declared.stored.Stored.{Stored}
-use Rattle.nfs_tree.specs.Files.{Files, root, is_there, change_of}
+use Rattle.nfs_tree.specs.{declared.row.Row.Row, declared.stored.Stored.Stored, Files.{Files, root, is_there, change_of}}
 use Rattle.nfs_xdr.specs.Tables.{In}
 use Rattle.nfs_xdr.proofs.Lists.{last_in, count_push}
 use Rattle.nfs_exec.specs.Runs.Ops.{RanOp}
-use Rattle.nfs_serve.specs.Promises.Points.{ops_of}
-use Rattle.nfs_serve.specs.Promises.Exchanges.{words}
-use Rattle.nfs_serve.specs.Promises.HeldLock.{last_of}
-use Rattle.nfs_serve.specs.Promises.WrittenWorked.{made, writes, closed, reads}
+use Rattle.nfs_serve.specs.{Promises.Points.ops_of, Promises.Exchanges.words, Promises.HeldLock.last_of, Promises.WrittenWorked.{made, writes, closed, reads}}
 use Rattle.nfs_serve.specs.Promises.ChangeTells.{Tells, ReadsOf, GetsOf}
 use Rattle.nfs_serve.specs.Promises.ChangeWorked.{reads_again, read_once, gets, got_once, ToldByAttributes, ToldByChange, with_second_name, as_read, ChangesAreRefused}
-use Rattle.nfs_serve.proofs.Promises.HeldLock.{nothing, three}
-use Rattle.nfs_serve.proofs.Promises.Computing.{computing}
+use Rattle.nfs_serve.proofs.{Promises.HeldLock.{nothing, three}, Promises.Computing.computing}
 
 abbrev write : RanOp
 write = last_of nothing (ops_of made writes)

@@ -1,38 +1,18 @@
 -- What a run that is worked by hand computes with: how calls are read, what their operations do and how results are spelled.
-use Rattle.nfs_xdr.specs.Spelling.{number, hyper}
-use Rattle.nfs_xdr.specs.Reading.{opaque_at, fixed_at, pieces_at, flag_at}
-use Rattle.nfs_xdr.specs.AuthSys.{auth_sys}
-use Rattle.nfs_rpc.specs.HeadCodec.{header, opaque_auth}
-use Rattle.nfs_rpc.specs.CallHead.{call_of, behind_header, caller_of}
-use Rattle.nfs_rpc.specs.Reply.{spell_head}
-use Rattle.nfs_compound.specs.ReadRequest.{request_at, items_at, item_at}
-use Rattle.nfs_compound.specs.OpCodec.{op_at, fault_at}
+use Rattle.nfs_xdr.specs.{Spelling.{number, hyper}, Reading.{opaque_at, fixed_at, pieces_at, flag_at}, AuthSys.auth_sys}
+use Rattle.nfs_rpc.specs.{HeadCodec.{header, opaque_auth}, CallHead.{call_of, behind_header, caller_of}, Reply.spell_head}
+use Rattle.nfs_compound.specs.{ReadRequest.{request_at, items_at, item_at}, OpCodec.{op_at, fault_at}}
 use Rattle.nfs_compound.specs.ArgCodecs.{exchange_id_args, create_session_args, sequence_args, sec_parms, protected, impl_id, lock_type, open_to_lock_owner, exist_lock_owner}
-use Rattle.nfs_compound.specs.ArgCodecs.{locker, lock_args, lock_u_args, read_args, write_args, stable_how}
-use Rattle.nfs_compound.specs.ArgCodecs as compound_attributes
-use Rattle.nfs_compound.specs.ChannelAttrs.{channel_attrs}
-use Rattle.nfs_compound.specs.Stateid.{stateid}
+use Rattle.nfs_compound.specs.{ArgCodecs.{locker, lock_args, lock_u_args, read_args, write_args, stable_how}, ChannelAttrs.channel_attrs, Stateid.stateid}
 use Rattle.nfs_compound.specs.StateOwner.{state_owner}
 use Rattle.nfs_compound.specs.OpenCodecs.{create_how, open_how, delegation_type, open_claim, open_args, open_downgrade_args, close_args}
+use Rattle.nfs_compound.specs.ArgCodecs as compound_attributes
 use Rattle.nfs_results.specs.Items as results
 use Rattle.nfs_ranges.specs.Told.{told}
-use Rattle.nfs_attrs.specs.Attributes.{attributes}
-use Rattle.nfs_attrs.specs.SettingsCodec.{settings, settings_of}
-use Rattle.nfs_attrs.specs.Handle.{handle}
-use Rattle.nfs_names.specs.Create.{wanted_of}
-use Rattle.nfs_names.specs.Checks.{current, permits}
-use Rattle.nfs_names.specs.PutFh.{put_fh}
-use Rattle.nfs_names.specs.PutRootFh.{put_root_fh}
-use Rattle.nfs_names.specs.Lookup.{lookup}
-use Rattle.nfs_files.specs.Open.{asked_for, open_file}
-use Rattle.nfs_files.specs.Target.{the_file, target}
-use Rattle.nfs_files.specs.Ranges.{range, wished}
-use Rattle.nfs_files.specs.Denied.{denied}
-use Rattle.nfs_files.specs.Lock.{lock}
-use Rattle.nfs_files.specs.LockU.{lock_u}
-use Rattle.nfs_files.specs.OpenDowngrade.{open_downgrade}
-use Rattle.nfs_files.specs.Bytes.{seat, may_use, readable, writable}
-use Rattle.nfs_files.specs.Close.{close}
+use Rattle.nfs_attrs.specs.{Attributes.attributes, SettingsCodec.{settings, settings_of}, Handle.handle}
+use Rattle.nfs_names.specs.{Create.wanted_of, Checks.{current, permits}, PutFh.put_fh, PutRootFh.put_root_fh, Lookup.lookup}
+use Rattle.nfs_files.specs.{Open.{asked_for, open_file}, Target.{the_file, target}, Ranges.{range, wished}, Denied.denied, Lock.lock, LockU.lock_u}
+use Rattle.nfs_files.specs.{OpenDowngrade.open_downgrade, Bytes.{seat, may_use, readable, writable}, Close.close}
 use Rattle.nfs_files.specs.Read as file_read
 use Rattle.nfs_files.specs.Write as file_write
 use Rattle.nfs_serve.specs.Step.{step}

@@ -1,62 +1,33 @@
 -- A LOCK or a LOCKT that is answered NFS4ERR_DENIED found a lock that is in its way, and reports it.
-use Rattle.std.proofs.Common.{◌≡◌, ℕ, Bool, true, false, cond, not, List, Option, Some, None, refl, sym, ◌∙◌, ap, subst}
+use Rattle.std.proofs.{Common.{◌≡◌, ℕ, Bool, true, false, cond, not, List, Option, Some, None, refl, sym, ◌∙◌, ap, subst}, lemmas.Bool.{false≢true}}
 use Rattle.std.specs.Prelude.{◌==◌, ◌&&◌, ◌||◌, Result, Ok, Err, ok_or}
-use Rattle.std.proofs.lemmas.Bool.{false≢true}
-use Rattle.nfs_xdr.specs.Checks.{first_fault}
-use Rattle.nfs_xdr.specs.Status.{status_number}
-use Rattle.nfs_xdr.specs.declared.time.Time.{Time}
-use Rattle.nfs_xdr.specs.declared.status.Status.{Status}
+use Rattle.nfs_xdr.specs.{Checks.first_fault, Status.status_number, declared.time.Time.Time, declared.status.Status.Status}
 use Rattle.nfs_xdr.specs.declared.status.Status.TheVariants as S
-use Rattle.nfs_compound.specs.OpNum.{op_number}
-use Rattle.nfs_compound.specs.declared.lock_args.Lock.{Lock}
-use Rattle.nfs_compound.specs.declared.lock_args.LockT.{LockT}
-use Rattle.nfs_compound.specs.declared.lock_args.LockType.{LockType}
-use Rattle.nfs_compound.specs.declared.lock_args.Locker.{Locker}
-use Rattle.nfs_compound.specs.declared.lock_args.Locker.TheVariants.{LockOwner, OpenOwner}
+use Rattle.nfs_compound.specs.{OpNum.op_number, declared.lock_args.Lock.Lock, declared.lock_args.LockT.LockT, declared.lock_args.LockType.LockType}
+use Rattle.nfs_compound.specs.{declared.lock_args.Locker.Locker, declared.lock_args.Locker.TheVariants.{LockOwner, OpenOwner}, declared.stateid.Stateid.Stateid}
 use Rattle.nfs_compound.specs.declared.op_num.OpNum.TheVariants as Num
 use Rattle.nfs_compound.specs.declared.op.Op.TheVariants as Op
-use Rattle.nfs_compound.specs.declared.stateid.Stateid.{Stateid}
 use Rattle.nfs_results.specs.declared.res.Denied as result
-use Rattle.nfs_results.specs.declared.res.Res.{Res}
-use Rattle.nfs_results.specs.Results.{status_of_result, refusal}
+use Rattle.nfs_results.specs.{declared.res.Res.Res, Results.{status_of_result, refusal}}
 use Rattle.nfs_ranges.specs.declared.Held.{Held}
-use Rattle.nfs_opens.specs.declared.judging.Seat.{Seat}
-use Rattle.nfs_opens.specs.declared.judging.Sort.{Sort}
-use Rattle.nfs_opens.specs.declared.judging.Seat.TheVariants.{Anonymous, ReadBypass}
-use Rattle.nfs_opens.specs.declared.judging.Sort.TheVariants.{OpenOnly, LockOnly, Either}
-use Rattle.nfs_opens.specs.declared.locking.Wish.{Wish}
-use Rattle.nfs_opens.specs.declared.locking.OpenFault.{OpenFault}
-use Rattle.nfs_opens.specs.declared.locking.OpenFault.TheVariants as F
-use Rattle.nfs_opens.specs.declared.records.LockState.{LockState}
-use Rattle.nfs_opens.specs.declared.share.Share.{Share}
-use Rattle.nfs_opens.specs.declared.stateid.CurrentSeqid.{CurrentSeqid}
-use Rattle.nfs_opens.specs.declared.stateid.CurrentSeqid.TheVariants.{Any}
-use Rattle.nfs_opens.specs.declared.stateid.StateId.{StateId}
+use Rattle.nfs_opens.specs.{declared.judging.Seat.Seat, declared.judging.Sort.Sort, declared.judging.Seat.TheVariants.{Anonymous, ReadBypass}}
+use Rattle.nfs_opens.specs.{declared.judging.Sort.TheVariants.{OpenOnly, LockOnly, Either}, declared.locking.Wish.Wish, declared.locking.OpenFault.OpenFault}
+use Rattle.nfs_opens.specs.{declared.records.LockState.LockState, declared.share.Share.Share, declared.stateid.CurrentSeqid.CurrentSeqid}
+use Rattle.nfs_opens.specs.{declared.stateid.CurrentSeqid.TheVariants.Any, declared.stateid.StateId.StateId}
 use Rattle.nfs_opens.specs.Judging.{judge_checks, judge_named, special, judge, named, seated}
-use Rattle.nfs_opens.specs.Locking as locking
-use Rattle.nfs_opens.specs.StateId.{last_number, is_anonymous, is_bypass, is_current, has_zeros, has_ones, with_seqid}
-use Rattle.nfs_opens.specs.Steps.{◌>>=◌, require, map_err}
+use Rattle.nfs_opens.specs.{StateId.{last_number, is_anonymous, is_bypass, is_current, has_zeros, has_ones, with_seqid}, Steps.{◌>>=◌, require, map_err}}
 use Rattle.nfs_opens.specs.Table.{Table, lock_at}
+use Rattle.nfs_opens.specs.declared.locking.OpenFault.TheVariants as F
+use Rattle.nfs_opens.specs.Locking as locking
 use Rattle.nfs_opens.proofs.CallLaws.{came}
-use Rattle.nfs_names.specs.declared.context.Context.{Context}
-use Rattle.nfs_names.specs.Checks.{node_as, node_at, current}
-use Rattle.nfs_names.specs.Outcome.{Outcome, passed, checked, mapped, answers}
+use Rattle.nfs_names.specs.{declared.context.Context.Context, Checks.{node_as, node_at, current}, Outcome.{Outcome, passed, checked, mapped, answers}}
 use Rattle.nfs_names.specs.State.{State}
-use Rattle.nfs_names.proofs.Faulted.{status_of_refusal}
-use Rattle.nfs_names.proofs.Ones.{by_delay}
-use Rattle.nfs_tree.specs.declared.object.Object.{Object}
-use Rattle.nfs_tree.specs.Files.{object_at}
-use Rattle.nfs_files.specs.Bytes.{file_checks}
-use Rattle.nfs_files.specs.Denied.{denied, status_of}
+use Rattle.nfs_names.proofs.{Faulted.status_of_refusal, Ones.by_delay}
+use Rattle.nfs_tree.specs.{declared.object.Object.Object, Files.object_at}
+use Rattle.nfs_files.specs.{Bytes.file_checks, Denied.{denied, status_of}, LockT.{tested, lock_t}, Operation.grows}
+use Rattle.nfs_files.specs.{Ranges.{last_of, range, range_checks, wish, wished}, StateIds.{state_id, meant}, Target.the_file}
 use Rattle.nfs_files.specs.Lock as of_lock
-use Rattle.nfs_files.specs.LockT.{tested, lock_t}
-use Rattle.nfs_files.specs.Operation.{grows}
-use Rattle.nfs_files.specs.Ranges.{last_of, range, range_checks, wish, wished}
-use Rattle.nfs_files.specs.StateIds.{state_id, meant}
-use Rattle.nfs_files.specs.Target.{the_file}
-use Rattle.nfs_files.proofs.Outcomes.{one_or_delay}
-use Rattle.nfs_files.proofs.Prompt.{all_pass, first_passes, not_true}
-use Rattle.nfs_files.proofs.Wishes.{lock_wish}
+use Rattle.nfs_files.proofs.{Outcomes.one_or_delay, Prompt.{all_pass, first_passes, not_true}, Wishes.lock_wish}
 
 -- What is checked first answers other statuses.
 

@@ -1,34 +1,20 @@
 -- An entry of a listing tells what a GETATTR of its object does, and so the same while the object's change is the same.
-use Rattle.std.proofs.Common.{◌≡◌, ℕ, true, false, List, Option, Some, None, refl, sym, ◌∙◌, ap, subst}
+use Rattle.std.proofs.{Common.{◌≡◌, ℕ, true, false, List, Option, Some, None, refl, sym, ◌∙◌, ap, subst}, lemmas.Bool.{false≢true}}
 use Rattle.std.specs.Prelude.{option_map, is_some}
-use Rattle.std.proofs.lemmas.Bool.{false≢true}
 use Rattle.nfs_xdr.specs.Tables.{In}
-use Rattle.nfs_results.specs.declared.res.Entry.{Entry}
-use Rattle.nfs_results.specs.declared.res.Fattr.{Fattr}
+use Rattle.nfs_results.specs.{declared.res.Entry.Entry, declared.res.Fattr.Fattr, Results.spell_result}
 use Rattle.nfs_results.specs.declared.res.Res.TheVariants as Res
-use Rattle.nfs_results.specs.Results.{spell_result}
-use Rattle.nfs_tree.specs.declared.row.Row.{Row}
-use Rattle.nfs_tree.specs.declared.stored.Stored.{Stored}
-use Rattle.nfs_tree.specs.Files.{Files, stored_in, is_there, object_at, lookup}
-use Rattle.nfs_attrs.specs.Mask.{mask_of}
-use Rattle.nfs_attrs.specs.declared.mask.Mask.{Mask}
+use Rattle.nfs_tree.specs.{declared.row.Row.Row, declared.stored.Stored.Stored, Files.{Files, stored_in, is_there, object_at, lookup}}
+use Rattle.nfs_attrs.specs.{Mask.mask_of, declared.mask.Mask.Mask}
 use Rattle.nfs_names.specs.ReadDir.{attributes_at, entry_of}
 use Rattle.nfs_names.specs.State as store
 use Rattle.nfs_exec.specs.Runs.Ops.{RanOp}
-use Rattle.nfs_exec.proofs.Step.Instances.{instance_kept}
-use Rattle.nfs_exec.proofs.Runs.LeaseTold.{lease_kept}
-use Rattle.nfs_exec.proofs.Runs.OneRun.{IsRun}
-use Rattle.nfs_serve.specs.Step.{new_state}
-use Rattle.nfs_serve.specs.Promises.EntriesAlike.{TellsOf, Gets, Lists, EntriesAreAlike}
-use Rattle.nfs_serve.specs.Promises.ListsAll.{Page, IsPage}
+use Rattle.nfs_exec.proofs.{Step.Instances.instance_kept, Runs.LeaseTold.lease_kept, Runs.OneRun.IsRun}
+use Rattle.nfs_serve.specs.{Step.new_state, Promises.EntriesAlike.{TellsOf, Gets, Lists, EntriesAreAlike}, Promises.ListsAll.{Page, IsPage}}
 use Rattle.nfs_serve.specs.Promises.Points.{reached}
-use Rattle.nfs_serve.proofs.Promises.ChangeAttributes.{attributes_text, Attributes, gets_run, text_same, stored_there}
-use Rattle.nfs_serve.proofs.Promises.ChangeTells.{change_tells}
-use Rattle.nfs_serve.proofs.Promises.LaterRecords.{op_done, first_there, later_keeps, later_done}
-use Rattle.nfs_serve.proofs.Promises.ListsAll.{page_lists}
-use Rattle.nfs_serve.proofs.Promises.PageLists.{first_in}
-use Rattle.nfs_serve.proofs.Promises.PageRows.{entry_at, entry_name}
-use Rattle.nfs_serve.proofs.Promises.Points.{IsSound, sound_all, sound_new}
+use Rattle.nfs_serve.proofs.{Promises.ChangeAttributes.{attributes_text, Attributes, gets_run, text_same, stored_there}, Promises.ChangeTells.change_tells}
+use Rattle.nfs_serve.proofs.{Promises.LaterRecords.{op_done, first_there, later_keeps, later_done}, Promises.ListsAll.page_lists, Promises.PageLists.first_in}
+use Rattle.nfs_serve.proofs.{Promises.PageRows.{entry_at, entry_name}, Promises.Points.{IsSound, sound_all, sound_new}}
 
 stored_of : (t : Files) (n : ℕ) → is_there t n ≡ true → (k : Stored) × (stored_in t.objects n ≡ Some k)
 stored_of t n there = go (stored_in t.objects n) refl there

@@ -1,22 +1,12 @@
 -- The runs of two scripts, computed.
-use Rattle.std.proofs.Common.{◌≡◌, ℕ, List, [], ◌∷◌, ◌++◌, None, refl, sym, arith, append-nil}
-use Rattle.std.proofs.lemmas.List.Elements.{All-nil, All-push}
-use Rattle.nfs_xdr.specs.Spelling.{number, hyper}
-use Rattle.nfs_xdr.specs.Reading.{opaque_at, fixed_at, flag_at, pieces_at}
-use Rattle.nfs_rpc.specs.RecordMarking.{IsRecord, start}
-use Rattle.nfs_rpc.specs.Stream.{Open, IsReading}
-use Rattle.nfs_rpc.specs.HeadCodec.{header, opaque_auth}
-use Rattle.nfs_rpc.specs.CallHead.{call_of, behind_header, caller_of}
-use Rattle.nfs_xdr.specs.AuthSys.{auth_sys}
-use Rattle.nfs_rpc.specs.Reply.{spell_head}
+use Rattle.std.proofs.{Common.{◌≡◌, ℕ, List, [], ◌∷◌, ◌++◌, None, refl, sym, arith, append-nil}, lemmas.List.Elements.{All-nil, All-push}}
+use Rattle.nfs_xdr.specs.{Spelling.{number, hyper}, Reading.{opaque_at, fixed_at, flag_at, pieces_at}, AuthSys.auth_sys}
+use Rattle.nfs_rpc.specs.{RecordMarking.{IsRecord, start}, Stream.{Open, IsReading}, HeadCodec.{header, opaque_auth}}
+use Rattle.nfs_rpc.specs.{CallHead.{call_of, behind_header, caller_of}, Reply.spell_head}
 use Rattle.nfs_rpc.proofs.Readings.{part_unfinished}
-use Rattle.nfs_compound.specs.ReadRequest.{request_at, items_at, item_at}
-use Rattle.nfs_compound.specs.OpCodec.{op_at, fault_at}
-use Rattle.nfs_compound.specs.ArgCodecs.{exchange_id_args, protected, impl_id}
+use Rattle.nfs_compound.specs.{ReadRequest.{request_at, items_at, item_at}, OpCodec.{op_at, fault_at}, ArgCodecs.{exchange_id_args, protected, impl_id}}
 use Rattle.nfs_results.specs.Items as results
-use Rattle.nfs_serve.specs.declared.form.Form.TheVariants.{Tagged}
-use Rattle.nfs_serve.specs.Script.{Entry, head, Fits, IsWhole}
-use Rattle.nfs_serve.specs.Step.{new_state, step}
+use Rattle.nfs_serve.specs.{declared.form.Form.TheVariants.Tagged, Script.{Entry, head, Fits, IsWhole}, Step.{new_state, step}}
 use Rattle.nfs_serve.specs.Run.{Streams, all_closed, with_stream, TakesAll, StreamEvent, Arrives, Move, events, output}
 use Rattle.nfs_serve.specs.Promises.Exchanges.{RunsTo, words, null_call, null_script, null_output, exchange_call, exchange_script, exchange_output}
 use Rattle.nfs_serve.proofs.Pieces.{start_holds}

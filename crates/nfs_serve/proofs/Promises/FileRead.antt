@@ -1,56 +1,31 @@
 -- What a READ of a file answers, through whatever records come.
 use Rattle.std.proofs.Common.{◌≡◌, inl, inr, ℕ, ◌+◌, Bool, true, false, List, [], ◌∷◌, ◌++◌, length, Option, Some, None, refl, sym, ◌∙◌, ap, subst}
-use Rattle.std.specs.Prelude.{nat_le, option_map, unwrap_or, Ok}
-use Rattle.std.specs.Option.{option_map_or}
 use Rattle.std.proofs.lemmas.Bool.{cases_Bool, false≢true}
-use Rattle.nfs_xdr.specs.Spelling.{flag, opaque}
-use Rattle.nfs_xdr.specs.Tables.{In}
-use Rattle.nfs_xdr.specs.declared.status.Status.TheVariants.{RepTooBig}
-use Rattle.nfs_compound.specs.declared.file_args.Read.{Read}
-use Rattle.nfs_compound.specs.declared.op.Item.{Item}
-use Rattle.nfs_compound.specs.declared.op.Item.TheVariants.{Operation}
+use Rattle.std.specs.{Prelude.{nat_le, option_map, unwrap_or, Ok}, Option.option_map_or}
+use Rattle.nfs_xdr.specs.{Spelling.{flag, opaque}, Tables.In, declared.status.Status.TheVariants.RepTooBig}
+use Rattle.nfs_compound.specs.{declared.file_args.Read.Read, declared.op.Item.Item, declared.op.Item.TheVariants.Operation}
 use Rattle.nfs_compound.specs.declared.op.Op.TheVariants as Op
 use Rattle.nfs_compound.specs.declared.op_num.OpNum.TheVariants as Num
 use Rattle.nfs_results.specs.Items as item
-use Rattle.nfs_results.specs.declared.res.ReadOk.{ReadOk}
+use Rattle.nfs_results.specs.{declared.res.ReadOk.ReadOk, Results.{spell_result, done_head, status_of_result}}
 use Rattle.nfs_results.specs.declared.res.Res.TheVariants as Res
-use Rattle.nfs_results.specs.Results.{spell_result, done_head, status_of_result}
-use Rattle.nfs_tree.specs.declared.stored.Stored.{Stored}
-use Rattle.nfs_tree.specs.declared.object.Object.{Object}
-use Rattle.nfs_tree.specs.Files.{Files, stored_in, object_at, data_at, is_there}
-use Rattle.nfs_names.specs.declared.context.Context.{Context}
-use Rattle.nfs_names.specs.declared.node.Node.{Node}
+use Rattle.nfs_tree.specs.{declared.stored.Stored.Stored, declared.object.Object.Object, Files.{Files, stored_in, object_at, data_at, is_there}}
+use Rattle.nfs_names.specs.{declared.context.Context.Context, declared.node.Node.Node, State.moment, Checks.current, Outcome.{Outcome, checked, is_ok}}
 use Rattle.nfs_names.specs.State as store
-use Rattle.nfs_names.specs.State.{moment}
-use Rattle.nfs_names.specs.Checks.{current}
 use Rattle.nfs_names.specs.Operation as names
-use Rattle.nfs_names.specs.Outcome.{Outcome, checked, is_ok}
-use Rattle.nfs_names.proofs.Found.{checked_ok, current_is}
-use Rattle.nfs_names.proofs.NameLaws.{current_refuses}
-use Rattle.nfs_files.specs.Bytes.{file_checks, reading, may_use, readable}
-use Rattle.nfs_files.specs.FileImage.{Image, unwritten, new_size, bytes_read, read_answer}
+use Rattle.nfs_names.proofs.{Found.{checked_ok, current_is}, NameLaws.current_refuses}
+use Rattle.nfs_files.specs.{Bytes.{file_checks, reading, may_use, readable}, FileImage.{Image, unwritten, new_size, bytes_read, read_answer}}
 use Rattle.nfs_files.specs.Operation as table
 use Rattle.nfs_files.specs.Read as of_read
-use Rattle.nfs_files.proofs.Passing.{if_passed_ok}
-use Rattle.nfs_files.proofs.ReadBytes.{readable_is, size_is}
-use Rattle.nfs_files.proofs.Seats.{readable_refuses}
-use Rattle.nfs_files.proofs.WrittenOps.{current_number}
-use Rattle.nfs_exec.specs.Step.Machine.{Machine}
-use Rattle.nfs_exec.specs.Step.Behind.{otherwise, stays}
-use Rattle.nfs_exec.specs.Step.Laws.{MachineEvent, Expires, Asks, stepped}
+use Rattle.nfs_files.proofs.{Passing.if_passed_ok, ReadBytes.{readable_is, size_is}, Seats.readable_refuses, WrittenOps.current_number}
+use Rattle.nfs_files.proofs.{FileImages.{IsOf, bytes_are, Has, has_staying}, FileOps.{Left, same_if, by_granted, file_left, names_left, open_made}}
+use Rattle.nfs_exec.specs.{Step.Machine.Machine, Step.Behind.{otherwise, stays}, Step.Laws.{MachineEvent, Expires, Asks, stepped}}
 use Rattle.nfs_exec.specs.Runs.Ops.{RanOp, ops_by, left_by, AreChained}
-use Rattle.nfs_exec.proofs.Runs.WhatWasDone.{event_run}
-use Rattle.nfs_exec.proofs.Runs.OneRun.{IsRun, too_big, by_item, by_ok, by_run}
-use Rattle.nfs_exec.proofs.Runs.AttributesTold.{size_in}
-use Rattle.nfs_exec.proofs.Runs.OneWalk.{none_at, in_back}
-use Rattle.nfs_exec.proofs.Runs.KeptByRuns.{Is}
-use Rattle.nfs_serve.specs.Step.{State, new_state}
-use Rattle.nfs_serve.specs.Promises.Endpoint.{Arrival}
-use Rattle.nfs_serve.specs.Promises.Points.{state_after, reached, taken, before, asked_by, ops_of}
+use Rattle.nfs_exec.proofs.{Runs.WhatWasDone.event_run, Runs.OneRun.{IsRun, too_big, by_item, by_ok, by_run}, Runs.AttributesTold.size_in}
+use Rattle.nfs_exec.proofs.{Runs.OneWalk.{none_at, in_back}, Runs.KeptByRuns.Is}
+use Rattle.nfs_serve.specs.{Step.{State, new_state}, Promises.Endpoint.Arrival, Promises.Points.{state_after, reached, taken, before, asked_by, ops_of}}
 use Rattle.nfs_serve.specs.Promises.FileRead.{image_after, image_after_all, ReadsImage, SizeIsTold, ReadsWhole, ReadsThrough, MakesFile, ReadsAreWhole}
 use Rattle.nfs_serve.proofs.Promises.Chained.{through, chained_at, left_at}
-use Rattle.nfs_files.proofs.FileImages.{IsOf, bytes_are, Has, has_staying}
-use Rattle.nfs_files.proofs.FileOps.{Left, same_if, by_granted, file_left, names_left, open_made}
 use Rattle.nfs_serve.proofs.Promises.Points.{left, for_asked, next_is, IsSound, whole_before, sound_next, sound_all, sound_new}
 
 -- One operation.

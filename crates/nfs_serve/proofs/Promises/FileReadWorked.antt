@@ -1,19 +1,14 @@
 -- The run of a file that is read, and the wrong answers, computed.
 use Rattle.std.proofs.Common.{◌≡◌, ℕ, List, [], ◌∷◌, ◌++◌, length, get_or, take, refl, sym, ap, arith}
-use Rattle.nfs_compound.specs.ArgCodecs.{set_attr_args}
-use Rattle.nfs_compound.specs.declared.file_args.Read.{Read}
+use Rattle.nfs_compound.specs.{ArgCodecs.set_attr_args, declared.file_args.Read.Read}
 use Rattle.nfs_names.specs.Context.{anonymous}
 use Rattle.nfs_files.specs.FileImage.{bytes_read, read_answer}
 use Rattle.nfs_files.specs.SetAttr as of_set
 use Rattle.nfs_exec.specs.Runs.Ops.{RanOp}
-use Rattle.nfs_serve.specs.Promises.Points.{ops_of}
-use Rattle.nfs_serve.specs.Promises.Exchanges.{words}
-use Rattle.nfs_serve.specs.Promises.HeldLock.{start, last_of}
-use Rattle.nfs_serve.specs.Promises.WrittenWorked.{makes, closed, reads, answering}
-use Rattle.nfs_serve.specs.Promises.FileRead.{MakesFile, ReadsImage}
+use Rattle.nfs_serve.specs.{Promises.Points.ops_of, Promises.Exchanges.words, Promises.HeldLock.{start, last_of}}
+use Rattle.nfs_serve.specs.{Promises.WrittenWorked.{makes, closed, reads, answering}, Promises.FileRead.{MakesFile, ReadsImage}}
 use Rattle.nfs_serve.specs.Promises.FileReadWorked.{longer, reads_hole, as_closed, as_longer, IsReadWhole, ReadsAreRefused}
-use Rattle.nfs_serve.proofs.Promises.HeldLock.{nothing, three}
-use Rattle.nfs_serve.proofs.Promises.Computing.{computing}
+use Rattle.nfs_serve.proofs.{Promises.HeldLock.{nothing, three}, Promises.Computing.computing}
 
 two : (x : RanOp) (ds : List RanOp) → length ds ≡ 2 → ds ≡ take 1 ds ++ last_of x ds ∷ []
 two x [] e = absurd (omega arith)

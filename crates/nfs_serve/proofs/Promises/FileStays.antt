@@ -1,56 +1,30 @@
 -- A file that is open stays, whatever becomes of its names; and an object that no name leads to is not named again.
 use Rattle.std.proofs.Common.{◌≡◌, ◌≢◌, ℕ, ◌<◌, ◌^◌, Bool, true, false, cond, List, [], ◌∷◌, Option, Some, None, refl, sym, ◌∙◌, ap, subst, inl, inr}
-use Rattle.std.specs.Prelude.{◌==◌, ◌&&◌, ◌||◌, is_some, option_map, Ok}
-use Rattle.std.specs.Option.{option_map_or}
 use Rattle.std.proofs.lemmas.Bool.{eq-eqb, false≢true}
-use Rattle.nfs_xdr.specs.Tables.{In}
-use Rattle.nfs_xdr.specs.declared.status.Status.{Status}
-use Rattle.nfs_xdr.specs.declared.status.Status.TheVariants.{RepTooBig, Stale}
+use Rattle.std.specs.{Prelude.{◌==◌, ◌&&◌, ◌||◌, is_some, option_map, Ok}, Option.option_map_or}
+use Rattle.nfs_xdr.specs.{Tables.In, declared.status.Status.Status, declared.status.Status.TheVariants.{RepTooBig, Stale}}
 use Rattle.nfs_xdr.proofs.Lists.{any_in}
-use Rattle.nfs_compound.specs.Request.{item_number}
-use Rattle.nfs_compound.specs.declared.op.Item.{Item}
-use Rattle.nfs_compound.specs.declared.op.Item.TheVariants.{Operation}
+use Rattle.nfs_compound.specs.{Request.item_number, declared.op.Item.Item, declared.op.Item.TheVariants.Operation}
 use Rattle.nfs_compound.specs.declared.op.Op.TheVariants as Op
 use Rattle.nfs_compound.specs.declared.op_num.OpNum.TheVariants as Num
 use Rattle.nfs_results.specs.declared.res.Res.TheVariants as Res
 use Rattle.nfs_results.specs.Results.{status_of_result}
 use Rattle.nfs_attrs.specs.Handle.{handle_of}
-use Rattle.nfs_tree.specs.declared.stored.Stored.{Stored}
-use Rattle.nfs_tree.specs.Files.{Files, root, stored_in, object_at, is_there, has_row}
-use Rattle.nfs_tree.specs.Bytes.{has_bytes}
-use Rattle.nfs_names.specs.declared.context.Context.{Context}
-use Rattle.nfs_names.specs.Checks.{node_as, node_at, current}
-use Rattle.nfs_names.specs.Context.{at_object}
-use Rattle.nfs_names.specs.Outcome as outcome
-use Rattle.nfs_names.specs.PutFh.{put_fh}
-use Rattle.nfs_names.specs.State as store
+use Rattle.nfs_tree.specs.{declared.stored.Stored.Stored, Files.{Files, root, stored_in, object_at, is_there, has_row}, Bytes.has_bytes}
+use Rattle.nfs_names.specs.{declared.context.Context.Context, Checks.{node_as, node_at, current}, Context.at_object, PutFh.put_fh}
 use Rattle.nfs_names.specs.State.{is_used, is_open, moment}
+use Rattle.nfs_names.specs.Outcome as outcome
+use Rattle.nfs_names.specs.State as store
 use Rattle.nfs_names.proofs.Ones.{by_delay}
-use Rattle.nfs_files.specs.OpenTold.{OpenTold, Bits, bits_behind, IsOpenWith}
-use Rattle.nfs_files.specs.Write.{write}
-use Rattle.nfs_exec.specs.Step.Machine.{Machine}
-use Rattle.nfs_exec.specs.Step.Behind.{stays}
-use Rattle.nfs_exec.specs.Step.Laws.{MachineEvent}
-use Rattle.nfs_exec.specs.Runs.Kept.{While}
-use Rattle.nfs_exec.specs.Runs.OpenHeld.{the_open, bits_left}
+use Rattle.nfs_files.specs.{OpenTold.{OpenTold, Bits, bits_behind, IsOpenWith}, Write.write}
+use Rattle.nfs_exec.specs.{Step.Machine.Machine, Step.Behind.stays, Step.Laws.MachineEvent, Runs.Kept.While, Runs.OpenHeld.{the_open, bits_left}}
 use Rattle.nfs_exec.specs.Runs.Ops.{RanOp, ops_by}
-use Rattle.nfs_exec.proofs.Step.Instances.{instance_kept}
-use Rattle.nfs_exec.proofs.Step.RefusalsFit.{refused_status}
-use Rattle.nfs_exec.proofs.Runs.Handles.{handle_in, handle_read}
-use Rattle.nfs_exec.proofs.Runs.KeptByRuns.{Is}
-use Rattle.nfs_exec.proofs.Runs.OneRun.{IsRun, by_item}
-use Rattle.nfs_exec.proofs.Runs.OneWalk.{throughout, in_back}
-use Rattle.nfs_exec.proofs.Runs.WhatWasDone.{event_run}
-use Rattle.nfs_exec.proofs.Runs.WrittenRun.{used_there}
-use Rattle.nfs_serve.specs.Step.{State, new_state}
-use Rattle.nfs_serve.specs.Promises.Endpoint.{Arrival}
-use Rattle.nfs_serve.specs.Promises.FileStays.{uses, IsThere, the_file, FilesStay}
-use Rattle.nfs_serve.specs.Promises.LockKept.{renews_by, StaysFor}
-use Rattle.nfs_serve.specs.Promises.Points.{state_after, reached, taken, before, asked_by, ops_of}
-use Rattle.nfs_serve.proofs.Promises.Handles.{Has, has_next, has_all, given_at}
-use Rattle.nfs_serve.proofs.Promises.Without.{Answers, ok_without}
-use Rattle.nfs_serve.proofs.Promises.NeverStale.{is_stale, IsFresh, read_answers, write_answers, set_answers, get_answers}
-use Rattle.nfs_serve.proofs.Promises.OpenKept.{open_kept}
+use Rattle.nfs_exec.proofs.{Step.Instances.instance_kept, Step.RefusalsFit.refused_status, Runs.Handles.{handle_in, handle_read}, Runs.KeptByRuns.Is}
+use Rattle.nfs_exec.proofs.{Runs.OneRun.{IsRun, by_item}, Runs.OneWalk.{throughout, in_back}, Runs.WhatWasDone.event_run, Runs.WrittenRun.used_there}
+use Rattle.nfs_serve.specs.{Step.{State, new_state}, Promises.Endpoint.Arrival, Promises.FileStays.{uses, IsThere, the_file, FilesStay}}
+use Rattle.nfs_serve.specs.{Promises.LockKept.{renews_by, StaysFor}, Promises.Points.{state_after, reached, taken, before, asked_by, ops_of}}
+use Rattle.nfs_serve.proofs.{Promises.Handles.{Has, has_next, has_all, given_at}, Promises.Without.{Answers, ok_without}}
+use Rattle.nfs_serve.proofs.{Promises.NeverStale.{is_stale, IsFresh, read_answers, write_answers, set_answers, get_answers}, Promises.OpenKept.open_kept}
 use Rattle.nfs_serve.proofs.Promises.Points.{IsSound, whole_before, sound_next, sound_all, sound_new}
 
 -- The file of an open is there.

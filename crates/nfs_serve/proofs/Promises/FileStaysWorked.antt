@@ -1,38 +1,21 @@
 -- The run of a file that is open and loses its name, and the wrong answers, computed.
 use Rattle.std.proofs.Common.{◌≡◌, ◌⊎◌, ℕ, true, false, List, [], ◌∷◌, ◌++◌, length, get_or, take, Option, refl, sym, ap, subst, arith, inl, inr}
 use Rattle.std.proofs.lemmas.Bool.{true≢false, false≢true}
-use Rattle.nfs_xdr.specs.declared.status.Status.{Status}
-use Rattle.nfs_xdr.specs.declared.status.Status.TheVariants.{Nfs4Ok, NoEnt, Stale, RepTooBig}
-use Rattle.nfs_xdr.specs.Tables.{In}
-use Rattle.nfs_compound.specs.declared.file_args.Read.{Read}
+use Rattle.nfs_xdr.specs.{declared.status.Status.Status, declared.status.Status.TheVariants.{Nfs4Ok, NoEnt, Stale, RepTooBig}, Tables.In}
+use Rattle.nfs_compound.specs.{declared.file_args.Read.Read, declared.stateid.Stateid.Stateid}
 use Rattle.nfs_compound.specs.declared.op_num.OpNum.TheVariants as Num
 use Rattle.nfs_results.specs.Results.{done_head}
 use Rattle.nfs_tree.specs.Files.{is_there, has_row}
-use Rattle.nfs_compound.specs.declared.stateid.Stateid.{Stateid}
-use Rattle.nfs_names.specs.GetFh.{get_fh}
-use Rattle.nfs_names.specs.Outcome.{is_ok}
-use Rattle.nfs_names.specs.Remove.{remove}
+use Rattle.nfs_names.specs.{GetFh.get_fh, Outcome.is_ok, Remove.remove}
 use Rattle.nfs_files.specs.StateIds.{state_id}
-use Rattle.nfs_exec.specs.Runs.Handles.{Gives}
-use Rattle.nfs_exec.specs.Runs.OpenHeld.{TellsOpen}
-use Rattle.nfs_exec.specs.Runs.Ops.{RanOp}
-use Rattle.nfs_serve.specs.Promises.Exchanges.{words}
-use Rattle.nfs_serve.specs.Promises.FileRead.{ReadsImage}
-use Rattle.nfs_serve.specs.Promises.FileStays.{IsHandleOf, IsThere, IsNameless}
-use Rattle.nfs_serve.specs.Promises.FileStaysWorked as worked
+use Rattle.nfs_exec.specs.{Runs.Handles.Gives, Runs.OpenHeld.TellsOpen, Runs.Ops.RanOp}
+use Rattle.nfs_serve.specs.{Promises.Exchanges.words, Promises.FileRead.ReadsImage, Promises.FileStays.{IsHandleOf, IsThere, IsNameless}}
 use Rattle.nfs_serve.specs.Promises.FileStaysWorked.{its_bits, first_of, as_written, IsKeptOpen, with_status, at_file, LossesAreRefused}
-use Rattle.nfs_serve.specs.Promises.Handles.{given}
-use Rattle.nfs_serve.specs.Promises.HeldLock.{earlier, start, last_of, statuses}
-use Rattle.nfs_serve.specs.Promises.HeldOpen.{its_open}
-use Rattle.nfs_serve.specs.Promises.NameStays.{Finds}
-use Rattle.nfs_serve.specs.Promises.NameWorked.{f, with_names}
-use Rattle.nfs_serve.specs.Promises.OpenKept.{LeaveOpen}
-use Rattle.nfs_serve.specs.Promises.OpenReads.{CanBeHad}
-use Rattle.nfs_serve.specs.Promises.Points.{reached, ops_of}
+use Rattle.nfs_serve.specs.{Promises.Handles.given, Promises.HeldLock.{earlier, start, last_of, statuses}, Promises.HeldOpen.its_open, Promises.NameStays.Finds}
+use Rattle.nfs_serve.specs.{Promises.NameWorked.{f, with_names}, Promises.OpenKept.LeaveOpen, Promises.OpenReads.CanBeHad, Promises.Points.{reached, ops_of}}
 use Rattle.nfs_serve.specs.Promises.WrittenWorked.{makes, made, writes, written, answering, without_objects}
-use Rattle.nfs_serve.proofs.Promises.Computing.{computing}
-use Rattle.nfs_serve.proofs.Promises.HeldLock.{nothing}
-use Rattle.nfs_serve.proofs.Promises.HeldOpen.{leave_open, two}
+use Rattle.nfs_serve.specs.Promises.FileStaysWorked as worked
+use Rattle.nfs_serve.proofs.{Promises.Computing.computing, Promises.HeldLock.nothing, Promises.HeldOpen.{leave_open, two}}
 
 abbrev opening : RanOp
 opening = last_of nothing (ops_of start makes)

@@ -1,33 +1,18 @@
 -- The run of a script, of a talk and of many connections, as a run of their records.
 use Rattle.std.proofs.Common.{◌≡◌, ◌≢◌, ℕ, Bool, true, false, List, [], ◌∷◌, ◌++◌, flat_map, Option, Result, Ok, Err, refl, sym, ap, subst, ◌∙◌, append_assoc, append-nil, nat_eq, if◌then◌else◌, inl, inr}
 use Rattle.std.specs.Io.KnownBytes.{Consumes}
-use Rattle.nfs_rpc.specs.RecordMarking.{Gathered, start}
-use Rattle.nfs_rpc.specs.Stream.{End, Open, TooLong, IsUnfinished, EndsAs, IsReading}
+use Rattle.nfs_rpc.specs.{RecordMarking.{Gathered, start}, Stream.{End, Open, TooLong, IsUnfinished, EndsAs, IsReading}}
 use Rattle.nfs_rpc.proofs.Readings.{one_reading, part_unfinished}
-use Rattle.nfs_serve.specs.declared.fault.Stop.{Stop}
-use Rattle.nfs_serve.specs.declared.fault.Stop.TheVariants as stops
-use Rattle.nfs_serve.specs.declared.fault.ReplayFault.{ReplayFault}
-use Rattle.nfs_serve.specs.declared.form.Form.{Form}
-use Rattle.nfs_serve.specs.declared.form.Flow.{Flow}
-use Rattle.nfs_serve.specs.declared.moving.WriteFailed.{WriteFailed}
-use Rattle.nfs_serve.specs.declared.form.Form.TheVariants.{Tagged, Plain}
-use Rattle.nfs_serve.specs.declared.talking.Talk.{Talk}
-use Rattle.nfs_serve.specs.declared.talking.Talk.TheVariants as talks
-use Rattle.nfs_serve.specs.Script.{Entry, spell_entry}
-use Rattle.nfs_serve.specs.Step.{State, step}
+use Rattle.nfs_serve.specs.{declared.fault.Stop.Stop, declared.fault.ReplayFault.ReplayFault, declared.form.Form.Form, declared.form.Flow.Flow}
+use Rattle.nfs_serve.specs.{declared.moving.WriteFailed.WriteFailed, declared.form.Form.TheVariants.{Tagged, Plain}, declared.talking.Talk.Talk}
+use Rattle.nfs_serve.specs.{Script.{Entry, spell_entry}, Step.{State, step}}
 use Rattle.nfs_serve.specs.Run.{Streams, with_stream, all_closed, Brings, TakesPiece, TakesAll, StreamEvent, Arrives, Overflows, events_of, Move, events, after, after_event, output, Runs, RunsInto}
-use Rattle.nfs_serve.specs.Server.{Stands, FeedsOr}
-use Rattle.nfs_serve.specs.Replay.{Replayed, ReplaysFault}
-use Rattle.nfs_serve.specs.Talk.{SpeaksUntil}
-use Rattle.nfs_serve.specs.Hub.{at}
-use Rattle.nfs_serve.specs.Promises.Endpoint.{Answer, Server, Arrival, stepped, ran}
-use Rattle.nfs_serve.specs.Promises.Seen.{server}
-use Rattle.nfs_serve.specs.Promises.Points.{state_after_all}
+use Rattle.nfs_serve.specs.{Server.{Stands, FeedsOr}, Replay.{Replayed, ReplaysFault}, Talk.SpeaksUntil, Hub.at}
+use Rattle.nfs_serve.specs.{Promises.Endpoint.{Answer, Server, Arrival, stepped, ran}, Promises.Seen.server, Promises.Points.state_after_all}
 use Rattle.nfs_serve.specs.Promises.Forms.{record_of, records_of, LeavesOf, AllRun, FrontRuns, RunUpTo, EachFormRunsRecords}
-use Rattle.nfs_serve.proofs.Moves.{events-append, after-append, output-last, TakesAll-more}
-use Rattle.nfs_serve.proofs.Pieces.{start_holds}
-use Rattle.nfs_serve.proofs.Runs.{takes_piece}
-use Rattle.nfs_serve.proofs.Promises.Whole.{runs_script}
+use Rattle.nfs_serve.specs.declared.fault.Stop.TheVariants as stops
+use Rattle.nfs_serve.specs.declared.talking.Talk.TheVariants as talks
+use Rattle.nfs_serve.proofs.{Moves.{events-append, after-append, output-last, TakesAll-more}, Pieces.start_holds, Runs.takes_piece, Promises.Whole.runs_script}
 
 -- the state behind moves is that of their records
 by_event : (find : List ℕ → Option Answer) (mode instance lease : ℕ) (s : State) (moves : List Move) (e : StreamEvent) (choice : Option ℕ)

@@ -1,28 +1,17 @@
 -- A fresh request on a slot that stands runs.
-use Rattle.std.proofs.Common.{◌≡◌, ℕ, ◌≤◌, true, List, ◌∷◌, length, Some, refl, sym, ◌∙◌, ap, subst, arith}
-use Rattle.std.specs.Prelude.{◌==◌, ◌&&◌, ◌||◌, is_some, slice_get}
-use Rattle.std.proofs.lemmas.Bool.{lt-leb, le-ltb, eq-eqb}
+use Rattle.std.proofs.{Common.{◌≡◌, ℕ, ◌≤◌, true, List, ◌∷◌, length, Some, refl, sym, ◌∙◌, ap, subst, arith}, lemmas.Bool.{lt-leb, le-ltb, eq-eqb}}
 use Rattle.std.proofs.lemmas.Option.{same_Some, slice_get_within}
-use Rattle.nfs_xdr.specs.Caller.{Caller}
-use Rattle.nfs_xdr.specs.Text.{IsBytes}
-use Rattle.nfs_compound.specs.declared.op.Item.{Item}
-use Rattle.nfs_compound.specs.declared.op.Item.TheVariants.{Operation}
+use Rattle.std.specs.Prelude.{◌==◌, ◌&&◌, ◌||◌, is_some, slice_get}
+use Rattle.nfs_xdr.specs.{Caller.Caller, Text.IsBytes}
+use Rattle.nfs_compound.specs.{declared.op.Item.Item, declared.op.Item.TheVariants.Operation, declared.session_args.Sequence.Sequence, Request.Request}
 use Rattle.nfs_compound.specs.declared.op.Op.TheVariants as Op
-use Rattle.nfs_compound.specs.declared.session_args.Sequence.{Sequence}
-use Rattle.nfs_compound.specs.Request.{Request}
 use Rattle.nfs_slots.specs.Slot.{SlotState, next_number}
-use Rattle.nfs_sessions.specs.Id.{id_of}
-use Rattle.nfs_sessions.specs.Sessions.{Session, session_at}
-use Rattle.nfs_exec.specs.Step.Executing.{executes, is_alone}
-use Rattle.nfs_exec.specs.Step.Laws.{first_runs, if_runs}
-use Rattle.nfs_exec.specs.Step.Machine.{Machine}
+use Rattle.nfs_sessions.specs.{Id.id_of, Sessions.{Session, session_at}}
+use Rattle.nfs_exec.specs.{Step.Executing.{executes, is_alone}, Step.Laws.{first_runs, if_runs}, Step.Machine.Machine, Step.Sequence.{Runs, by_session}}
 use Rattle.nfs_exec.specs.Step.Sequence as sequence
-use Rattle.nfs_exec.specs.Step.Sequence.{Runs, by_session}
 use Rattle.nfs_rpc.specs.CallHead.{call_of}
-use Rattle.nfs_serve.specs.Step.{State}
-use Rattle.nfs_serve.specs.Promises.Endpoint.{Place, Heading, Arrival, stepped, ran}
-use Rattle.nfs_serve.specs.Promises.Seen.{ReplyReader, slot_in, ticked, executes_by, server}
-use Rattle.nfs_serve.specs.Promises.AnsweredAgain.{Stands}
+use Rattle.nfs_serve.specs.{Step.State, Promises.Endpoint.{Place, Heading, Arrival, stepped, ran}}
+use Rattle.nfs_serve.specs.{Promises.Seen.{ReplyReader, slot_in, ticked, executes_by, server}, Promises.AnsweredAgain.Stands}
 use Rattle.nfs_serve.specs.Promises.FreshRuns.{IsRun, FreshRuns, NextRuns, Passes}
 use Rattle.nfs_serve.proofs.Promises.KeptSlots.{heads, executes_is, answers_numbered}
 use Rattle.nfs_serve.proofs.Promises.AnsweredAgain.{is_first, of_slot, below_of, slotted_all, slotted_behind, slot_left}

@@ -2,16 +2,10 @@
 use Rattle.std.proofs.Common.{◌≡◌, inl, inr, ℕ, ◌<◌, ◌^◌, List, [], ◌∷◌, None, refl, sym, ◌∙◌, ap, subst, arith}
 use Rattle.nfs_xdr.specs.Tables.{In}
 use Rattle.nfs_slots.specs.Slot.{unused_slot}
-use Rattle.nfs_serve.specs.Promises.Exchanges.{words}
-use Rattle.nfs_serve.specs.Promises.Endpoint.{Compound}
-use Rattle.nfs_serve.specs.Promises.Network.{Packet, RanCompound, Next, Instead, ended}
-use Rattle.nfs_serve.specs.Promises.Numbered.{Happens}
-use Rattle.nfs_serve.specs.Promises.LostReply.{place, callers, compound, packet, answer, start, done}
-use Rattle.nfs_serve.specs.Promises.GivenUp.{other, other_packet, other_done, events, IsGivenUp}
-use Rattle.nfs_serve.specs.Promises.Seen.{ReplyReader, Bears}
-use Rattle.nfs_serve.proofs.Promises.Replies.{found, found_by, no_bytes}
-use Rattle.nfs_serve.proofs.Promises.LostReply.{is_bytes}
-use Rattle.nfs_serve.proofs.Promises.Computing.{computing}
+use Rattle.nfs_serve.specs.{Promises.Exchanges.words, Promises.Endpoint.Compound, Promises.Network.{Packet, RanCompound, Next, Instead, ended}}
+use Rattle.nfs_serve.specs.{Promises.Numbered.Happens, Promises.LostReply.{place, callers, compound, packet, answer, start, done}}
+use Rattle.nfs_serve.specs.{Promises.GivenUp.{other, other_packet, other_done, events, IsGivenUp}, Promises.Seen.{ReplyReader, Bears}}
+use Rattle.nfs_serve.proofs.{Promises.Replies.{found, found_by, no_bytes}, Promises.LostReply.is_bytes, Promises.Computing.computing}
 
 -- what each result bears
 bears : (number : ℕ) → number < 2 ^ 32 → Bears (answer 0 number).result (record { place = place; number = number })

@@ -1,31 +1,21 @@
 -- What runs on a slot is answered with a good SEQUENCE, which bears the slot and the number of the call: so its caller may accept it.
 use Rattle.std.proofs.Common.{◌≡◌, inl, inr, ℕ, ◌<◌, ◌^◌, zero, suc, List, [], ◌∷◌, ◌++◌, Option, Some, None, ◌∙◌, ap, subst, append_assoc}
-use Rattle.std.specs.Prelude.{◌==◌}
 use Rattle.std.proofs.lemmas.Bool.{cases_Bool, eqb-true}
+use Rattle.std.specs.Prelude.{◌==◌}
 use Rattle.nfs_xdr.specs.Spelling as spelling
-use Rattle.nfs_xdr.specs.Limits.{opaque_limit}
-use Rattle.nfs_xdr.specs.Codec.{number, opaque}
-use Rattle.nfs_xdr.specs.Caller.{Caller}
-use Rattle.nfs_xdr.specs.Status.{status_number}
+use Rattle.nfs_xdr.specs.{Limits.opaque_limit, Codec.{number, opaque}, Caller.Caller, Status.status_number}
 use Rattle.nfs_xdr.proofs.StatusLaws.{is_status_listing}
-use Rattle.nfs_compound.specs.declared.op.Item.{Item}
-use Rattle.nfs_compound.specs.declared.op.Item.TheVariants.{Operation}
-use Rattle.nfs_compound.specs.declared.op.Op.TheVariants as Op
-use Rattle.nfs_compound.specs.Request.{Request, Lists, HasBody, IsRequest}
+use Rattle.nfs_compound.specs.{declared.op.Item.Item, declared.op.Item.TheVariants.Operation, Request.{Request, Lists, HasBody, IsRequest}}
 use Rattle.nfs_compound.specs.declared.session_args.Sequence.{Sequence}
+use Rattle.nfs_compound.specs.declared.op.Op.TheVariants as Op
 use Rattle.nfs_results.specs.Items as results
-use Rattle.nfs_sessions.specs.declared.channel.Channel.{Channel}
-use Rattle.nfs_sessions.specs.Id.{id_of}
-use Rattle.nfs_exec.specs.Step.Machine.{Machine}
-use Rattle.nfs_exec.specs.Step.Sequence as sequence
-use Rattle.nfs_exec.specs.Step.Sequence.{Sequenced, Refuses, Repeats, Runs, accepted}
-use Rattle.nfs_exec.specs.Step.Run.{behind_here}
-use Rattle.nfs_exec.specs.Step.Compound.{renewed, run_in, in_session, by_first, compound}
-use Rattle.nfs_exec.specs.Step.Laws.{if_runs, first_runs}
+use Rattle.nfs_sessions.specs.{declared.channel.Channel.Channel, Id.id_of}
+use Rattle.nfs_exec.specs.{Step.Machine.Machine, Step.Sequence.{Sequenced, Refuses, Repeats, Runs, accepted}, Step.Run.behind_here}
+use Rattle.nfs_exec.specs.{Step.Compound.{renewed, run_in, in_session, by_first, compound}, Step.Laws.{if_runs, first_runs}}
 use Rattle.nfs_exec.specs.Step.Executing.{first_sequence, sequence_of}
+use Rattle.nfs_exec.specs.Step.Sequence as sequence
 use Rattle.nfs_serve.specs.Promises.Seen.{Bears}
-use Rattle.nfs_serve.proofs.Promises.Reader.{sequence_front}
-use Rattle.nfs_serve.proofs.Promises.Replies.{bears_spelled}
+use Rattle.nfs_serve.proofs.{Promises.Reader.sequence_front, Promises.Replies.bears_spelled}
 use Rattle.nfs_exec.proofs.Runs.SessionsBehind.{ran_in}
 
 nested_sequence : (id n slot more rest : List ℕ) → (id ++ (n ++ (slot ++ more))) ++ rest ≡ id ++ (n ++ (slot ++ (more ++ rest)))

@@ -1,21 +1,13 @@
 -- What the permission bits let a user do is what the mode, owner and group give.
 use Rattle.std.proofs.Common.{◌≡◌, ℕ, ◌/◌, ◌%◌, Bool, true, false, cond, not, Option, Some, None, refl, sym, ◌∙◌, ap, subst, inl, inr}
-use Rattle.std.specs.Prelude.{◌==◌, ◌&&◌, ◌||◌, option_map, Ok}
-use Rattle.std.specs.Int.{bit_at}
-use Rattle.std.specs.List.{list_any}
 use Rattle.std.proofs.lemmas.Bool.{cases_Bool, cases_eq, and_parts, eqb-true, eq-eqb, ne_eqb, false≢true}
-use Rattle.nfs_xdr.specs.Caller.{Caller}
-use Rattle.nfs_xdr.specs.Tables.{In}
+use Rattle.std.specs.{Prelude.{◌==◌, ◌&&◌, ◌||◌, option_map, Ok}, Int.bit_at, List.list_any}
+use Rattle.nfs_xdr.specs.{Caller.Caller, Tables.In}
 use Rattle.nfs_xdr.proofs.Lists.{any_in, in_any}
-use Rattle.nfs_tree.specs.declared.object.Object.{Object}
-use Rattle.nfs_tree.specs.declared.stored.Stored.{Stored}
-use Rattle.nfs_tree.specs.Files.{stored_in}
+use Rattle.nfs_tree.specs.{declared.object.Object.Object, declared.stored.Stored.Stored, Files.stored_in}
 use Rattle.nfs_attrs.specs.Permissions.{in_group, class_bits, read, write, execute, change}
 use Rattle.nfs_opens.specs.declared.share.Share.{Share}
-use Rattle.nfs_names.specs.declared.context.Context.{Context}
-use Rattle.nfs_names.specs.declared.node.Node.{Node}
-use Rattle.nfs_names.specs.Checks.{node_as, node_at, permits, current}
-use Rattle.nfs_names.specs.State.{State}
+use Rattle.nfs_names.specs.{declared.context.Context.Context, declared.node.Node.Node, Checks.{node_as, node_at, permits, current}, State.State}
 use Rattle.nfs_files.specs.Bytes.{want_of}
 use Rattle.nfs_serve.specs.Promises.Permitted.{Rights, Right, Reads, Writes, Executes, place, IsIn, First, Further, Grants, ToRoot, ToOwner, ToGroup, ToOthers, rights_of, rights_at, has_right}
 

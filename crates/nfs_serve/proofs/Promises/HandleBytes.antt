@@ -1,34 +1,23 @@
 -- What was written to a filehandle is read from it, in every run; and the worked run, computed.
-use Rattle.std.proofs.Common.{◌≡◌, ℕ, ◌<◌, ◌^◌, List, [], ◌∷◌, ◌++◌, Option, Some, refl, sym, ◌∙◌, ap, subst, arith, inl, inr}
-use Rattle.std.proofs.lemmas.Bool.{ltb-true}
+use Rattle.std.proofs.{Common.{◌≡◌, ℕ, ◌<◌, ◌^◌, List, [], ◌∷◌, ◌++◌, Option, Some, refl, sym, ◌∙◌, ap, subst, arith, inl, inr}, lemmas.Bool.ltb-true}
 use Rattle.nfs_xdr.specs.Tables.{In}
 use Rattle.nfs_files.specs.Written.{Byte, OpensEmpty, Reads, GivesIt}
 use Rattle.nfs_compound.specs.declared.op.Item.TheVariants.{Operation}
 use Rattle.nfs_compound.specs.declared.op.Op.TheVariants as Op
 use Rattle.nfs_tree.specs.Files.{lookup}
 use Rattle.nfs_names.specs.GetFh.{get_fh}
-use Rattle.nfs_exec.specs.Runs.Ops.{RanOp}
+use Rattle.nfs_exec.specs.{Runs.Ops.RanOp, Runs.WrittenRun.{WritesIt, SparesIt, AreSpared, StandsWhile}}
 use Rattle.nfs_exec.proofs.Runs.Handles.{handle_in}
-use Rattle.nfs_exec.specs.Runs.WrittenRun.{WritesIt, SparesIt, AreSpared, StandsWhile}
-use Rattle.nfs_serve.specs.Step.{State, new_state}
-use Rattle.nfs_serve.specs.Promises.Endpoint.{Arrival}
+use Rattle.nfs_serve.specs.{Step.{State, new_state}, Promises.Endpoint.Arrival}
 use Rattle.nfs_serve.specs.Promises.HandleBytes.{ByteAt, in_file, MayBe, SparesAt, AllSpareAt, GivesAt, ReadsBack, ReadsBackThrough, names_behind, BytesFollow}
-use Rattle.nfs_serve.specs.Promises.HandleBytes.{writes, reads, written, byte, answering, AreReadBack}
-use Rattle.nfs_serve.specs.Promises.Exchanges.{words}
-use Rattle.nfs_serve.specs.Promises.Handles.{given}
+use Rattle.nfs_serve.specs.{Promises.HandleBytes.{writes, reads, written, byte, answering, AreReadBack}, Promises.Exchanges.words, Promises.Handles.given}
 use Rattle.nfs_serve.specs.Promises.HeldLock.{last_of}
 use Rattle.nfs_serve.specs.Promises.KnownHandles.{KnownName, Known, Bears, starts, led_by, opened, behind, known_after, known_after_all, names_after, root_of}
-use Rattle.nfs_serve.specs.Promises.KnownHandlesWorked.{found}
-use Rattle.nfs_serve.specs.Promises.Points.{state_after, state_after_all, reached, ops_of}
+use Rattle.nfs_serve.specs.{Promises.KnownHandlesWorked.found, Promises.Points.{state_after, state_after_all, reached, ops_of}}
 use Rattle.nfs_serve.specs.Promises.WrittenStays.{StaysWritten}
-use Rattle.nfs_serve.proofs.Promises.Computing.{computing}
-use Rattle.nfs_serve.proofs.Promises.Handles.{first_of, two}
-use Rattle.nfs_serve.proofs.Promises.HeldLock.{nothing}
-use Rattle.nfs_serve.proofs.Promises.KnownHandles.{HoldsAt, HoldsIn, AllHold, one_record, first_holds, numbers, same_number}
-use Rattle.nfs_serve.proofs.Promises.NameSaid.{some_same}
-use Rattle.nfs_serve.proofs.Promises.NameStays.{rows}
-use Rattle.nfs_serve.proofs.Promises.WrittenStays.{bytes_stay}
-use Rattle.nfs_serve.proofs.Promises.WrittenWorked.{wrote, reads_it}
+use Rattle.nfs_serve.proofs.{Promises.Computing.computing, Promises.Handles.{first_of, two}, Promises.HeldLock.nothing}
+use Rattle.nfs_serve.proofs.{Promises.KnownHandles.{HoldsAt, HoldsIn, AllHold, one_record, first_holds, numbers, same_number}, Promises.NameSaid.some_same}
+use Rattle.nfs_serve.proofs.{Promises.NameStays.rows, Promises.WrittenStays.bytes_stay, Promises.WrittenWorked.{wrote, reads_it}}
 
 module _ (instance : ℕ) (low : instance < 2 ^ 32) (b : ByteAt) (n : ℕ) (its : Bears instance b.handle n) where
   abbrev top : List ℕ

@@ -4,34 +4,21 @@ use Rattle.std.specs.Prelude.{Result, Ok, Err}
 use Rattle.nfs_xdr.specs.declared.status.Status.{Status}
 use Rattle.nfs_compound.specs.declared.lock_args.LockType.{LockType}
 use Rattle.nfs_opens.specs.declared.locking.Wish.{Wish}
-use Rattle.nfs_names.specs.declared.context.Context.{Context}
-use Rattle.nfs_names.specs.Outcome.{mapped, checked}
-use Rattle.nfs_names.specs.GetFh.{get_fh}
+use Rattle.nfs_names.specs.{declared.context.Context.Context, Outcome.{mapped, checked}, GetFh.get_fh, Checks.current}
 use Rattle.nfs_names.specs.State as store
-use Rattle.nfs_names.specs.Checks.{current}
 use Rattle.nfs_names.proofs.Found.{came, checked_ok}
-use Rattle.nfs_files.specs.LockTold.{LockTold}
-use Rattle.nfs_files.specs.Ranges.{wished, wish, range}
-use Rattle.nfs_files.specs.Bytes.{file_checks}
-use Rattle.nfs_files.specs.Target.{the_file}
+use Rattle.nfs_files.specs.{LockTold.LockTold, Ranges.{wished, wish, range}, Bytes.file_checks, Target.the_file}
 use Rattle.nfs_files.proofs.WrittenOps.{current_number}
-use Rattle.nfs_exec.specs.Runs.LockHeld.{LocksFor, AreSpared, Tells, the_lock}
-use Rattle.nfs_exec.specs.Runs.Ops.{RanOp}
-use Rattle.nfs_serve.specs.Step.{State, new_state}
-use Rattle.nfs_serve.specs.Promises.Endpoint.{Arrival}
-use Rattle.nfs_serve.specs.Promises.HandleBytes.{names_behind}
-use Rattle.nfs_serve.specs.Promises.HandleLocks as worked
-use Rattle.nfs_serve.specs.Promises.HandleLocks.{IsKnownAt, OnlyOneByHandle, IsOneWriter}
-use Rattle.nfs_serve.specs.Promises.Handles.{given}
-use Rattle.nfs_serve.specs.Promises.HeldLock as held
-use Rattle.nfs_serve.specs.Promises.HeldLock.{last_of}
+use Rattle.nfs_exec.specs.{Runs.LockHeld.{LocksFor, AreSpared, Tells, the_lock}, Runs.Ops.RanOp}
+use Rattle.nfs_serve.specs.{Step.{State, new_state}, Promises.Endpoint.Arrival, Promises.HandleBytes.names_behind}
+use Rattle.nfs_serve.specs.{Promises.HandleLocks.{IsKnownAt, OnlyOneByHandle, IsOneWriter}, Promises.Handles.given, Promises.HeldLock.last_of}
 use Rattle.nfs_serve.specs.Promises.KnownHandles.{Bears, starts, known_after_all, root_of}
 use Rattle.nfs_serve.specs.Promises.Points.{state_after, state_after_all, reached, taken, ops_of}
-use Rattle.nfs_serve.proofs.Promises.Computing.{computing}
-use Rattle.nfs_serve.proofs.Promises.HandleBytes.{held_behind, held_back}
+use Rattle.nfs_serve.specs.Promises.HandleLocks as worked
+use Rattle.nfs_serve.specs.Promises.HeldLock as held
+use Rattle.nfs_serve.proofs.{Promises.Computing.computing, Promises.HandleBytes.{held_behind, held_back}}
 use Rattle.nfs_serve.proofs.Promises.HeldLock.{all_spared, are_in_time, up_to, nothing, locks_for}
-use Rattle.nfs_serve.proofs.Promises.KnownHandles.{HoldsAt, AllHold, one_record, first_holds, same_number}
-use Rattle.nfs_serve.proofs.Promises.LockKept.{only_one}
+use Rattle.nfs_serve.proofs.{Promises.KnownHandles.{HoldsAt, AllHold, one_record, first_holds, same_number}, Promises.LockKept.only_one}
 use Rattle.nfs_serve.proofs.Promises.LockOwners.{end_of}
 
 -- A wish is of the current file.

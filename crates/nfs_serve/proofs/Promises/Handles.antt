@@ -2,26 +2,16 @@
 use Rattle.std.proofs.Common.{◌≡◌, ℕ, ◌<◌, ◌^◌, List, [], ◌∷◌, length, take, Option, Some, None, refl, sym, ◌∙◌, ap, subst, arith}
 use Rattle.std.specs.Option.{option_map_or}
 use Rattle.nfs_xdr.specs.Tables.{In}
-use Rattle.nfs_attrs.specs.declared.handle.Handle.{Handle}
-use Rattle.nfs_attrs.specs.Handle.{handle_of}
+use Rattle.nfs_attrs.specs.{declared.handle.Handle.Handle, Handle.handle_of}
 use Rattle.nfs_names.specs.GetFh.{get_fh}
-use Rattle.nfs_exec.specs.Runs.Handles.{Gives, Leads}
-use Rattle.nfs_exec.specs.Step.Laws.{MachineEvent, Asks}
-use Rattle.nfs_exec.specs.Step.Machine.{Machine}
-use Rattle.nfs_exec.specs.Runs.Ops.{RanOp, ops_by}
-use Rattle.nfs_exec.proofs.Runs.WhatWasDone.{event_run}
-use Rattle.nfs_exec.proofs.Runs.Handles.{given_in, handle_in, handle_read, event_leads}
-use Rattle.nfs_exec.proofs.Step.Instances.{instance_kept}
-use Rattle.nfs_exec.proofs.Runs.OneWalk.{throughout}
-use Rattle.nfs_exec.proofs.Runs.KeptByRuns.{Is}
-use Rattle.nfs_serve.specs.Promises.Endpoint.{Arrival}
-use Rattle.nfs_serve.specs.Promises.Handles as worked
-use Rattle.nfs_serve.specs.Promises.Handles.{HandlesLead, HandlesTell, found, led_to, IsLedBack}
-use Rattle.nfs_serve.specs.Promises.HeldLock.{last_of, locked}
-use Rattle.nfs_serve.specs.Promises.Points.{state_after, state_after_all, reached, taken, before, asked_by, ops_of}
+use Rattle.nfs_exec.specs.{Runs.Handles.{Gives, Leads}, Step.Laws.{MachineEvent, Asks}, Step.Machine.Machine, Runs.Ops.{RanOp, ops_by}}
+use Rattle.nfs_exec.proofs.{Runs.WhatWasDone.event_run, Runs.Handles.{given_in, handle_in, handle_read, event_leads}, Step.Instances.instance_kept}
+use Rattle.nfs_exec.proofs.{Runs.OneWalk.throughout, Runs.KeptByRuns.Is}
+use Rattle.nfs_serve.specs.{Promises.Endpoint.Arrival, Promises.Handles.{HandlesLead, HandlesTell, found, led_to, IsLedBack}}
+use Rattle.nfs_serve.specs.{Promises.HeldLock.{last_of, locked}, Promises.Points.{state_after, state_after_all, reached, taken, before, asked_by, ops_of}}
 use Rattle.nfs_serve.specs.Step.{State, new_state}
-use Rattle.nfs_serve.proofs.Promises.Computing.{computing}
-use Rattle.nfs_serve.proofs.Promises.HeldLock.{nothing, three}
+use Rattle.nfs_serve.specs.Promises.Handles as worked
+use Rattle.nfs_serve.proofs.{Promises.Computing.computing, Promises.HeldLock.{nothing, three}}
 use Rattle.nfs_serve.proofs.Promises.Points.{left, for_asked, next_is, IsSound, whole_before, sound_next, sound_all, sound_new}
 
 -- The instance does not change.

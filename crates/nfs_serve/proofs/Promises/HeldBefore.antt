@@ -1,48 +1,26 @@
 -- A byte that a lock state holds behind an operation it held before it, or the operation is a LOCK that granted it; and what the operation did spared it.
 use Rattle.std.proofs.Common.{◌≡◌, ◌⊎◌, ℕ, suc, ◌+◌, ◌≤◌, Bool, true, false, cond, eqb, not, List, map, Option, Some, None, refl, sym, ◌∙◌, ap, subst, arith, inl, inr}
-use Rattle.std.specs.Prelude.{◌==◌, ◌&&◌, if◌then◌else◌, filter, option_map}
 use Rattle.std.proofs.lemmas.Bool.{eqb-true, leb-true, and_parts}
-use Rattle.nfs_xdr.specs.Tables.{In}
-use Rattle.nfs_xdr.specs.declared.time.Time.{Time}
-use Rattle.nfs_xdr.proofs.Lists.{in_filter, in_push}
-use Rattle.nfs_xdr.proofs.Tables.{at_of_in}
+use Rattle.std.specs.Prelude.{◌==◌, ◌&&◌, if◌then◌else◌, filter, option_map}
+use Rattle.nfs_xdr.specs.{Tables.In, declared.time.Time.Time}
+use Rattle.nfs_xdr.proofs.{Lists.{in_filter, in_push}, Tables.at_of_in}
 use Rattle.nfs_compound.specs.declared.op_num.OpNum.TheVariants as Num
-use Rattle.nfs_compound.specs.declared.op.Item.{Item}
-use Rattle.nfs_compound.specs.declared.op.Item.TheVariants.{Operation}
-use Rattle.nfs_compound.specs.declared.op.Op.{Op}
-use Rattle.nfs_results.specs.declared.res.Res.{Res}
-use Rattle.nfs_results.specs.Results.{status_of_result}
-use Rattle.nfs_ranges.specs.declared.Kind.{Kind}
-use Rattle.nfs_ranges.specs.Holders.{holding, cleared, is_within}
-use Rattle.nfs_opens.specs.declared.records.LockState.{LockState}
-use Rattle.nfs_opens.specs.declared.records.OpenState.{OpenState}
-use Rattle.nfs_opens.specs.declared.stateid.StateId.{StateId}
-use Rattle.nfs_opens.specs.declared.locking.Wish.{Wish}
-use Rattle.nfs_opens.specs.Holding.{FileHolders, on_file}
-use Rattle.nfs_opens.specs.Table.{Table, Asked, lock_at, with_open}
-use Rattle.nfs_opens.specs.TableInvariants.{IsTable}
-use Rattle.nfs_opens.specs.Closing.{stands, not_under, held_within, without_open, without_lock}
-use Rattle.nfs_opens.specs.Locking.{raised}
+use Rattle.nfs_compound.specs.{declared.op.Item.Item, declared.op.Item.TheVariants.Operation, declared.op.Op.Op}
+use Rattle.nfs_results.specs.{declared.res.Res.Res, Results.status_of_result}
+use Rattle.nfs_ranges.specs.{declared.Kind.Kind, Holders.{holding, cleared, is_within}}
+use Rattle.nfs_opens.specs.{declared.records.LockState.LockState, declared.records.OpenState.OpenState, declared.stateid.StateId.StateId}
+use Rattle.nfs_opens.specs.{declared.locking.Wish.Wish, Holding.{FileHolders, on_file}, Table.{Table, Asked, lock_at, with_open}, TableInvariants.IsTable}
+use Rattle.nfs_opens.specs.{Closing.{stands, not_under, held_within, without_open, without_lock}, Locking.raised}
 use Rattle.nfs_opens.specs.Opening as opening
 use Rattle.nfs_opens.proofs.CallLaws.{IsLocked, first_state}
-use Rattle.nfs_names.specs.declared.context.Context.{Context}
-use Rattle.nfs_names.specs.Outcome.{is_ok}
-use Rattle.nfs_names.specs.State.{State, moment}
+use Rattle.nfs_names.specs.{declared.context.Context.Context, Outcome.is_ok, State.{State, moment}}
 use Rattle.nfs_names.proofs.Untouched.{leaves_each}
 use Rattle.nfs_files.specs.LockTold.{LockTold}
 use Rattle.nfs_files.proofs.Inside as inside
-use Rattle.nfs_files.proofs.Effects.{Effect, Opens, Narrows, Closes, Locks, Begins, Unlocks, Frees, Caused, table_behind}
-use Rattle.nfs_files.proofs.Effected.{caused_opens}
-use Rattle.nfs_files.proofs.OpensMoved.{lock_is}
-use Rattle.nfs_files.proofs.Outcomes.{comes_to}
-use Rattle.nfs_files.proofs.ToldGrants.{IsTold, lock_tells}
-use Rattle.nfs_files.proofs.ToldLocks.{left_by}
-use Rattle.nfs_exec.specs.Runs.LockHeld.{LocksFor}
-use Rattle.nfs_exec.specs.Runs.Ops.{RanOp}
-use Rattle.nfs_exec.proofs.Runs.KeptByRuns.{Is}
-use Rattle.nfs_exec.proofs.Runs.LockOwners.{owned_behind}
-use Rattle.nfs_exec.proofs.Runs.LockStates.{changed_from}
-use Rattle.nfs_exec.proofs.Runs.OneRun.{IsRun, by_ok, by_run}
+use Rattle.nfs_files.proofs.{Effects.{Effect, Opens, Narrows, Closes, Locks, Begins, Unlocks, Frees, Caused, table_behind}, Effected.caused_opens}
+use Rattle.nfs_files.proofs.{OpensMoved.lock_is, Outcomes.comes_to, ToldGrants.{IsTold, lock_tells}, ToldLocks.left_by}
+use Rattle.nfs_exec.specs.{Runs.LockHeld.LocksFor, Runs.Ops.RanOp}
+use Rattle.nfs_exec.proofs.{Runs.KeptByRuns.Is, Runs.LockOwners.owned_behind, Runs.LockStates.changed_from, Runs.OneRun.{IsRun, by_ok, by_run}}
 use Rattle.nfs_exec.proofs.Runs.WhatWasDone.{did_lock}
 use Rattle.nfs_serve.specs.Promises.Denials.{Grants}
 

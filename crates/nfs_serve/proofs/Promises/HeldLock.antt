@@ -1,30 +1,20 @@
 -- The run of a lock that is kept, computed.
 use Rattle.std.proofs.Common.{◌≡◌, ℕ, ◌+◌, ◌≤◌, Bool, true, false, List, [], ◌∷◌, ◌++◌, length, take, drop, refl, sym, ◌∙◌, ap, subst, arith, inl, inr}
-use Rattle.std.specs.Prelude.{◌&&◌, not, nat_le, bytes_eq, if◌then◌else◌, Ok}
-use Rattle.std.specs.Int.{w64, from_be_bytes}
 use Rattle.std.proofs.lemmas.Bool.{and_parts, leb-true, true≢false}
-use Rattle.nfs_xdr.specs.Spelling.{number}
-use Rattle.nfs_xdr.specs.declared.status.Status.TheVariants.{Nfs4Ok}
-use Rattle.nfs_compound.specs.declared.op_num.OpNum.{OpNum}
+use Rattle.std.specs.{Prelude.{◌&&◌, not, nat_le, bytes_eq, if◌then◌else◌, Ok}, Int.{w64, from_be_bytes}}
+use Rattle.nfs_xdr.specs.{Spelling.number, declared.status.Status.TheVariants.Nfs4Ok}
+use Rattle.nfs_compound.specs.{declared.op_num.OpNum.OpNum, declared.op.Item.Item, declared.op.Item.TheVariants.Operation, declared.lock_args.Lock.Lock}
+use Rattle.nfs_compound.specs.declared.lock_args.Locker.TheVariants.{OpenOwner}
 use Rattle.nfs_compound.specs.declared.op_num.OpNum.TheVariants as Num
 use Rattle.nfs_results.specs.Results.{done_head}
-use Rattle.nfs_compound.specs.declared.op.Item.{Item}
-use Rattle.nfs_compound.specs.declared.op.Item.TheVariants.{Operation}
 use Rattle.nfs_compound.specs.declared.op.Op.TheVariants as Op
-use Rattle.nfs_compound.specs.declared.lock_args.Lock.{Lock}
-use Rattle.nfs_compound.specs.declared.lock_args.Locker.TheVariants.{OpenOwner}
 use Rattle.nfs_compound.specs.declared.lock_args.LockType.TheVariants as LockTypes
 use Rattle.nfs_names.specs.Context.{begins}
-use Rattle.nfs_files.specs.Ranges.{wished}
-use Rattle.nfs_files.specs.LockTold.{LockTold, Names}
-use Rattle.nfs_exec.specs.Runs.Ops.{RanOp}
-use Rattle.nfs_exec.specs.Runs.LockHeld.{LocksFor, Spares, AreSpared}
-use Rattle.nfs_serve.specs.Step.{State}
-use Rattle.nfs_serve.specs.Promises.Endpoint.{Arrival}
-use Rattle.nfs_serve.specs.Promises.Points.{state_after, state_after_all, taken, ops_of}
-use Rattle.nfs_serve.specs.Promises.LockKept.{renews_by, replaces_by, AreInTime}
+use Rattle.nfs_files.specs.{Ranges.wished, LockTold.{LockTold, Names}}
+use Rattle.nfs_exec.specs.{Runs.Ops.RanOp, Runs.LockHeld.{LocksFor, Spares, AreSpared}}
+use Rattle.nfs_serve.specs.{Step.State, Promises.Endpoint.Arrival, Promises.Points.{state_after, state_after_all, taken, ops_of}}
+use Rattle.nfs_serve.specs.{Promises.LockKept.{renews_by, replaces_by, AreInTime}, Promises.HeldLock.{start, locks, last_of, IsHeldTo, AreBothTold}}
 use Rattle.nfs_serve.specs.Promises.HeldLock as worked
-use Rattle.nfs_serve.specs.Promises.HeldLock.{start, locks, last_of, IsHeldTo, AreBothTold}
 use Rattle.nfs_serve.proofs.Promises.Computing.{computing}
 
 -- An operation that was refused, or that is none of the three that end locks, spares each lock.

@@ -1,26 +1,17 @@
 -- The run of an open that is kept, computed.
 use Rattle.std.proofs.Common.{◌≡◌, ℕ, ◌+◌, Bool, true, false, List, [], ◌∷◌, ◌++◌, length, take, refl, sym, ◌∙◌, ap, arith, inl, inr}
-use Rattle.std.specs.Prelude.{◌&&◌, not, nat_le, if◌then◌else◌}
 use Rattle.std.proofs.lemmas.Bool.{and_parts, leb-true, true≢false}
-use Rattle.nfs_compound.specs.declared.op.Item.{Item}
-use Rattle.nfs_compound.specs.declared.op.Item.TheVariants.{Operation}
+use Rattle.std.specs.Prelude.{◌&&◌, not, nat_le, if◌then◌else◌}
+use Rattle.nfs_compound.specs.{declared.op.Item.Item, declared.op.Item.TheVariants.Operation, declared.open_args.Open.Open}
 use Rattle.nfs_compound.specs.declared.op.Op.TheVariants as Op
-use Rattle.nfs_compound.specs.declared.open_args.Open.{Open}
 use Rattle.nfs_files.specs.OpenTold.{OpenTold, Bits}
-use Rattle.nfs_exec.specs.Runs.Ops.{RanOp}
-use Rattle.nfs_exec.specs.Runs.OpenHeld.{NoneCloses, bits_left}
-use Rattle.nfs_serve.specs.Step.{State}
-use Rattle.nfs_serve.specs.Promises.Endpoint.{Arrival}
-use Rattle.nfs_serve.specs.Promises.Points.{state_after, state_after_all, taken, ops_of}
-use Rattle.nfs_serve.specs.Promises.LockKept.{renews_by, replaces_by}
-use Rattle.nfs_serve.specs.Promises.OpenKept.{LeaveOpen}
-use Rattle.nfs_serve.specs.Promises.HeldLock as locks
-use Rattle.nfs_serve.specs.Promises.HeldLock.{last_of}
-use Rattle.nfs_serve.specs.Promises.HeldOpen as worked
-use Rattle.nfs_serve.specs.Promises.HeldOpen.{IsOpenTo}
+use Rattle.nfs_exec.specs.{Runs.Ops.RanOp, Runs.OpenHeld.{NoneCloses, bits_left}}
+use Rattle.nfs_serve.specs.{Step.State, Promises.Endpoint.Arrival, Promises.Points.{state_after, state_after_all, taken, ops_of}}
+use Rattle.nfs_serve.specs.{Promises.LockKept.{renews_by, replaces_by}, Promises.OpenKept.LeaveOpen, Promises.HeldLock.last_of, Promises.HeldOpen.IsOpenTo}
 use Rattle.nfs_serve.specs.Promises.WrongOpens.{reads_too}
-use Rattle.nfs_serve.proofs.Promises.HeldLock.{not_so, last_of_all, nothing}
-use Rattle.nfs_serve.proofs.Promises.Computing.{computing}
+use Rattle.nfs_serve.specs.Promises.HeldLock as locks
+use Rattle.nfs_serve.specs.Promises.HeldOpen as worked
+use Rattle.nfs_serve.proofs.{Promises.HeldLock.{not_so, last_of_all, nothing}, Promises.Computing.computing}
 
 -- No operation is a CLOSE.
 

@@ -1,44 +1,25 @@
 -- Where a lock is still held behind a CREATE_SESSION that gives another id for its client's owner, that was a repeat, and changed nothing.
 use Rattle.std.proofs.Common.{◌≡◌, ℕ, Bool, true, false, cond, eqb, not, List, [], ◌∷◌, Option, Some, None, Result, Ok, Err, refl, sym, ◌∙◌, ap, subst}
-use Rattle.std.specs.Prelude.{◌==◌, ◌&&◌, find, option_map, bytes_eq}
-use Rattle.std.specs.Option.{option_map_or}
-use Rattle.std.proofs.lemmas.Bool.{and_parts, eq-eqb, eqb-true, eqb-false, ne_eqb, false≢true}
-use Rattle.std.proofs.lemmas.Slice.Eq.{bytes_eq-Decides}
-use Rattle.nfs_xdr.specs.Caller.{Caller}
-use Rattle.nfs_xdr.specs.Tables.{In}
-use Rattle.nfs_xdr.specs.declared.status.Status.{Status}
-use Rattle.nfs_xdr.specs.declared.status.Status.TheVariants.{Delay, MinorVersMismatch}
-use Rattle.nfs_xdr.proofs.Lists.{in_filter, in_any, any_in, find_in, none_in}
-use Rattle.nfs_xdr.proofs.Tables.{in_once}
-use Rattle.nfs_compound.specs.Request.{Request, item_number}
-use Rattle.nfs_compound.specs.declared.op.Item.{Item}
-use Rattle.nfs_compound.specs.declared.op.Item.TheVariants.{Operation}
-use Rattle.nfs_compound.specs.declared.op.Op.TheVariants as Op
+use Rattle.std.proofs.{lemmas.Bool.{and_parts, eq-eqb, eqb-true, eqb-false, ne_eqb, false≢true}, lemmas.Slice.Eq.bytes_eq-Decides}
+use Rattle.std.specs.{Prelude.{◌==◌, ◌&&◌, find, option_map, bytes_eq}, Option.option_map_or}
+use Rattle.nfs_xdr.specs.{Caller.Caller, Tables.In, declared.status.Status.Status, declared.status.Status.TheVariants.{Delay, MinorVersMismatch}}
+use Rattle.nfs_xdr.proofs.{Lists.{in_filter, in_any, any_in, find_in, none_in}, Tables.in_once}
+use Rattle.nfs_compound.specs.{Request.{Request, item_number}, declared.op.Item.Item, declared.op.Item.TheVariants.Operation}
 use Rattle.nfs_compound.specs.declared.session_args.CreateSession.{CreateSession}
-use Rattle.nfs_sessions.specs.declared.id.SessionId.{SessionId}
-use Rattle.nfs_sessions.specs.declared.sessions.SessionFault.{SessionFault}
+use Rattle.nfs_compound.specs.declared.op.Op.TheVariants as Op
+use Rattle.nfs_sessions.specs.{declared.id.SessionId.SessionId, declared.sessions.SessionFault.SessionFault, Sessions.{SessionTable, create}}
 use Rattle.nfs_sessions.specs.declared.sessions.SessionFault.TheVariants as F
-use Rattle.nfs_sessions.specs.Sessions.{SessionTable, create}
-use Rattle.nfs_clients.specs.Roster.{ClientRecord, client_at, id_of, next_id}
+use Rattle.nfs_clients.specs.{Roster.{ClientRecord, client_at, id_of, next_id}, CreateSession.{is_other_confirmed_of, leaving, leaving_by, create_verdict}}
 use Rattle.nfs_clients.specs.CreateSession as clients
-use Rattle.nfs_clients.specs.CreateSession.{is_other_confirmed_of, leaving, leaving_by, create_verdict}
 use Rattle.nfs_clients.specs.declared.created.CreateResult.TheVariants as results
-use Rattle.nfs_opens.specs.declared.records.LockState.{LockState}
-use Rattle.nfs_opens.specs.declared.records.OpenState.{OpenState}
-use Rattle.nfs_opens.specs.Table.{Table}
-use Rattle.nfs_names.specs.Ending.{has_open, table_staying}
-use Rattle.nfs_names.specs.Outcome.{is_ok}
+use Rattle.nfs_opens.specs.{declared.records.LockState.LockState, declared.records.OpenState.OpenState, Table.Table}
+use Rattle.nfs_names.specs.{Ending.{has_open, table_staying}, Outcome.is_ok}
 use Rattle.nfs_files.specs.LockTold.{LockTold}
-use Rattle.nfs_exec.specs.Step.Machine.{Machine, IsMachine, refuses}
-use Rattle.nfs_exec.specs.Step.Place.{item_fault}
-use Rattle.nfs_exec.specs.Step.CreateSession.{create_session_number, without_any_opens, by_created, creates, by_verdict, wish_of}
-use Rattle.nfs_exec.specs.Step.Run.{is_here}
-use Rattle.nfs_exec.specs.Step.Compound.{carried_out, by_fault, first_item, bare, by_first, compound}
-use Rattle.nfs_exec.specs.Step.Laws.{Asks}
+use Rattle.nfs_exec.specs.{Step.Machine.{Machine, IsMachine, refuses}, Step.Place.item_fault}
+use Rattle.nfs_exec.specs.{Step.CreateSession.{create_session_number, without_any_opens, by_created, creates, by_verdict, wish_of}, Step.Run.is_here}
+use Rattle.nfs_exec.specs.{Step.Compound.{carried_out, by_fault, first_item, bare, by_first, compound}, Step.Laws.Asks}
 use Rattle.nfs_exec.specs.Runs.LockHeld.{is_of_owner, takes_place, replaces_in, replaces}
-use Rattle.nfs_serve.proofs.Promises.HeldBefore.{Holds}
-use Rattle.nfs_serve.proofs.Promises.HeldLock.{not_so}
-use Rattle.nfs_serve.proofs.Promises.HeldTraced.{held_staying}
+use Rattle.nfs_serve.proofs.{Promises.HeldBefore.Holds, Promises.HeldLock.not_so, Promises.HeldTraced.held_staying}
 
 never_both : (b : Bool) → b && false ≡ true → ⊥
 never_both true e = false≢true e

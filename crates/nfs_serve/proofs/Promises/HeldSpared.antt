@@ -1,61 +1,30 @@
 -- An operation behind which a lock state holds a byte did not end that: neither by what it unlocked or locked, nor by the open that it closed.
 use Rattle.std.proofs.Common.{◌≡◌, ◌⊎◌, ℕ, suc, ◌≤◌, Bool, true, false, not, List, length, drop, Some, None, refl, sym, ◌∙◌, ap, subst, arith, inl, inr}
-use Rattle.std.specs.Prelude.{◌==◌, ◌&&◌, Result, Ok}
-use Rattle.std.specs.Int.{w64, from_be_bytes}
-use Rattle.std.proofs.lemmas.Bool.{cases_lt, eqb-true, eq-eqb}
-use Rattle.std.proofs.lemmas.List.{drop_at, length-append}
-use Rattle.nfs_xdr.specs.Tables.{In}
-use Rattle.nfs_xdr.specs.declared.time.Time.{Time}
-use Rattle.nfs_xdr.specs.declared.status.Status.{Status}
-use Rattle.nfs_xdr.specs.declared.status.Status.TheVariants.{Nfs4Ok, RepTooBig, Delay}
-use Rattle.nfs_xdr.proofs.Lists.{find_in, in_filter}
-use Rattle.nfs_xdr.proofs.Tables.{in_once}
-use Rattle.nfs_compound.specs.declared.lock_args.LockU.{LockU}
-use Rattle.nfs_compound.specs.declared.open_args.Close.{Close}
-use Rattle.nfs_compound.specs.declared.op_num.OpNum.{OpNum}
-use Rattle.nfs_compound.specs.declared.op_num.OpNum.TheVariants as Num
-use Rattle.nfs_compound.specs.OpNum.{op_number}
+use Rattle.std.proofs.{lemmas.Bool.{cases_lt, eqb-true, eq-eqb}, lemmas.List.{drop_at, length-append}}
+use Rattle.std.specs.{Prelude.{◌==◌, ◌&&◌, Result, Ok}, Int.{w64, from_be_bytes}}
+use Rattle.nfs_xdr.specs.{Tables.In, declared.time.Time.Time, declared.status.Status.Status, declared.status.Status.TheVariants.{Nfs4Ok, RepTooBig, Delay}}
+use Rattle.nfs_xdr.proofs.{Lists.{find_in, in_filter}, Tables.in_once}
+use Rattle.nfs_compound.specs.{declared.lock_args.LockU.LockU, declared.open_args.Close.Close, declared.op_num.OpNum.OpNum, OpNum.op_number}
 use Rattle.nfs_compound.specs.declared.op.Item.TheVariants.{Operation}
+use Rattle.nfs_compound.specs.declared.op_num.OpNum.TheVariants as Num
 use Rattle.nfs_compound.specs.declared.op.Op.TheVariants as Op
-use Rattle.nfs_results.specs.declared.res.Res.{Res}
-use Rattle.nfs_results.specs.Results.{spell_result, done_head, status_of_result}
+use Rattle.nfs_results.specs.{declared.res.Res.Res, Results.{spell_result, done_head, status_of_result}}
 use Rattle.nfs_results.proofs.Lengths.{length_head, length_spelled}
-use Rattle.nfs_ranges.specs.declared.Kind.{Kind}
-use Rattle.nfs_ranges.specs.Holders.{cleared, is_within}
+use Rattle.nfs_ranges.specs.{declared.Kind.Kind, Holders.{cleared, is_within}}
 use Rattle.nfs_ranges.proofs.CanonicalLemmas.{within_is}
-use Rattle.nfs_opens.specs.declared.records.LockState.{LockState}
-use Rattle.nfs_opens.specs.declared.stateid.StateId.{StateId}
-use Rattle.nfs_opens.specs.declared.stateid.CurrentSeqid.TheVariants.{Own}
-use Rattle.nfs_opens.specs.declared.locking.Wish.{Wish}
-use Rattle.nfs_opens.specs.Holding.{FileHolders, on_file}
-use Rattle.nfs_opens.specs.Table.{Table}
-use Rattle.nfs_opens.specs.TableInvariants.{IsTable}
-use Rattle.nfs_opens.specs.Closing as closing
-use Rattle.nfs_opens.specs.Closing.{not_under, without_open}
+use Rattle.nfs_opens.specs.{declared.records.LockState.LockState, declared.stateid.StateId.StateId, declared.stateid.CurrentSeqid.TheVariants.Own}
+use Rattle.nfs_opens.specs.{declared.locking.Wish.Wish, Holding.{FileHolders, on_file}, Table.Table, TableInvariants.IsTable, Closing.{not_under, without_open}}
 use Rattle.nfs_opens.specs.Locking.{unlock}
+use Rattle.nfs_opens.specs.Closing as closing
 use Rattle.nfs_opens.proofs.CallLaws.{IsUnlocked}
-use Rattle.nfs_names.specs.declared.context.Context.{Context}
-use Rattle.nfs_names.specs.Ending.{with_opens}
-use Rattle.nfs_names.specs.Outcome.{Outcome, is_ok}
-use Rattle.nfs_names.specs.State.{State, moment}
-use Rattle.nfs_names.proofs.Ones.{by_delay}
-use Rattle.nfs_names.proofs.Untouched.{unused_opens}
-use Rattle.nfs_files.specs.Close.{close}
-use Rattle.nfs_files.specs.LockTold.{Names, LockTold, IsBeside}
-use Rattle.nfs_files.specs.LockU.{unlocking, lock_u}
-use Rattle.nfs_files.specs.Operation.{grows}
-use Rattle.nfs_files.specs.Ranges.{wished}
-use Rattle.nfs_files.specs.StateIds.{meant}
+use Rattle.nfs_names.specs.{declared.context.Context.Context, Ending.with_opens, Outcome.{Outcome, is_ok}, State.{State, moment}}
+use Rattle.nfs_names.proofs.{Ones.by_delay, Untouched.unused_opens}
+use Rattle.nfs_files.specs.{Close.close, LockTold.{Names, LockTold, IsBeside}, LockU.{unlocking, lock_u}, Operation.grows, Ranges.wished, StateIds.meant}
 use Rattle.nfs_files.specs.Target.{target}
-use Rattle.nfs_files.proofs.OpensMoved.{by_close, by_unlock}
-use Rattle.nfs_files.proofs.Outcomes.{one_or_delay}
-use Rattle.nfs_files.proofs.Steady.{Few}
+use Rattle.nfs_files.proofs.{OpensMoved.{by_close, by_unlock}, Outcomes.one_or_delay, Steady.Few}
 use Rattle.nfs_files.proofs.ToldGrants.{lock_refused, told_held, unlock_tells, close_tells}
-use Rattle.nfs_exec.specs.Runs.LockHeld.{LocksFor, UnlocksFor, ClosesOf, Spares}
-use Rattle.nfs_exec.specs.Runs.Ops.{RanOp}
-use Rattle.nfs_exec.proofs.Runs.KeptByRuns.{Is}
-use Rattle.nfs_exec.proofs.Runs.LockStates.{changed_from}
-use Rattle.nfs_exec.proofs.Runs.OneRun.{IsRun, by_item}
+use Rattle.nfs_exec.specs.{Runs.LockHeld.{LocksFor, UnlocksFor, ClosesOf, Spares}, Runs.Ops.RanOp}
+use Rattle.nfs_exec.proofs.{Runs.KeptByRuns.Is, Runs.LockStates.changed_from, Runs.OneRun.{IsRun, by_item}}
 use Rattle.nfs_serve.proofs.Promises.HeldBefore.{Holds}
 
 -- A lock state holds bytes of one file.

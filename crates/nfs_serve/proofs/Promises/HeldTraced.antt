@@ -2,22 +2,16 @@
 use Rattle.std.proofs.Common.{◌≡◌, ℕ, Bool, List, [], ◌∷◌, ◌++◌, refl, sym, ◌∙◌, ap, subst, inl, inr}
 use Rattle.std.specs.Prelude.{filter}
 use Rattle.nfs_xdr.specs.Tables.{In}
-use Rattle.nfs_opens.specs.declared.records.LockState.{LockState}
-use Rattle.nfs_opens.specs.Table.{Table}
+use Rattle.nfs_opens.specs.{declared.records.LockState.LockState, Table.Table}
 use Rattle.nfs_names.specs.Ending.{table_staying}
 use Rattle.nfs_names.specs.State as of_store
 use Rattle.nfs_files.specs.LockTold.{LockTold}
-use Rattle.nfs_exec.specs.Runs.LockHeld.{Spares, AreSpared}
-use Rattle.nfs_exec.specs.Runs.Ops.{RanOp, ops_by, left_by, AreChained}
-use Rattle.nfs_exec.specs.Step.Laws.{MachineEvent, stepped}
+use Rattle.nfs_exec.specs.{Runs.LockHeld.{Spares, AreSpared}, Runs.Ops.{RanOp, ops_by, left_by, AreChained}, Step.Laws.{MachineEvent, stepped}}
 use Rattle.nfs_exec.specs.Step.Machine.{Machine}
-use Rattle.nfs_exec.proofs.Runs.KeptByRuns.{Is, event_ops}
-use Rattle.nfs_exec.proofs.Runs.OneRun.{IsRun}
-use Rattle.nfs_exec.proofs.Runs.OneWalk.{Ran, Idled, event_did, ended, none_at}
+use Rattle.nfs_exec.proofs.{Runs.KeptByRuns.{Is, event_ops}, Runs.OneRun.IsRun, Runs.OneWalk.{Ran, Idled, event_did, ended, none_at}}
 use Rattle.nfs_exec.proofs.Runs.WhatWasDone.{event_run}
 use Rattle.nfs_serve.specs.Promises.Denials.{Grants}
-use Rattle.nfs_serve.proofs.Promises.HeldBefore.{Holds, held_before, held_fewer, within_held}
-use Rattle.nfs_serve.proofs.Promises.HeldSpared.{spared_by}
+use Rattle.nfs_serve.proofs.{Promises.HeldBefore.{Holds, held_before, held_fewer, within_held}, Promises.HeldSpared.spared_by}
 
 -- It was held before them, and they spared it; or one of them granted it, and those behind that spared it.
 pub data Traced (k : LockTold) (owner : List ℕ) (m : Machine) (ds : List RanOp) : Type 0 where

@@ -1,63 +1,39 @@
 -- This server keeps the laws of slots.
 use Rattle.std.proofs.Common.{◌≡◌, inl, inr, ℕ, ◌<◌, ◌^◌, suc, Bool, true, false, List, [], ◌∷◌, ◌++◌, length, Option, Some, None, refl, sym, ◌∙◌, ap, subst, arith}
-use Rattle.std.specs.Prelude.{◌==◌, ◌||◌, not, nat_le, nat_lt, is_some, slice_get, option_map, option_and_then}
-use Rattle.std.specs.Option.{option_map_or}
-use Rattle.std.proofs.lemmas.Bool.{cases_Bool, false≢true}
-use Rattle.std.proofs.lemmas.Option.{same_Some}
-use Rattle.std.proofs.lemmas.List.{append-nil}
-use Rattle.nfs_xdr.specs.Limits.{opaque_limit}
-use Rattle.nfs_xdr.specs.Codec.{number, opaque}
-use Rattle.nfs_xdr.specs.Text.{IsBytes}
-use Rattle.nfs_xdr.specs.Caller.{Caller}
-use Rattle.nfs_xdr.specs.Checks.{first_fault}
-use Rattle.nfs_xdr.specs.declared.status.Status.{Status}
+use Rattle.std.proofs.{lemmas.Bool.{cases_Bool, false≢true}, lemmas.Option.same_Some, lemmas.List.append-nil}
+use Rattle.std.specs.{Prelude.{◌==◌, ◌||◌, not, nat_le, nat_lt, is_some, slice_get, option_map, option_and_then}, Option.option_map_or}
+use Rattle.nfs_xdr.specs.{Limits.opaque_limit, Codec.{number, opaque}, Text.IsBytes, Caller.Caller, Checks.first_fault, declared.status.Status.Status}
 use Rattle.nfs_xdr.specs.declared.status.Status.TheVariants.{BadSession, BadSlot, BadHighSlot, SeqMisordered, SeqFalseRetry, ReqTooBig, TooManyOps}
 use Rattle.nfs_xdr.specs.Status.{status_number}
 use Rattle.nfs_xdr.proofs.StatusLaws.{is_status_listing}
-use Rattle.nfs_rpc.specs.declared.refusal.Refusal.{Refusal}
-use Rattle.nfs_rpc.specs.declared.refusal.Refusal.TheVariants.{Silent, Mismatch, Auth, Accept}
-use Rattle.nfs_rpc.specs.declared.refusal.AcceptStat.TheVariants.{GarbageArgs}
-use Rattle.nfs_rpc.specs.declared.call.Procedure.{Procedure}
+use Rattle.nfs_rpc.specs.{declared.refusal.Refusal.Refusal, declared.refusal.Refusal.TheVariants.{Silent, Mismatch, Auth, Accept}}
+use Rattle.nfs_rpc.specs.{declared.refusal.AcceptStat.TheVariants.GarbageArgs, declared.call.Procedure.Procedure, HeadCodec.header}
+use Rattle.nfs_rpc.specs.{CallHead.{Call, Called, Accepted, Refused, call_of}, Reply.spell_head}
 use Rattle.nfs_rpc.specs.declared.call.Procedure.TheVariants as Procedures
-use Rattle.nfs_rpc.specs.HeadCodec.{header}
-use Rattle.nfs_rpc.specs.CallHead.{Call, Called, Accepted, Refused, call_of}
-use Rattle.nfs_rpc.specs.Reply.{spell_head}
 use Rattle.nfs_rpc.proofs.HeadLaws.{call_taken}
-use Rattle.nfs_compound.specs.declared.op.Item.{Item}
-use Rattle.nfs_compound.specs.declared.op.Item.TheVariants.{Operation}
-use Rattle.nfs_compound.specs.declared.op.Op.TheVariants as Op
-use Rattle.nfs_compound.specs.Request.{Request, IsRequest}
-use Rattle.nfs_compound.specs.ReadRequest.{request_at}
+use Rattle.nfs_compound.specs.{declared.op.Item.Item, declared.op.Item.TheVariants.Operation, Request.{Request, IsRequest}, ReadRequest.request_at}
 use Rattle.nfs_compound.specs.declared.session_args.Sequence.{Sequence}
+use Rattle.nfs_compound.specs.declared.op.Op.TheVariants as Op
 use Rattle.nfs_compound.proofs.RequestLaws.{request_takes}
 use Rattle.nfs_lease.specs.Renewals.{has_run_out}
-use Rattle.nfs_slots.specs.Slot.{SlotState, judge_slot}
-use Rattle.nfs_slots.specs.declared.slot.Verdict.{Verdict}
+use Rattle.nfs_slots.specs.{Slot.{SlotState, judge_slot}, declared.slot.Verdict.Verdict}
 use Rattle.nfs_slots.specs.declared.slot.Verdict.TheVariants as slot
-use Rattle.nfs_sessions.specs.Id.{id_of}
-use Rattle.nfs_sessions.specs.SessionSlots.{GrantedSlots, judge, kept}
+use Rattle.nfs_sessions.specs.{Id.id_of, SessionSlots.{GrantedSlots, judge, kept}, Sessions.{Session, SessionTable, session_at, keep}, SessionTables.IsSessions}
 use Rattle.nfs_sessions.specs.SessionSlots as slots
-use Rattle.nfs_sessions.specs.Sessions.{Session, SessionTable, session_at, keep}
-use Rattle.nfs_sessions.specs.SessionTables.{IsSessions}
 use Rattle.nfs_sessions.proofs.TableLemmas.{slots_changed, sessions_filtered}
 use Rattle.nfs_exec.specs.Step.Machine.{Machine}
-use Rattle.nfs_exec.specs.Step.Sequence as sequence
 use Rattle.nfs_exec.specs.Step.Sequence.{compared, Sequenced, Refuses, Repeats, Runs as RunsIn, unless, by_session, by_verdict, fresh_fault, slot_fault}
-use Rattle.nfs_exec.specs.Step.Compound.{in_session, by_first, compound}
-use Rattle.nfs_exec.specs.Step.Laws.{if_runs, first_runs}
-use Rattle.nfs_exec.proofs.Runs.SlotNumbers.{IsHeld}
-use Rattle.nfs_serve.specs.Promises.Endpoint.{Place, Heading, Answer}
-use Rattle.nfs_serve.proofs.Promises.ServerLaws.{Runs, Repeats as RepeatsOn, IsElsewhere, KeepsSlots}
+use Rattle.nfs_exec.specs.{Step.Compound.{in_session, by_first, compound}, Step.Laws.{if_runs, first_runs}}
 use Rattle.nfs_exec.specs.Step.Executing.{first_sequence, sequence_of, is_alone, executes}
+use Rattle.nfs_exec.specs.Step.Sequence as sequence
+use Rattle.nfs_exec.proofs.{Runs.SlotNumbers.IsHeld, Runs.SessionsBehind.{ran_in, quiet_compound, told_compound}}
+use Rattle.nfs_serve.specs.Promises.Endpoint.{Place, Heading, Answer}
 use Rattle.nfs_serve.specs.Step.{asked_of, State, Stepped, refused, answered, with_arguments, by_procedure, reply_to, step}
 use Rattle.nfs_serve.specs.Promises.Seen.{ReplyReader, IsSequenced, Bears, slot_in, ticked, executes_by, heading_of, heading_in, heading_by, heading, seen, server}
-use Rattle.nfs_serve.proofs.Promises.Ticking.{step_is}
-use Rattle.nfs_exec.proofs.Runs.SessionsBehind.{ran_in, quiet_compound, told_compound}
+use Rattle.nfs_serve.proofs.{Promises.ServerLaws.{Runs, Repeats as RepeatsOn, IsElsewhere, KeepsSlots}, Promises.Ticking.step_is}
 use Rattle.nfs_serve.proofs.Promises.SlotsLeft.{slot_at, IsGiven, IsLeft, Stays, stands_given, held_sessions, held_given, held_slot, kept_slot, fewer_leaves, keep_there}
-use Rattle.nfs_serve.proofs.Promises.Reader.{sequenced}
-use Rattle.nfs_serve.proofs.Promises.Spelled.{IsBad, front_spelled}
-use Rattle.nfs_serve.proofs.Promises.Replies.{answer_found, refusal_found, sequenced_again, bears_sequenced, bears_one}
-use Rattle.nfs_serve.proofs.Promises.Mute.{mute_compound}
+use Rattle.nfs_serve.proofs.{Promises.Reader.sequenced, Promises.Spelled.{IsBad, front_spelled}}
+use Rattle.nfs_serve.proofs.{Promises.Replies.{answer_found, refusal_found, sequenced_again, bears_sequenced, bears_one}, Promises.Mute.mute_compound}
 use Rattle.nfs_serve.proofs.Promises.Good.{numbered_compound, sequence_fits}
 
 -- A call and its request.

@@ -1,72 +1,41 @@
 -- What is known of filehandles by what was sent and answered is so, in every run.
 use Rattle.std.proofs.Common.{◌≡◌, ℕ, zero, suc, ◌<◌, ◌^◌, Bool, true, false, cond, not, List, [], ◌∷◌, length, take, drop, get_or, Option, Some, None}
 use Rattle.std.proofs.Common.{refl, sym, ◌∙◌, ap, subst, arith, inl, inr}
-use Rattle.std.specs.Prelude.{◌==◌, ◌&&◌, nat_lt, bytes_eq, filter, find, is_some, option_map, option_and_then, Result, Ok, Err}
-use Rattle.std.specs.Int.{w32, from_be_bytes}
-use Rattle.std.specs.List.{list_all}
-use Rattle.std.specs.Option.{option_map_or}
 use Rattle.std.proofs.lemmas.Bool.{cases_Bool, and_parts, and_from, not-true, eqb-true, eq-eqb, ltb-true, true≢false, false≢true}
-use Rattle.std.proofs.lemmas.List.{take_at, drop_at}
-use Rattle.std.proofs.lemmas.Option.{same_Some}
-use Rattle.std.proofs.lemmas.Slice.Eq.{bytes_eq-Decides}
-use Rattle.nfs_xdr.specs.Limits.{fhsize}
-use Rattle.nfs_xdr.specs.Spelling.{number, fixed, opaque}
-use Rattle.nfs_xdr.specs.Tables.{In}
-use Rattle.nfs_xdr.specs.Text.{IsBytes}
-use Rattle.nfs_xdr.specs.Status.{status_number}
-use Rattle.nfs_xdr.specs.declared.status.Status.{Status}
+use Rattle.std.proofs.{lemmas.List.{take_at, drop_at}, lemmas.Option.same_Some, lemmas.Slice.Eq.bytes_eq-Decides}
+use Rattle.std.specs.{Prelude.{◌==◌, ◌&&◌, nat_lt, bytes_eq, filter, find, is_some, option_map, option_and_then, Result, Ok, Err}, Int.{w32, from_be_bytes}}
+use Rattle.std.specs.{List.list_all, Option.option_map_or}
+use Rattle.nfs_xdr.specs.{Limits.fhsize, Spelling.{number, fixed, opaque}, Tables.In, Text.IsBytes, Status.status_number, declared.status.Status.Status}
 use Rattle.nfs_xdr.specs.declared.status.Status.TheVariants.{Nfs4Ok, NoFileHandle, Stale, RepTooBig}
-use Rattle.nfs_xdr.proofs.Lists.{find_in, in_filter, some_or_none}
-use Rattle.nfs_xdr.proofs.Putting.{length_number}
-use Rattle.nfs_compound.specs.declared.name_args.Rename.{Rename}
-use Rattle.nfs_compound.specs.declared.open_args.Open.{Open}
-use Rattle.nfs_compound.specs.declared.open_args.OpenClaim.{OpenClaim}
-use Rattle.nfs_compound.specs.declared.open_args.OpenClaim.TheVariants.{Null}
-use Rattle.nfs_compound.specs.declared.op.Item.{Item}
-use Rattle.nfs_compound.specs.declared.op.Item.TheVariants.{Operation}
+use Rattle.nfs_xdr.proofs.{Lists.{find_in, in_filter, some_or_none}, Putting.length_number}
+use Rattle.nfs_compound.specs.{declared.name_args.Rename.Rename, declared.open_args.Open.Open, declared.open_args.OpenClaim.OpenClaim}
+use Rattle.nfs_compound.specs.{declared.open_args.OpenClaim.TheVariants.Null, declared.op.Item.Item, declared.op.Item.TheVariants.Operation, OpNum.op_number}
 use Rattle.nfs_compound.specs.declared.op.Op.TheVariants as Op
 use Rattle.nfs_compound.specs.declared.op_num.OpNum.TheVariants as Num
-use Rattle.nfs_compound.specs.OpNum.{op_number}
 use Rattle.nfs_results.specs.declared.res.Res.TheVariants as Res
 use Rattle.nfs_results.specs.Results.{spell_result, done_head, refusal}
 use Rattle.nfs_results.proofs.Lengths.{length_head}
-use Rattle.nfs_tree.specs.declared.object.Object.{Object}
-use Rattle.nfs_tree.specs.declared.row.Row.{Row}
-use Rattle.nfs_tree.specs.Files.{root, object_at, is_entry, entry, is_directory_at}
+use Rattle.nfs_tree.specs.{declared.object.Object.Object, declared.row.Row.Row, Files.{root, object_at, is_entry, entry, is_directory_at}}
 use Rattle.nfs_tree.proofs.RowsKept.{entry_parts}
-use Rattle.nfs_attrs.specs.declared.handle.Handle.{Handle}
-use Rattle.nfs_attrs.specs.Handle.{handle_of}
-use Rattle.nfs_attrs.proofs.Lengths.{length_handle}
-use Rattle.nfs_attrs.proofs.Texts.{handle_is}
-use Rattle.nfs_names.specs.declared.context.Context.{Context}
-use Rattle.nfs_names.specs.declared.node.Node.{Node}
-use Rattle.nfs_names.specs.Checks.{saved_object, node_as, node_at, current}
-use Rattle.nfs_names.specs.GetFh.{get_fh}
-use Rattle.nfs_names.specs.Outcome as outcome
+use Rattle.nfs_attrs.specs.{declared.handle.Handle.Handle, Handle.handle_of}
+use Rattle.nfs_attrs.proofs.{Lengths.length_handle, Texts.handle_is}
+use Rattle.nfs_names.specs.{declared.context.Context.Context, declared.node.Node.Node, Checks.{saved_object, node_as, node_at, current}, GetFh.get_fh}
 use Rattle.nfs_names.specs.Outcome.{or_refusal, is_ok}
+use Rattle.nfs_names.specs.Outcome as outcome
 use Rattle.nfs_names.specs.State as store
 use Rattle.nfs_opens.specs.Steps.{◌>>=◌}
 use Rattle.nfs_files.proofs.WrittenOps.{number_back}
-use Rattle.nfs_exec.specs.Step.Machine.{Machine}
-use Rattle.nfs_exec.specs.Step.Behind.{Step}
-use Rattle.nfs_exec.specs.Step.Laws.{MachineEvent}
-use Rattle.nfs_exec.specs.Step.Run.{in_room}
-use Rattle.nfs_exec.specs.Runs.Handles.{Gives}
+use Rattle.nfs_exec.specs.{Step.Machine.Machine, Step.Behind.Step, Step.Laws.MachineEvent, Step.Run.in_room, Runs.Handles.Gives}
 use Rattle.nfs_exec.specs.Runs.Ops.{RanOp, done, ops_by, left_by, AreChained}
-use Rattle.nfs_exec.proofs.Step.Instances.{instance_kept}
-use Rattle.nfs_exec.proofs.Runs.Handles as handles
-use Rattle.nfs_exec.proofs.Runs.Handles.{handle_in, handle_read}
-use Rattle.nfs_exec.proofs.Runs.KeptByRuns.{Is}
-use Rattle.nfs_exec.proofs.Runs.OneRun.{IsRun, in_room_is}
+use Rattle.nfs_exec.proofs.{Step.Instances.instance_kept, Runs.Handles.{handle_in, handle_read}, Runs.KeptByRuns.Is, Runs.OneRun.{IsRun, in_room_is}}
 use Rattle.nfs_exec.proofs.Runs.OneWalk.{throughout}
-use Rattle.nfs_serve.specs.Step.{State, new_state}
-use Rattle.nfs_serve.specs.Promises.Endpoint.{Arrival}
+use Rattle.nfs_exec.proofs.Runs.Handles as handles
+use Rattle.nfs_serve.specs.{Step.{State, new_state}, Promises.Endpoint.Arrival}
 use Rattle.nfs_serve.specs.Promises.KnownHandles.{Place, KnownName, Known, starts, is_at, object_of, directory_of, may_be, without, with_name, place_in, put, are_bytes, led_by, opened}
 use Rattle.nfs_serve.specs.Promises.KnownHandles.{given_in, given, renamed, behind, Bears, known_after, known_after_all, Tells, Follow, names_after, FollowThrough, root_of, HandlesFollow}
 use Rattle.nfs_serve.specs.Promises.NameStays.{IsDone, finds_none, TakesIt, Removed, MovedAway, MovedOver, next_of, Says, Links, Renames}
 use Rattle.nfs_serve.specs.Promises.Points.{state_after, before, asked_by, ops_of}
-use Rattle.nfs_serve.proofs.Promises.Handles.{Has, has_next, number_in}
-use Rattle.nfs_serve.proofs.Promises.NameRows.{run_rows, kept_rows, takes_names, spared}
+use Rattle.nfs_serve.proofs.{Promises.Handles.{Has, has_next, number_in}, Promises.NameRows.{run_rows, kept_rows, takes_names, spared}}
 use Rattle.nfs_serve.proofs.Promises.NameSaid.{status_in, some_same}
 use Rattle.nfs_serve.proofs.Promises.NameStays.{RunsTo, AreLinked, Runs, rows, ran_as, as_step, asked_runs, missed, says_leads}
 use Rattle.nfs_serve.proofs.Promises.Points.{IsSound, whole_before, sound_next, sound_new, next_is}

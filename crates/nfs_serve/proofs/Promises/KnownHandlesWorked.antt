@@ -5,19 +5,11 @@ use Rattle.nfs_compound.specs.ArgCodecs.{rename_args}
 use Rattle.nfs_results.specs.Items as results
 use Rattle.nfs_results.specs.declared.res.Res.TheVariants as Res
 use Rattle.nfs_results.specs.Results.{spell_result}
-use Rattle.nfs_names.specs.Checks.{both}
-use Rattle.nfs_names.specs.GetFh.{get_fh}
-use Rattle.nfs_names.specs.Link.{link}
-use Rattle.nfs_names.specs.Rename.{rename}
-use Rattle.nfs_names.specs.RestoreFh.{restore_fh}
-use Rattle.nfs_names.specs.SaveFh.{save_fh}
-use Rattle.nfs_serve.specs.Promises.Handles.{given}
-use Rattle.nfs_serve.specs.Promises.KnownHandles.{starts, Follow, names_after}
+use Rattle.nfs_names.specs.{Checks.both, GetFh.get_fh, Link.link, Rename.rename, RestoreFh.restore_fh, SaveFh.save_fh}
+use Rattle.nfs_serve.specs.{Promises.Handles.given, Promises.KnownHandles.{starts, Follow, names_after}}
 use Rattle.nfs_serve.specs.Promises.KnownHandlesWorked.{finds, links, renames, found, linked, root, another, f, g, h, IsKnown}
-use Rattle.nfs_serve.specs.Promises.KnownHandlesWorked.{but_for, answering, no_handle, giving, HandlesRefused}
-use Rattle.nfs_serve.specs.Promises.NameStays.{finds_none}
-use Rattle.nfs_serve.specs.Promises.Points.{ops_of}
-use Rattle.nfs_serve.specs.Promises.WrittenWorked.{made}
+use Rattle.nfs_serve.specs.{Promises.KnownHandlesWorked.{but_for, answering, no_handle, giving, HandlesRefused}, Promises.NameStays.finds_none}
+use Rattle.nfs_serve.specs.{Promises.Points.ops_of, Promises.WrittenWorked.made}
 use Rattle.nfs_serve.proofs.Promises.Computing.{computing}
 
 -- The parts of the run, each computed by itself.

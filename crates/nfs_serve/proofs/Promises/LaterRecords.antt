@@ -1,21 +1,13 @@
 -- What each operation and each end of clients keeps of a store stays through records, and stands before each of their operations.
 use Rattle.std.proofs.Common.{◌≡◌, ◌⊎◌, List, [], ◌∷◌, ◌++◌, length, Option, Some, None, refl, sym, subst, inl, inr}
-use Rattle.std.specs.Option.{option_map_or}
+use Rattle.std.specs.{Option.option_map_or, Prelude.not}
 use Rattle.nfs_xdr.specs.Tables.{In}
 use Rattle.nfs_lease.specs.Renewals.{has_run_out}
 use Rattle.nfs_names.specs.State as of_store
-use Rattle.std.specs.Prelude.{not}
-use Rattle.nfs_exec.specs.Step.Laws.{MachineEvent, Asks}
-use Rattle.nfs_exec.specs.Step.Machine.{Machine}
-use Rattle.nfs_exec.specs.Runs.Ops.{RanOp, ops_by}
-use Rattle.nfs_exec.proofs.Runs.WhatWasDone.{event_run}
-use Rattle.nfs_exec.proofs.Runs.OneRun.{IsRun}
-use Rattle.nfs_exec.proofs.Runs.OneWalk.{IsKept, Throughout, throughout, throughout_behind, none_at, in_back}
+use Rattle.nfs_exec.specs.{Step.Laws.{MachineEvent, Asks}, Step.Machine.Machine, Runs.Ops.{RanOp, ops_by}}
+use Rattle.nfs_exec.proofs.{Runs.WhatWasDone.event_run, Runs.OneRun.IsRun, Runs.OneWalk.{IsKept, Throughout, throughout, throughout_behind, none_at, in_back}}
 use Rattle.nfs_exec.proofs.Runs.KeptByRuns.{Is, event_ops}
-use Rattle.nfs_serve.specs.Step.{State}
-use Rattle.nfs_serve.specs.Promises.ChangeTells.{RunsIn}
-use Rattle.nfs_serve.specs.Promises.Endpoint.{Arrival}
-use Rattle.nfs_serve.specs.Promises.Points.{state_after, taken, before, asked_by, ops_of}
+use Rattle.nfs_serve.specs.{Step.State, Promises.ChangeTells.RunsIn, Promises.Endpoint.Arrival, Promises.Points.{state_after, taken, before, asked_by, ops_of}}
 use Rattle.nfs_serve.proofs.Promises.Points.{left, for_asked, next_is, IsSound, whole_before, sound_next}
 
 -- An operation of a record was run, between two machines that are whole.

@@ -1,31 +1,18 @@
 -- READDIR tells the lease, in every run; and the worked listing, computed.
 use Rattle.std.proofs.Common.{◌≡◌, ℕ, true, List, [], ◌∷◌, ◌++◌, length, take, get_or, Option, Some, None, refl, ap, arith}
 use Rattle.std.specs.Option.{option_map_or}
-use Rattle.nfs_xdr.specs.Spelling.{number}
-use Rattle.nfs_xdr.specs.Tables.{In}
-use Rattle.nfs_compound.specs.declared.name_args.ReadDir.{ReadDir}
-use Rattle.nfs_compound.specs.declared.op.Item.TheVariants.{Operation}
+use Rattle.nfs_xdr.specs.{Spelling.number, Tables.In}
+use Rattle.nfs_compound.specs.{declared.name_args.ReadDir.ReadDir, declared.op.Item.TheVariants.Operation, ArgCodecs.read_dir_args}
 use Rattle.nfs_compound.specs.declared.op.Op.TheVariants as Op
-use Rattle.nfs_compound.specs.ArgCodecs.{read_dir_args}
 use Rattle.nfs_results.specs.Items as results
 use Rattle.nfs_results.specs.Listing as listing
-use Rattle.nfs_attrs.specs.Attributes.{values}
-use Rattle.nfs_attrs.specs.Mask.{mask_of, has}
-use Rattle.nfs_names.specs.Outcome.{is_ok}
-use Rattle.nfs_names.specs.ReadDir.{entry_of, fitting, read_dir}
-use Rattle.nfs_exec.specs.Runs.AttributesTold.{EntriesTell}
-use Rattle.nfs_exec.specs.Step.Laws.{MachineEvent}
-use Rattle.nfs_exec.specs.Step.Machine.{Machine}
-use Rattle.nfs_exec.specs.Runs.Ops.{RanOp, ops_by}
-use Rattle.nfs_exec.proofs.Runs.LeaseTold.{Lasts, event_listed}
-use Rattle.nfs_exec.proofs.Runs.KeptByRuns.{Is}
-use Rattle.nfs_serve.specs.Promises.HeldLock.{last_of, locked}
-use Rattle.nfs_serve.specs.Promises.LeaseListed.{LeaseIsListed, lists, IsListed}
-use Rattle.nfs_serve.specs.Promises.Points.{reached, before, asked_by, ops_of}
-use Rattle.nfs_serve.specs.Step.{new_state}
-use Rattle.nfs_serve.proofs.Promises.Computing.{computing}
-use Rattle.nfs_serve.proofs.Promises.HeldLock.{nothing}
-use Rattle.nfs_serve.proofs.Promises.LockKept.{lasts_all}
+use Rattle.nfs_attrs.specs.{Attributes.values, Mask.{mask_of, has}}
+use Rattle.nfs_names.specs.{Outcome.is_ok, ReadDir.{entry_of, fitting, read_dir}}
+use Rattle.nfs_exec.specs.{Runs.AttributesTold.EntriesTell, Step.Laws.MachineEvent, Step.Machine.Machine, Runs.Ops.{RanOp, ops_by}}
+use Rattle.nfs_exec.proofs.{Runs.LeaseTold.{Lasts, event_listed}, Runs.KeptByRuns.Is}
+use Rattle.nfs_serve.specs.{Promises.HeldLock.{last_of, locked}, Promises.LeaseListed.{LeaseIsListed, lists, IsListed}}
+use Rattle.nfs_serve.specs.{Promises.Points.{reached, before, asked_by, ops_of}, Step.new_state}
+use Rattle.nfs_serve.proofs.{Promises.Computing.computing, Promises.HeldLock.nothing, Promises.LockKept.lasts_all}
 use Rattle.nfs_serve.proofs.Promises.Points.{IsSound, whole_before, sound_all, sound_new}
 
 asked_listed : (m : Machine) (o : Option MachineEvent) (lease : ℕ) (a : ReadDir) → Is m → Lasts lease m → (d : RanOp) → In d (option_map_or (ops_by m) o [])

@@ -1,34 +1,24 @@
 -- Listings are whole, in every run.
 use Rattle.std.proofs.Common.{◌≡◌, ℕ, suc, ◌+◌, ◌<◌, ◌≤◌, true, false, List, [], ◌∷◌, ◌++◌, Option, Some, None, refl, sym, ◌∙◌, ap, subst, arith, inl, inr}
+use Rattle.std.proofs.{lemmas.Bool.{cases_Bool, cases_lt, eq-eqb, ne_eqb}, lemmas.Slice.Eq.bytes_eq-Decides}
 use Rattle.std.specs.Prelude.{◌==◌, bytes_eq}
-use Rattle.std.proofs.lemmas.Bool.{cases_Bool, cases_lt, eq-eqb, ne_eqb}
-use Rattle.std.proofs.lemmas.Slice.Eq.{bytes_eq-Decides}
-use Rattle.nfs_xdr.specs.Tables.{In}
-use Rattle.nfs_xdr.specs.declared.status.Status.TheVariants.{RepTooBig}
+use Rattle.nfs_xdr.specs.{Tables.In, declared.status.Status.TheVariants.RepTooBig}
 use Rattle.nfs_xdr.proofs.Lists.{find_in}
 use Rattle.nfs_compound.specs.declared.op.Item.TheVariants.{Operation}
 use Rattle.nfs_compound.specs.declared.op.Op.TheVariants as Op
 use Rattle.nfs_compound.specs.declared.op_num.OpNum.TheVariants as Num
-use Rattle.nfs_results.specs.declared.res.Entry.{Entry}
-use Rattle.nfs_results.specs.declared.res.ReadDirOk.{ReadDirOk}
+use Rattle.nfs_results.specs.{declared.res.Entry.Entry, declared.res.ReadDirOk.ReadDirOk, Parts.parts, Results.spell_result}
 use Rattle.nfs_results.specs.declared.res.Res.TheVariants as Res
-use Rattle.nfs_results.specs.Parts.{parts}
-use Rattle.nfs_results.specs.Results.{spell_result}
-use Rattle.nfs_tree.specs.declared.row.Row.{Row}
-use Rattle.nfs_tree.specs.Files.{is_entry, entry}
+use Rattle.nfs_tree.specs.{declared.row.Row.Row, Files.{is_entry, entry}}
 use Rattle.nfs_attrs.specs.Mask.{mask_of}
 use Rattle.nfs_names.specs.declared.context.Context.{Context}
 use Rattle.nfs_exec.specs.Runs.Ops.{RanOp}
 use Rattle.nfs_exec.proofs.Runs.WhatWasDone.{IsRun, in_room_is}
-use Rattle.nfs_serve.specs.Step.{State, new_state}
-use Rattle.nfs_serve.specs.Promises.ChangeTells.{RunsIn}
-use Rattle.nfs_serve.specs.Promises.Endpoint.{Arrival}
+use Rattle.nfs_serve.specs.{Step.{State, new_state}, Promises.ChangeTells.RunsIn, Promises.Endpoint.Arrival}
 use Rattle.nfs_serve.specs.Promises.ListsAll.{Page, IsPage, last_cookie, ArePages, entries_of, entry_in, IsListedOnce, RowsAreListed, PagesAreParts, all_ops, NamesAreListed, GoneIsUnlisted}
 use Rattle.nfs_serve.specs.Promises.NameStays.{TakesIt, MakesIt, HoldsWhile, AllSpare, HoldsThrough, HoldsFrom, row_of, LeadsBefore, MissesBefore}
 use Rattle.nfs_serve.specs.Promises.Points.{state_after, reached, ops_of}
-use Rattle.nfs_serve.proofs.Promises.LaterRecords.{run_done, later_done}
-use Rattle.nfs_serve.proofs.Promises.NameSaid.{not_done}
-use Rattle.nfs_serve.proofs.Promises.NameStays.{as_step, name_stays, gone_stays}
+use Rattle.nfs_serve.proofs.{Promises.LaterRecords.{run_done, later_done}, Promises.NameSaid.not_done, Promises.NameStays.{as_step, name_stays, gone_stays}}
 use Rattle.nfs_serve.proofs.Promises.PageLists.{Rises, times, times_both, counted_same, last_up, front_rises, rest_rises, in_page, none_low, none_high, once_in, in_both, first_in, second_in, in_flat}
 use Rattle.nfs_serve.proofs.Promises.PageRows.{entry_cookie, entry_name, Lists, page_told, one_row, one_cookie, some_cookie}
 use Rattle.nfs_serve.proofs.Promises.Points.{sound_all, sound_new}

@@ -1,37 +1,23 @@
 -- The listing in pages, and the wrong listings, computed.
 use Rattle.std.proofs.Common.{◌≡◌, ◌≢◌, ℕ, zero, suc, ◌+◌, ◌<◌, Bool, true, false, List, [], ◌∷◌, ◌++◌, length, take, get_or, Option, Some, None, refl, sym, ◌∙◌, ap, subst, arith, inl, inr}
-use Rattle.std.specs.Prelude.{◌^◌, ◌&&◌, ◌||◌, not, nat_lt, bytes_eq}
-use Rattle.std.specs.List.{list_all}
-use Rattle.std.proofs.lemmas.Bool.{and_parts, not-true, true≢false, ltb-true}
-use Rattle.std.proofs.lemmas.Slice.Eq.{bytes_eq-Decides}
-use Rattle.nfs_xdr.specs.Tables.{In}
-use Rattle.nfs_xdr.specs.Text.{IsBytes}
-use Rattle.nfs_compound.specs.ArgCodecs.{read_dir_args}
-use Rattle.nfs_compound.specs.declared.op.Item.{Item}
-use Rattle.nfs_compound.specs.declared.op.Item.TheVariants.{Operation}
+use Rattle.std.proofs.{lemmas.Bool.{and_parts, not-true, true≢false, ltb-true}, lemmas.Slice.Eq.bytes_eq-Decides}
+use Rattle.std.specs.{Prelude.{◌^◌, ◌&&◌, ◌||◌, not, nat_lt, bytes_eq}, List.list_all}
+use Rattle.nfs_xdr.specs.{Tables.In, Text.IsBytes}
+use Rattle.nfs_compound.specs.{ArgCodecs.read_dir_args, declared.op.Item.Item, declared.op.Item.TheVariants.Operation, declared.open_args.Open.Open}
 use Rattle.nfs_compound.specs.declared.op.Op.TheVariants as Op
-use Rattle.nfs_compound.specs.declared.open_args.Open.{Open}
-use Rattle.nfs_results.specs.declared.res.Entry.{Entry}
+use Rattle.nfs_results.specs.{declared.res.Entry.Entry, ResultCodec.FitsResult}
 use Rattle.nfs_results.specs.declared.res.Res.TheVariants as Res
 use Rattle.nfs_results.specs.Items as results
 use Rattle.nfs_results.specs.Listing as listing
-use Rattle.nfs_results.specs.ResultCodec.{FitsResult}
-use Rattle.nfs_tree.specs.declared.row.Row.{Row}
-use Rattle.nfs_tree.specs.Files.{root}
+use Rattle.nfs_tree.specs.{declared.row.Row.Row, Files.root}
 use Rattle.nfs_attrs.specs.Attributes.{values}
-use Rattle.nfs_names.specs.ReadDir.{entry_of, fitting, read_dir, zeros}
-use Rattle.nfs_names.specs.Remove.{remove}
+use Rattle.nfs_names.specs.{ReadDir.{entry_of, fitting, read_dir, zeros}, Remove.remove}
 use Rattle.nfs_exec.specs.Runs.Ops.{RanOp}
-use Rattle.nfs_serve.specs.Promises.HeldLock.{last_of}
-use Rattle.nfs_serve.specs.Promises.ListsAll.{Page, IsPage, all_ops}
+use Rattle.nfs_serve.specs.{Promises.HeldLock.last_of, Promises.ListsAll.{Page, IsPage, all_ops}}
 use Rattle.nfs_serve.specs.Promises.ListsWorked.{makes_more, first, removes, second, third, later, more, begun, removed, gone_on, entry, told, page, g, IsListedInPages, ListingsAreRefused}
-use Rattle.nfs_serve.specs.Promises.NameStays.{TakesIt, Removed, MovedAway, MovedOver, Says, Opens, AllSpare, next_of}
-use Rattle.nfs_serve.specs.Promises.Points.{ops_of}
+use Rattle.nfs_serve.specs.{Promises.NameStays.{TakesIt, Removed, MovedAway, MovedOver, Says, Opens, AllSpare, next_of}, Promises.Points.ops_of}
 use Rattle.nfs_serve.specs.Promises.WrittenWorked.{made}
-use Rattle.nfs_serve.proofs.Promises.Computing.{computing}
-use Rattle.nfs_serve.proofs.Promises.HeldLock.{nothing}
-use Rattle.nfs_serve.proofs.Promises.PageLists.{first_in, second_in}
-use Rattle.nfs_serve.proofs.Promises.PageRows.{entry_name}
+use Rattle.nfs_serve.proofs.{Promises.Computing.computing, Promises.HeldLock.nothing, Promises.PageLists.{first_in, second_in}, Promises.PageRows.entry_name}
 
 -- Lists of few operations.
 

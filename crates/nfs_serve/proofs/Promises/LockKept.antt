@@ -1,25 +1,18 @@
 -- A lock that was told stays through all records that spare it and come in time.
 use Rattle.std.proofs.Common.{◌≡◌, ℕ, ◌+◌, ◌≤◌, true, List, [], ◌∷◌, ◌++◌, length, Option, Some, None, refl, sym, subst, arith, inl, inr}
 use Rattle.std.specs.Option.{option_map_or}
-use Rattle.nfs_xdr.specs.Spelling.{number}
-use Rattle.nfs_xdr.specs.Tables.{In}
+use Rattle.nfs_xdr.specs.{Spelling.number, Tables.In}
 use Rattle.nfs_compound.specs.declared.op.Item.TheVariants.{Operation}
 use Rattle.nfs_compound.specs.declared.op.Op.TheVariants as Op
 use Rattle.nfs_attrs.specs.Mask.{mask_of, has}
 use Rattle.nfs_names.specs.Outcome.{is_ok}
-use Rattle.nfs_exec.specs.Step.Machine.{Machine}
-use Rattle.nfs_exec.specs.Step.Laws.{MachineEvent, Expires, Asks}
-use Rattle.nfs_exec.specs.Runs.AttributesTold.{TellsValue}
-use Rattle.nfs_exec.specs.Runs.Ops.{RanOp, ops_by}
+use Rattle.nfs_exec.specs.{Step.Machine.Machine, Step.Laws.{MachineEvent, Expires, Asks}, Runs.AttributesTold.TellsValue, Runs.Ops.{RanOp, ops_by}}
+use Rattle.nfs_exec.specs.Runs.LockHeld.{LocksFor, the_lock, AreSpared, StandsBefore, StandsWhile, Tells}
 use Rattle.nfs_opens.specs.declared.locking.Wish.{Wish}
 use Rattle.nfs_files.specs.LockTold.{LockTold, Stands}
-use Rattle.nfs_exec.specs.Runs.LockHeld.{LocksFor, the_lock, AreSpared, StandsBefore, StandsWhile, Tells}
-use Rattle.nfs_exec.proofs.Runs.LockHeld.{lock_stays, told_kept}
-use Rattle.nfs_exec.proofs.Runs.WhatWasDone.{event_state}
-use Rattle.nfs_exec.proofs.Runs.LeaseTold.{Lasts, stepped_lasts, event_told}
+use Rattle.nfs_exec.proofs.{Runs.LockHeld.{lock_stays, told_kept}, Runs.WhatWasDone.event_state, Runs.LeaseTold.{Lasts, stepped_lasts, event_told}}
 use Rattle.nfs_exec.proofs.Runs.KeptByRuns.{Is}
-use Rattle.nfs_serve.specs.Step.{State, new_state}
-use Rattle.nfs_serve.specs.Promises.Endpoint.{Arrival}
+use Rattle.nfs_serve.specs.{Step.{State, new_state}, Promises.Endpoint.Arrival}
 use Rattle.nfs_serve.specs.Promises.Points.{state_after, state_after_all, reached, taken, before, asked_by, ops_of}
 use Rattle.nfs_serve.specs.Promises.LockKept.{LockKept, OnlyOneIsTold, LeaseIsTold, EachIsTold}
 use Rattle.nfs_serve.proofs.Promises.Points.{left, for_asked, next_is, IsSound, whole_before, sound_next, sound_all, sound_new}

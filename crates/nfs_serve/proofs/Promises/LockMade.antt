@@ -1,76 +1,39 @@
 -- Each lock state is under the open that a LOCK named which was told it.
 use Rattle.std.proofs.Common.{◌≡◌, ℕ, ◌+◌, Bool, true, false, cond, not, List, [], ◌∷◌, ◌++◌, Option, Some, None, refl, sym, ◌∙◌, ap, subst, inl, inr}
-use Rattle.std.specs.Prelude.{◌⊎◌, ◌==◌, ◌&&◌, option_map, ok_or, Result, Ok, Err}
-use Rattle.std.specs.Option.{option_map_or}
 use Rattle.std.proofs.lemmas.Bool.{cases_Bool, eqb-true, true≢false, false≢true}
-use Rattle.nfs_xdr.specs.declared.time.Time.{Time}
-use Rattle.nfs_xdr.specs.declared.status.Status.{Status}
-use Rattle.nfs_xdr.specs.declared.status.Status.TheVariants.{BadStateId, ServerFault}
-use Rattle.nfs_xdr.specs.Tables.{In}
+use Rattle.std.specs.{Prelude.{◌⊎◌, ◌==◌, ◌&&◌, option_map, ok_or, Result, Ok, Err}, Option.option_map_or}
+use Rattle.nfs_xdr.specs.{declared.time.Time.Time, declared.status.Status.Status, declared.status.Status.TheVariants.{BadStateId, ServerFault}, Tables.In}
 use Rattle.nfs_xdr.proofs.Lists.{find_in, in_filter, in_push}
-use Rattle.nfs_compound.specs.declared.lock_args.Lock.{Lock}
-use Rattle.nfs_compound.specs.declared.lock_args.Locker.{Locker}
-use Rattle.nfs_compound.specs.declared.lock_args.Locker.TheVariants.{OpenOwner, LockOwner}
-use Rattle.nfs_compound.specs.declared.lock_args.OpenToLockOwner.{OpenToLockOwner}
-use Rattle.nfs_compound.specs.declared.op.Op.{Op}
+use Rattle.nfs_compound.specs.{declared.lock_args.Lock.Lock, declared.lock_args.Locker.Locker, declared.lock_args.Locker.TheVariants.{OpenOwner, LockOwner}}
+use Rattle.nfs_compound.specs.{declared.lock_args.OpenToLockOwner.OpenToLockOwner, declared.op.Op.Op, declared.op.Item.Item}
+use Rattle.nfs_compound.specs.{declared.op.Item.TheVariants.{Operation, Fault}, declared.stateid.Stateid.Stateid}
 use Rattle.nfs_compound.specs.declared.op.Op.TheVariants as Op
-use Rattle.nfs_compound.specs.declared.op.Item.{Item}
-use Rattle.nfs_compound.specs.declared.op.Item.TheVariants.{Operation, Fault}
 use Rattle.nfs_compound.specs.declared.op_num.OpNum.TheVariants as Num
-use Rattle.nfs_compound.specs.declared.stateid.Stateid.{Stateid}
-use Rattle.nfs_results.specs.declared.res.Res.{Res}
-use Rattle.nfs_results.specs.Results.{status_of_result}
-use Rattle.nfs_opens.specs.Closing.{not_under}
-use Rattle.nfs_opens.specs.Judging.{judge}
+use Rattle.nfs_results.specs.{declared.res.Res.Res, Results.status_of_result}
+use Rattle.nfs_opens.specs.{Closing.not_under, Judging.judge}
 use Rattle.nfs_opens.specs.Locking.{lock_judged, lock_as, lock_first, lock_by_owner, lock_under, lock_known, access_in, state_of}
-use Rattle.nfs_opens.specs.Opening.{own_open, opens_by}
-use Rattle.nfs_opens.specs.Steps.{◌>>=◌, map_err, require}
-use Rattle.nfs_opens.specs.StateId.{last_number}
-use Rattle.nfs_opens.specs.Table.{Table, Asked, lock_at}
-use Rattle.nfs_opens.specs.declared.judging.Sort.TheVariants.{OpenOnly, LockOnly}
-use Rattle.nfs_opens.specs.declared.locking.OpenFault.{OpenFault}
-use Rattle.nfs_opens.specs.declared.locking.OpenFault.TheVariants.{Refused}
-use Rattle.nfs_opens.specs.declared.locking.Wish.{Wish}
-use Rattle.nfs_opens.specs.declared.records.LockState.{LockState}
-use Rattle.nfs_opens.specs.declared.records.OpenState.{OpenState}
-use Rattle.nfs_opens.specs.declared.share.Share.{Share}
-use Rattle.nfs_opens.specs.declared.stateid.CurrentSeqid.TheVariants.{Any}
+use Rattle.nfs_opens.specs.{Opening.{own_open, opens_by}, Steps.{◌>>=◌, map_err, require}, StateId.last_number, Table.{Table, Asked, lock_at}}
+use Rattle.nfs_opens.specs.{declared.judging.Sort.TheVariants.{OpenOnly, LockOnly}, declared.locking.OpenFault.OpenFault}
+use Rattle.nfs_opens.specs.{declared.locking.OpenFault.TheVariants.Refused, declared.locking.Wish.Wish, declared.records.LockState.LockState}
+use Rattle.nfs_opens.specs.{declared.records.OpenState.OpenState, declared.share.Share.Share, declared.stateid.CurrentSeqid.TheVariants.Any}
 use Rattle.nfs_opens.specs.declared.stateid.StateId.{StateId}
 use Rattle.nfs_opens.proofs.CallLaws.{came, ok_is}
 use Rattle.nfs_lease.specs.Renewals.{has_run_out}
-use Rattle.nfs_names.specs.declared.context.Context.{Context}
-use Rattle.nfs_names.specs.Ending.{staying}
-use Rattle.nfs_names.specs.Outcome.{Outcome, mapped, checked, is_ok}
+use Rattle.nfs_names.specs.{declared.context.Context.Context, Ending.staying, Outcome.{Outcome, mapped, checked, is_ok}, State.moment}
 use Rattle.nfs_names.specs.State as store
-use Rattle.nfs_names.specs.State.{moment}
-use Rattle.nfs_names.proofs.Ones.{by_delay}
-use Rattle.nfs_names.proofs.Untouched.{leaves_each}
+use Rattle.nfs_names.proofs.{Ones.by_delay, Untouched.leaves_each}
 use Rattle.nfs_files.specs.Lock as of_lock
-use Rattle.nfs_files.specs.Operation.{grows}
-use Rattle.nfs_files.specs.Ranges.{wished, wished_by}
-use Rattle.nfs_files.specs.StateIds.{meant}
-use Rattle.nfs_files.proofs.Effects.{Effect, Opens, Closes, Locks, Begins, Unlocks, Frees, Caused, table_behind}
-use Rattle.nfs_files.proofs.Effected.{caused_opens}
-use Rattle.nfs_files.proofs.Inside as inside
-use Rattle.nfs_files.proofs.OpensMoved.{by_lock}
-use Rattle.nfs_files.proofs.Outcomes as files
+use Rattle.nfs_files.specs.{Operation.grows, Ranges.{wished, wished_by}, StateIds.meant}
+use Rattle.nfs_files.proofs.{Effects.{Effect, Opens, Closes, Locks, Begins, Unlocks, Frees, Caused, table_behind}, Effected.caused_opens, OpensMoved.by_lock}
 use Rattle.nfs_files.proofs.ToldGrants.{IsTold, lock_tells}
-use Rattle.nfs_exec.specs.Step.Machine.{Machine}
-use Rattle.nfs_exec.specs.Step.Laws.{MachineEvent, stepped, ran}
-use Rattle.nfs_exec.specs.Runs.LockHeld.{LocksFor}
-use Rattle.nfs_exec.specs.Runs.Ops.{RanOp, ops_by, left_by, AreChained}
-use Rattle.nfs_exec.proofs.Runs.KeptByRuns.{Is}
-use Rattle.nfs_exec.proofs.Runs.LockStates.{IsAs, as_itself, changed_from}
-use Rattle.nfs_exec.proofs.Runs.OneRun.{IsRun, by_item, by_ok, by_run}
-use Rattle.nfs_exec.proofs.Runs.OneWalk.{EventDid, Ran, Idled, event_did, kept_ended, none_at}
-use Rattle.nfs_exec.proofs.Runs.WhatWasDone.{event_run}
-use Rattle.nfs_serve.specs.Step.{State, new_state}
-use Rattle.nfs_serve.specs.Promises.ChangeTells.{RunsIn}
-use Rattle.nfs_serve.specs.Promises.Endpoint.{Arrival}
-use Rattle.nfs_serve.specs.Promises.LockMade.{MakesUnder, EachLockWasMade}
+use Rattle.nfs_files.proofs.Inside as inside
+use Rattle.nfs_files.proofs.Outcomes as files
+use Rattle.nfs_exec.specs.{Step.Machine.Machine, Step.Laws.{MachineEvent, stepped, ran}, Runs.LockHeld.LocksFor, Runs.Ops.{RanOp, ops_by, left_by, AreChained}}
+use Rattle.nfs_exec.proofs.{Runs.KeptByRuns.Is, Runs.LockStates.{IsAs, as_itself, changed_from}, Runs.OneRun.{IsRun, by_item, by_ok, by_run}}
+use Rattle.nfs_exec.proofs.{Runs.OneWalk.{EventDid, Ran, Idled, event_did, kept_ended, none_at}, Runs.WhatWasDone.event_run}
+use Rattle.nfs_serve.specs.{Step.{State, new_state}, Promises.ChangeTells.RunsIn, Promises.Endpoint.Arrival, Promises.LockMade.{MakesUnder, EachLockWasMade}}
 use Rattle.nfs_serve.specs.Promises.Points.{state_after, state_after_all, reached, taken, before, asked_by, ops_of}
-use Rattle.nfs_serve.proofs.Promises.LockKept.{each_is_told}
-use Rattle.nfs_serve.proofs.Promises.Points.{left, next_is, IsSound, whole_before, sound_next, sound_all, sound_new}
+use Rattle.nfs_serve.proofs.{Promises.LockKept.each_is_told, Promises.Points.{left, next_is, IsSound, whole_before, sound_next, sound_all, sound_new}}
 
 -- it was there, with this number and under this open
 abbrev Was : Table → LockState → Type 0

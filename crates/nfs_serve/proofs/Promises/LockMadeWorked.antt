@@ -1,26 +1,16 @@
 -- The open that a lock stands under, in the run of `HeldLock`, computed.
-use Rattle.std.proofs.Common.{◌≡◌, ℕ, false, List, [], ◌∷◌, refl, sym, ◌∙◌, ap, subst, arith, inl, inr}
+use Rattle.std.proofs.{Common.{◌≡◌, ℕ, false, List, [], ◌∷◌, refl, sym, ◌∙◌, ap, subst, arith, inl, inr}, lemmas.Bool.{false≢true}}
 use Rattle.std.specs.Prelude.{replicate, Result, Ok, Err}
-use Rattle.std.proofs.lemmas.Bool.{false≢true}
-use Rattle.nfs_xdr.specs.declared.status.Status.{Status}
-use Rattle.nfs_xdr.specs.Tables.{In}
-use Rattle.nfs_compound.specs.declared.op.Item.{Item}
-use Rattle.nfs_compound.specs.declared.op.Item.TheVariants.{Operation}
+use Rattle.nfs_xdr.specs.{declared.status.Status.Status, Tables.In}
+use Rattle.nfs_compound.specs.{declared.op.Item.Item, declared.op.Item.TheVariants.Operation, declared.stateid.Stateid.Stateid}
 use Rattle.nfs_compound.specs.declared.op.Op.TheVariants as Op
-use Rattle.nfs_compound.specs.declared.stateid.Stateid.{Stateid}
-use Rattle.nfs_opens.specs.declared.stateid.CurrentSeqid.TheVariants.{Any}
-use Rattle.nfs_opens.specs.declared.stateid.StateId.{StateId}
+use Rattle.nfs_opens.specs.{declared.stateid.CurrentSeqid.TheVariants.Any, declared.stateid.StateId.StateId}
 use Rattle.nfs_names.specs.Context.{anonymous}
-use Rattle.nfs_files.specs.Lock.{stateid_in}
-use Rattle.nfs_files.specs.StateIds.{meant}
+use Rattle.nfs_files.specs.{Lock.stateid_in, StateIds.meant}
 use Rattle.nfs_exec.specs.Runs.Ops.{RanOp}
 use Rattle.nfs_serve.specs.Promises.HeldLock as worked
-use Rattle.nfs_serve.specs.Promises.HeldLock.{start, locks, last_of}
-use Rattle.nfs_serve.specs.Promises.LockMade.{MakesUnder, MadeUnderItsOwn}
-use Rattle.nfs_serve.specs.Promises.Points.{ops_of}
-use Rattle.nfs_serve.proofs.Promises.Computing.{computing}
-use Rattle.nfs_serve.proofs.Promises.HeldLock.{asking}
-use Rattle.nfs_serve.proofs.Promises.LockMade.{is_lock_item}
+use Rattle.nfs_serve.specs.{Promises.HeldLock.{start, locks, last_of}, Promises.LockMade.{MakesUnder, MadeUnderItsOwn}, Promises.Points.ops_of}
+use Rattle.nfs_serve.proofs.{Promises.Computing.computing, Promises.HeldLock.asking, Promises.LockMade.is_lock_item}
 
 abbrev AllSo : (RanOp → Type 0) → List RanOp → Type 0
 AllSo P [] = Unit {0}

@@ -2,23 +2,13 @@
 use Rattle.std.proofs.Common.{◌≡◌, inl, inr, ℕ, List, [], ◌∷◌, get_or, Option, Some, None, refl, sym, ap, subst, arith}
 use Rattle.std.specs.Option.{option_map_or}
 use Rattle.nfs_xdr.specs.Tables.{In}
-use Rattle.nfs_compound.specs.declared.lock_args.Locker.TheVariants.{OpenOwner}
-use Rattle.nfs_compound.specs.declared.lock_args.OpenToLockOwner.{OpenToLockOwner}
-use Rattle.nfs_opens.specs.declared.locking.Wish.{Wish}
-use Rattle.nfs_opens.specs.declared.records.LockState.{LockState}
-use Rattle.nfs_exec.specs.Step.Laws.{MachineEvent}
-use Rattle.nfs_exec.specs.Runs.LockHeld.{LocksFor}
-use Rattle.nfs_exec.specs.Step.Machine.{Machine}
-use Rattle.nfs_exec.specs.Runs.Ops.{RanOp, ops_by}
-use Rattle.nfs_exec.proofs.Runs.WhatWasDone.{event_run}
-use Rattle.nfs_exec.proofs.Runs.LockOwners.{owned_behind, owned_client}
-use Rattle.nfs_exec.proofs.Runs.KeptByRuns.{Is}
-use Rattle.nfs_serve.specs.Step.{new_state}
-use Rattle.nfs_serve.specs.Promises.Points.{reached, before, asked_by}
+use Rattle.nfs_compound.specs.{declared.lock_args.Locker.TheVariants.OpenOwner, declared.lock_args.OpenToLockOwner.OpenToLockOwner}
+use Rattle.nfs_opens.specs.{declared.locking.Wish.Wish, declared.records.LockState.LockState}
+use Rattle.nfs_exec.specs.{Step.Laws.MachineEvent, Runs.LockHeld.LocksFor, Step.Machine.Machine, Runs.Ops.{RanOp, ops_by}}
+use Rattle.nfs_exec.proofs.{Runs.WhatWasDone.event_run, Runs.LockOwners.{owned_behind, owned_client}, Runs.KeptByRuns.Is}
+use Rattle.nfs_serve.specs.{Step.new_state, Promises.Points.{reached, before, asked_by}, Promises.LockOwned.{IsOwned, EachIsOwned, OwnersApart}}
 use Rattle.nfs_serve.specs.Promises.HeldLock as worked
-use Rattle.nfs_serve.specs.Promises.LockOwned.{IsOwned, EachIsOwned, OwnersApart}
-use Rattle.nfs_serve.proofs.Promises.Computing.{computing}
-use Rattle.nfs_serve.proofs.Promises.Points.{IsSound, whole_before, sound_all, sound_new}
+use Rattle.nfs_serve.proofs.{Promises.Computing.computing, Promises.Points.{IsSound, whole_before, sound_all, sound_new}}
 
 owned_by : (m : Machine) (e : Option MachineEvent) → Is m → (d : RanOp) (n : ℕ) (w : Wish) (locks : LocksFor d n w) (o : OpenToLockOwner) → In d (option_map_or (ops_by m) e [])
     → locks.asked.locker ≡ OpenOwner o → IsOwned d n o.lock_owner.owner

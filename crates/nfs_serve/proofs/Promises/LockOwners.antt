@@ -1,29 +1,16 @@
 -- A lock state is of one lock owner, in every run; and the worked run, computed.
 use Rattle.std.proofs.Common.{◌≡◌, ◌≢◌, ℕ, ◌+◌, ◌≤◌, cond, List, [], ◌∷◌, ◌++◌, take, refl, sym, subst, arith, inl, inr}
 use Rattle.nfs_xdr.specs.Tables.{In}
-use Rattle.nfs_compound.specs.declared.lock_args.Lock.{Lock}
-use Rattle.nfs_compound.specs.declared.lock_args.Locker.TheVariants.{OpenOwner}
-use Rattle.nfs_exec.specs.Runs.Ops.{RanOp}
-use Rattle.nfs_exec.specs.Runs.Kept.{Kept, after_all}
-use Rattle.nfs_exec.specs.Runs.LockHeld.{AreSpared, the_lock}
-use Rattle.nfs_exec.proofs.Runs.LockStates.{Descends, descends_same, descends_kept}
-use Rattle.nfs_exec.proofs.Runs.OneOwner.{are_one}
-use Rattle.nfs_exec.proofs.Runs.OneWalk.{in_back}
-use Rattle.nfs_serve.specs.Promises.ChangeTells.{RunsIn}
-use Rattle.nfs_serve.specs.Promises.Endpoint.{Arrival}
-use Rattle.nfs_serve.specs.Promises.Exchanges.{words}
-use Rattle.nfs_serve.specs.Promises.HeldLock as worked
-use Rattle.nfs_serve.specs.Promises.HeldLock.{start, locks, locked, last_of}
+use Rattle.nfs_compound.specs.{declared.lock_args.Lock.Lock, declared.lock_args.Locker.TheVariants.OpenOwner}
+use Rattle.nfs_exec.specs.{Runs.Ops.RanOp, Runs.Kept.{Kept, after_all}, Runs.LockHeld.{AreSpared, the_lock}}
+use Rattle.nfs_exec.proofs.{Runs.LockStates.{Descends, descends_same, descends_kept}, Runs.OneOwner.are_one, Runs.OneWalk.in_back}
+use Rattle.nfs_serve.specs.{Promises.ChangeTells.RunsIn, Promises.Endpoint.Arrival, Promises.Exchanges.words, Promises.HeldLock.{start, locks, locked, last_of}}
 use Rattle.nfs_serve.specs.Promises.LockKept.{InTimeFor, renews_by}
 use Rattle.nfs_serve.specs.Promises.LockOwners.{StatesHaveOneOwner, OnlyOneOwnerIsTold, asks_for_another, OneOwnerEach}
-use Rattle.nfs_serve.specs.Promises.Points.{state_after, state_after_all, reached, taken, ops_of}
-use Rattle.nfs_serve.specs.Step.{State, new_state}
-use Rattle.nfs_serve.proofs.Promises.Computing.{computing}
-use Rattle.nfs_serve.proofs.Promises.Handles.{first_of, two}
-use Rattle.nfs_serve.proofs.Promises.HeldLock.{nothing, three, asking, locks_for}
-use Rattle.nfs_serve.proofs.Promises.LaterRecords.{op_done, first_there, later_keeps, later_done}
-use Rattle.nfs_serve.proofs.Promises.LockKept.{only_one}
-use Rattle.nfs_serve.proofs.Promises.LockOwned.{one_letter}
+use Rattle.nfs_serve.specs.{Promises.Points.{state_after, state_after_all, reached, taken, ops_of}, Step.{State, new_state}}
+use Rattle.nfs_serve.specs.Promises.HeldLock as worked
+use Rattle.nfs_serve.proofs.{Promises.Computing.computing, Promises.Handles.{first_of, two}, Promises.HeldLock.{nothing, three, asking, locks_for}}
+use Rattle.nfs_serve.proofs.{Promises.LaterRecords.{op_done, first_there, later_keeps, later_done}, Promises.LockKept.only_one, Promises.LockOwned.one_letter}
 use Rattle.nfs_serve.proofs.Promises.Points.{IsSound, sound_all, sound_new}
 
 pub states_have_one_owner : StatesHaveOneOwner

@@ -1,24 +1,17 @@
 -- The exchange in which a reply is lost, computed.
 use Rattle.std.proofs.Common.{◌≡◌, inl, inr, ℕ, zero, suc, Bool, true, List, [], ◌∷◌, ◌++◌, get_or, take, None, refl, sym, ◌∙◌, ap, subst, arith, ltb-true}
-use Rattle.nfs_xdr.specs.Tables.{In}
-use Rattle.std.specs.Prelude.{◌&&◌, nat_lt, ◌<◌}
 use Rattle.std.proofs.lemmas.Bool.{and_parts}
+use Rattle.nfs_xdr.specs.{Tables.In, Text.IsBytes}
+use Rattle.std.specs.Prelude.{◌&&◌, nat_lt, ◌<◌}
 use Rattle.nfs_xdr.specs.Spelling as spelling
-use Rattle.nfs_xdr.specs.Text.{IsBytes}
 use Rattle.nfs_slots.specs.Slot.{unused_slot}
-use Rattle.nfs_serve.specs.Promises.Exchanges.{words}
-use Rattle.nfs_serve.specs.Promises.Endpoint.{Place, Compound, Heading, Arrival}
-use Rattle.nfs_serve.specs.Promises.Network.{Packet, Next, NetworkEvent, Resends, Arrives, Accepts, IsUnused}
-use Rattle.nfs_serve.specs.Promises.PerfectWire.{wire, done_on}
+use Rattle.nfs_serve.specs.{Promises.Exchanges.words, Promises.Endpoint.{Place, Compound, Heading, Arrival}}
+use Rattle.nfs_serve.specs.{Promises.Network.{Packet, Next, NetworkEvent, Resends, Arrives, Accepts, IsUnused}, Promises.PerfectWire.{wire, done_on}}
 use Rattle.nfs_serve.specs.Promises.RealTime.{RunsBehind, IsAtomic, WasNotSent}
 use Rattle.nfs_serve.specs.Promises.LostReply.{before, here, place, callers, compound, packet, answer, first, second, start, done, brought, IsAccepted, IsOverAWire}
 use Rattle.nfs_serve.specs.Promises.Seen.{ReplyReader, IsSequenced}
-use Rattle.nfs_serve.proofs.Promises.Replies.{found, finding, found_by, no_bytes}
-use Rattle.nfs_serve.proofs.Promises.KeptSlots.{keeps_slots}
-use Rattle.nfs_serve.proofs.Promises.Ticking.{keeps_time}
-use Rattle.nfs_serve.proofs.Promises.RealTime.{atomic}
-use Rattle.nfs_serve.proofs.Promises.ByXid.{happens}
-use Rattle.nfs_serve.proofs.Promises.Computing.{computing}
+use Rattle.nfs_serve.proofs.{Promises.Replies.{found, finding, found_by, no_bytes}, Promises.KeptSlots.keeps_slots, Promises.Ticking.keeps_time}
+use Rattle.nfs_serve.proofs.{Promises.RealTime.atomic, Promises.ByXid.happens, Promises.Computing.computing}
 
 -- each number is a byte
 abbrev small : List ℕ → Bool

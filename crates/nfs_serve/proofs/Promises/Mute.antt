@@ -1,49 +1,30 @@
 -- No answer to anything but a compound on a session begins with a good SEQUENCE.
 use Rattle.std.proofs.Common.{◌≡◌, inl, inr, ℕ, ◌<◌, ◌≤◌, ◌^◌, Bool, true, false, List, [], ◌∷◌, Option, Some, None, refl, arith}
-use Rattle.std.specs.Prelude.{◌==◌, ◌&&◌, ◌||◌, not, nat_le, nat_lt, IsTrue, Result, Ok, Err, is_some, if◌then◌else◌}
 use Rattle.std.proofs.lemmas.Bool.{cases_Bool, eqb-true, ne_eqb, and_parts, and_right, leb-true}
-use Rattle.nfs_xdr.specs.Limits.{opaque_limit}
-use Rattle.nfs_xdr.specs.Codec.{opaque}
-use Rattle.nfs_xdr.specs.Caller.{Caller}
-use Rattle.nfs_xdr.specs.declared.status.Status.{Status}
+use Rattle.std.specs.Prelude.{◌==◌, ◌&&◌, ◌||◌, not, nat_le, nat_lt, IsTrue, Result, Ok, Err, is_some, if◌then◌else◌}
+use Rattle.nfs_xdr.specs.{Limits.opaque_limit, Codec.opaque, Caller.Caller, declared.status.Status.Status}
 use Rattle.nfs_xdr.specs.declared.status.Status.TheVariants.{Nfs4Ok, Delay, NotSupp, MinorVersMismatch, NotOnlyOp, OpNotInSession, StaleClientId, SeqMisordered, ClidInUse, BadSession}
 use Rattle.nfs_xdr.specs.Status.{status_number}
 use Rattle.nfs_xdr.proofs.StatusLaws.{is_status_listing}
 use Rattle.nfs_compound.proofs.OpNumLaws.{is_op_listing}
-use Rattle.nfs_compound.specs.declared.op.Op.{Op}
-use Rattle.nfs_compound.specs.declared.op.Item.{Item}
-use Rattle.nfs_compound.specs.declared.op.Item.TheVariants.{Operation, Fault}
-use Rattle.nfs_compound.specs.Arguments.{arguments}
-use Rattle.nfs_compound.specs.Request.{Request, item_number}
-use Rattle.nfs_compound.specs.declared.session_args.CreateSession.{CreateSession}
+use Rattle.nfs_compound.specs.{declared.op.Op.Op, declared.op.Item.Item, declared.op.Item.TheVariants.{Operation, Fault}, Arguments.arguments}
+use Rattle.nfs_compound.specs.{Request.{Request, item_number}, declared.session_args.CreateSession.CreateSession}
 use Rattle.nfs_results.specs.declared.res.Res.TheVariants as Res
-use Rattle.nfs_results.specs.Results.{refusal, spell_result}
-use Rattle.nfs_results.specs.Refusals.{bears, can_refuse}
-use Rattle.nfs_results.specs.Parts.{is_legal}
-use Rattle.nfs_clients.specs.declared.destroy.DestroyFault.{DestroyFault}
-use Rattle.nfs_clients.specs.declared.exchange_id.Exchanged.{Exchanged}
-use Rattle.nfs_clients.specs.declared.exchange_id.ClientFault.{ClientFault}
+use Rattle.nfs_results.specs.{Results.{refusal, spell_result}, Refusals.{bears, can_refuse}, Parts.is_legal}
+use Rattle.nfs_clients.specs.{declared.destroy.DestroyFault.DestroyFault, declared.exchange_id.Exchanged.Exchanged}
+use Rattle.nfs_clients.specs.{declared.exchange_id.ClientFault.ClientFault, DestroyClientId.destroy_fault, ExchangeId.exchange}
 use Rattle.nfs_clients.specs.declared.created.CreateResult.TheVariants as result
 use Rattle.nfs_clients.specs.CreateSession as clients
-use Rattle.nfs_clients.specs.DestroyClientId.{destroy_fault}
-use Rattle.nfs_clients.specs.ExchangeId.{exchange}
-use Rattle.nfs_sessions.specs.declared.id.SessionId.{SessionId}
-use Rattle.nfs_sessions.specs.declared.sessions.SessionFault.{SessionFault}
-use Rattle.nfs_sessions.specs.Id.{id_of}
+use Rattle.nfs_sessions.specs.{declared.id.SessionId.SessionId, declared.sessions.SessionFault.SessionFault, Id.id_of}
 use Rattle.nfs_sessions.specs.Sessions.{SessionTable, create, session_at, fault_status}
 use Rattle.nfs_names.specs.Outcome.{is_ok}
-use Rattle.nfs_exec.specs.Step.Machine.{Machine, Outcome, or_delay}
-use Rattle.nfs_exec.specs.Step.Place.{stands_alone, is_sequence}
-use Rattle.nfs_exec.specs.Step.View.{CanBear, IsOpened}
+use Rattle.nfs_exec.specs.{Step.Machine.{Machine, Outcome, or_delay}, Step.Place.{stands_alone, is_sequence}, Step.View.{CanBear, IsOpened}}
 use Rattle.nfs_exec.specs.Step.ExchangeId.{exchange_id, exchange_id_number, answered, ask_of}
 use Rattle.nfs_exec.specs.Step.CreateSession.{create_session_number, by_verdict, by_created, wish_of}
-use Rattle.nfs_exec.specs.Step.Destroy.{destroy_session, destroyed_unless, has_session}
-use Rattle.nfs_exec.specs.Step.Run.{is_here}
-use Rattle.nfs_exec.specs.Step.Compound.{carried_out, by_fault, first_item, by_first, compound}
+use Rattle.nfs_exec.specs.{Step.Destroy.{destroy_session, destroyed_unless, has_session}, Step.Run.is_here}
+use Rattle.nfs_exec.specs.{Step.Compound.{carried_out, by_fault, first_item, by_first, compound}, Step.Executing.{first_sequence, sequence_of}}
 use Rattle.nfs_exec.proofs.Step.RefusalsFit.{opened_bears}
-use Rattle.nfs_exec.specs.Step.Executing.{first_sequence, sequence_of}
-use Rattle.nfs_serve.proofs.Promises.Reader.{sequenced}
-use Rattle.nfs_serve.proofs.Promises.Spelled.{IsBad, IsMute, mute_spelled, bare_spelled}
+use Rattle.nfs_serve.proofs.{Promises.Reader.sequenced, Promises.Spelled.{IsBad, IsMute, mute_spelled, bare_spelled}}
 
 small : (s : Status) → status_number s < 2 ^ 32
 small s = is_status_listing.small s

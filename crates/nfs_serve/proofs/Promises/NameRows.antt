@@ -1,88 +1,44 @@
 -- What each operation does to the rows of the tree, by what was asked and what was answered.
 use Rattle.std.proofs.Common.{◌≡◌, ◌≢◌, ℕ, ◌+◌, ◌<◌, ◌^◌, Bool, true, false, cond, not, eqb, List, [], ◌∷◌, ◌++◌, length, take, drop, Option, Some, None, refl, sym, ◌∙◌, ap, subst, arith, append_assoc, inl, inr}
-use Rattle.std.specs.Prelude.{◌==◌, ◌&&◌, IfSome, option_map, unwrap_or, Result, Ok, Err}
-use Rattle.std.specs.Int.{w32, from_be_bytes}
-use Rattle.std.specs.Option.{ForSome}
-use Rattle.std.proofs.lemmas.Bool.{cases_Bool, and_parts, eqb-true, eq-eqb, false≢true, true≢false}
-use Rattle.std.proofs.lemmas.List.{take_at, drop_at}
-use Rattle.nfs_xdr.specs.Checks.{first_fault, judged}
-use Rattle.nfs_xdr.specs.Spelling.{number}
-use Rattle.nfs_xdr.specs.Status.{status_number}
-use Rattle.nfs_xdr.specs.declared.time.Time.{Time}
-use Rattle.nfs_xdr.specs.declared.status.Status.{Status}
+use Rattle.std.proofs.{lemmas.Bool.{cases_Bool, and_parts, eqb-true, eq-eqb, false≢true, true≢false}, lemmas.List.{take_at, drop_at}}
+use Rattle.std.specs.{Prelude.{◌==◌, ◌&&◌, IfSome, option_map, unwrap_or, Result, Ok, Err}, Int.{w32, from_be_bytes}, Option.ForSome}
+use Rattle.nfs_xdr.specs.{Checks.{first_fault, judged}, Spelling.number, Status.status_number, declared.time.Time.Time, declared.status.Status.Status}
 use Rattle.nfs_xdr.specs.declared.status.Status.TheVariants.{Inval}
-use Rattle.nfs_xdr.proofs.Lists.{find_in, find_kept, find_none_kept, find_push_some, find_push_none, find_push_other, find_out}
-use Rattle.nfs_xdr.proofs.Putting.{length_number}
+use Rattle.nfs_xdr.proofs.{Lists.{find_in, find_kept, find_none_kept, find_push_some, find_push_none, find_push_other, find_out}, Putting.length_number}
 use Rattle.nfs_xdr.proofs.StatusLaws.{is_status_listing}
-use Rattle.nfs_compound.specs.Arguments.{arguments}
+use Rattle.nfs_compound.specs.{Arguments.arguments, declared.lock_args.LockU.LockU, declared.name_args.Create.Create, declared.name_args.Rename.Rename}
+use Rattle.nfs_compound.specs.{declared.open_args.Open.Open, declared.open_args.Close.Close, declared.open_args.OpenDowngrade.OpenDowngrade}
+use Rattle.nfs_compound.specs.{declared.file_args.Write.Write, declared.file_args.SetAttr.SetAttr, declared.stateid.Stateid.Stateid, declared.op.Op.Op}
+use Rattle.nfs_compound.specs.{declared.op.Item.Item, declared.op.Item.TheVariants.{Operation, Fault}, declared.op_num.OpNum.OpNum, OpNum.op_number}
 use Rattle.nfs_compound.specs.declared.lock_args.Lock as locks
-use Rattle.nfs_compound.specs.declared.lock_args.LockU.{LockU}
-use Rattle.nfs_compound.specs.declared.name_args.Create.{Create}
-use Rattle.nfs_compound.specs.declared.name_args.Rename.{Rename}
-use Rattle.nfs_compound.specs.declared.open_args.Open.{Open}
-use Rattle.nfs_compound.specs.declared.open_args.Close.{Close}
-use Rattle.nfs_compound.specs.declared.open_args.OpenDowngrade.{OpenDowngrade}
-use Rattle.nfs_compound.specs.declared.file_args.Write.{Write}
-use Rattle.nfs_compound.specs.declared.file_args.SetAttr.{SetAttr}
-use Rattle.nfs_compound.specs.declared.stateid.Stateid.{Stateid}
-use Rattle.nfs_compound.specs.declared.op.Op.{Op}
 use Rattle.nfs_compound.specs.declared.op.Op.TheVariants as Op
-use Rattle.nfs_compound.specs.declared.op.Item.{Item}
-use Rattle.nfs_compound.specs.declared.op.Item.TheVariants.{Operation, Fault}
-use Rattle.nfs_compound.specs.declared.op_num.OpNum.{OpNum}
 use Rattle.nfs_compound.specs.declared.op_num.OpNum.TheVariants as Num
-use Rattle.nfs_compound.specs.OpNum.{op_number}
 use Rattle.nfs_results.specs.declared.res.Res.TheVariants as Res
 use Rattle.nfs_results.specs.Results.{spell_result, done_head, head}
 use Rattle.nfs_ranges.specs.declared.Held.{Held}
-use Rattle.nfs_tree.specs.declared.object.Object.{Object}
-use Rattle.nfs_tree.specs.declared.row.Row.{Row}
-use Rattle.nfs_tree.specs.Files.{Files, object_at, is_entry, entry, lookup, without_entry}
-use Rattle.nfs_tree.specs.Bytes.{has_bytes}
-use Rattle.nfs_tree.specs.Names.{Move, moves, moved_object, with_row}
+use Rattle.nfs_tree.specs.{declared.object.Object.Object, declared.row.Row.Row, Files.{Files, object_at, is_entry, entry, lookup, without_entry}}
+use Rattle.nfs_tree.specs.{Bytes.has_bytes, Names.{Move, moves, moved_object, with_row}}
 use Rattle.nfs_tree.proofs.RowsKept.{entry_parts, entry_self}
 use Rattle.nfs_attrs.specs.declared.wanted.Wanted.{Wanted}
 use Rattle.nfs_opens.specs.Closing as closing
 use Rattle.nfs_opens.specs.Locking as locking
-use Rattle.nfs_names.specs.declared.context.Context.{Context}
-use Rattle.nfs_names.specs.declared.node.Node.{Node}
-use Rattle.nfs_names.specs.State.{State, with_tree, is_used, without_unused, moment}
-use Rattle.nfs_names.specs.Ending.{with_opens}
-use Rattle.nfs_names.specs.Checks.{node_as, node_at, saved_object, current, both}
-use Rattle.nfs_names.specs.Outcome.{Outcome, checked, mapped}
+use Rattle.nfs_names.specs.{declared.context.Context.Context, declared.node.Node.Node, State.{State, with_tree, is_used, without_unused, moment}}
+use Rattle.nfs_names.specs.{Ending.with_opens, Checks.{node_as, node_at, saved_object, current, both}, Outcome.{Outcome, checked, mapped}, PutPubFh.put_pub_fh}
+use Rattle.nfs_names.specs.{PutRootFh.put_root_fh, Rename.{without_replaced, move_of, renamed}}
 use Rattle.nfs_names.specs.Operation as names
-use Rattle.nfs_names.specs.PutPubFh.{put_pub_fh}
-use Rattle.nfs_names.specs.PutRootFh.{put_root_fh}
-use Rattle.nfs_names.specs.Rename.{without_replaced, move_of, renamed}
-use Rattle.nfs_names.proofs.Found.{came, ok_is, checked_ok}
+use Rattle.nfs_names.proofs.{Found.{came, ok_is, checked_ok}, Ones.{if_delayed, each_of, by_delay}}
 use Rattle.nfs_names.proofs.NameLaws as law
-use Rattle.nfs_names.proofs.Ones.{if_delayed, each_of, by_delay}
-use Rattle.nfs_files.specs.Operation.{grows}
-use Rattle.nfs_files.specs.Bytes.{writable}
-use Rattle.nfs_files.specs.Close.{close}
-use Rattle.nfs_files.specs.Commit.{commit}
-use Rattle.nfs_files.specs.FreeStateid.{free_stateid}
+use Rattle.nfs_files.specs.{Operation.grows, Bytes.writable, Close.close, Commit.commit, FreeStateid.free_stateid, LockT.{tested, lock_t}, LockU.lock_u}
+use Rattle.nfs_files.specs.{OpenDowngrade.open_downgrade, Read.read, TestStateid.test_stateid}
 use Rattle.nfs_files.specs.Lock as of_lock
-use Rattle.nfs_files.specs.LockT.{tested, lock_t}
-use Rattle.nfs_files.specs.LockU.{lock_u}
 use Rattle.nfs_files.specs.Open as of_open
-use Rattle.nfs_files.specs.OpenDowngrade.{open_downgrade}
-use Rattle.nfs_files.specs.Read.{read}
 use Rattle.nfs_files.specs.SetAttr as of_set
-use Rattle.nfs_files.specs.TestStateid.{test_stateid}
 use Rattle.nfs_files.specs.Write as of_write
 use Rattle.nfs_files.proofs.Outcomes as files
-use Rattle.nfs_files.proofs.Outcomes.{for_each}
-use Rattle.nfs_files.proofs.OpenRows.{OpensRows, Kept, Put, opened_rows}
-use Rattle.nfs_files.proofs.WrittenOps.{by_found, current_number, number_back}
+use Rattle.nfs_files.proofs.{Outcomes.for_each, OpenRows.{OpensRows, Kept, Put, opened_rows}, WrittenOps.{by_found, current_number, number_back}}
 use Rattle.nfs_files.proofs.OpensMoved.{by_close, by_free, by_downgrade, by_lock, by_unlock}
-use Rattle.nfs_exec.specs.Step.Machine.{Machine}
-use Rattle.nfs_exec.specs.Step.Behind.{Step, step, on_store, moves_opens, marked_if}
-use Rattle.nfs_exec.specs.Step.Run.{in_room}
-use Rattle.nfs_exec.specs.Runs.Ops.{RanOp}
-use Rattle.nfs_exec.proofs.Step.Behind.{by_step}
-use Rattle.nfs_exec.proofs.Runs.KeptByRuns.{otherwise_store}
-use Rattle.nfs_exec.proofs.Runs.WhatWasDone.{in_room_is, IsRun}
+use Rattle.nfs_exec.specs.{Step.Machine.Machine, Step.Behind.{Step, step, on_store, moves_opens, marked_if}, Step.Run.in_room, Runs.Ops.RanOp}
+use Rattle.nfs_exec.proofs.{Step.Behind.by_step, Runs.KeptByRuns.otherwise_store, Runs.WhatWasDone.{in_room_is, IsRun}}
 use Rattle.nfs_serve.specs.Promises.NameStays.{IsDone, Makes, ByCreate, ByOpen, ByLink, ByRename, Takes, TakesIt, Removed, MovedAway, MovedOver}
 
 -- The rows are the same, or one more is there, or those of a name are gone, or an entry moved.

@@ -1,65 +1,35 @@
 -- What an operation said of a name holds of the tree behind it.
 use Rattle.std.proofs.Common.{◌≡◌, ◌≢◌, ℕ, ◌+◌, ◌≤◌, Bool, true, false, cond, not, eqb, List, [], ◌∷◌, ◌++◌, take, drop, Option, Some, None, refl, sym, ◌∙◌, ap, subst, arith, append_assoc, inl, inr}
-use Rattle.std.specs.Prelude.{◌==◌, ◌&&◌, option_map, unwrap_or, is_some, Result, Ok, Err, ok_or}
-use Rattle.std.specs.Int.{w32, from_be_bytes}
-use Rattle.std.specs.List.{list_all}
-use Rattle.std.proofs.lemmas.Bool.{cases_Bool, and_parts, not-true, not-false, eqb-true, true≢false}
-use Rattle.std.proofs.lemmas.List.{take_at, drop_at}
-use Rattle.nfs_xdr.specs.Checks.{first_fault, judged}
-use Rattle.nfs_xdr.specs.Spelling.{number}
-use Rattle.nfs_xdr.specs.Status.{status_number}
-use Rattle.nfs_xdr.specs.declared.time.Time.{Time}
-use Rattle.nfs_xdr.specs.declared.status.Status.{Status}
+use Rattle.std.proofs.{lemmas.Bool.{cases_Bool, and_parts, not-true, not-false, eqb-true, true≢false}, lemmas.List.{take_at, drop_at}}
+use Rattle.std.specs.{Prelude.{◌==◌, ◌&&◌, option_map, unwrap_or, is_some, Result, Ok, Err, ok_or}, Int.{w32, from_be_bytes}, List.list_all}
+use Rattle.nfs_xdr.specs.{Checks.{first_fault, judged}, Spelling.number, Status.status_number, declared.time.Time.Time, declared.status.Status.Status}
 use Rattle.nfs_xdr.specs.declared.status.Status.TheVariants.{Nfs4Ok, NoEnt, Stale, NoFileHandle, Symlink, Delay, RepTooBig}
-use Rattle.nfs_xdr.proofs.Checks.{all_passed}
-use Rattle.nfs_xdr.proofs.Lists.{find_in, find_none_kept, find_push_none, find_push_other, find_out}
-use Rattle.nfs_xdr.proofs.Putting.{length_number}
+use Rattle.nfs_xdr.proofs.{Checks.all_passed, Lists.{find_in, find_none_kept, find_push_none, find_push_other, find_out}, Putting.length_number}
 use Rattle.nfs_xdr.proofs.StatusLaws.{is_status_listing}
-use Rattle.nfs_compound.specs.declared.name_args.Create.{Create}
-use Rattle.nfs_compound.specs.declared.name_args.Rename.{Rename}
-use Rattle.nfs_compound.specs.declared.open_args.Open.{Open}
-use Rattle.nfs_compound.specs.declared.open_args.OpenClaim.TheVariants.{Null}
-use Rattle.nfs_compound.specs.declared.op.Op.TheVariants as Op
-use Rattle.nfs_compound.specs.declared.op.Item.TheVariants.{Operation}
-use Rattle.nfs_compound.specs.declared.op_num.OpNum.{OpNum}
-use Rattle.nfs_compound.specs.declared.op_num.OpNum.TheVariants as Num
+use Rattle.nfs_compound.specs.{declared.name_args.Create.Create, declared.name_args.Rename.Rename, declared.open_args.Open.Open}
+use Rattle.nfs_compound.specs.{declared.open_args.OpenClaim.TheVariants.Null, declared.op.Item.TheVariants.Operation, declared.op_num.OpNum.OpNum}
 use Rattle.nfs_compound.specs.OpNum.{op_number}
+use Rattle.nfs_compound.specs.declared.op.Op.TheVariants as Op
+use Rattle.nfs_compound.specs.declared.op_num.OpNum.TheVariants as Num
 use Rattle.nfs_results.specs.declared.res.Res.TheVariants as Res
 use Rattle.nfs_results.specs.Results.{spell_result, done_head, head, refusal}
-use Rattle.nfs_tree.specs.declared.object.Object.{Object}
-use Rattle.nfs_tree.specs.declared.row.Row.{Row}
-use Rattle.nfs_tree.specs.Files.{Files, root, object_at, is_entry, entry, lookup, named, without_entry}
-use Rattle.nfs_tree.specs.Create.{create_checks}
-use Rattle.nfs_tree.specs.Names.{Move, moves, moved_object, replaced_object, link_checks, rename_checks, with_row}
+use Rattle.nfs_tree.specs.{declared.object.Object.Object, declared.row.Row.Row, Files.{Files, root, object_at, is_entry, entry, lookup, named, without_entry}}
+use Rattle.nfs_tree.specs.{Create.create_checks, Names.{Move, moves, moved_object, replaced_object, link_checks, rename_checks, with_row}}
 use Rattle.nfs_tree.specs.TreeInvariants.{IsTree}
-use Rattle.nfs_tree.proofs.Objects.{stored_within}
-use Rattle.nfs_tree.proofs.RowsKept.{entry_parts, entry_self}
+use Rattle.nfs_tree.proofs.{Objects.stored_within, RowsKept.{entry_parts, entry_self}}
 use Rattle.nfs_attrs.specs.Permissions.{execute}
-use Rattle.nfs_names.specs.declared.context.Context.{Context}
-use Rattle.nfs_names.specs.declared.node.Node.{Node}
-use Rattle.nfs_names.specs.State.{State, with_tree, moment}
-use Rattle.nfs_names.specs.Context.{at_object}
-use Rattle.nfs_names.specs.Checks.{node_as, node_at, saved_object, current, both, no_directory, denied, name_checks}
-use Rattle.nfs_names.specs.Create.{new_of, create}
-use Rattle.nfs_names.specs.Link.{link}
-use Rattle.nfs_names.specs.Lookup.{is_link, lookup as look_up}
+use Rattle.nfs_names.specs.{declared.context.Context.Context, declared.node.Node.Node, State.{State, with_tree, moment}, Context.at_object}
+use Rattle.nfs_names.specs.{Checks.{node_as, node_at, saved_object, current, both, no_directory, denied, name_checks}, Create.{new_of, create}, Link.link}
+use Rattle.nfs_names.specs.{Lookup.{is_link, lookup as look_up}, Outcome.{Outcome, done, checked, or_refusal}, Remove.remove, Rename.{move_of, renamed, rename}}
 use Rattle.nfs_names.specs.Operation as names
-use Rattle.nfs_names.specs.Outcome.{Outcome, done, checked, or_refusal}
-use Rattle.nfs_names.specs.Remove.{remove}
-use Rattle.nfs_names.specs.Rename.{move_of, renamed, rename}
-use Rattle.nfs_names.proofs.Found.{checked_ok}
+use Rattle.nfs_names.proofs.{Found.checked_ok, Ones.by_delay}
 use Rattle.nfs_names.proofs.NameLaws as law
-use Rattle.nfs_names.proofs.Ones.{by_delay}
 use Rattle.nfs_opens.specs.Steps.{in_order, ◌>>=◌, ◌>>◌}
 use Rattle.nfs_files.specs.Open as of_open
 use Rattle.nfs_files.specs.OpenTold.{names_open, named_in, claimed}
-use Rattle.nfs_files.proofs.ToldOpens.{short_names_none, asked_leads}
-use Rattle.nfs_files.proofs.WrittenOps.{by_found, current_number, number_back}
-use Rattle.nfs_exec.specs.Step.Machine.{Machine}
-use Rattle.nfs_exec.specs.Step.Behind.{Step, step}
-use Rattle.nfs_exec.specs.Step.Run.{in_room}
-use Rattle.nfs_exec.proofs.Runs.KeptByRuns.{Is}
-use Rattle.nfs_exec.proofs.Runs.WhatWasDone.{in_room_is}
+use Rattle.nfs_files.proofs.{ToldOpens.{short_names_none, asked_leads}, WrittenOps.{by_found, current_number, number_back}}
+use Rattle.nfs_exec.specs.{Step.Machine.Machine, Step.Behind.{Step, step}, Step.Run.in_room}
+use Rattle.nfs_exec.proofs.{Runs.KeptByRuns.Is, Runs.WhatWasDone.in_room_is}
 use Rattle.nfs_serve.specs.Promises.NameStays.{Name, IsDone, finds_none, Denies, Removes, RenamesIt, Misses}
 use Rattle.nfs_serve.proofs.Promises.NameRows.{AreAt, both_at, unused_rows, replaced_rows}
 

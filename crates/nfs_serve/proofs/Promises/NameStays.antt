@@ -1,43 +1,25 @@
 -- A name that was said stays, and one that is gone stays gone, through whatever records come.
 use Rattle.std.proofs.Common.{◌≡◌, ◌≢◌, ℕ, ◌+◌, Bool, true, false, cond, eqb, List, [], ◌∷◌, ◌++◌, length, Option, Some, None, refl, sym, ◌∙◌, ap, subst, inl, inr}
-use Rattle.std.specs.Prelude.{option_map}
-use Rattle.std.specs.Option.{option_map_or}
-use Rattle.nfs_xdr.specs.Caller.{Caller}
-use Rattle.nfs_xdr.specs.Tables.{In}
-use Rattle.nfs_xdr.specs.declared.status.Status.TheVariants.{MinorVersMismatch}
+use Rattle.std.specs.{Prelude.option_map, Option.option_map_or}
+use Rattle.nfs_xdr.specs.{Caller.Caller, Tables.In, declared.status.Status.TheVariants.MinorVersMismatch}
 use Rattle.nfs_xdr.proofs.Lists.{find_in, some_or_none}
-use Rattle.nfs_compound.specs.declared.op.Item.{Item}
-use Rattle.nfs_compound.specs.declared.op.Item.TheVariants.{Operation}
+use Rattle.nfs_compound.specs.{declared.op.Item.Item, declared.op.Item.TheVariants.Operation, Request.Request, declared.session_args.Sequence.Sequence}
 use Rattle.nfs_compound.specs.declared.op.Op.TheVariants as Op
 use Rattle.nfs_compound.specs.declared.op_num.OpNum.TheVariants as Num
-use Rattle.nfs_compound.specs.Request.{Request}
-use Rattle.nfs_compound.specs.declared.session_args.Sequence.{Sequence}
 use Rattle.nfs_sessions.specs.Id.{id_of}
-use Rattle.nfs_tree.specs.declared.row.Row.{Row}
-use Rattle.nfs_tree.specs.Files.{Files, is_entry, entry, lookup}
+use Rattle.nfs_tree.specs.{declared.row.Row.Row, Files.{Files, is_entry, entry, lookup}}
 use Rattle.nfs_tree.proofs.RowsKept.{entry_parts}
-use Rattle.nfs_names.specs.declared.context.Context.{Context}
-use Rattle.nfs_names.specs.Context.{begins}
+use Rattle.nfs_names.specs.{declared.context.Context.Context, Context.begins, Outcome.is_ok}
 use Rattle.nfs_names.specs.State as store
-use Rattle.nfs_names.specs.Outcome.{is_ok}
 use Rattle.nfs_files.specs.OpenTold.{names_open}
-use Rattle.nfs_exec.specs.Step.Machine.{Machine}
-use Rattle.nfs_exec.specs.Step.Behind.{Step}
-use Rattle.nfs_exec.specs.Step.Run.{in_room, is_here, behind_here}
-use Rattle.nfs_exec.specs.Step.CreateSession.{without_any_opens}
-use Rattle.nfs_exec.specs.Step.Sequence as sequence
-use Rattle.nfs_exec.specs.Step.Sequence.{Sequenced, sequenced}
-use Rattle.nfs_exec.specs.Step.Compound.{first_item, renewed, begun, bare, in_session, by_first}
+use Rattle.nfs_exec.specs.{Step.Machine.Machine, Step.Behind.Step, Step.Run.{in_room, is_here, behind_here}, Step.CreateSession.without_any_opens}
+use Rattle.nfs_exec.specs.{Step.Sequence.{Sequenced, sequenced}, Step.Compound.{first_item, renewed, begun, bare, in_session, by_first}}
 use Rattle.nfs_exec.specs.Step.Laws.{MachineEvent, Expires, Asks, stepped}
 use Rattle.nfs_exec.specs.Runs.Ops.{RanOp, done, ops, ops_in, ops_of as ops_first, ops_by, left_by, AreChained}
-use Rattle.nfs_exec.proofs.Runs.KeptByRuns.{Is, whole_room, whole_event}
-use Rattle.nfs_exec.proofs.Runs.OpsRun.{are_run}
-use Rattle.nfs_exec.proofs.Step.AloneKeeps.{holds_whoever}
-use Rattle.nfs_exec.proofs.Runs.WhatWasDone.{IsRun}
+use Rattle.nfs_exec.specs.Step.Sequence as sequence
+use Rattle.nfs_exec.proofs.{Runs.KeptByRuns.{Is, whole_room, whole_event}, Runs.OpsRun.are_run, Step.AloneKeeps.holds_whoever, Runs.WhatWasDone.IsRun}
 use Rattle.nfs_exec.proofs.Runs.OneWalk.{none_at}
-use Rattle.nfs_serve.specs.Step.{State, new_state}
-use Rattle.nfs_serve.specs.Promises.Endpoint.{Arrival}
-use Rattle.nfs_serve.specs.Promises.Points.{state_after, reached, taken, before, asked_by, ops_of}
+use Rattle.nfs_serve.specs.{Step.{State, new_state}, Promises.Endpoint.Arrival, Promises.Points.{state_after, reached, taken, before, asked_by, ops_of}}
 use Rattle.nfs_serve.specs.Promises.NameStays.{Name, IsDone, finds_none, MakesIt, ByCreate, ByOpen, ByLink, ByRename, TakesIt, Removed, MovedAway, MovedOver, next_of, Leaves, Says, Creates, Opens, Finds, Links, Renames, Denies, Removes}
 use Rattle.nfs_serve.specs.Promises.NameStays.{RenamesIt, Misses, HoldsWhile, AllSpare, HoldsThrough, HoldsFrom, row_of, LeadsBefore, NameStays, MissesBefore, GoneStays}
 use Rattle.nfs_serve.proofs.Promises.Points.{left, for_asked, next_is, IsSound, whole_before, sound_next, sound_all, sound_new}

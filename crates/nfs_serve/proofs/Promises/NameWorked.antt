@@ -1,31 +1,20 @@
 -- The run of a name that leads where it was said, and the wrong answers, computed.
 use Rattle.std.proofs.Common.{◌≡◌, ◌≢◌, ℕ, Bool, true, false, List, [], ◌∷◌, ◌++◌, length, take, Option, Some, None, refl, sym, ◌∙◌, ap, subst, arith, inl, inr}
-use Rattle.std.specs.Prelude.{◌&&◌, not}
 use Rattle.std.proofs.lemmas.Bool.{and_parts, not-true, true≢false}
-use Rattle.nfs_compound.specs.ArgCodecs.{rename_args}
-use Rattle.nfs_compound.specs.declared.op.Item.{Item}
-use Rattle.nfs_compound.specs.declared.op.Item.TheVariants.{Operation}
+use Rattle.std.specs.Prelude.{◌&&◌, not}
+use Rattle.nfs_compound.specs.{ArgCodecs.rename_args, declared.op.Item.Item, declared.op.Item.TheVariants.Operation}
 use Rattle.nfs_compound.specs.declared.op.Op.TheVariants as Op
 use Rattle.nfs_compound.specs.declared.op_num.OpNum.TheVariants as Num
 use Rattle.nfs_results.specs.Items as results
 use Rattle.nfs_tree.specs.declared.row.Row.{Row}
-use Rattle.nfs_names.specs.Checks.{both}
-use Rattle.nfs_names.specs.GetFh.{get_fh}
-use Rattle.nfs_names.specs.Remove.{remove}
-use Rattle.nfs_names.specs.Rename.{rename}
-use Rattle.nfs_names.specs.SaveFh.{save_fh}
+use Rattle.nfs_names.specs.{Checks.both, GetFh.get_fh, Remove.remove, Rename.rename, SaveFh.save_fh}
 use Rattle.nfs_exec.specs.Runs.Ops.{RanOp}
-use Rattle.nfs_serve.specs.Promises.Points.{ops_of}
-use Rattle.nfs_serve.specs.Promises.Exchanges.{words}
-use Rattle.nfs_serve.specs.Promises.HeldLock.{last_of}
-use Rattle.nfs_serve.specs.Promises.WrittenWorked.{made}
+use Rattle.nfs_serve.specs.{Promises.Points.ops_of, Promises.Exchanges.words, Promises.HeldLock.last_of, Promises.WrittenWorked.made}
 use Rattle.nfs_serve.specs.Promises.NameStays.{IsDone, finds_none, TakesIt, Removed, MovedAway, MovedOver, Leaves, Says, Finds, Renames, Denies, Removes, RenamesIt}
 use Rattle.nfs_serve.specs.Promises.NameStays.{AllSpare, next_of}
 use Rattle.nfs_serve.specs.Promises.NameWorked.{finds, finds_again, renames, finds_new, misses, removes, misses_new, found, found_again, renamed, found_new, missed, removed}
 use Rattle.nfs_serve.specs.Promises.NameWorked.{f, g, second_of, LeadsTo, NamesAreRefused}
-use Rattle.nfs_serve.proofs.Promises.HeldLock.{nothing, three}
-use Rattle.nfs_serve.proofs.Promises.Computing.{computing}
-use Rattle.nfs_serve.proofs.Promises.NameRows.{takes_names, spared}
+use Rattle.nfs_serve.proofs.{Promises.HeldLock.{nothing, three}, Promises.Computing.computing, Promises.NameRows.{takes_names, spared}}
 
 middle : (x : RanOp) (ds : List RanOp) → length ds ≡ 3 → ds ≡ take 1 ds ++ second_of x ds ∷ last_of x ds ∷ []
 middle x [] e = absurd (omega arith)

@@ -1,41 +1,28 @@
 -- An object that no name leads to is not named again.
 use Rattle.std.proofs.Common.{◌≡◌, ◌≢◌, ℕ, ◌+◌, ◌≤◌, Bool, true, false, List, [], ◌∷◌, ◌++◌, Option, Some, None, refl, sym, ◌∙◌, ap, subst, arith, inl, inr}
-use Rattle.std.specs.Prelude.{◌==◌, option_map, unwrap_or}
-use Rattle.std.specs.Option.{ForSome}
 use Rattle.std.proofs.lemmas.Bool.{cases_Bool, eq-eqb, eqb-true, not-false, false≢true}
-use Rattle.nfs_xdr.specs.Tables.{In}
-use Rattle.nfs_xdr.specs.declared.time.Time.{Time}
-use Rattle.nfs_xdr.proofs.Checks.{all_passed}
-use Rattle.nfs_xdr.proofs.Lists.{any_in, in_any, in_filter, in_push, find_in}
+use Rattle.std.specs.{Prelude.{◌==◌, option_map, unwrap_or}, Option.ForSome}
+use Rattle.nfs_xdr.specs.{Tables.In, declared.time.Time.Time}
+use Rattle.nfs_xdr.proofs.{Checks.all_passed, Lists.{any_in, in_any, in_filter, in_push, find_in}}
 use Rattle.nfs_compound.specs.declared.op.Item.{Item}
-use Rattle.nfs_tree.specs.declared.row.Row.{Row}
-use Rattle.nfs_tree.specs.Files.{Files, root, is_there, has_row, is_entry, entry, lookup, named, without_entry}
+use Rattle.nfs_tree.specs.{declared.row.Row.Row, Files.{Files, root, is_there, has_row, is_entry, entry, lookup, named, without_entry}}
 use Rattle.nfs_tree.specs.Names.{link_checks, moved_object}
 use Rattle.nfs_tree.proofs.Objects.{stored_within}
-use Rattle.nfs_opens.specs.Closing.{without_open}
-use Rattle.nfs_names.specs.declared.context.Context.{Context}
-use Rattle.nfs_names.specs.Ending.{with_opens, staying}
+use Rattle.nfs_opens.specs.{Closing.without_open, TableInvariants.IsTable}
+use Rattle.nfs_names.specs.{declared.context.Context.Context, Ending.{with_opens, staying}, Rename.without_replaced, State.{is_used, without_unused, moment}}
 use Rattle.nfs_names.specs.Operation as names
-use Rattle.nfs_names.specs.Rename.{without_replaced}
 use Rattle.nfs_names.specs.State as store
-use Rattle.nfs_names.specs.State.{is_used, without_unused, moment}
-use Rattle.nfs_names.proofs.Ones.{each_of}
+use Rattle.nfs_names.proofs.{Ones.each_of, Effects.{Makes, Links, Removes, Moves}}
 use Rattle.nfs_names.proofs.Effects as names_effects
-use Rattle.nfs_names.proofs.Effects.{Makes, Links, Removes, Moves}
 use Rattle.nfs_names.proofs.Effected as names_effected
 use Rattle.nfs_files.proofs.Effects as files_effects
 use Rattle.nfs_files.proofs.Effects.{Names, Writes, Resizes, Changes, Closes}
 use Rattle.nfs_files.proofs.Effected as files_effected
 use Rattle.nfs_files.proofs.Outcomes as files
-use Rattle.nfs_opens.specs.TableInvariants.{IsTable}
 use Rattle.nfs_exec.specs.Runs.Ops.{RanOp}
-use Rattle.nfs_exec.proofs.Runs.OneRun.{IsRun, by_run}
-use Rattle.nfs_exec.proofs.Runs.OneWalk.{IsKept}
-use Rattle.nfs_serve.specs.Step.{State}
-use Rattle.nfs_serve.specs.Promises.Endpoint.{Arrival}
-use Rattle.nfs_serve.specs.Promises.FileStays.{IsNameless, NamelessStays}
-use Rattle.nfs_serve.specs.Promises.NameStays.{next_of, HoldsWhile, HoldsThrough, row_of}
-use Rattle.nfs_serve.specs.Promises.Points.{state_after, reached, before, asked_by, ops_of}
+use Rattle.nfs_exec.proofs.{Runs.OneRun.{IsRun, by_run}, Runs.OneWalk.IsKept}
+use Rattle.nfs_serve.specs.{Step.State, Promises.Endpoint.Arrival, Promises.FileStays.{IsNameless, NamelessStays}}
+use Rattle.nfs_serve.specs.{Promises.NameStays.{next_of, HoldsWhile, HoldsThrough, row_of}, Promises.Points.{state_after, reached, before, asked_by, ops_of}}
 use Rattle.nfs_serve.proofs.Promises.ChangeTells.{follows_itself, run_follows, low_there}
 use Rattle.nfs_serve.proofs.Promises.LaterRecords.{before_keeps, next_keeps, asked_keeps, asked_back}
 use Rattle.nfs_serve.proofs.Promises.NameStays.{AreLinked, RunsTo, asked_runs, linked_at, runs_at, sound_at, says_leads, stands_by}

@@ -1,14 +1,11 @@
 -- One slot's line against the slot, through each event.
 use Rattle.std.proofs.Common.{◌≡◌, ◌⊎◌, inl, inr, ℕ, ◌+◌, ◌-◌, ◌%◌, ◌^◌, ◌<◌, ◌≤◌, Bool, true, false, List, [], ◌∷◌, ◌++◌, map, length, Option, Some, None, refl, sym, ◌∙◌, ap, subst, arith}
+use Rattle.std.proofs.{lemmas.Bool.{eqb-true, eq-eqb, and_parts, and_from, true≢false, false≢true}, lemmas.Slice.Eq.bytes_eq-Decides}
 use Rattle.std.specs.Prelude.{◌==◌, ◌&&◌, not, if◌then◌else◌, bytes_eq}
-use Rattle.std.proofs.lemmas.Bool.{eqb-true, eq-eqb, and_parts, and_from, true≢false, false≢true}
-use Rattle.std.proofs.lemmas.Slice.Eq.{bytes_eq-Decides}
 use Rattle.nfs_xdr.specs.Tables.{In}
-use Rattle.nfs_slots.specs.Slot.{SlotState, judge_slot, next_number}
-use Rattle.nfs_slots.specs.declared.slot.Verdict.TheVariants.{Fresh, Again, FalseRetry, Misordered}
+use Rattle.nfs_slots.specs.{Slot.{SlotState, judge_slot, next_number}, declared.slot.Verdict.TheVariants.{Fresh, Again, FalseRetry, Misordered}}
 use Rattle.nfs_slots.proofs.TableLemmas.{fresh_number}
-use Rattle.nfs_sessions.specs.declared.id.SessionId.{SessionId}
-use Rattle.nfs_sessions.specs.Laws.{is_id}
+use Rattle.nfs_sessions.specs.{declared.id.SessionId.SessionId, Laws.is_id}
 use Rattle.nfs_serve.specs.Promises.Endpoint.{Place, Compound, Heading, Answer, Stepped, Server}
 use Rattle.nfs_serve.specs.Promises.Network.{Packet, RanCompound, Line, IsNext, Next, Instead, IsLast, CountUp, IsPart, top, waiting, same_place, with_line, sending, resending, accepting, executing, result_of}
 use Rattle.nfs_serve.proofs.Promises.ServerLaws.{Runs, Repeats}

@@ -1,11 +1,9 @@
 -- Members of a list, and numbers that count up.
 use Rattle.std.proofs.Common.{◌≡◌, ◌⊎◌, inl, inr, ℕ, ◌+◌, ◌<◌, ◌≤◌, ◌^◌, suc, Bool, cond, List, [], ◌∷◌, ◌++◌, map, length, refl, sym, ◌∙◌, ap, subst, arith}
+use Rattle.std.proofs.{lemmas.Bool.{cases_eq, ne_eqb, eq-eqb}, lemmas.List.Sums.sum_by-cons}
 use Rattle.std.specs.Prelude.{max, count_by}
-use Rattle.std.proofs.lemmas.Bool.{cases_eq, ne_eqb, eq-eqb}
-use Rattle.std.proofs.lemmas.List.Sums.{sum_by-cons}
 use Rattle.nfs_xdr.specs.Tables.{In}
-use Rattle.nfs_serve.specs.Promises.Endpoint.{Compound}
-use Rattle.nfs_serve.specs.Promises.Network.{RanCompound, is_number, top, CountUp, IsPart}
+use Rattle.nfs_serve.specs.{Promises.Endpoint.Compound, Promises.Network.{RanCompound, is_number, top, CountUp, IsPart}}
 
 pub In-front : {X : Type 0} (x : X) (xs ys : List X) → In x xs → In x (xs ++ ys)
 In-front x [] ys i = absurd i

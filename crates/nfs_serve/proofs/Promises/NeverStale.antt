@@ -1,36 +1,20 @@
 -- What uses an object that is there is refused for other reasons than NFS4ERR_STALE.
 use Rattle.std.proofs.Common.{◌≡◌, ℕ, Bool, true, false, not, List, Option, Some, None, refl}
 use Rattle.std.specs.Prelude.{◌==◌, Result, Ok, Err}
-use Rattle.nfs_xdr.specs.Status.{status_number}
-use Rattle.nfs_xdr.specs.declared.time.Time.{Time}
-use Rattle.nfs_xdr.specs.declared.status.Status.{Status}
+use Rattle.nfs_xdr.specs.{Status.status_number, declared.time.Time.Time, declared.status.Status.Status}
 use Rattle.nfs_xdr.specs.declared.status.Status.TheVariants as S
-use Rattle.nfs_compound.specs.declared.attributes.Attributes.{Attributes}
-use Rattle.nfs_compound.specs.declared.file_args.Read.{Read}
-use Rattle.nfs_compound.specs.declared.file_args.SetAttr.{SetAttr}
-use Rattle.nfs_compound.specs.declared.file_args.Write.{Write}
+use Rattle.nfs_compound.specs.{declared.attributes.Attributes.Attributes, declared.file_args.Read.Read, declared.file_args.SetAttr.SetAttr}
+use Rattle.nfs_compound.specs.{declared.file_args.Write.Write, declared.stateid.Stateid.Stateid}
 use Rattle.nfs_compound.specs.declared.op_num.OpNum.TheVariants as Num
-use Rattle.nfs_compound.specs.declared.stateid.Stateid.{Stateid}
-use Rattle.nfs_attrs.specs.declared.wanted.AttrFault.{AttrFault}
+use Rattle.nfs_attrs.specs.{declared.wanted.AttrFault.AttrFault, Mask.{mask_of, asks_set_only}, Reading.fault_status}
 use Rattle.nfs_attrs.specs.declared.wanted.AttrFault.TheVariants as F
-use Rattle.nfs_attrs.specs.Mask.{mask_of, asks_set_only}
-use Rattle.nfs_attrs.specs.Reading.{fault_status}
-use Rattle.nfs_opens.specs.declared.judging.Seat.{Seat}
-use Rattle.nfs_opens.specs.declared.judging.Seat.TheVariants.{Anonymous, ReadBypass, Open, Lock}
-use Rattle.nfs_opens.specs.declared.share.Share.{Share}
+use Rattle.nfs_opens.specs.{declared.judging.Seat.Seat, declared.judging.Seat.TheVariants.{Anonymous, ReadBypass, Open, Lock}, declared.share.Share.Share}
 use Rattle.nfs_opens.specs.Steps.{map_err}
-use Rattle.nfs_names.specs.declared.context.Context.{Context}
-use Rattle.nfs_names.specs.declared.node.Node.{Node}
-use Rattle.nfs_names.specs.Checks.{current}
-use Rattle.nfs_names.specs.Create.{wanted_of, attributes_in}
-use Rattle.nfs_names.specs.GetAttr.{get_attr}
-use Rattle.nfs_names.specs.Outcome.{checked}
-use Rattle.nfs_names.specs.State.{State}
-use Rattle.nfs_files.specs.Bytes.{file_checks, seat, reading, writing, seat_checks, may_use, readable, writable}
-use Rattle.nfs_files.specs.Read.{read}
-use Rattle.nfs_files.specs.SetAttr as of_set
-use Rattle.nfs_files.specs.SetAttr.{set_attr}
+use Rattle.nfs_names.specs.{declared.context.Context.Context, declared.node.Node.Node, Checks.current, Create.{wanted_of, attributes_in}, GetAttr.get_attr}
+use Rattle.nfs_names.specs.{Outcome.checked, State.State}
+use Rattle.nfs_files.specs.{Bytes.{file_checks, seat, reading, writing, seat_checks, may_use, readable, writable}, Read.read, SetAttr.set_attr}
 use Rattle.nfs_files.specs.Write.{last_checks, write}
+use Rattle.nfs_files.specs.SetAttr as of_set
 use Rattle.nfs_serve.proofs.Promises.Without.{IsWithout, AreGood, all_good, are_good, err_without, ok_without, then_without, checked_without, seat_without}
 use Rattle.nfs_serve.proofs.Promises.Without.{if_passed_without, Answers, answers_without, ends_then, ends_held, steps_answer}
 

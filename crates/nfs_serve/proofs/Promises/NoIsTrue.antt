@@ -1,65 +1,34 @@
 -- A no is true: what a LOCK or a LOCKT that is denied reports was granted before, and has not ended.
 use Rattle.std.proofs.Common.{◌≡◌, not, Bool, ◌≢◌, ◌⊎◌, ℕ, suc, ◌-◌, ◌<◌, ◌≤◌, true, false, List, [], ◌∷◌, ◌++◌, length, take, Option, Some, None, refl, sym, ◌∙◌, ap, subst, arith, inl, inr}
-use Rattle.std.proofs.Common.{append_assoc, append-nil}
-use Rattle.std.specs.Prelude.{◌^◌, Ok}
-use Rattle.std.specs.Option.{option_map_or}
-use Rattle.std.proofs.lemmas.Bool.{cases_Bool, and_parts, false≢true, eq-eqb, eqb-true}
-use Rattle.std.proofs.lemmas.Slice.Eq.{bytes_eq-Decides}
-use Rattle.nfs_xdr.specs.Limits.{opaque_limit}
-use Rattle.nfs_xdr.specs.Tables.{In}
-use Rattle.nfs_xdr.specs.declared.status.Status.TheVariants.{Denied, RepTooBig}
-use Rattle.nfs_xdr.proofs.Lists.{in_filter, find_in, none_in}
-use Rattle.nfs_xdr.proofs.Tables.{in_once}
+use Rattle.std.proofs.{Common.{append_assoc, append-nil}, lemmas.Bool.{cases_Bool, and_parts, false≢true, eq-eqb, eqb-true}, lemmas.Slice.Eq.bytes_eq-Decides}
+use Rattle.std.specs.{Prelude.{◌^◌, Ok}, Option.option_map_or}
+use Rattle.nfs_xdr.specs.{Limits.opaque_limit, Tables.In, declared.status.Status.TheVariants.{Denied, RepTooBig}}
+use Rattle.nfs_xdr.proofs.{Lists.{in_filter, find_in, none_in}, Tables.in_once}
 use Rattle.nfs_compound.specs.declared.lock_args.Lock as lock_args
 use Rattle.nfs_compound.specs.declared.lock_args.LockT as test_args
-use Rattle.nfs_compound.specs.declared.lock_args.Locker.TheVariants.{LockOwner, OpenOwner}
-use Rattle.nfs_compound.specs.declared.op.Item.{Item}
-use Rattle.nfs_compound.specs.declared.op.Item.TheVariants.{Operation}
+use Rattle.nfs_compound.specs.{declared.lock_args.Locker.TheVariants.{LockOwner, OpenOwner}, declared.op.Item.Item, declared.op.Item.TheVariants.Operation}
+use Rattle.nfs_compound.specs.declared.lock_args.LockType.{LockType}
 use Rattle.nfs_compound.specs.declared.op.Op.TheVariants as Op
 use Rattle.nfs_results.specs.declared.res.Denied as result
-use Rattle.nfs_results.specs.declared.res.Res.{Res}
-use Rattle.nfs_results.specs.Results.{spell_result}
-use Rattle.nfs_ranges.specs.declared.Held.{Held}
-use Rattle.nfs_ranges.specs.Told.{meets, told}
-use Rattle.nfs_opens.specs.declared.locking.Wish.{Wish}
-use Rattle.nfs_opens.specs.declared.records.LockState.{LockState}
-use Rattle.nfs_opens.specs.Locking.{clash, number_of, state_of, is_locker}
-use Rattle.nfs_opens.specs.declared.stateid.CurrentSeqid.TheVariants.{Any}
-use Rattle.nfs_opens.specs.declared.stateid.StateId.{StateId}
-use Rattle.nfs_opens.specs.Table.{Table, lock_at}
+use Rattle.nfs_results.specs.{declared.res.Res.Res, Results.spell_result}
+use Rattle.nfs_ranges.specs.{declared.Held.Held, Told.{meets, told}}
+use Rattle.nfs_opens.specs.{declared.locking.Wish.Wish, declared.records.LockState.LockState, Locking.{clash, number_of, state_of, is_locker}}
+use Rattle.nfs_opens.specs.{declared.stateid.CurrentSeqid.TheVariants.Any, declared.stateid.StateId.StateId, Table.{Table, lock_at}}
 use Rattle.nfs_opens.proofs.LockLemmas.{clash_tells}
 use Rattle.nfs_names.specs.State as of_store
-use Rattle.nfs_names.specs.State.{moment}
-use Rattle.nfs_names.specs.declared.context.Context.{Context}
-use Rattle.nfs_compound.specs.declared.lock_args.LockType.{LockType}
-use Rattle.nfs_files.specs.Denied.{denied, type_of, size_of}
-use Rattle.nfs_files.specs.Lock.{stateid_in}
-use Rattle.nfs_files.specs.LockTold.{LockTold}
-use Rattle.nfs_files.specs.StateIds.{meant}
+use Rattle.nfs_names.specs.{State.moment, declared.context.Context.Context}
+use Rattle.nfs_files.specs.{Denied.{denied, type_of, size_of}, Lock.stateid_in, LockTold.LockTold, StateIds.meant}
 use Rattle.nfs_files.proofs.Wishes.{IsRange, wish_is, wish_range}
-use Rattle.nfs_exec.specs.Step.Laws.{MachineEvent}
-use Rattle.nfs_exec.specs.Step.Machine.{Machine, IsMachine}
-use Rattle.nfs_exec.specs.Runs.LockHeld.{replaces}
-use Rattle.nfs_exec.specs.Runs.Ops.{RanOp, ops_by}
-use Rattle.nfs_exec.proofs.Step.Invariant.{of_start}
-use Rattle.nfs_exec.proofs.Runs.KeptByRuns.{Is}
-use Rattle.nfs_exec.proofs.Runs.LockStates.{as_itself}
-use Rattle.nfs_exec.proofs.Runs.OneRun.{IsRun, by_item}
-use Rattle.nfs_exec.proofs.Runs.OneWalk.{none_at}
-use Rattle.nfs_serve.specs.Step.{State, new_state}
-use Rattle.nfs_serve.specs.Promises.Endpoint.{Arrival}
-use Rattle.nfs_serve.specs.Promises.Denials.{IsRefusedFor, ByLock, ByTest, IsBegunBy, IsOthers, asks_for_lock}
-use Rattle.nfs_serve.specs.Promises.ChangeTells.{RunsIn}
-use Rattle.nfs_serve.specs.Promises.NoIsTrue.{IsInLease, Passes, AllPass, IsGrantedIn, IsGranted, Before, Within, NoIsTrue}
-use Rattle.nfs_serve.specs.Promises.LockKept.{replaces_by}
-use Rattle.nfs_serve.specs.Promises.Outlived.{last_renewal}
-use Rattle.nfs_serve.specs.Promises.Points.{state_after, state_after_all, reached, taken, before, asked_by, ops_of}
+use Rattle.nfs_exec.specs.{Step.Laws.MachineEvent, Step.Machine.{Machine, IsMachine}, Runs.LockHeld.replaces, Runs.Ops.{RanOp, ops_by}}
+use Rattle.nfs_exec.proofs.{Step.Invariant.of_start, Runs.KeptByRuns.Is, Runs.LockStates.as_itself, Runs.OneRun.{IsRun, by_item}, Runs.OneWalk.none_at}
+use Rattle.nfs_serve.specs.{Step.{State, new_state}, Promises.Endpoint.Arrival}
+use Rattle.nfs_serve.specs.{Promises.Denials.{IsRefusedFor, ByLock, ByTest, IsBegunBy, IsOthers, asks_for_lock}, Promises.ChangeTells.RunsIn}
+use Rattle.nfs_serve.specs.{Promises.NoIsTrue.{IsInLease, Passes, AllPass, IsGrantedIn, IsGranted, Before, Within, NoIsTrue}, Promises.LockKept.replaces_by}
+use Rattle.nfs_serve.specs.{Promises.Outlived.last_renewal, Promises.Points.{state_after, state_after_all, reached, taken, before, asked_by, ops_of}}
 use Rattle.nfs_serve.proofs.Promises.DenialsCaused.{WasDenied, IsLocker, IsTester, asker, is_denied, lock_denied, test_denied}
-use Rattle.nfs_serve.proofs.Promises.HeldBefore.{Holds, found_at}
-use Rattle.nfs_serve.proofs.Promises.HeldReplaced.{replaced_same}
+use Rattle.nfs_serve.proofs.{Promises.HeldBefore.{Holds, found_at}, Promises.HeldReplaced.replaced_same}
 use Rattle.nfs_serve.proofs.Promises.HeldTraced.{Traced, Stood, Given, event_traced, event_until, held_staying}
-use Rattle.nfs_serve.proofs.Promises.OneStateEach.{HasOneEach, locker_is, each_kept}
-use Rattle.nfs_serve.proofs.Promises.LaterRecords.{runs_keep, op_done, first_there}
+use Rattle.nfs_serve.proofs.{Promises.OneStateEach.{HasOneEach, locker_is, each_kept}, Promises.LaterRecords.{runs_keep, op_done, first_there}}
 use Rattle.nfs_serve.proofs.Promises.StatesBegun.{same_lock, WasThere, IsBegunIn, event_states, until_states}
 use Rattle.nfs_serve.proofs.Promises.Outlived.{machine_before, machine_all, none_outlives}
 use Rattle.nfs_serve.proofs.Promises.Points.{left, for_asked, next_is, IsSound, whole_before, sound_all, sound_new}

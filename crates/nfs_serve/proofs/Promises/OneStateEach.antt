@@ -1,47 +1,26 @@
 -- A lock owner has one lock state on a file.
 use Rattle.std.proofs.Common.{◌≡◌, ◌⊎◌, ℕ, ◌+◌, Bool, true, false, cond, not, List, map, Option, Some, None, refl, sym, ◌∙◌, ap, subst, inl, inr}
+use Rattle.std.proofs.{lemmas.Bool.{eq-eqb, false≢true}, lemmas.Slice.Eq.bytes_eq-Decides}
 use Rattle.std.specs.Prelude.{◌==◌, if◌then◌else◌, Ok, filter, ok_or}
-use Rattle.std.proofs.lemmas.Bool.{eq-eqb, false≢true}
-use Rattle.std.proofs.lemmas.Slice.Eq.{bytes_eq-Decides}
-use Rattle.nfs_xdr.specs.Tables.{In}
-use Rattle.nfs_xdr.specs.declared.time.Time.{Time}
-use Rattle.nfs_xdr.specs.declared.status.Status.TheVariants.{BadStateId, ServerFault}
+use Rattle.nfs_xdr.specs.{Tables.In, declared.time.Time.Time, declared.status.Status.TheVariants.{BadStateId, ServerFault}}
 use Rattle.nfs_xdr.proofs.Lists.{in_filter, in_map, in_push, none_in}
-use Rattle.nfs_compound.specs.declared.lock_args.Locker.{Locker}
-use Rattle.nfs_compound.specs.declared.lock_args.Locker.TheVariants.{LockOwner, OpenOwner}
-use Rattle.nfs_compound.specs.declared.op.Item.{Item}
-use Rattle.nfs_compound.specs.declared.op.Item.TheVariants.{Operation}
-use Rattle.nfs_compound.specs.declared.op.Op.{Op}
-use Rattle.nfs_results.specs.declared.res.Res.{Res}
-use Rattle.nfs_results.specs.Results.{status_of_result}
-use Rattle.nfs_opens.specs.declared.judging.Sort.TheVariants.{LockOnly, OpenOnly}
-use Rattle.nfs_opens.specs.declared.locking.OpenFault.TheVariants.{Refused}
-use Rattle.nfs_opens.specs.declared.locking.Wish.{Wish}
-use Rattle.nfs_opens.specs.declared.records.LockState.{LockState}
-use Rattle.nfs_opens.specs.declared.records.OpenState.{OpenState}
-use Rattle.nfs_opens.specs.declared.share.Share.{Share}
-use Rattle.nfs_opens.specs.declared.stateid.StateId.{StateId}
-use Rattle.nfs_opens.specs.Closing.{not_under}
-use Rattle.nfs_opens.specs.Judging.{judge}
-use Rattle.nfs_opens.specs.Locking.{is_locker, state_of, raised, access_in, lock_judged, lock_as, lock_first, lock_by_owner}
+use Rattle.nfs_compound.specs.{declared.lock_args.Locker.Locker, declared.lock_args.Locker.TheVariants.{LockOwner, OpenOwner}, declared.op.Item.Item}
+use Rattle.nfs_compound.specs.{declared.op.Item.TheVariants.Operation, declared.op.Op.Op}
+use Rattle.nfs_results.specs.{declared.res.Res.Res, Results.status_of_result}
+use Rattle.nfs_opens.specs.{declared.judging.Sort.TheVariants.{LockOnly, OpenOnly}, declared.locking.OpenFault.TheVariants.Refused, declared.locking.Wish.Wish}
+use Rattle.nfs_opens.specs.{declared.records.LockState.LockState, declared.records.OpenState.OpenState, declared.share.Share.Share}
+use Rattle.nfs_opens.specs.{declared.stateid.StateId.StateId, Closing.not_under, Judging.judge}
+use Rattle.nfs_opens.specs.{Locking.{is_locker, state_of, raised, access_in, lock_judged, lock_as, lock_first, lock_by_owner}, StateId.last_number}
+use Rattle.nfs_opens.specs.{Steps.{map_err, require}, Table.{Table, Asked, lock_at}}
 use Rattle.nfs_opens.specs.Opening as opening
-use Rattle.nfs_opens.specs.StateId.{last_number}
-use Rattle.nfs_opens.specs.Steps.{map_err, require}
-use Rattle.nfs_opens.specs.Table.{Table, Asked, lock_at}
 use Rattle.nfs_opens.proofs.CallLaws.{first_state, came, ok_is}
-use Rattle.nfs_names.specs.declared.context.Context.{Context}
-use Rattle.nfs_names.specs.Ending.{table_staying}
-use Rattle.nfs_names.specs.Outcome.{is_ok}
-use Rattle.nfs_names.specs.State.{State, moment}
+use Rattle.nfs_names.specs.{declared.context.Context.Context, Ending.table_staying, Outcome.is_ok, State.{State, moment}}
 use Rattle.nfs_names.proofs.Untouched.{leaves_each}
 use Rattle.nfs_files.specs.Lock.{locks_as}
-use Rattle.nfs_files.proofs.Effects.{Effect, Opens, Closes, Locks, Begins, Unlocks, Frees, Caused, table_behind}
-use Rattle.nfs_files.proofs.Effected.{caused_opens}
-use Rattle.nfs_files.proofs.Outcomes.{comes_to}
+use Rattle.nfs_files.proofs.{Effects.{Effect, Opens, Closes, Locks, Begins, Unlocks, Frees, Caused, table_behind}, Effected.caused_opens, Outcomes.comes_to}
 use Rattle.nfs_files.proofs.ToldLocks.{left_by}
 use Rattle.nfs_exec.specs.Runs.Ops.{RanOp}
-use Rattle.nfs_exec.proofs.Runs.OneRun.{IsRun, by_ok, by_run}
-use Rattle.nfs_exec.proofs.Runs.OneWalk.{IsKept}
+use Rattle.nfs_exec.proofs.{Runs.OneRun.{IsRun, by_ok, by_run}, Runs.OneWalk.IsKept}
 use Rattle.nfs_serve.proofs.Promises.HeldBefore.{IsGranting, Granting}
 
 -- Tables.

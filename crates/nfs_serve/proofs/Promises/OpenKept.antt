@@ -2,22 +2,14 @@
 use Rattle.std.proofs.Common.{◌≡◌, ℕ, true, [], Option, Some, None}
 use Rattle.std.specs.Option.{option_map_or}
 use Rattle.nfs_xdr.specs.Tables.{In}
-use Rattle.nfs_compound.specs.declared.open_args.Open.{Open}
+use Rattle.nfs_compound.specs.{declared.open_args.Open.Open, declared.op.Item.TheVariants.Operation}
 use Rattle.nfs_compound.specs.declared.op_num.OpNum.TheVariants as Num
-use Rattle.nfs_compound.specs.declared.op.Item.TheVariants.{Operation}
 use Rattle.nfs_compound.specs.declared.op.Op.TheVariants as Op
 use Rattle.nfs_files.specs.OpenTold.{names_open, OpenTold, Bits}
-use Rattle.nfs_exec.specs.Step.Machine.{Machine}
-use Rattle.nfs_exec.specs.Step.Laws.{MachineEvent}
-use Rattle.nfs_exec.specs.Runs.Ops.{RanOp, ops_by}
-use Rattle.nfs_exec.specs.Runs.OpenHeld.{the_open, bits_left, TellsOpen}
-use Rattle.nfs_exec.proofs.Runs.KeptByRuns.{Is}
-use Rattle.nfs_exec.proofs.Runs.OpenHeld.{open_stays, told_open, each_tells}
-use Rattle.nfs_serve.specs.Step.{new_state}
-use Rattle.nfs_serve.specs.Promises.Points.{state_after, reached, taken, before, asked_by}
-use Rattle.nfs_serve.specs.Promises.OpenKept.{OpenKept, EachOpenIsTold}
-use Rattle.nfs_serve.proofs.Promises.Points.{IsSound, whole_before, sound_all, sound_new}
-use Rattle.nfs_serve.proofs.Promises.Staying.{told_from, stays_for}
+use Rattle.nfs_exec.specs.{Step.Machine.Machine, Step.Laws.MachineEvent, Runs.Ops.{RanOp, ops_by}, Runs.OpenHeld.{the_open, bits_left, TellsOpen}}
+use Rattle.nfs_exec.proofs.{Runs.KeptByRuns.Is, Runs.OpenHeld.{open_stays, told_open, each_tells}}
+use Rattle.nfs_serve.specs.{Step.new_state, Promises.Points.{state_after, reached, taken, before, asked_by}, Promises.OpenKept.{OpenKept, EachOpenIsTold}}
+use Rattle.nfs_serve.proofs.{Promises.Points.{IsSound, whole_before, sound_all, sound_new}, Promises.Staying.{told_from, stays_for}}
 
 pub open_kept : OpenKept
 open_kept mode instance lease earlier c k b front told back e tells =

@@ -1,68 +1,33 @@
 -- What is open can be had, in every run.
 use Rattle.std.proofs.Common.{◌≡◌, ◌⊎◌, ℕ, Bool, true, false, cond, List, [], ◌∷◌, Option, Some, None, refl, sym, ◌∙◌, ap, subst, arith, inl, inr}
-use Rattle.std.specs.Prelude.{◌==◌, ◌&&◌, nat_lt, Ok}
-use Rattle.std.specs.Option.{option_map_or}
 use Rattle.std.proofs.lemmas.Bool.{cases_Bool, eq-eqb, ne_eqb, ltb-true, false≢true}
-use Rattle.nfs_xdr.specs.Checks.{first_fault}
-use Rattle.nfs_xdr.specs.Tables.{In}
-use Rattle.nfs_xdr.specs.declared.status.Status.{Status}
-use Rattle.nfs_xdr.specs.declared.status.Status.TheVariants.{RepTooBig}
-use Rattle.nfs_xdr.proofs.Lists.{any_in}
-use Rattle.nfs_xdr.proofs.Tables.{in_bounds, at_of_in}
-use Rattle.nfs_compound.specs.Request.{item_number}
-use Rattle.nfs_compound.specs.declared.file_args.Read.{Read}
-use Rattle.nfs_compound.specs.declared.op.Item.{Item}
-use Rattle.nfs_compound.specs.declared.op.Item.TheVariants.{Operation}
-use Rattle.nfs_compound.specs.declared.op.Op.TheVariants as Op
+use Rattle.std.specs.{Prelude.{◌==◌, ◌&&◌, nat_lt, Ok}, Option.option_map_or}
+use Rattle.nfs_xdr.specs.{Checks.first_fault, Tables.In, declared.status.Status.Status, declared.status.Status.TheVariants.RepTooBig}
+use Rattle.nfs_xdr.proofs.{Lists.any_in, Tables.{in_bounds, at_of_in}}
+use Rattle.nfs_compound.specs.{Request.item_number, declared.file_args.Read.Read, declared.op.Item.Item, declared.op.Item.TheVariants.Operation}
 use Rattle.nfs_compound.specs.declared.stateid.Stateid.{Stateid}
+use Rattle.nfs_compound.specs.declared.op.Op.TheVariants as Op
 use Rattle.nfs_results.specs.Results.{status_of_result}
-use Rattle.nfs_tree.specs.declared.object.FileType.{FileType}
-use Rattle.nfs_tree.specs.declared.object.FileType.TheVariants.{Regular, Directory, Link}
-use Rattle.nfs_tree.specs.declared.stored.Stored.{Stored}
-use Rattle.nfs_tree.specs.Files.{stored_in}
-use Rattle.nfs_tree.specs.Object.{is_directory, is_regular}
+use Rattle.nfs_tree.specs.{declared.object.FileType.FileType, declared.object.FileType.TheVariants.{Regular, Directory, Link}, declared.stored.Stored.Stored}
+use Rattle.nfs_tree.specs.{Files.stored_in, Object.{is_directory, is_regular}}
 use Rattle.nfs_attrs.specs.Mask.{mask_of, asks_set_only}
-use Rattle.nfs_opens.specs.declared.judging.Seat.{Seat}
-use Rattle.nfs_opens.specs.declared.judging.Seat.TheVariants.{Open}
-use Rattle.nfs_opens.specs.declared.judging.Sort.TheVariants.{Either}
-use Rattle.nfs_opens.specs.declared.records.OpenState.{OpenState}
-use Rattle.nfs_opens.specs.declared.share.Share.{Share}
-use Rattle.nfs_opens.specs.declared.stateid.CurrentSeqid.TheVariants.{Any}
-use Rattle.nfs_opens.specs.declared.stateid.StateId.{StateId}
-use Rattle.nfs_opens.specs.Judging.{judge}
-use Rattle.nfs_opens.specs.Share.{is_part}
-use Rattle.nfs_opens.specs.StateId.{last_seqid, has_ones, is_anonymous, is_bypass}
-use Rattle.nfs_opens.specs.Table.{Table, open_at}
-use Rattle.nfs_opens.specs.TableInvariants.{IsTable}
-use Rattle.nfs_names.specs.declared.context.Context.{Context}
-use Rattle.nfs_names.specs.declared.node.Node.{Node}
-use Rattle.nfs_names.specs.Checks.{current}
-use Rattle.nfs_names.specs.GetAttr.{get_attr}
-use Rattle.nfs_names.specs.Lookup.{is_link}
-use Rattle.nfs_names.specs.Outcome.{is_ok}
+use Rattle.nfs_opens.specs.{declared.judging.Seat.Seat, declared.judging.Seat.TheVariants.Open, declared.judging.Sort.TheVariants.Either}
+use Rattle.nfs_opens.specs.{declared.records.OpenState.OpenState, declared.share.Share.Share, declared.stateid.CurrentSeqid.TheVariants.Any}
+use Rattle.nfs_opens.specs.{declared.stateid.StateId.StateId, Judging.judge, Share.is_part, StateId.{last_seqid, has_ones, is_anonymous, is_bypass}}
+use Rattle.nfs_opens.specs.{Table.{Table, open_at}, TableInvariants.IsTable}
+use Rattle.nfs_names.specs.{declared.context.Context.Context, declared.node.Node.Node, Checks.current, GetAttr.get_attr, Lookup.is_link, Outcome.is_ok}
 use Rattle.nfs_names.specs.State.{State, is_open}
-use Rattle.nfs_files.specs.Bytes.{file_checks, seat, reading, seat_checks, may_use, readable}
-use Rattle.nfs_files.specs.OpenTold.{OpenTold, Bits, bits_behind, IsOpenWith}
-use Rattle.nfs_files.specs.Read as of_read
+use Rattle.nfs_files.specs.{Bytes.{file_checks, seat, reading, seat_checks, may_use, readable}, OpenTold.{OpenTold, Bits, bits_behind, IsOpenWith}}
 use Rattle.nfs_files.specs.StateIds.{meant}
+use Rattle.nfs_files.specs.Read as of_read
 use Rattle.nfs_files.proofs.TreeFiles.{IsWhole}
-use Rattle.nfs_exec.specs.Step.Behind.{stays}
-use Rattle.nfs_exec.specs.Runs.Kept.{While}
-use Rattle.nfs_exec.specs.Runs.OpenHeld.{the_open, bits_left}
-use Rattle.nfs_exec.specs.Runs.Ops.{RanOp}
-use Rattle.nfs_exec.proofs.Step.RefusalsFit.{refused_status}
-use Rattle.nfs_exec.proofs.Runs.OneRun.{IsRun, by_item}
+use Rattle.nfs_exec.specs.{Step.Behind.stays, Runs.Kept.While, Runs.OpenHeld.{the_open, bits_left}, Runs.Ops.RanOp}
+use Rattle.nfs_exec.proofs.{Step.RefusalsFit.refused_status, Runs.OneRun.{IsRun, by_item}, Runs.OneWalk.in_back}
 use Rattle.nfs_serve.specs.Step as of_step
-use Rattle.nfs_serve.specs.Promises.Endpoint.{Arrival}
-use Rattle.nfs_serve.specs.Promises.LockKept.{renews_by, StaysFor}
-use Rattle.nfs_serve.specs.Promises.OpenReads.{IsAnswered, CanBeHad, its_file, OpensCanRead}
-use Rattle.nfs_serve.specs.Promises.Points.{state_after, reached, taken, ops_of}
-use Rattle.nfs_serve.proofs.Promises.ChangeTells.{node_there}
-use Rattle.nfs_serve.proofs.Promises.LaterRecords.{op_done}
-use Rattle.nfs_serve.proofs.Promises.NameStays.{sound_at}
-use Rattle.nfs_serve.proofs.Promises.OpenKept.{open_kept}
+use Rattle.nfs_serve.specs.{Promises.Endpoint.Arrival, Promises.LockKept.{renews_by, StaysFor}}
+use Rattle.nfs_serve.specs.{Promises.OpenReads.{IsAnswered, CanBeHad, its_file, OpensCanRead}, Promises.Points.{state_after, reached, taken, ops_of}}
+use Rattle.nfs_serve.proofs.{Promises.ChangeTells.node_there, Promises.LaterRecords.op_done, Promises.NameStays.sound_at, Promises.OpenKept.open_kept}
 use Rattle.nfs_serve.proofs.Promises.Points.{IsSound, sound_next}
-use Rattle.nfs_exec.proofs.Runs.OneWalk.{in_back}
 
 -- The file is a file.
 

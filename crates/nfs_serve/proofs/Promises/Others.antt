@@ -1,36 +1,24 @@
 -- Whatever others send, a client has what it had while its lease lasts.
 use Rattle.std.proofs.Common.{◌≡◌, ℕ, ◌+◌, ◌≤◌, true, false, cond, List, [], ◌∷◌, length, Option, Some, None, refl, sym, ◌∙◌, ap, subst}
-use Rattle.std.specs.Prelude.{is_some, option_map}
-use Rattle.std.specs.Option.{option_map_or}
 use Rattle.std.proofs.lemmas.Bool.{and_parts, eqb-true, eq-eqb, false≢true}
+use Rattle.std.specs.{Prelude.{is_some, option_map}, Option.option_map_or}
 use Rattle.nfs_xdr.specs.Caller.{Caller}
 use Rattle.nfs_xdr.proofs.Lists.{find_in}
 use Rattle.nfs_compound.specs.Request.{Request}
 use Rattle.nfs_lease.specs.Renewals.{Book}
-use Rattle.nfs_sessions.specs.Id.{id_of}
-use Rattle.nfs_sessions.specs.Sessions.{is_session, session_at}
+use Rattle.nfs_sessions.specs.{Id.id_of, Sessions.{is_session, session_at}}
 use Rattle.nfs_names.specs.Context.{begins}
-use Rattle.nfs_exec.specs.Step.Compound.{renewed, begun, compound}
-use Rattle.nfs_exec.specs.Step.Run.{behind_here}
-use Rattle.nfs_exec.proofs.Step.Behind.{run_leases}
-use Rattle.nfs_exec.proofs.Runs.ByEvent.{by_compound}
-use Rattle.nfs_exec.proofs.Step.RepliesKept.{runs_means}
+use Rattle.nfs_exec.specs.{Step.Compound.{renewed, begun, compound}, Step.Run.behind_here, Step.Machine.{Machine, IsMachine, is_client, is_confirmed}}
+use Rattle.nfs_exec.specs.{Step.Laws.Asks, Runs.LockHeld.{replaces, is_of, renews}, Runs.Own.{IsAsBefore, is_named_by}}
+use Rattle.nfs_exec.proofs.{Step.Behind.run_leases, Runs.ByEvent.by_compound, Step.RepliesKept.runs_means, Step.Invariant.of_start}
+use Rattle.nfs_exec.proofs.{Runs.NotNamed.{as_it_was, then_as, expired_strange, compound_strange}, Runs.OthersByRuns.event_apart}
+use Rattle.nfs_exec.proofs.Runs.Renewing.{AtLeast, in_time}
 use Rattle.nfs_opens.specs.Table.{Table}
 use Rattle.nfs_clients.specs.Roster.{ClientRecord, client_at}
-use Rattle.nfs_exec.specs.Step.Machine.{Machine, IsMachine, is_client, is_confirmed}
-use Rattle.nfs_exec.specs.Step.Laws.{Asks}
-use Rattle.nfs_exec.specs.Runs.LockHeld.{replaces, is_of, renews}
 use Rattle.nfs_files.specs.Own.{HasAsBefore}
-use Rattle.nfs_exec.specs.Runs.Own.{IsAsBefore, is_named_by}
-use Rattle.nfs_exec.proofs.Step.Invariant.{of_start}
-use Rattle.nfs_exec.proofs.Runs.NotNamed.{as_it_was, then_as, expired_strange, compound_strange}
 use Rattle.nfs_files.proofs.OthersTables.{same, both}
-use Rattle.nfs_exec.proofs.Runs.OthersByRuns.{event_apart}
-use Rattle.nfs_exec.proofs.Runs.Renewing.{AtLeast, in_time}
-use Rattle.nfs_serve.specs.Step.{State, new_state}
-use Rattle.nfs_serve.specs.Promises.Endpoint.{Arrival}
-use Rattle.nfs_serve.specs.Promises.Points.{state_after, state_after_all, reached, taken, before, asked_by}
-use Rattle.nfs_serve.specs.Promises.LockKept.{renews_by, replaces_by}
+use Rattle.nfs_serve.specs.{Step.{State, new_state}, Promises.Endpoint.Arrival}
+use Rattle.nfs_serve.specs.{Promises.Points.{state_after, state_after_all, reached, taken, before, asked_by}, Promises.LockKept.{renews_by, replaces_by}}
 use Rattle.nfs_serve.specs.Promises.Others.{AreOthers, OthersLeaveAll, is_named, AreStrangers, StrangersChangeNothing}
 use Rattle.nfs_serve.proofs.Promises.Points.{left, for_asked, next_is, IsSound, whole_before, sound_next, sound_all, sound_new}
 use Rattle.nfs_serve.proofs.Promises.Staying.{lease_next, lease_all, Stays, stays_before, stays_next, stays_from}

@@ -1,17 +1,12 @@
 -- A run in which others come in time, computed.
-use Rattle.std.proofs.Common.{◌≡◌, ℕ, ◌+◌, Bool, true, not, List, [], ◌∷◌, length, refl, sym, ◌∙◌, ap}
+use Rattle.std.proofs.{Common.{◌≡◌, ℕ, ◌+◌, Bool, true, not, List, [], ◌∷◌, length, refl, sym, ◌∙◌, ap}, lemmas.Bool.{and_parts, leb-true}}
 use Rattle.std.specs.Prelude.{◌&&◌, nat_le}
-use Rattle.std.proofs.lemmas.Bool.{and_parts, leb-true}
 use Rattle.nfs_opens.specs.Closing.{without_lock, without_open}
 use Rattle.nfs_files.specs.Own.{opens_of, locks_of}
-use Rattle.nfs_serve.specs.Step.{State}
-use Rattle.nfs_serve.specs.Promises.Endpoint.{Arrival}
-use Rattle.nfs_serve.specs.Promises.Points.{state_after, taken}
-use Rattle.nfs_serve.specs.Promises.LockKept.{renews_by, replaces_by}
-use Rattle.nfs_serve.specs.Promises.HeldLock as worked
+use Rattle.nfs_serve.specs.{Step.State, Promises.Endpoint.Arrival, Promises.Points.{state_after, taken}, Promises.LockKept.{renews_by, replaces_by}}
 use Rattle.nfs_serve.specs.Promises.Others.{AreOthers, is_named, AreStrangers, strangers, ComeInTime}
-use Rattle.nfs_serve.proofs.Promises.HeldLock.{not_so}
-use Rattle.nfs_serve.proofs.Promises.Computing.{computing}
+use Rattle.nfs_serve.specs.Promises.HeldLock as worked
+use Rattle.nfs_serve.proofs.{Promises.HeldLock.not_so, Promises.Computing.computing}
 
 -- the premises can be tested
 abbrev in_time : ℕ → (lease last : ℕ) → State → List Arrival → Bool

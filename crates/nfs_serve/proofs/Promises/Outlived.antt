@@ -1,26 +1,18 @@
 -- A byte is held only where its client renewed at most a lease before.
 use Rattle.std.proofs.Common.{◌≡◌, ℕ, ◌+◌, ◌-◌, ◌≤◌, Bool, true, false, cond, List, [], ◌∷◌, length, Option, Some, None, refl, sym, ◌∙◌, ap, subst, arith, inl, inr}
-use Rattle.std.specs.Prelude.{◌==◌, is_some}
-use Rattle.std.specs.Option.{option_map_or}
 use Rattle.std.proofs.lemmas.Bool.{cases_Bool, eq-eqb, ltb-false, false≢true}
+use Rattle.std.specs.{Prelude.{◌==◌, is_some}, Option.option_map_or}
 use Rattle.nfs_xdr.specs.Caller.{Caller}
 use Rattle.nfs_xdr.proofs.Lists.{any_in}
 use Rattle.nfs_compound.specs.Request.{Request}
-use Rattle.nfs_lease.specs.Renewals.{Book, is_out, has_run_out}
-use Rattle.nfs_lease.specs.Queue.{IsLatest}
+use Rattle.nfs_lease.specs.{Renewals.{Book, is_out, has_run_out}, Queue.IsLatest}
 use Rattle.nfs_clients.specs.Roster.{Roster, ClientRecord, client_at}
 use Rattle.nfs_opens.specs.declared.records.OpenState.{OpenState}
 use Rattle.nfs_names.specs.Ending.{has_open}
-use Rattle.nfs_exec.specs.Step.Machine.{IsMachine, is_client, is_confirmed}
-use Rattle.nfs_exec.specs.Step.Expiry.{leases_kept}
-use Rattle.nfs_exec.specs.Step.Laws.{Asks}
-use Rattle.nfs_exec.specs.Runs.Renewing.{renews_or_begins}
-use Rattle.nfs_exec.proofs.Step.Invariant.{of_start, of_expired, of_compound}
-use Rattle.nfs_exec.proofs.Step.LeaseMoments.{expired_all, latest_compound}
+use Rattle.nfs_exec.specs.{Step.Machine.{IsMachine, is_client, is_confirmed}, Step.Expiry.leases_kept, Step.Laws.Asks, Runs.Renewing.renews_or_begins}
+use Rattle.nfs_exec.proofs.{Step.Invariant.{of_start, of_expired, of_compound}, Step.LeaseMoments.{expired_all, latest_compound}}
 use Rattle.nfs_exec.proofs.Runs.Outlasting.{IsStill, compound_still}
-use Rattle.nfs_serve.specs.Step.{State, new_state}
-use Rattle.nfs_serve.specs.Promises.Endpoint.{Arrival}
-use Rattle.nfs_serve.specs.Promises.Points.{state_after, state_after_all, reached, taken, before}
+use Rattle.nfs_serve.specs.{Step.{State, new_state}, Promises.Endpoint.Arrival, Promises.Points.{state_after, state_after_all, reached, taken, before}}
 use Rattle.nfs_serve.specs.Promises.Outlived.{renewed_by, last_renewal, NoneOutlives}
 use Rattle.nfs_serve.proofs.Promises.Points.{left, for_asked, next_is, IsSound, whole_before, latest_before, sound_next, sound_all, sound_new}
 use Rattle.nfs_serve.proofs.Promises.Staying.{lease_all}

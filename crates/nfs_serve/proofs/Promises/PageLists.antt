@@ -1,9 +1,7 @@
 -- Entries in rising order of their cookies, of which a page has the first: how many of them have a cookie.
 use Rattle.std.proofs.Common.{◌≡◌, ◌⊎◌, ℕ, suc, ◌+◌, ◌<◌, ◌≤◌, Bool, cond, List, [], ◌∷◌, ◌++◌, refl, sym, ◌∙◌, ap, arith, zero-add, inl, inr}
-use Rattle.std.specs.Prelude.{◌==◌, count_by}
-use Rattle.std.specs.List.{flat_map}
-use Rattle.std.proofs.lemmas.Bool.{eq-eqb, ne_eqb}
-use Rattle.std.proofs.lemmas.List.Sums.{sum_by-cons, sum_by-append}
+use Rattle.std.proofs.{lemmas.Bool.{eq-eqb, ne_eqb}, lemmas.List.Sums.{sum_by-cons, sum_by-append}}
+use Rattle.std.specs.{Prelude.{◌==◌, count_by}, List.flat_map}
 use Rattle.nfs_xdr.specs.Tables.{IsRising, In}
 use Rattle.nfs_xdr.proofs.Tables.{IsRising-below, in_bounds}
 use Rattle.nfs_results.specs.declared.res.Entry.{Entry}

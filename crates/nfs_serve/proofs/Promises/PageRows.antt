@@ -1,40 +1,24 @@
 -- What a READDIR lists of the rows of its directory: the first of those behind its cookie, in rising order.
 use Rattle.std.proofs.Common.{◌≡◌, ℕ, suc, ◌+◌, ◌<◌, ◌^◌, Bool, true, false, cond, not, List, [], ◌∷◌, ◌++◌, length, map, filter, Option, Some, None, refl, sym, ◌∙◌, ap, subst, arith, append-nil, inl}
+use Rattle.std.proofs.{lemmas.Bool.{and_parts, eqb-true, eq-eqb, ltb-true, lt-ltb, leb-true, true≢false}, lemmas.List.length-append, lemmas.Nat.and_le_r}
 use Rattle.std.specs.Prelude.{◌==◌, ◌&&◌, nat_lt, get_or}
-use Rattle.std.proofs.lemmas.Bool.{and_parts, eqb-true, eq-eqb, ltb-true, lt-ltb, leb-true, true≢false}
-use Rattle.std.proofs.lemmas.List.{length-append}
-use Rattle.std.proofs.lemmas.Nat.{and_le_r}
 use Rattle.nfs_xdr.specs.Tables.{IsRising, In}
-use Rattle.nfs_xdr.proofs.Lists.{in_filter, stays_in, in_map, map_in}
-use Rattle.nfs_xdr.proofs.Tables.{IsRising-filter, IsRising-upto, in_bounds, in_once}
+use Rattle.nfs_xdr.proofs.{Lists.{in_filter, stays_in, in_map, map_in}, Tables.{IsRising-filter, IsRising-upto, in_bounds, in_once}}
 use Rattle.nfs_compound.specs.declared.name_args.ReadDir.{ReadDir}
 use Rattle.nfs_compound.specs.declared.op_num.OpNum.TheVariants as Num
-use Rattle.nfs_results.specs.Largest.{given}
-use Rattle.nfs_results.specs.declared.res.Entry.{Entry}
-use Rattle.nfs_results.specs.declared.res.ReadDirOk.{ReadDirOk}
-use Rattle.nfs_results.specs.declared.res.Res.TheVariants as Res
-use Rattle.nfs_results.specs.Parts.{parts}
-use Rattle.nfs_results.specs.ResultCodec.{FitsResult}
+use Rattle.nfs_results.specs.{Largest.given, declared.res.Entry.Entry, declared.res.ReadDirOk.ReadDirOk, Parts.parts, ResultCodec.FitsResult}
 use Rattle.nfs_results.specs.Results.{spell_result}
-use Rattle.nfs_tree.specs.declared.object.Object.{Object}
-use Rattle.nfs_tree.specs.declared.row.Row.{Row}
-use Rattle.nfs_tree.specs.Files.{Files, listed, object_at, entry}
-use Rattle.nfs_tree.specs.TreeInvariants.{IsTree}
-use Rattle.nfs_attrs.specs.Attributes.{readable}
-use Rattle.nfs_attrs.specs.Mask.{mask_of, common, without_last_zeros}
-use Rattle.nfs_attrs.specs.declared.mask.Mask.{Mask}
+use Rattle.nfs_results.specs.declared.res.Res.TheVariants as Res
+use Rattle.nfs_tree.specs.{declared.object.Object.Object, declared.row.Row.Row, Files.{Files, listed, object_at, entry}, TreeInvariants.IsTree}
+use Rattle.nfs_attrs.specs.{Attributes.readable, Mask.{mask_of, common, without_last_zeros}, declared.mask.Mask.Mask}
 use Rattle.nfs_attrs.proofs.Bounds.{attributes_within}
-use Rattle.nfs_names.specs.Attributes.{about}
+use Rattle.nfs_names.specs.{Attributes.about, ReadDir.{attributes_at, entry_of, left, longest, fits, fitting, fits_none}, State.State}
+use Rattle.nfs_names.specs.{declared.context.Context.Context, declared.node.Node.Node}
 use Rattle.nfs_names.specs.ReadDir as reading
-use Rattle.nfs_names.specs.ReadDir.{attributes_at, entry_of, left, longest, fits, fitting, fits_none}
-use Rattle.nfs_names.specs.State.{State}
-use Rattle.nfs_names.specs.declared.context.Context.{Context}
-use Rattle.nfs_names.specs.declared.node.Node.{Node}
 use Rattle.nfs_names.proofs.Masks.{at_most_three_words}
 use Rattle.nfs_names.proofs.NameLaws as law
 use Rattle.nfs_files.proofs.WrittenOps.{current_number}
-use Rattle.nfs_serve.proofs.Promises.NameSaid.{not_done, some_same}
-use Rattle.nfs_serve.proofs.Promises.PageLists.{Rises, first_in}
+use Rattle.nfs_serve.proofs.{Promises.NameSaid.{not_done, some_same}, Promises.PageLists.{Rises, first_in}}
 use Rattle.nfs_serve.proofs.Promises.PageText.{AreWords, ArePlain, IsPlain, AllPlain, one_page}
 
 abbrev pub entry_at : State → Mask → Row → Entry

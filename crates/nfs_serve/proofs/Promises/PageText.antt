@@ -1,22 +1,13 @@
 -- A page of a listing has one reading.
 use Rattle.std.proofs.Common.{◌≡◌, ℕ, ◌+◌, ◌<◌, ◌^◌, Bool, true, false, List, [], ◌∷◌, ◌++◌, length, take, drop, replicate, refl, sym, ◌∙◌, ap, subst, arith, append_assoc, inl, inr}
-use Rattle.std.specs.Int.{w32, w64, from_be_bytes}
-use Rattle.std.specs.List.{flat_map, AllByRecursion}
-use Rattle.std.proofs.lemmas.List.{take_at, drop_at, length-append}
-use Rattle.std.proofs.lemmas.Nat.{from_be_bytes-to_be_bytes_8}
-use Rattle.nfs_xdr.specs.Spelling.{number, hyper, flag, padding, fixed, opaque}
-use Rattle.nfs_xdr.specs.Tables.{In}
+use Rattle.std.proofs.{lemmas.List.{take_at, drop_at, length-append}, lemmas.Nat.from_be_bytes-to_be_bytes_8}
+use Rattle.std.specs.{Int.{w32, w64, from_be_bytes}, List.{flat_map, AllByRecursion}}
+use Rattle.nfs_xdr.specs.{Spelling.{number, hyper, flag, padding, fixed, opaque}, Tables.In}
 use Rattle.nfs_xdr.proofs.Putting.{length_number, length_hyper}
 use Rattle.nfs_compound.specs.declared.op_num.OpNum.TheVariants as Num
-use Rattle.nfs_results.specs.declared.res.Entry.{Entry}
-use Rattle.nfs_results.specs.declared.res.Fattr.{Fattr}
-use Rattle.nfs_results.specs.declared.res.ReadDirOk.{ReadDirOk}
+use Rattle.nfs_results.specs.{declared.res.Entry.Entry, declared.res.Fattr.Fattr, declared.res.ReadDirOk.ReadDirOk, Items.{entry, fattr, attr_set}}
+use Rattle.nfs_results.specs.{Listing.read_dir, ResultCodec.FitsResult, Results.{spell_result, done_head}, Straight.{entry_head, entry_text, list_end}}
 use Rattle.nfs_results.specs.declared.res.Res.TheVariants as Res
-use Rattle.nfs_results.specs.Items.{entry, fattr, attr_set}
-use Rattle.nfs_results.specs.Listing.{read_dir}
-use Rattle.nfs_results.specs.ResultCodec.{FitsResult}
-use Rattle.nfs_results.specs.Results.{spell_result, done_head}
-use Rattle.nfs_results.specs.Straight.{entry_head, entry_text, list_end}
 use Rattle.nfs_results.proofs.StraightLaws.{read_dir_in_parts}
 use Rattle.nfs_files.proofs.WrittenOps.{number_back}
 

@@ -1,16 +1,12 @@
 -- The records that reach a server over a network, and those of them that execute.
-use Rattle.std.proofs.Common.{◌≡◌, ℕ, Bool, true, false, List, [], ◌∷◌, ◌++◌, Option, Some, None, refl, sym, ◌∙◌, ap, subst, inl, inr}
+use Rattle.std.proofs.{Common.{◌≡◌, ℕ, Bool, true, false, List, [], ◌∷◌, ◌++◌, Option, Some, None, refl, sym, ◌∙◌, ap, subst, inl, inr}, lemmas.Bool.cases_Bool}
 use Rattle.std.specs.Prelude.{if◌then◌else◌}
-use Rattle.std.proofs.lemmas.Bool.{cases_Bool}
 use Rattle.nfs_xdr.specs.Tables.{In}
 use Rattle.nfs_serve.specs.Promises.Endpoint.{Place, Heading, Answer, Server, Arrival, Stepped, stepped, ran}
 use Rattle.nfs_serve.specs.Promises.Network.{Callers, Packet, RanCompound, Line, Network, NetworkEvent, Sends, Resends, Arrives, Asks, Intrudes, Accepts, same_place, with_line, sending, resending, accepting, executing, result_of, arriving, after, IsForeign, ended, begins}
-use Rattle.nfs_serve.specs.Promises.Numbered.{Happens}
-use Rattle.nfs_serve.specs.Promises.Alone.{taken, alone, answers, executing_answers, LeavesAlike}
+use Rattle.nfs_serve.specs.{Promises.Numbered.Happens, Promises.Alone.{taken, alone, answers, executing_answers, LeavesAlike}}
 use Rattle.nfs_serve.specs.Promises.PerfectWire.{all_reaching, wire, done_by, done_on, AsOverAWire}
-use Rattle.nfs_serve.proofs.Promises.ServerLaws.{KeepsSlots, KeepsTime}
-use Rattle.nfs_serve.proofs.Promises.NetworkLists.{append_none}
-use Rattle.nfs_serve.proofs.Promises.NetworkLines.{same_place_is, updated}
+use Rattle.nfs_serve.proofs.{Promises.ServerLaws.{KeepsSlots, KeepsTime}, Promises.NetworkLists.append_none, Promises.NetworkLines.{same_place_is, updated}}
 use Rattle.nfs_serve.proofs.Promises.NetworkEvents.{IsNetwork, event_keeps, begins_is, exactly_once_by_number}
 use Rattle.nfs_serve.proofs.Promises.AloneRuns.{executing_alone, executing_again}
 

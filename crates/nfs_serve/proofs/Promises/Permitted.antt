@@ -1,9 +1,7 @@
 -- Permissions hold, in every run.
 use Rattle.nfs_serve.specs.Promises.Permitted.{PermissionsHold}
-use Rattle.nfs_serve.proofs.Promises.NameStays.{ran_in}
-use Rattle.nfs_serve.proofs.Promises.PermittedBytes.{read_granted, write_granted, read_refused, write_refused}
-use Rattle.nfs_serve.proofs.Promises.PermittedClaims.{name_refused, handle_refused}
-use Rattle.nfs_serve.proofs.Promises.PermittedNames.{named_granted, named_refused}
+use Rattle.nfs_serve.proofs.{Promises.NameStays.ran_in, Promises.PermittedBytes.{read_granted, write_granted, read_refused, write_refused}}
+use Rattle.nfs_serve.proofs.{Promises.PermittedClaims.{name_refused, handle_refused}, Promises.PermittedNames.{named_granted, named_refused}}
 use Rattle.nfs_serve.proofs.Promises.PermittedOpens.{open_granted, enter_granted}
 
 pub permissions_hold : PermissionsHold

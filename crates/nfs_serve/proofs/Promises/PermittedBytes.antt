@@ -1,56 +1,30 @@
 -- A READ and a WRITE that were answered NFS4_OK were granted by the file, or by an open of the client that stands; and one that was refused by NFS4ERR_ACCESS was not granted
 -- by the file.
 use Rattle.std.proofs.Common.{◌≡◌, ◌≢◌, ℕ, Bool, true, false, cond, not, [], ◌∷◌, Option, Some, None, refl, sym, ◌∙◌, ap, subst}
-use Rattle.std.specs.Prelude.{◌==◌, ◌&&◌, ◌||◌, nat_lt, Result, Ok, Err}
 use Rattle.std.proofs.lemmas.Bool.{eqb-true, not-false, false≢true}
-use Rattle.nfs_xdr.specs.Checks.{first_fault}
-use Rattle.nfs_xdr.specs.Tables.{In}
-use Rattle.nfs_xdr.specs.declared.time.Time.{Time}
-use Rattle.nfs_xdr.specs.declared.status.Status.{Status}
+use Rattle.std.specs.Prelude.{◌==◌, ◌&&◌, ◌||◌, nat_lt, Result, Ok, Err}
+use Rattle.nfs_xdr.specs.{Checks.first_fault, Tables.In, declared.time.Time.Time, declared.status.Status.Status}
 use Rattle.nfs_xdr.specs.declared.status.Status.TheVariants.{Access, BadStateId, OldStateId, Locked}
-use Rattle.nfs_xdr.proofs.Checks.{all_passed}
-use Rattle.nfs_xdr.proofs.Lists.{find_in}
-use Rattle.nfs_xdr.proofs.Tables.{in_once}
-use Rattle.nfs_compound.specs.OpNum.{op_number}
-use Rattle.nfs_compound.specs.declared.file_args.Read.{Read}
-use Rattle.nfs_compound.specs.declared.file_args.Write.{Write}
-use Rattle.nfs_compound.specs.declared.op.Item.TheVariants.{Operation}
+use Rattle.nfs_xdr.proofs.{Checks.all_passed, Lists.find_in, Tables.in_once}
+use Rattle.nfs_compound.specs.{OpNum.op_number, declared.file_args.Read.Read, declared.file_args.Write.Write, declared.op.Item.TheVariants.Operation}
+use Rattle.nfs_compound.specs.{declared.op_num.OpNum.OpNum, declared.stateid.Stateid.Stateid}
 use Rattle.nfs_compound.specs.declared.op.Op.TheVariants as Op
-use Rattle.nfs_compound.specs.declared.op_num.OpNum.{OpNum}
 use Rattle.nfs_compound.specs.declared.op_num.OpNum.TheVariants as Num
-use Rattle.nfs_compound.specs.declared.stateid.Stateid.{Stateid}
 use Rattle.nfs_results.specs.Results.{status_of_result}
 use Rattle.nfs_tree.specs.Bytes.{has_bytes}
-use Rattle.nfs_opens.specs.declared.judging.Seat.{Seat}
-use Rattle.nfs_opens.specs.declared.judging.Seat.TheVariants.{Anonymous, ReadBypass, Open, Lock}
-use Rattle.nfs_opens.specs.declared.judging.Sort.TheVariants.{Either}
-use Rattle.nfs_opens.specs.declared.records.LockState.{LockState}
-use Rattle.nfs_opens.specs.declared.records.OpenState.{OpenState}
-use Rattle.nfs_opens.specs.declared.share.Share.{Share}
-use Rattle.nfs_opens.specs.declared.stateid.CurrentSeqid.TheVariants.{Any}
-use Rattle.nfs_opens.specs.declared.stateid.StateId.{StateId}
-use Rattle.nfs_opens.specs.Judging.{access_of, judge_named, judge, seated, special, named_by}
-use Rattle.nfs_opens.specs.Share.{meets, is_part}
-use Rattle.nfs_opens.specs.StateId.{is_anonymous, is_bypass}
-use Rattle.nfs_opens.specs.Table.{Table, open_at, lock_at}
-use Rattle.nfs_opens.specs.TableInvariants.{IsTable}
-use Rattle.nfs_names.specs.declared.context.Context.{Context}
-use Rattle.nfs_names.specs.declared.node.Node.{Node}
-use Rattle.nfs_names.specs.Checks.{permits, current}
-use Rattle.nfs_names.specs.Outcome.{Outcome, is_ok, checked, answers}
+use Rattle.nfs_opens.specs.{declared.judging.Seat.Seat, declared.judging.Seat.TheVariants.{Anonymous, ReadBypass, Open, Lock}}
+use Rattle.nfs_opens.specs.{declared.judging.Sort.TheVariants.Either, declared.records.LockState.LockState, declared.records.OpenState.OpenState}
+use Rattle.nfs_opens.specs.{declared.share.Share.Share, declared.stateid.CurrentSeqid.TheVariants.Any, declared.stateid.StateId.StateId}
+use Rattle.nfs_opens.specs.{Judging.{access_of, judge_named, judge, seated, special, named_by}, Share.{meets, is_part}, StateId.{is_anonymous, is_bypass}}
+use Rattle.nfs_opens.specs.{Table.{Table, open_at, lock_at}, TableInvariants.IsTable}
+use Rattle.nfs_names.specs.{declared.context.Context.Context, declared.node.Node.Node, Checks.{permits, current}, Outcome.{Outcome, is_ok, checked, answers}}
 use Rattle.nfs_names.specs.State.{State, moment}
-use Rattle.nfs_names.proofs.Faulted.{status_of_refusal}
-use Rattle.nfs_names.proofs.Found.{came, ok_is, checked_ok}
-use Rattle.nfs_names.proofs.NameLaws.{current_refuses}
-use Rattle.nfs_names.proofs.Ones.{by_delay}
+use Rattle.nfs_names.proofs.{Faulted.status_of_refusal, Found.{came, ok_is, checked_ok}, NameLaws.current_refuses, Ones.by_delay}
 use Rattle.nfs_names.proofs.Refusing.{Refuses, refuses_checked}
-use Rattle.nfs_files.specs.Bytes.{file_checks, seat, reading, writing, want_of, denials, seat_checks, may_use, readable, writable}
+use Rattle.nfs_files.specs.{Bytes.{file_checks, seat, reading, writing, want_of, denials, seat_checks, may_use, readable, writable}, StateIds.meant}
 use Rattle.nfs_files.specs.Read as of_read
-use Rattle.nfs_files.specs.StateIds.{meant}
 use Rattle.nfs_files.specs.Write as of_write
-use Rattle.nfs_files.proofs.Passing.{if_passed_ok}
-use Rattle.nfs_files.proofs.Seats.{readable_refuses, writable_refuses}
-use Rattle.nfs_files.proofs.WrittenOps.{current_number}
+use Rattle.nfs_files.proofs.{Passing.if_passed_ok, Seats.{readable_refuses, writable_refuses}, WrittenOps.current_number}
 use Rattle.nfs_exec.specs.Runs.Ops.{RanOp}
 use Rattle.nfs_exec.proofs.Runs.OneRun.{IsRun, by_item, by_ok}
 use Rattle.nfs_serve.specs.Promises.Permitted.{Rights, Right, Reads, Writes, Executes, Grants, rights_of, rights_at, has_right, HasOpen, IsAt, is_special, ByStateid}

@@ -1,33 +1,19 @@
 -- An OPEN that was refused by NFS4ERR_ACCESS was not granted all that it wants: of the directory, and of a file that is there.
 use Rattle.std.proofs.Common.{◌≡◌, ℕ, Bool, true, false, not, List, [], ◌∷◌, ◌++◌, Option, Some, None, refl, sym, ◌∙◌, ap, subst, inl, inr}
-use Rattle.std.specs.Prelude.{option_map, Ok}
 use Rattle.std.proofs.lemmas.Bool.{cases_Bool}
-use Rattle.nfs_xdr.specs.Checks.{first_fault}
-use Rattle.nfs_xdr.specs.declared.time.Time.{Time}
-use Rattle.nfs_xdr.specs.declared.status.Status.{Status}
+use Rattle.std.specs.Prelude.{option_map, Ok}
+use Rattle.nfs_xdr.specs.{Checks.first_fault, declared.time.Time.Time, declared.status.Status.Status, declared.status.Status.TheVariants.Access}
 use Rattle.nfs_xdr.specs.declared.status.Status.TheVariants as S
-use Rattle.nfs_xdr.specs.declared.status.Status.TheVariants.{Access}
-use Rattle.nfs_compound.specs.declared.op.Item.TheVariants.{Operation}
+use Rattle.nfs_compound.specs.{declared.op.Item.TheVariants.Operation, declared.open_args.Open.Open, declared.open_args.OpenClaim.TheVariants.{Null, Fh}}
 use Rattle.nfs_compound.specs.declared.op.Op.TheVariants as Op
 use Rattle.nfs_compound.specs.declared.op_num.OpNum.TheVariants as Num
-use Rattle.nfs_compound.specs.declared.open_args.Open.{Open}
-use Rattle.nfs_compound.specs.declared.open_args.OpenClaim.TheVariants.{Null, Fh}
-use Rattle.nfs_tree.specs.declared.fault.TreeFault.{TreeFault}
+use Rattle.nfs_tree.specs.{declared.fault.TreeFault.TreeFault, declared.stored.Stored.Stored, Files.{stored_in, lookup}}
 use Rattle.nfs_tree.specs.declared.fault.TreeFault.TheVariants as F
-use Rattle.nfs_tree.specs.declared.stored.Stored.{Stored}
-use Rattle.nfs_tree.specs.Files.{stored_in, lookup}
-use Rattle.nfs_attrs.specs.Permissions.{write as to_write, execute as to_execute}
-use Rattle.nfs_attrs.specs.Setting.{make_checks}
-use Rattle.nfs_names.specs.declared.context.Context.{Context}
-use Rattle.nfs_names.specs.declared.making.Making.{Making}
-use Rattle.nfs_names.specs.declared.node.Node.{Node}
-use Rattle.nfs_names.specs.Checks.{node_as, node_at, no_directory, permits, name_checks, current}
-use Rattle.nfs_names.specs.Create.{attributes_in}
-use Rattle.nfs_names.specs.Faults.{status_of, by_tree}
-use Rattle.nfs_names.specs.Outcome.{checked}
-use Rattle.nfs_names.specs.State.{State, moment}
-use Rattle.nfs_names.proofs.Found.{ok_is, checked_ok, or_fault, first_append}
-use Rattle.nfs_names.proofs.Ones.{by_delay}
+use Rattle.nfs_attrs.specs.{Permissions.{write as to_write, execute as to_execute}, Setting.make_checks}
+use Rattle.nfs_names.specs.{declared.context.Context.Context, declared.making.Making.Making, declared.node.Node.Node}
+use Rattle.nfs_names.specs.{Checks.{node_as, node_at, no_directory, permits, name_checks, current}, Create.attributes_in, Faults.{status_of, by_tree}}
+use Rattle.nfs_names.specs.{Outcome.checked, State.{State, moment}}
+use Rattle.nfs_names.proofs.{Found.{ok_is, checked_ok, or_fault, first_append}, Ones.by_delay}
 use Rattle.nfs_files.specs.Bytes.{file_checks, want_of}
 use Rattle.nfs_files.specs.Open.{access_of, makes, argument_checks, place_checks, absent_checks, there_checks, found_by, by_name, by_claim, asked_for, tree_checks, last_checks}
 use Rattle.nfs_files.specs.Open.{opened, open_file}

@@ -1,56 +1,32 @@
 -- An operation on names that was answered NFS4_OK was granted what it wants of the directory, and one that was refused by NFS4ERR_ACCESS was not.
 use Rattle.std.proofs.Common.{◌≡◌, ◌≢◌, ℕ, Bool, true, false, not, List, [], ◌∷◌, ◌++◌, Option, Some, None, refl, sym, ◌∙◌, ap, subst, inl, inr}
-use Rattle.std.specs.Prelude.{◌==◌, ◌||◌, nat_lt, bytes_eq, is_some, Result, Ok, Err}
 use Rattle.std.proofs.lemmas.Bool.{not-false, false≢true}
-use Rattle.nfs_xdr.specs.Status.{status_number}
-use Rattle.nfs_xdr.specs.Tables.{In}
-use Rattle.nfs_xdr.specs.declared.time.Time.{Time}
-use Rattle.nfs_xdr.specs.declared.status.Status.{Status}
-use Rattle.nfs_xdr.specs.declared.status.Status.TheVariants as S
+use Rattle.std.specs.Prelude.{◌==◌, ◌||◌, nat_lt, bytes_eq, is_some, Result, Ok, Err}
+use Rattle.nfs_xdr.specs.{Status.status_number, Tables.In, declared.time.Time.Time, declared.status.Status.Status}
 use Rattle.nfs_xdr.specs.declared.status.Status.TheVariants.{Access, RepTooBig, Symlink, NoEnt, IsDir, Inval, TooSmall}
+use Rattle.nfs_xdr.specs.declared.status.Status.TheVariants as S
 use Rattle.nfs_xdr.proofs.Checks.{all_passed}
-use Rattle.nfs_compound.specs.Request.{item_number}
-use Rattle.nfs_compound.specs.declared.attributes.Attributes.{Attributes}
-use Rattle.nfs_compound.specs.declared.name_args.Create.{Create}
-use Rattle.nfs_compound.specs.declared.name_args.ReadDir.{ReadDir}
-use Rattle.nfs_compound.specs.declared.op.Item.{Item}
-use Rattle.nfs_compound.specs.declared.op.Item.TheVariants.{Operation}
+use Rattle.nfs_compound.specs.{Request.item_number, declared.attributes.Attributes.Attributes, declared.name_args.Create.Create}
+use Rattle.nfs_compound.specs.{declared.name_args.ReadDir.ReadDir, declared.op.Item.Item, declared.op.Item.TheVariants.Operation}
 use Rattle.nfs_compound.specs.declared.op.Op.TheVariants as Op
 use Rattle.nfs_compound.specs.declared.op_num.OpNum.TheVariants as Num
 use Rattle.nfs_results.specs.declared.res.Res.TheVariants as Res
 use Rattle.nfs_results.specs.Results.{status_of_result}
-use Rattle.nfs_tree.specs.declared.object.Object.{Object}
-use Rattle.nfs_tree.specs.Create.{create_checks}
-use Rattle.nfs_tree.specs.Files.{lookup as found, parent_in, object_at, most_text}
-use Rattle.nfs_tree.specs.Names.{link_checks, remove_checks}
-use Rattle.nfs_tree.specs.Object.{is_directory}
-use Rattle.nfs_attrs.specs.declared.wanted.AttrFault.{AttrFault}
+use Rattle.nfs_tree.specs.{declared.object.Object.Object, Create.create_checks, Files.{lookup as found, parent_in, object_at, most_text}}
+use Rattle.nfs_tree.specs.{Names.{link_checks, remove_checks}, Object.is_directory}
+use Rattle.nfs_attrs.specs.{declared.wanted.AttrFault.AttrFault, Mask.{mask_of, asks_set_only}}
+use Rattle.nfs_attrs.specs.{Permissions.{read as to_read, execute as to_execute, change as to_change}, Reading.fault_status, Setting.make_checks}
 use Rattle.nfs_attrs.specs.declared.wanted.AttrFault.TheVariants as F
-use Rattle.nfs_attrs.specs.Mask.{mask_of, asks_set_only}
-use Rattle.nfs_attrs.specs.Permissions.{read as to_read, execute as to_execute, change as to_change}
-use Rattle.nfs_attrs.specs.Reading.{fault_status}
-use Rattle.nfs_attrs.specs.Setting.{make_checks}
 use Rattle.nfs_opens.specs.Steps.{map_err}
-use Rattle.nfs_names.specs.declared.context.Context.{Context}
-use Rattle.nfs_names.specs.declared.node.Node.{Node}
+use Rattle.nfs_names.specs.{declared.context.Context.Context, declared.node.Node.Node}
 use Rattle.nfs_names.specs.Checks.{node_as, node_at, saved_object, no_directory, denied, permits, name_checks, current, both}
-use Rattle.nfs_names.specs.Create.{is_made, text_is, new_of, place_checks, wanted_of, attributes_in, create}
-use Rattle.nfs_names.specs.Faults.{by_tree}
-use Rattle.nfs_names.specs.Link.{link}
-use Rattle.nfs_names.specs.Lookup.{is_link, lookup}
-use Rattle.nfs_names.specs.LookupP.{lookup_p}
-use Rattle.nfs_names.specs.Context.{at_object}
-use Rattle.nfs_names.specs.Outcome.{Outcome, done, is_ok}
-use Rattle.nfs_names.specs.ReadDir.{zeros, fits_none, listing_checks, read_dir}
-use Rattle.nfs_names.specs.Remove.{remove}
-use Rattle.nfs_names.specs.State.{State, moment}
-use Rattle.nfs_names.proofs.Found.{came, ok_is}
-use Rattle.nfs_names.proofs.NameLaws.{by_lookup, by_lookup_p, by_read_dir, by_create, by_link, by_remove, link_places, remove_places}
+use Rattle.nfs_names.specs.{Create.{is_made, text_is, new_of, place_checks, wanted_of, attributes_in, create}, Faults.by_tree, Link.link}
+use Rattle.nfs_names.specs.{Lookup.{is_link, lookup}, LookupP.lookup_p, Context.at_object, Outcome.{Outcome, done, is_ok}}
+use Rattle.nfs_names.specs.{ReadDir.{zeros, fits_none, listing_checks, read_dir}, Remove.remove, State.{State, moment}}
+use Rattle.nfs_names.proofs.{Found.{came, ok_is}, NameLaws.{by_lookup, by_lookup_p, by_read_dir, by_create, by_link, by_remove, link_places, remove_places}}
 use Rattle.nfs_names.proofs.Ones.{by_delay}
-use Rattle.nfs_exec.specs.Step.Behind.{stays}
-use Rattle.nfs_exec.specs.Runs.Ops.{RanOp}
-use Rattle.nfs_exec.proofs.Step.RefusalsFit.{refused_status}
-use Rattle.nfs_exec.proofs.Runs.OneRun.{IsRun, by_item, by_ok}
+use Rattle.nfs_exec.specs.{Step.Behind.stays, Runs.Ops.RanOp}
+use Rattle.nfs_exec.proofs.{Step.RefusalsFit.refused_status, Runs.OneRun.{IsRun, by_item, by_ok}}
 use Rattle.nfs_serve.specs.Promises.Permitted.{Rights, Right, Reads, Writes, Executes, Grants, rights_of, rights_at, wants, IsAt}
 use Rattle.nfs_serve.proofs.Promises.Granting.{reads, executes, changes, may_read, may_execute, may_change, rights_here, current_at}
 use Rattle.nfs_serve.proofs.Promises.Without.{past, IsWithout, AreGood, all_good, are_good, err_without, ok_without, then_without, Answers}

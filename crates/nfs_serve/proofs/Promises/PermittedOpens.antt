@@ -1,39 +1,25 @@
 -- An OPEN that was answered NFS4_OK was granted: by the directory to find the name, or to make it, and by a file that is there all that is asked for.
-use Rattle.std.proofs.Common.{◌≡◌, ℕ, Bool, true, false, cond, List, Some, None, refl, sym, ◌∙◌, ap, subst}
+use Rattle.std.proofs.{Common.{◌≡◌, ℕ, Bool, true, false, cond, List, Some, None, refl, sym, ◌∙◌, ap, subst}, lemmas.Bool.{not-false, false≢true}}
 use Rattle.std.specs.Prelude.{Ok, Err}
-use Rattle.std.proofs.lemmas.Bool.{not-false, false≢true}
 use Rattle.nfs_xdr.specs.declared.status.Status.TheVariants.{Inval}
 use Rattle.nfs_xdr.proofs.Checks.{all_passed}
-use Rattle.nfs_compound.specs.declared.op.Item.TheVariants.{Operation}
+use Rattle.nfs_compound.specs.{declared.op.Item.TheVariants.Operation, declared.open_args.Open.Open, declared.open_args.OpenClaim.OpenClaim}
+use Rattle.nfs_compound.specs.declared.open_args.OpenClaim.TheVariants.{Null, Previous, DelegateCur, DelegatePrev, Fh, DelegCurFh, DelegPrevFh}
 use Rattle.nfs_compound.specs.declared.op.Op.TheVariants as Op
 use Rattle.nfs_compound.specs.declared.op_num.OpNum.TheVariants as Num
-use Rattle.nfs_compound.specs.declared.open_args.Open.{Open}
-use Rattle.nfs_compound.specs.declared.open_args.OpenClaim.{OpenClaim}
-use Rattle.nfs_compound.specs.declared.open_args.OpenClaim.TheVariants.{Null, Previous, DelegateCur, DelegatePrev, Fh, DelegCurFh, DelegPrevFh}
 use Rattle.nfs_results.specs.Results.{status_of_result}
 use Rattle.nfs_tree.specs.Files.{lookup}
 use Rattle.nfs_attrs.specs.declared.wanted.Wanted.{Wanted}
-use Rattle.nfs_names.specs.declared.context.Context.{Context}
-use Rattle.nfs_names.specs.declared.making.Making.{Making}
-use Rattle.nfs_names.specs.declared.node.Node.{Node}
-use Rattle.nfs_names.specs.Checks.{node_at, current}
-use Rattle.nfs_names.specs.Create.{attributes_in}
-use Rattle.nfs_names.specs.Outcome.{is_ok, checked}
-use Rattle.nfs_names.specs.State.{State, moment}
-use Rattle.nfs_names.proofs.Found.{came, ok_is, checked_ok}
-use Rattle.nfs_names.proofs.Ones.{by_delay}
+use Rattle.nfs_names.specs.{declared.context.Context.Context, declared.making.Making.Making, declared.node.Node.Node, Checks.{node_at, current}}
+use Rattle.nfs_names.specs.{Create.attributes_in, Outcome.{is_ok, checked}, State.{State, moment}}
+use Rattle.nfs_names.proofs.{Found.{came, ok_is, checked_ok}, Ones.by_delay}
 use Rattle.nfs_files.specs.Open.{access_of, makes, argument_checks, place_checks, absent_checks, there_checks, found_by, by_name, by_handle, by_claim, asked_for, last_checks}
-use Rattle.nfs_files.specs.Open.{opened, open_file}
-use Rattle.nfs_files.specs.OpenTold.{named_in, claimed}
-use Rattle.nfs_files.proofs.OpenAnswers.{open_refuses}
-use Rattle.nfs_files.proofs.Passing.{mapped_came}
-use Rattle.nfs_files.proofs.WrittenOps.{current_number}
+use Rattle.nfs_files.specs.{Open.{opened, open_file}, OpenTold.{named_in, claimed}}
+use Rattle.nfs_files.proofs.{OpenAnswers.open_refuses, Passing.mapped_came, WrittenOps.current_number}
 use Rattle.nfs_exec.specs.Runs.Ops.{RanOp}
 use Rattle.nfs_exec.proofs.Runs.OneRun.{IsRun, by_ok}
 use Rattle.nfs_serve.specs.Promises.Permitted.{Rights, Right, Writes, Executes, Grants, rights_of, rights_at, has_right, IsAt}
-use Rattle.nfs_serve.proofs.Promises.Granting.{writes, executes, asks, rights_here}
-use Rattle.nfs_serve.proofs.Promises.PermittedBytes.{done_by}
-use Rattle.nfs_serve.proofs.Promises.PermittedNames.{gets}
+use Rattle.nfs_serve.proofs.{Promises.Granting.{writes, executes, asks, rights_here}, Promises.PermittedBytes.done_by, Promises.PermittedNames.gets}
 
 -- What was found, by the claim.
 

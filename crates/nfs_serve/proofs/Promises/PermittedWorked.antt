@@ -1,22 +1,16 @@
 -- The run of a file whose mode gives its owner nothing, and the wrong answers, computed.
 use Rattle.std.proofs.Common.{◌≡◌, ◌≢◌, ℕ, [], ◌∷◌, ◌++◌, take, refl, ap, arith}
 use Rattle.nfs_xdr.specs.declared.status.Status.TheVariants.{Nfs4Ok, Access}
-use Rattle.nfs_compound.specs.ArgCodecs.{set_attr_args}
-use Rattle.nfs_compound.specs.declared.file_args.Read.{Read}
+use Rattle.nfs_compound.specs.{ArgCodecs.set_attr_args, declared.file_args.Read.Read}
 use Rattle.nfs_names.specs.Context.{anonymous}
 use Rattle.nfs_files.specs.SetAttr as of_set
 use Rattle.nfs_exec.specs.Runs.Ops.{RanOp}
-use Rattle.nfs_serve.specs.Promises.FileStaysWorked.{with_status}
-use Rattle.nfs_serve.specs.Promises.HeldLock.{start, last_of, statuses}
+use Rattle.nfs_serve.specs.{Promises.FileStaysWorked.with_status, Promises.HeldLock.{start, last_of, statuses}}
 use Rattle.nfs_serve.specs.Promises.Permitted.{Rights, Reads, Grants, ToRoot, ToOwner, ToGroup, ToOthers, IsAt, IsGranted, IsRefused}
+use Rattle.nfs_serve.specs.{Promises.PermittedWorked.{with_mode, IsAskedOfTheOwner, GrantsAreRefused}, Promises.Points.ops_of}
+use Rattle.nfs_serve.specs.{Promises.RightsTold.{rights_after_all, HasRights, MakesWith, ByOpen}, Promises.WrittenWorked.{makes, made}}
 use Rattle.nfs_serve.specs.Promises.PermittedWorked as worked
-use Rattle.nfs_serve.specs.Promises.PermittedWorked.{with_mode, IsAskedOfTheOwner, GrantsAreRefused}
-use Rattle.nfs_serve.specs.Promises.Points.{ops_of}
-use Rattle.nfs_serve.specs.Promises.RightsTold.{rights_after_all, HasRights, MakesWith, ByOpen}
-use Rattle.nfs_serve.specs.Promises.WrittenWorked.{makes, made}
-use Rattle.nfs_serve.proofs.Promises.Computing.{computing}
-use Rattle.nfs_serve.proofs.Promises.HeldLock.{nothing}
-use Rattle.nfs_serve.proofs.Promises.HeldOpen.{two}
+use Rattle.nfs_serve.proofs.{Promises.Computing.computing, Promises.HeldLock.nothing, Promises.HeldOpen.two}
 
 abbrev opening : RanOp
 opening = last_of nothing (ops_of start makes)

@@ -1,23 +1,14 @@
 -- What holds at each point of a run.
-use Rattle.std.proofs.Common.{◌≡◌, ℕ, ◌≤◌, List, [], ◌∷◌, length, Option, Some, None, refl, sym, subst}
-use Rattle.std.specs.Prelude.{option_map}
-use Rattle.std.specs.Option.{option_map_or}
-use Rattle.std.proofs.Math.Nat.{le-max_left}
-use Rattle.nfs_xdr.specs.Tables.{In}
-use Rattle.nfs_xdr.specs.Caller.{Caller}
+use Rattle.std.proofs.{Common.{◌≡◌, ℕ, ◌≤◌, List, [], ◌∷◌, length, Option, Some, None, refl, sym, subst}, Math.Nat.le-max_left}
+use Rattle.std.specs.{Prelude.option_map, Option.option_map_or}
+use Rattle.nfs_xdr.specs.{Tables.In, Caller.Caller}
 use Rattle.nfs_rpc.specs.declared.refusal.Refusal.TheVariants as Refusals
-use Rattle.nfs_rpc.specs.CallHead.{Call, Called, Accepted, Refused, call_of}
-use Rattle.nfs_rpc.specs.declared.call.Procedure.{Procedure}
-use Rattle.nfs_compound.specs.Request.{Request}
-use Rattle.nfs_compound.specs.ReadRequest.{request_at}
+use Rattle.nfs_rpc.specs.{CallHead.{Call, Called, Accepted, Refused, call_of}, declared.call.Procedure.Procedure}
+use Rattle.nfs_compound.specs.{Request.Request, ReadRequest.request_at}
 use Rattle.nfs_lease.specs.Queue.{IsLatest}
-use Rattle.nfs_exec.specs.Step.Machine.{Machine}
-use Rattle.nfs_exec.specs.Step.Laws.{MachineEvent, Expires, Asks, stepped}
-use Rattle.nfs_exec.specs.Runs.Ops.{RanOp, ops_by}
-use Rattle.nfs_exec.proofs.Step.LeaseMoments.{latest_compound}
-use Rattle.nfs_exec.proofs.Runs.KeptByRuns.{Is, none_of, event_ops, whole_event, start_whole}
-use Rattle.nfs_serve.specs.Step.{State, new_state, step, asked_of, with_arguments, by_procedure, reply_to}
-use Rattle.nfs_serve.specs.Promises.Endpoint.{Arrival}
+use Rattle.nfs_exec.specs.{Step.Machine.Machine, Step.Laws.{MachineEvent, Expires, Asks, stepped}, Runs.Ops.{RanOp, ops_by}}
+use Rattle.nfs_exec.proofs.{Step.LeaseMoments.latest_compound, Runs.KeptByRuns.{Is, none_of, event_ops, whole_event, start_whole}}
+use Rattle.nfs_serve.specs.{Step.{State, new_state, step, asked_of, with_arguments, by_procedure, reply_to}, Promises.Endpoint.Arrival}
 use Rattle.nfs_serve.specs.Promises.Points.{state_after, state_after_all, taken, before, asks, asked_by, NoClash}
 use Rattle.nfs_serve.proofs.Stepping.{latest_expired}
 

@@ -1,8 +1,6 @@
 -- Reading what a reply says: a tool of proofs. That it finds just what the texts of `Seen` say, `Replies` shows.
 use Rattle.std.specs.Prelude.{ℕ, ◌==◌, ◌&&◌, List, Bool, false, Option, Some, None, if◌then◌else◌}
-use Rattle.nfs_xdr.specs.Limits.{opaque_limit}
-use Rattle.nfs_xdr.specs.Codec.{Codec, ◌then◌, number, opaque}
-use Rattle.nfs_xdr.specs.Combinators.{fixed}
+use Rattle.nfs_xdr.specs.{Limits.opaque_limit, Codec.{Codec, ◌then◌, number, opaque}, Combinators.fixed}
 use Rattle.nfs_sessions.specs.Id.{id_of}
 use Rattle.nfs_serve.specs.Promises.Endpoint.{Answer, SlotNumber}
 

@@ -4,13 +4,10 @@ use Rattle.std.specs.Prelude.{if◌then◌else◌}
 use Rattle.nfs_xdr.specs.Tables.{In}
 use Rattle.nfs_serve.specs.Promises.Endpoint.{Place, Compound, Answer, Server, Arrival, stepped, ran}
 use Rattle.nfs_serve.specs.Promises.Network.{Callers, Packet, RanCompound, Line, Network, NetworkEvent, Sends, Resends, Arrives, Asks, Intrudes, Accepts, with_line, sending, resending, accepting, executing, arriving, after, ended, begins}
-use Rattle.nfs_serve.specs.Promises.Numbered.{Happens}
-use Rattle.nfs_serve.specs.Promises.Alone.{taken, alone}
+use Rattle.nfs_serve.specs.{Promises.Numbered.Happens, Promises.Alone.{taken, alone}}
 use Rattle.nfs_serve.specs.Promises.PerfectWire.{reaching, all_reaching, wire, done_by, done_on, IsAsDone, IsAsOverAWire}
 use Rattle.nfs_serve.specs.Promises.RealTime.{sendings, WasNotSent, KeepsOrder, Atomic}
-use Rattle.nfs_serve.proofs.Promises.ServerLaws.{KeepsSlots, KeepsTime}
-use Rattle.nfs_serve.proofs.Promises.NetworkLists.{In-last, In-push, IsPart-in}
-use Rattle.nfs_serve.proofs.Promises.NetworkLines.{updated}
+use Rattle.nfs_serve.proofs.{Promises.ServerLaws.{KeepsSlots, KeepsTime}, Promises.NetworkLists.{In-last, In-push, IsPart-in}, Promises.NetworkLines.updated}
 use Rattle.nfs_serve.proofs.Promises.PerfectWire.{as_over_a_wire}
 
 In-either : {X : Type 0} (x : X) (xs ys : List X) → In x (xs ++ ys) → In x xs ⊎ In x ys

@@ -1,24 +1,14 @@
 -- What a reply says is read just where its text stands, and is read in one way.
 use Rattle.std.proofs.Common.{◌≡◌, ℕ, ◌<◌, ◌^◌, zero, suc, Bool, true, List, [], ◌++◌, get_or, Option, Some, None, refl, sym, ◌∙◌, ap, subst, append_assoc, arith, ltb-true}
-use Rattle.std.specs.Prelude.{◌==◌, ◌&&◌, nat_lt, bytes_eq, if◌then◌else◌}
-use Rattle.std.specs.Int.{w32, from_be_bytes}
-use Rattle.std.proofs.Math.Path.{fun_ext}
-use Rattle.std.proofs.lemmas.Bool.{and_parts, eqb-true, lt-ltb}
-use Rattle.std.proofs.lemmas.Nat.{be_bytes_4}
-use Rattle.std.proofs.lemmas.Option.{same_Some}
+use Rattle.std.proofs.{Math.Path.fun_ext, lemmas.Bool.{and_parts, eqb-true, lt-ltb}, lemmas.Nat.be_bytes_4, lemmas.Option.same_Some}
 use Rattle.std.proofs.lemmas.Slice.Eq.{bytes_eq-Decides}
+use Rattle.std.specs.{Prelude.{◌==◌, ◌&&◌, nat_lt, bytes_eq, if◌then◌else◌}, Int.{w32, from_be_bytes}}
 use Rattle.nfs_xdr.specs.Spelling as spelling
-use Rattle.nfs_xdr.specs.Limits.{opaque_limit}
-use Rattle.nfs_xdr.specs.Codec.{number, opaque}
-use Rattle.nfs_xdr.specs.Combinators.{fixed}
-use Rattle.nfs_xdr.specs.Text.{IsBytes}
-use Rattle.nfs_xdr.specs.Lawful.{IsCodec}
+use Rattle.nfs_xdr.specs.{Limits.opaque_limit, Codec.{number, opaque}, Combinators.fixed, Text.IsBytes, Lawful.IsCodec}
 use Rattle.nfs_xdr.proofs.CodecLaws.{is_number, is_fixed, is_then, test_some}
-use Rattle.nfs_rpc.specs.declared.refusal.Refusal.{Refusal}
-use Rattle.nfs_rpc.specs.Reply.{spell_head, spell_refusal}
+use Rattle.nfs_rpc.specs.{declared.refusal.Refusal.Refusal, Reply.{spell_head, spell_refusal}}
 use Rattle.nfs_sessions.specs.Id.{id_of}
-use Rattle.nfs_serve.specs.Promises.Endpoint.{Answer, SlotNumber}
-use Rattle.nfs_serve.specs.Promises.Seen.{accepted_reply, IsAnswer, ReplyReader, IsSequenced, Bears}
+use Rattle.nfs_serve.specs.{Promises.Endpoint.{Answer, SlotNumber}, Promises.Seen.{accepted_reply, IsAnswer, ReplyReader, IsSequenced, Bears}}
 use Rattle.nfs_serve.proofs.Promises.Reader.{answer_in, front, by_front, sequenced, sequence_front, by_sequence_front, numbered_by, slot_number}
 use Rattle.nfs_serve.proofs.Promises.Spelled.{is_front, answer_spelled, refusal_spelled}
 

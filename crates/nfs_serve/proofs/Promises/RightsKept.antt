@@ -1,32 +1,22 @@
 -- The mode, owner and group of an object, through what operations do to a tree.
 use Rattle.std.proofs.Common.{◌≡◌, ◌≢◌, ℕ, ◌+◌, ◌≤◌, Bool, true, false, cond, not, List, [], map, Option, Some, None, refl, sym, ◌∙◌, ap, arith, inl, inr}
-use Rattle.std.specs.Prelude.{◌==◌, filter, option_map, if◌then◌else◌}
-use Rattle.std.specs.Option.{ForSome}
 use Rattle.std.proofs.lemmas.Bool.{cases_Bool, ne_eqb, eqb-true, false≢true}
+use Rattle.std.specs.{Prelude.{◌==◌, filter, option_map, if◌then◌else◌}, Option.ForSome}
 use Rattle.nfs_xdr.specs.declared.time.Time.{Time}
 use Rattle.nfs_xdr.proofs.Lists.{find_in, find_past, find_out, find_push_other}
-use Rattle.nfs_compound.specs.declared.op.Item.{Item}
-use Rattle.nfs_compound.specs.declared.op.Item.TheVariants.{Operation}
-use Rattle.nfs_compound.specs.declared.op.Op.{Op}
-use Rattle.nfs_tree.specs.declared.object.Object.{Object}
-use Rattle.nfs_tree.specs.declared.sets.Sets.{Sets}
-use Rattle.nfs_tree.specs.declared.stored.Stored.{Stored}
-use Rattle.nfs_tree.specs.Object.{changed, modified, no_sets}
+use Rattle.nfs_compound.specs.{declared.op.Item.Item, declared.op.Item.TheVariants.Operation, declared.op.Op.Op}
+use Rattle.nfs_tree.specs.{declared.object.Object.Object, declared.sets.Sets.Sets, declared.stored.Stored.Stored, Object.{changed, modified, no_sets}}
 use Rattle.nfs_tree.specs.Files.{Files, stored_in, change_at, with_changed, with_entries_changed, with_links_changed, lookup, named}
-use Rattle.nfs_tree.specs.Create.{New, with_new, new_object, data_of}
-use Rattle.nfs_tree.specs.Names.{without_name, replaced_object, with_both_changed, with_moved}
+use Rattle.nfs_tree.specs.{Create.{New, with_new, new_object, data_of}, Names.{without_name, replaced_object, with_both_changed, with_moved}}
 use Rattle.nfs_tree.specs.Bytes.{written, resized, with_bytes, with_resized}
 use Rattle.nfs_tree.proofs.Objects.{keeps_changed, stored_map}
 use Rattle.nfs_opens.specs.Closing.{without_open}
-use Rattle.nfs_names.specs.declared.context.Context.{Context}
-use Rattle.nfs_names.specs.Ending.{with_opens, table_staying, staying}
-use Rattle.nfs_names.specs.Operation as names
-use Rattle.nfs_names.specs.Rename.{without_replaced}
-use Rattle.nfs_names.specs.State as store
+use Rattle.nfs_names.specs.{declared.context.Context.Context, Ending.{with_opens, table_staying, staying}, Rename.without_replaced}
 use Rattle.nfs_names.specs.State.{with_tree, is_used, without_unused}
-use Rattle.nfs_names.proofs.Ones.{each_of}
+use Rattle.nfs_names.specs.Operation as names
+use Rattle.nfs_names.specs.State as store
+use Rattle.nfs_names.proofs.{Ones.each_of, Effects.{Makes, Links, Removes, Moves}}
 use Rattle.nfs_names.proofs.Effects as names_effects
-use Rattle.nfs_names.proofs.Effects.{Makes, Links, Removes, Moves}
 use Rattle.nfs_names.proofs.Effected as names_effected
 use Rattle.nfs_files.proofs.Effects as files_effects
 use Rattle.nfs_files.proofs.Effects.{Names, Writes, Resizes, Changes, Opens, Narrows, Closes, Locks, Begins, Unlocks, Frees, Caused}

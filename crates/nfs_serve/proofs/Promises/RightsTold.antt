@@ -1,76 +1,43 @@
 -- The mode, owner and group that an object was made with, and that SETATTRs set since, are those that it has.
 use Rattle.std.proofs.Common.{◌≡◌, ◌≢◌, ℕ, ◌+◌, Bool, true, false, cond, not, List, [], ◌∷◌, ◌++◌, map, Option, Some, None, refl, sym, ◌∙◌, ap, subst, arith, inl, inr}
-use Rattle.std.specs.Prelude.{◌==◌, ◌||◌, option_map, is_some, unwrap_or, if◌then◌else◌, Result, Ok, Err}
-use Rattle.std.specs.Option.{option_map_or}
 use Rattle.std.proofs.lemmas.Bool.{cases_Bool, cases_eq, eq-eqb, ne_eqb, false≢true}
-use Rattle.nfs_xdr.specs.declared.time.Time.{Time}
-use Rattle.nfs_xdr.specs.declared.status.Status.{Status}
-use Rattle.nfs_xdr.specs.declared.status.Status.TheVariants.{RepTooBig, Inval}
+use Rattle.std.specs.{Prelude.{◌==◌, ◌||◌, option_map, is_some, unwrap_or, if◌then◌else◌, Result, Ok, Err}, Option.option_map_or}
+use Rattle.nfs_xdr.specs.{declared.time.Time.Time, declared.status.Status.Status, declared.status.Status.TheVariants.{RepTooBig, Inval}}
 use Rattle.nfs_xdr.proofs.Lists.{find_push_none, find_push_other}
-use Rattle.nfs_compound.specs.Request.{item_number}
-use Rattle.nfs_compound.specs.declared.file_args.SetAttr.{SetAttr}
-use Rattle.nfs_compound.specs.declared.name_args.Create.{Create}
-use Rattle.nfs_compound.specs.declared.op.Item.{Item}
-use Rattle.nfs_compound.specs.declared.op.Item.TheVariants.{Operation}
-use Rattle.nfs_compound.specs.declared.op.Op.TheVariants as Op
-use Rattle.nfs_compound.specs.declared.op_num.OpNum.{OpNum}
-use Rattle.nfs_compound.specs.declared.op_num.OpNum.TheVariants as Num
-use Rattle.nfs_compound.specs.declared.open_args.Open.{Open}
+use Rattle.nfs_compound.specs.{Request.item_number, declared.file_args.SetAttr.SetAttr, declared.name_args.Create.Create, declared.op.Item.Item}
+use Rattle.nfs_compound.specs.{declared.op.Item.TheVariants.Operation, declared.op_num.OpNum.OpNum, declared.open_args.Open.Open}
 use Rattle.nfs_compound.specs.declared.open_args.OpenClaim.{OpenClaim}
 use Rattle.nfs_compound.specs.declared.open_args.OpenClaim.TheVariants.{Null, Previous, DelegateCur, DelegatePrev, Fh, DelegCurFh, DelegPrevFh}
 use Rattle.nfs_compound.specs.OpNum.{op_number}
+use Rattle.nfs_compound.specs.declared.op.Op.TheVariants as Op
+use Rattle.nfs_compound.specs.declared.op_num.OpNum.TheVariants as Num
 use Rattle.nfs_results.specs.Results.{status_of_result}
-use Rattle.nfs_tree.specs.declared.sets.Sets.{Sets}
-use Rattle.nfs_tree.specs.declared.stored.Stored.{Stored}
-use Rattle.nfs_tree.specs.Object.{modified, no_sets}
+use Rattle.nfs_tree.specs.{declared.sets.Sets.Sets, declared.stored.Stored.Stored, Object.{modified, no_sets}}
 use Rattle.nfs_tree.specs.Files.{Files, root, stored_in, is_there, change_at, with_changed, with_entries_changed, lookup}
-use Rattle.nfs_tree.specs.Create.{New, with_new, new_object, data_of, new_tree, Directory}
-use Rattle.nfs_tree.specs.Bytes.{resized, with_bytes, with_resized}
+use Rattle.nfs_tree.specs.{Create.{New, with_new, new_object, data_of, new_tree, Directory}, Bytes.{resized, with_bytes, with_resized}}
 use Rattle.nfs_tree.proofs.Objects.{keeps_changed, stored_map}
 use Rattle.nfs_attrs.specs.declared.wanted.Wanted.{Wanted}
 use Rattle.nfs_lease.specs.Renewals.{has_run_out}
-use Rattle.nfs_names.specs.declared.context.Context.{Context}
-use Rattle.nfs_names.specs.declared.making.Making.{Making}
-use Rattle.nfs_names.specs.declared.node.Node.{Node}
-use Rattle.nfs_names.specs.Checks.{node_at, current}
+use Rattle.nfs_names.specs.{declared.context.Context.Context, declared.making.Making.Making, declared.node.Node.Node, Checks.{node_at, current}}
+use Rattle.nfs_names.specs.{Create.{attributes_in, new_of, plain_mode, create}, Outcome.{Outcome, is_ok, checked, answers, refuses}, State.moment}
 use Rattle.nfs_names.specs.Create as creating
-use Rattle.nfs_names.specs.Create.{attributes_in, new_of, plain_mode, create}
-use Rattle.nfs_names.specs.Outcome.{Outcome, is_ok, checked, answers, refuses}
 use Rattle.nfs_names.specs.State as store
-use Rattle.nfs_names.specs.State.{moment}
-use Rattle.nfs_names.proofs.Faulted.{status_of_refusal}
-use Rattle.nfs_names.proofs.Found.{came, ok_is, checked_ok}
-use Rattle.nfs_names.proofs.NameLaws.{by_create}
-use Rattle.nfs_names.proofs.Ones.{by_delay}
+use Rattle.nfs_names.proofs.{Faulted.status_of_refusal, Found.{came, ok_is, checked_ok}, NameLaws.by_create, Ones.by_delay}
 use Rattle.nfs_names.proofs.Refusing.{IsRefusal, Refuses, refuses_checked}
-use Rattle.nfs_files.specs.FileImage.{is_number}
+use Rattle.nfs_files.specs.{FileImage.is_number, Open.{makes, open_file}, SetAttr.set_attr}
 use Rattle.nfs_files.specs.Open as of_open
-use Rattle.nfs_files.specs.Open.{makes, open_file}
 use Rattle.nfs_files.specs.SetAttr as of_set
-use Rattle.nfs_files.specs.SetAttr.{set_attr}
-use Rattle.nfs_files.proofs.Passing.{if_passed_ok, mapped_came}
-use Rattle.nfs_files.proofs.SetAnswers.{asked_refuses}
-use Rattle.nfs_files.proofs.WrittenOps.{by_found, current_number}
-use Rattle.nfs_exec.specs.Step.Behind.{stays}
-use Rattle.nfs_exec.specs.Step.Machine.{Machine}
-use Rattle.nfs_exec.specs.Step.Laws.{MachineEvent}
-use Rattle.nfs_exec.specs.Runs.Kept.{Kept, While}
-use Rattle.nfs_exec.specs.Runs.Ops.{RanOp, ops_by}
-use Rattle.nfs_exec.proofs.Step.RefusalsFit.{refused_status}
-use Rattle.nfs_exec.proofs.Runs.KeptByRuns.{Is}
-use Rattle.nfs_exec.proofs.Runs.OneRun.{IsRun, by_item, by_run}
+use Rattle.nfs_files.proofs.{Passing.{if_passed_ok, mapped_came}, SetAnswers.asked_refuses, WrittenOps.{by_found, current_number}}
+use Rattle.nfs_exec.specs.{Step.Behind.stays, Step.Machine.Machine, Step.Laws.MachineEvent, Runs.Kept.{Kept, While}, Runs.Ops.{RanOp, ops_by}}
+use Rattle.nfs_exec.proofs.{Step.RefusalsFit.refused_status, Runs.KeptByRuns.Is, Runs.OneRun.{IsRun, by_item, by_run}}
 use Rattle.nfs_exec.proofs.Runs.OneWalk.{Stays, back_walked, kept_ended, none_at}
-use Rattle.nfs_serve.specs.Step.{State, new_state}
-use Rattle.nfs_serve.specs.Promises.Endpoint.{Arrival}
-use Rattle.nfs_serve.specs.Promises.Permitted.{Rights, rights_of}
+use Rattle.nfs_serve.specs.{Step.{State, new_state}, Promises.Endpoint.Arrival, Promises.Permitted.{Rights, rights_of}}
 use Rattle.nfs_serve.specs.Promises.Points.{state_after, reached, taken, before, asked_by, ops_of}
 use Rattle.nfs_serve.specs.Promises.RightsTold.{with_given, with_wanted, rights_left, rights_after, rights_after_all, HasRights, RightsWhile, RightsThrough, user_rights, MakesWith}
 use Rattle.nfs_serve.specs.Promises.RightsTold.{ByCreate, ByOpen, RightsAreTold, RootIsTold}
-use Rattle.nfs_serve.proofs.Promises.PermittedOpens.{finds}
-use Rattle.nfs_serve.proofs.Promises.Points.{left, next_is, IsSound, whole_before, sound_next, sound_all, sound_new}
+use Rattle.nfs_serve.proofs.{Promises.PermittedOpens.finds, Promises.Points.{left, next_is, IsSound, whole_before, sound_next, sound_all, sound_new}}
 use Rattle.nfs_serve.proofs.Promises.RightsKept.{Are, Have, map_to, new_have, resized_have, staying_have, is_quiet, names_item, quiet_item}
-use Rattle.nfs_serve.proofs.Promises.Staying.{through_asked}
-use Rattle.nfs_serve.proofs.Promises.NameStays.{runs_at}
+use Rattle.nfs_serve.proofs.{Promises.Staying.through_asked, Promises.NameStays.runs_at}
 
 -- What an OPEN leaves of a tree: as it is, cut, or with a file that was made.
 data OpenTree (t : Files) (x : Context) (now : Time) (o : Open) (u : Files) : Type 0 where

@@ -1,16 +1,12 @@
 -- Rows of a tree that give a directory the same entries and an object the same number of names.
 use Rattle.std.proofs.Common.{◌≡◌, ◌≢◌, ℕ, suc, ◌+◌, ◌≤◌, Bool, true, false, cond, not, List, [], ◌∷◌, ◌++◌, length, Some, refl, sym, ◌∙◌, ap, subst, arith, inl, inr}
-use Rattle.std.specs.Prelude.{◌==◌, filter, if◌then◌else◌}
 use Rattle.std.proofs.lemmas.Bool.{cases_Bool, eq-eqb, ne_eqb, eqb-true, false≢true}
+use Rattle.std.specs.Prelude.{◌==◌, filter, if◌then◌else◌}
 use Rattle.nfs_xdr.specs.Tables.{In, IsRising}
-use Rattle.nfs_xdr.proofs.Lists.{filter_past, filter_all, count_push, in_filter, stays_in, find_in}
-use Rattle.nfs_xdr.proofs.Tables.{in_bounds, IsRising-filter}
-use Rattle.nfs_tree.specs.declared.row.Row.{Row}
-use Rattle.nfs_tree.specs.Files.{Files, is_entry, entry, has_name, is_there, is_directory_at, links_in, without_entry}
-use Rattle.nfs_tree.specs.Names.{Move, moved_object, replaced_object, moves, with_row}
-use Rattle.nfs_tree.specs.TreeInvariants.{IsTree}
-use Rattle.nfs_tree.proofs.Trees.{entry_names, row_of}
-use Rattle.nfs_tree.proofs.RowsKept.{only_entry}
+use Rattle.nfs_xdr.proofs.{Lists.{filter_past, filter_all, count_push, in_filter, stays_in, find_in}, Tables.{in_bounds, IsRising-filter}}
+use Rattle.nfs_tree.specs.{declared.row.Row.Row, Files.{Files, is_entry, entry, has_name, is_there, is_directory_at, links_in, without_entry}}
+use Rattle.nfs_tree.specs.{Names.{Move, moved_object, replaced_object, moves, with_row}, TreeInvariants.IsTree}
+use Rattle.nfs_tree.proofs.{Trees.{entry_names, row_of}, RowsKept.only_entry}
 use Rattle.nfs_serve.specs.Promises.ChangeTells.{entries_in}
 
 pub record SameRows (n : ℕ) (before behind : List Row) : Type 0 where

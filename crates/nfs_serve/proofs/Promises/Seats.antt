@@ -1,72 +1,37 @@
 -- Of which objects the current filehandle and the saved one are behind each operation.
 use Rattle.std.proofs.Common.{◌≡◌, ℕ, ◌+◌, Bool, true, false, cond, not, List, [], ◌∷◌, Option, Some, None, refl, sym, ◌∙◌, ap, subst}
-use Rattle.std.specs.Prelude.{◌==◌, ◌&&◌, IfSome, is_some, option_map}
-use Rattle.std.specs.Option.{ForSome}
 use Rattle.std.proofs.lemmas.Bool.{eqb-true, not-false, false≢true, true≢false}
-use Rattle.nfs_xdr.specs.declared.time.Time.{Time}
-use Rattle.nfs_xdr.specs.declared.status.Status.TheVariants.{RepTooBig, Stale, Delay}
+use Rattle.std.specs.{Prelude.{◌==◌, ◌&&◌, IfSome, is_some, option_map}, Option.ForSome}
+use Rattle.nfs_xdr.specs.{declared.time.Time.Time, declared.status.Status.TheVariants.{RepTooBig, Stale, Delay}}
 use Rattle.nfs_xdr.proofs.Checks.{all_passed}
-use Rattle.nfs_compound.specs.Arguments.{arguments}
-use Rattle.nfs_compound.specs.declared.name_args.Create.{Create}
-use Rattle.nfs_compound.specs.declared.name_args.Rename.{Rename}
-use Rattle.nfs_compound.specs.declared.name_args.SecinfoStyle.{SecinfoStyle}
-use Rattle.nfs_compound.specs.declared.open_args.Open.{Open}
-use Rattle.nfs_compound.specs.declared.open_args.OpenClaim.{OpenClaim}
-use Rattle.nfs_compound.specs.declared.open_args.OpenClaim.TheVariants.{Null}
-use Rattle.nfs_compound.specs.declared.op.Op.{Op}
+use Rattle.nfs_compound.specs.{Arguments.arguments, declared.name_args.Create.Create, declared.name_args.Rename.Rename}
+use Rattle.nfs_compound.specs.{declared.name_args.SecinfoStyle.SecinfoStyle, declared.open_args.Open.Open, declared.open_args.OpenClaim.OpenClaim}
+use Rattle.nfs_compound.specs.{declared.open_args.OpenClaim.TheVariants.Null, declared.op.Op.Op, declared.op.Item.Item}
+use Rattle.nfs_compound.specs.{declared.op.Item.TheVariants.{Operation, Fault}, declared.op_num.OpNum.OpNum}
 use Rattle.nfs_compound.specs.declared.op.Op.TheVariants as Op
-use Rattle.nfs_compound.specs.declared.op.Item.{Item}
-use Rattle.nfs_compound.specs.declared.op.Item.TheVariants.{Operation, Fault}
-use Rattle.nfs_compound.specs.declared.op_num.OpNum.{OpNum}
 use Rattle.nfs_compound.specs.declared.op_num.OpNum.TheVariants as Num
 use Rattle.nfs_results.specs.declared.res.Res.TheVariants as Res
 use Rattle.nfs_results.specs.Results.{spell_result, status_of_result}
 use Rattle.nfs_ranges.specs.declared.Held.{Held}
-use Rattle.nfs_tree.specs.declared.row.Row.{Row}
-use Rattle.nfs_tree.specs.Create.{create_checks}
-use Rattle.nfs_tree.specs.Files.{Files, root, object_at, entry, lookup, parent_in, is_directory_at}
-use Rattle.nfs_tree.specs.Names.{moves}
+use Rattle.nfs_tree.specs.{declared.row.Row.Row, Create.create_checks, Files.{Files, root, object_at, entry, lookup, parent_in, is_directory_at}, Names.moves}
 use Rattle.nfs_tree.specs.Object.{is_directory}
-use Rattle.nfs_attrs.specs.declared.handle.Handle.{Handle}
-use Rattle.nfs_attrs.specs.Handle.{handle_of}
-use Rattle.nfs_attrs.specs.Permissions.{execute}
+use Rattle.nfs_attrs.specs.{declared.handle.Handle.Handle, Handle.handle_of, Permissions.execute}
 use Rattle.nfs_opens.specs.Locking as locking
-use Rattle.nfs_names.specs.declared.context.Context.{Context}
-use Rattle.nfs_names.specs.Checks.{saved_object, no_directory, denied}
-use Rattle.nfs_names.specs.Create.{new_of, create}
-use Rattle.nfs_names.specs.Link.{link}
-use Rattle.nfs_names.specs.Operation as names
-use Rattle.nfs_names.specs.Outcome.{Outcome, checked, is_ok}
-use Rattle.nfs_names.specs.PutPubFh.{put_pub_fh}
-use Rattle.nfs_names.specs.PutRootFh.{put_root_fh}
-use Rattle.nfs_names.specs.Rename.{move_of, renamed, rename}
+use Rattle.nfs_names.specs.{declared.context.Context.Context, Checks.{saved_object, no_directory, denied}, Create.{new_of, create}, Link.link}
+use Rattle.nfs_names.specs.{Outcome.{Outcome, checked, is_ok}, PutPubFh.put_pub_fh, PutRootFh.put_root_fh, Rename.{move_of, renamed, rename}}
 use Rattle.nfs_names.specs.State.{State, moment}
-use Rattle.nfs_names.proofs.Found.{current_is, checked_ok}
+use Rattle.nfs_names.specs.Operation as names
+use Rattle.nfs_names.proofs.{Found.{current_is, checked_ok}, Ones.{each_of, if_delayed, by_delay}}
 use Rattle.nfs_names.proofs.NameLaws as law
-use Rattle.nfs_names.proofs.Ones.{each_of, if_delayed, by_delay}
-use Rattle.nfs_files.specs.Commit.{commit}
-use Rattle.nfs_files.specs.LockT.{tested, lock_t}
+use Rattle.nfs_files.specs.{Commit.commit, LockT.{tested, lock_t}, OpenTold.{named_in, claimed}, Operation.grows, Read.read, TestStateid.test_stateid}
 use Rattle.nfs_files.specs.Open as of_open
-use Rattle.nfs_files.specs.OpenTold.{named_in, claimed}
-use Rattle.nfs_files.specs.Operation.{grows}
-use Rattle.nfs_files.specs.Read.{read}
 use Rattle.nfs_files.specs.SetAttr as of_set
-use Rattle.nfs_files.specs.TestStateid.{test_stateid}
 use Rattle.nfs_files.specs.Write as of_write
-use Rattle.nfs_files.proofs.ChangesTold.{Done}
-use Rattle.nfs_files.proofs.FileOps.{by_granted}
-use Rattle.nfs_files.proofs.OpenAnswers.{open_refuses}
-use Rattle.nfs_files.proofs.OpensMoved.{by_close, by_free, by_downgrade, by_lock, by_unlock}
+use Rattle.nfs_files.proofs.{ChangesTold.Done, FileOps.by_granted, OpenAnswers.open_refuses, OpensMoved.{by_close, by_free, by_downgrade, by_lock, by_unlock}}
+use Rattle.nfs_files.proofs.{Outcomes.for_each, ToldOpens.asked_leads, WrittenOps.{by_found, current_number}}
 use Rattle.nfs_files.proofs.Outcomes as files
-use Rattle.nfs_files.proofs.Outcomes.{for_each}
-use Rattle.nfs_files.proofs.ToldOpens.{asked_leads}
-use Rattle.nfs_files.proofs.WrittenOps.{by_found, current_number}
-use Rattle.nfs_exec.specs.Step.Machine.{Machine}
-use Rattle.nfs_exec.specs.Step.Behind.{Step, step, on_store, moves_opens, marked_if, otherwise}
-use Rattle.nfs_exec.specs.Step.Run.{in_room}
-use Rattle.nfs_exec.proofs.Step.Behind.{by_step}
-use Rattle.nfs_exec.proofs.Runs.Handles.{handle_in}
-use Rattle.nfs_exec.proofs.Runs.OneRun.{in_room_is, too_big}
+use Rattle.nfs_exec.specs.{Step.Machine.Machine, Step.Behind.{Step, step, on_store, moves_opens, marked_if, otherwise}, Step.Run.in_room}
+use Rattle.nfs_exec.proofs.{Step.Behind.by_step, Runs.Handles.handle_in, Runs.OneRun.{in_room_is, too_big}}
 use Rattle.nfs_serve.specs.Promises.NameStays.{IsDone}
 use Rattle.nfs_serve.proofs.Promises.NameSaid.{not_done, pushed_found}
 

@@ -2,20 +2,12 @@
 use Rattle.std.proofs.Common.{◌≡◌, inl, inr, ℕ, ◌+◌, ◌*◌, ◌^◌, List, [], ◌∷◌, ◌++◌, map, take, None, refl, sym, ◌∙◌, ap, subst, arith}
 use Rattle.nfs_xdr.specs.Tables.{In}
 use Rattle.nfs_slots.specs.Slot.{unused_slot}
-use Rattle.nfs_serve.specs.Promises.Exchanges.{words}
-use Rattle.nfs_serve.specs.Promises.Endpoint.{Place, Arrival}
-use Rattle.nfs_serve.specs.Promises.Network.{Packet, Next, NetworkEvent, Arrives, Asks, ended}
-use Rattle.nfs_serve.specs.Promises.Numbered.{Happens}
-use Rattle.nfs_serve.specs.Promises.PerfectWire.{wire, done_on}
-use Rattle.nfs_serve.specs.Promises.RealTime.{IsAtomic, RunsBehind, WasNotSent}
+use Rattle.nfs_serve.specs.{Promises.Exchanges.words, Promises.Endpoint.{Place, Arrival}, Promises.Network.{Packet, Next, NetworkEvent, Arrives, Asks, ended}}
+use Rattle.nfs_serve.specs.{Promises.Numbered.Happens, Promises.PerfectWire.{wire, done_on}, Promises.RealTime.{IsAtomic, RunsBehind, WasNotSent}}
 use Rattle.nfs_serve.specs.Promises.SeenWrite.{before, here, slot_of, callers, write, read, packet, written, seen, accepts, first, joins, second, start, brought, IsSeen}
 use Rattle.nfs_serve.specs.Promises.Seen.{ReplyReader, Bears}
-use Rattle.nfs_serve.proofs.Promises.Replies.{found, finding, found_by, no_bytes}
-use Rattle.nfs_serve.proofs.Promises.LostReply.{is_bytes}
-use Rattle.nfs_serve.proofs.Promises.KeptSlots.{keeps_slots}
-use Rattle.nfs_serve.proofs.Promises.Ticking.{keeps_time}
-use Rattle.nfs_serve.proofs.Promises.RealTime.{atomic}
-use Rattle.nfs_serve.proofs.Promises.Computing.{computing}
+use Rattle.nfs_serve.proofs.{Promises.Replies.{found, finding, found_by, no_bytes}, Promises.LostReply.is_bytes, Promises.KeptSlots.keeps_slots}
+use Rattle.nfs_serve.proofs.{Promises.Ticking.keeps_time, Promises.RealTime.atomic, Promises.Computing.computing}
 
 -- what each result bears
 

@@ -1,8 +1,7 @@
 -- What a server's step has to keep to: the only facts of it that the promises over a network rest on.
 use Rattle.std.specs.Prelude.{◌≡◌, ◌⊎◌, ℕ, max, true, false, List, Option, Some, None}
 use Rattle.nfs_xdr.specs.Text.{IsBytes}
-use Rattle.nfs_slots.specs.Slot.{SlotState, judge_slot}
-use Rattle.nfs_slots.specs.declared.slot.Verdict.TheVariants.{Fresh, Again}
+use Rattle.nfs_slots.specs.{Slot.{SlotState, judge_slot}, declared.slot.Verdict.TheVariants.{Fresh, Again}}
 use Rattle.nfs_serve.specs.Promises.Endpoint.{Place, Heading, Answer, SlotNumber, Stepped, Server}
 
 -- a fresh request: the slot takes it, and keeps the result that is answered

@@ -1,27 +1,17 @@
 -- A session stays, through whatever records come in time.
 use Rattle.std.proofs.Common.{◌≡◌, ℕ, ◌+◌, ◌≤◌, true, false, cond, not, List, [], ◌∷◌, length, Option, Some, refl, sym, ◌∙◌, ap, subst}
+use Rattle.std.proofs.{lemmas.Bool.{eqb-true, eq-eqb, and_parts, false≢true}, lemmas.Option.same_Some}
 use Rattle.std.specs.Option.{option_map_or}
-use Rattle.std.proofs.lemmas.Bool.{eqb-true, eq-eqb, and_parts, false≢true}
-use Rattle.std.proofs.lemmas.Option.{same_Some}
 use Rattle.nfs_compound.specs.declared.session_args.Sequence.{Sequence}
 use Rattle.nfs_lease.specs.Renewals.{has_run_out}
 use Rattle.nfs_names.specs.State.{State as Store}
-use Rattle.nfs_sessions.specs.declared.id.SessionId.{SessionId}
-use Rattle.nfs_sessions.specs.Id.{id_of}
-use Rattle.nfs_sessions.specs.Sessions.{Session}
-use Rattle.nfs_exec.specs.Step.Laws.{MachineEvent, Asks, ran}
-use Rattle.nfs_exec.specs.Runs.LockHeld.{replaces, is_of, renews}
-use Rattle.nfs_exec.specs.Runs.SessionLasts.{ends_session}
-use Rattle.nfs_exec.proofs.Runs.Renewing.{in_time}
-use Rattle.nfs_exec.proofs.Runs.SessionLasts.{fewer_has, lasts, ran_has}
-use Rattle.nfs_serve.specs.Step.{State}
-use Rattle.nfs_serve.specs.Promises.Endpoint.{Arrival}
-use Rattle.nfs_serve.specs.Promises.Points.{state_after, reached, taken, before}
+use Rattle.nfs_sessions.specs.{declared.id.SessionId.SessionId, Id.id_of, Sessions.Session}
+use Rattle.nfs_exec.specs.{Step.Laws.{MachineEvent, Asks, ran}, Runs.LockHeld.{replaces, is_of, renews}, Runs.SessionLasts.ends_session}
+use Rattle.nfs_exec.proofs.{Runs.Renewing.in_time, Runs.SessionLasts.{fewer_has, lasts, ran_has}}
+use Rattle.nfs_serve.specs.{Step.State, Promises.Endpoint.Arrival, Promises.Points.{state_after, reached, taken, before}}
 use Rattle.nfs_serve.specs.Promises.LockKept.{renews_by, replaces_by}
 use Rattle.nfs_serve.specs.Promises.SessionStays.{HasSession, ends_by, RunsThere, StaysThere, SessionsStay, StaysToLast}
-use Rattle.nfs_serve.proofs.Promises.Computing.{computing}
-use Rattle.nfs_serve.proofs.Promises.Points.{left, for_asked, next_is}
-use Rattle.nfs_serve.proofs.Promises.Staying.{Stays, stays_next, stays_from}
+use Rattle.nfs_serve.proofs.{Promises.Computing.computing, Promises.Points.{left, for_asked, next_is}, Promises.Staying.{Stays, stays_next, stays_from}}
 
 -- of the client's lease alone
 abbrev Renewed : (client lease last : ℕ) → State → Type 0

@@ -2,20 +2,14 @@
 use Rattle.std.proofs.Common.{◌≡◌, ◌⊎◌, ℕ, ◌+◌, ◌^◌, ◌<◌, false, cond, List, [], ◌∷◌, ◌++◌, length, Option, Some, None, refl, sym, ◌∙◌, ap, subst, append_assoc, append-nil, arith, inl, inr}
 use Rattle.std.specs.Option.{option_map_or}
 use Rattle.nfs_clients.specs.CreateSession.{following}
-use Rattle.nfs_exec.specs.Step.Machine.{Machine, IsMachine}
-use Rattle.nfs_exec.specs.Step.Laws.{MachineEvent, Expires, Asks, stepped}
-use Rattle.nfs_exec.specs.Runs.OneSession.{asks_session, MakesOne}
-use Rattle.nfs_exec.proofs.Step.Invariant.{of_start}
-use Rattle.nfs_exec.proofs.Runs.SlotNumbers.{IsCounted}
-use Rattle.nfs_exec.proofs.Runs.SlotNumbersAlong.{counted_step}
+use Rattle.nfs_exec.specs.{Step.Machine.{Machine, IsMachine}, Step.Laws.{MachineEvent, Expires, Asks, stepped}, Runs.OneSession.{asks_session, MakesOne}}
+use Rattle.nfs_exec.proofs.{Step.Invariant.of_start, Runs.SlotNumbers.IsCounted, Runs.SlotNumbersAlong.counted_step}
 use Rattle.nfs_exec.proofs.Runs.SessionNumbers.{After, ToldBy, more, tells_more, tells_carried}
 use Rattle.nfs_exec.proofs.Runs.OneSession.{IsMadeBy, first_bytes, event_after, event_carried, event_tells, given_after, given_again, given_next, gives_made, gives_one}
-use Rattle.nfs_serve.specs.Step.{State, new_state}
-use Rattle.nfs_serve.specs.Promises.Endpoint.{Arrival}
+use Rattle.nfs_serve.specs.{Step.{State, new_state}, Promises.Endpoint.Arrival}
 use Rattle.nfs_serve.specs.Promises.Points.{state_after, state_after_all, reached, taken, before, asked_by}
 use Rattle.nfs_serve.specs.Promises.SessionsOnce.{asks_by, asked, GivesIn, WasMade, EachMakesOne, EachWasMade, RepeatsMakeNone, NextMakesOne}
-use Rattle.nfs_serve.proofs.Promises.Points.{left, for_asked, next_is}
-use Rattle.nfs_serve.proofs.Promises.Outlived.{machine_before, machine_all}
+use Rattle.nfs_serve.proofs.{Promises.Points.{left, for_asked, next_is}, Promises.Outlived.{machine_before, machine_all}}
 
 -- The client's number, from one record to the next.
 

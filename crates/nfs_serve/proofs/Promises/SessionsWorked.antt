@@ -1,25 +1,16 @@
 -- A CREATE_SESSION and its repeat, computed.
 use Rattle.std.proofs.Common.{◌≡◌, ℕ, ◌+◌, ◌*◌, ◌^◌, Bool, true, false, List, [], ◌∷◌, ◌++◌, length, drop, get_or, Option, Some, None, refl, sym, ◌∙◌, ap, arith}
+use Rattle.std.proofs.{lemmas.Bool.{and_parts, eqb-true, false≢true}, lemmas.Slice.Eq.bytes_eq-Decides}
 use Rattle.std.specs.Prelude.{◌==◌, ◌&&◌, bytes_eq, is_some}
-use Rattle.std.proofs.lemmas.Bool.{and_parts, eqb-true, false≢true}
-use Rattle.std.proofs.lemmas.Slice.Eq.{bytes_eq-Decides}
 use Rattle.nfs_xdr.specs.declared.status.Status.TheVariants.{Nfs4Ok}
-use Rattle.nfs_compound.specs.declared.op.Item.{Item}
-use Rattle.nfs_compound.specs.declared.op.Item.TheVariants.{Operation}
+use Rattle.nfs_compound.specs.{declared.op.Item.Item, declared.op.Item.TheVariants.Operation, Request.Request}
 use Rattle.nfs_compound.specs.declared.op.Op.TheVariants as Op
-use Rattle.nfs_compound.specs.Request.{Request}
 use Rattle.nfs_compound.specs.declared.op_num.OpNum.TheVariants as Num
 use Rattle.nfs_results.specs.Results.{done_head, spell_compound_head}
 use Rattle.nfs_sessions.specs.Sessions.{SessionTable}
 use Rattle.nfs_clients.specs.CreateSession.{following}
-use Rattle.nfs_exec.specs.Step.Machine.{Machine}
-use Rattle.nfs_exec.specs.Step.Compound.{compound}
-use Rattle.nfs_exec.specs.Step.Laws.{MachineEvent, Expires, Asks}
-use Rattle.nfs_exec.specs.Runs.OneSession.{MakesOne}
-use Rattle.nfs_serve.specs.Step.{State}
-use Rattle.nfs_serve.specs.Promises.Endpoint.{Arrival}
-use Rattle.nfs_serve.specs.Promises.Points.{state_after, before, asked_by}
-use Rattle.nfs_serve.specs.Promises.Exchanges.{words}
+use Rattle.nfs_exec.specs.{Step.Machine.Machine, Step.Compound.compound, Step.Laws.{MachineEvent, Expires, Asks}, Runs.OneSession.MakesOne}
+use Rattle.nfs_serve.specs.{Step.State, Promises.Endpoint.Arrival, Promises.Points.{state_after, before, asked_by}, Promises.Exchanges.words}
 use Rattle.nfs_serve.specs.Promises.SessionsOnce.{GivesIn, start, creates, again, goes_on, repeated, id, IsGivenOnce}
 use Rattle.nfs_serve.proofs.Promises.Computing.{computing}
 

@@ -1,14 +1,9 @@
 -- Behind each record of a run nothing is left to run out.
 use Rattle.std.proofs.Common.{◌≡◌, ℕ, max, false, List, length, Option, refl, sym, ◌∙◌, ap, subst, arith}
 use Rattle.nfs_lease.specs.Renewals.{has_run_out}
-use Rattle.nfs_exec.specs.Step.Machine.{Machine}
-use Rattle.nfs_exec.specs.Step.Expiry.{expired}
-use Rattle.nfs_exec.proofs.Step.Expiring.{expired_none}
-use Rattle.nfs_exec.proofs.Step.LeaseMoments.{expired_all, finds_nothing}
-use Rattle.nfs_exec.proofs.Runs.KeptByRuns.{Is, start_whole}
-use Rattle.nfs_serve.specs.Step.{State, new_state, step}
-use Rattle.nfs_serve.specs.Promises.Endpoint.{Arrival}
-use Rattle.nfs_serve.specs.Promises.Points.{state_after, taken, before, asked_by}
+use Rattle.nfs_exec.specs.{Step.Machine.Machine, Step.Expiry.expired}
+use Rattle.nfs_exec.proofs.{Step.Expiring.expired_none, Step.LeaseMoments.{expired_all, finds_nothing}, Runs.KeptByRuns.{Is, start_whole}}
+use Rattle.nfs_serve.specs.{Step.{State, new_state, step}, Promises.Endpoint.Arrival, Promises.Points.{state_after, taken, before, asked_by}}
 use Rattle.nfs_serve.specs.Promises.Seen.{ticked}
 use Rattle.nfs_serve.proofs.Promises.Points.{left, for_asked, next_is, whole_before, whole_left}
 

@@ -1,23 +1,15 @@
 -- What the changes of a table of sessions leave of one slot.
 use Rattle.std.proofs.Common.{◌≡◌, ◌⊎◌, inl, inr, ℕ, ◌+◌, ◌≤◌, suc, Bool, true, false, List, Option, Some, None, refl, sym, ◌∙◌, ap, arith}
-use Rattle.std.specs.Prelude.{◌==◌, find, filter, if◌then◌else◌}
-use Rattle.std.specs.Option.{option_map}
 use Rattle.std.proofs.lemmas.Bool.{cases_Bool, eqb-true, eq-eqb, and_parts, and_from, false≢true}
+use Rattle.std.specs.{Prelude.{◌==◌, find, filter, if◌then◌else◌}, Option.option_map}
 use Rattle.nfs_xdr.specs.Tables.{IsRising}
-use Rattle.nfs_xdr.proofs.Tables.{in_bounds, in_once}
-use Rattle.nfs_xdr.proofs.Lists.{in_filter, find_in, find_none, find_kept, find_none_kept, some_or_none}
+use Rattle.nfs_xdr.proofs.{Tables.{in_bounds, in_once}, Lists.{in_filter, find_in, find_none, find_kept, find_none_kept, some_or_none}}
 use Rattle.nfs_slots.specs.Slot.{SlotState}
 use Rattle.nfs_slots.proofs.TableLemmas.{slice_get-set_same, slice_get-set_other}
-use Rattle.nfs_sessions.specs.declared.id.SessionId.{SessionId}
-use Rattle.nfs_sessions.specs.declared.channel.Wish.{Wish}
-use Rattle.nfs_sessions.specs.Channel.{granted}
-use Rattle.nfs_sessions.specs.SessionSlots.{GrantedSlots, unused}
+use Rattle.nfs_sessions.specs.{declared.id.SessionId.SessionId, declared.channel.Wish.Wish, Channel.granted, SessionSlots.{GrantedSlots, unused}}
+use Rattle.nfs_sessions.specs.{Sessions.{Session, SessionTable, is_session, session_at, with_session, keep}, SessionTables.IsSessions, Laws.is_id}
 use Rattle.nfs_sessions.specs.SessionSlots as slots
-use Rattle.nfs_sessions.specs.Sessions.{Session, SessionTable, is_session, session_at, with_session, keep}
-use Rattle.nfs_sessions.specs.SessionTables.{IsSessions}
-use Rattle.nfs_sessions.specs.Laws.{is_id}
-use Rattle.nfs_sessions.proofs.LawLemmas.{sessions_are_a_map}
-use Rattle.nfs_sessions.proofs.TableLemmas.{sessions_filtered, sessions_with, slots_changed, is_counter}
+use Rattle.nfs_sessions.proofs.{LawLemmas.sessions_are_a_map, TableLemmas.{sessions_filtered, sessions_with, slots_changed, is_counter}}
 use Rattle.nfs_exec.proofs.Runs.SlotNumbers.{IsHeld}
 use Rattle.nfs_serve.specs.Promises.Seen.{slot_in}
 

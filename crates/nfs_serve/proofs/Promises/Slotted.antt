@@ -1,28 +1,18 @@
 -- Each session has as many slots as its channel says, whatever comes to the server.
 use Rattle.std.proofs.Common.{◌≡◌, inl, inr, ℕ, ◌+◌, suc, Bool, true, false, List, [], ◌∷◌, length, Option, Some, None, refl, sym, ◌∙◌, ap, subst, arith}
+use Rattle.std.proofs.{lemmas.Option.same_Some, lemmas.List.{length-set, length-replicate}}
 use Rattle.std.specs.Prelude.{not, filter, if◌then◌else◌, option_map}
-use Rattle.std.proofs.lemmas.Option.{same_Some}
-use Rattle.std.proofs.lemmas.List.{length-set, length-replicate}
 use Rattle.nfs_lease.specs.Renewals.{has_run_out}
 use Rattle.nfs_slots.specs.Slot.{unused_slot}
-use Rattle.nfs_sessions.specs.declared.id.SessionId.{SessionId}
-use Rattle.nfs_sessions.specs.declared.channel.Wish.{Wish}
-use Rattle.nfs_sessions.specs.Channel.{granted}
-use Rattle.nfs_sessions.specs.Id.{id_of}
-use Rattle.nfs_sessions.specs.Laws.{is_id}
-use Rattle.nfs_sessions.specs.SessionSlots.{GrantedSlots, unused}
-use Rattle.nfs_sessions.specs.SessionSlots as slots
-use Rattle.nfs_sessions.specs.Sessions.{Session, SessionTable, is_session, session_at, with_session, keep}
+use Rattle.nfs_sessions.specs.{declared.id.SessionId.SessionId, declared.channel.Wish.Wish, Channel.granted, Id.id_of, Laws.is_id}
+use Rattle.nfs_sessions.specs.{SessionSlots.{GrantedSlots, unused}, Sessions.{Session, SessionTable, is_session, session_at, with_session, keep}}
 use Rattle.nfs_sessions.specs.SessionTables.{IsSessions}
-use Rattle.nfs_sessions.proofs.LawLemmas.{sessions_are_a_map}
-use Rattle.nfs_sessions.proofs.TableLemmas.{sessions_filtered, sessions_with, slots_changed, is_counter}
+use Rattle.nfs_sessions.specs.SessionSlots as slots
+use Rattle.nfs_sessions.proofs.{LawLemmas.sessions_are_a_map, TableLemmas.{sessions_filtered, sessions_with, slots_changed, is_counter}}
 use Rattle.nfs_exec.specs.Step.Sequence.{compared}
 use Rattle.nfs_exec.proofs.Runs.SlotNumbers.{IsHeld}
-use Rattle.nfs_serve.specs.Promises.Endpoint.{Arrival, ran}
-use Rattle.nfs_serve.specs.Promises.Seen.{ReplyReader, ticked, server}
-use Rattle.nfs_serve.specs.Step.{State, step}
-use Rattle.nfs_serve.proofs.Promises.SlotsLeft.{found_fewer}
-use Rattle.nfs_serve.proofs.Promises.KeptSlots.{step_holds, compound_holds}
+use Rattle.nfs_serve.specs.{Promises.Endpoint.{Arrival, ran}, Promises.Seen.{ReplyReader, ticked, server}, Step.{State, step}}
+use Rattle.nfs_serve.proofs.{Promises.SlotsLeft.found_fewer, Promises.KeptSlots.{step_holds, compound_holds}}
 
 abbrev pub HasSlots : Session → Type 0
 HasSlots s = length s.slots.slots ≡ s.slots.channel.slots

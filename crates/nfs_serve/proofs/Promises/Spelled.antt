@@ -2,16 +2,10 @@
 use Rattle.std.proofs.Common.{◌≡◌, ℕ, ◌<◌, ◌^◌, false, List, [], ◌++◌, Some, None, refl, sym, ◌∙◌, ap, append_assoc, arith}
 use Rattle.std.specs.Prelude.{◌==◌, ◌&&◌}
 use Rattle.nfs_xdr.specs.Spelling as spelling
-use Rattle.nfs_xdr.specs.Limits.{opaque_limit}
-use Rattle.nfs_xdr.specs.Codec.{number, opaque}
-use Rattle.nfs_xdr.specs.Lawful.{IsCodec}
-use Rattle.nfs_xdr.specs.declared.status.Status.{Status}
-use Rattle.nfs_xdr.specs.Status.{status_number}
+use Rattle.nfs_xdr.specs.{Limits.opaque_limit, Codec.{number, opaque}, Lawful.IsCodec, declared.status.Status.Status, Status.status_number}
 use Rattle.nfs_xdr.proofs.CodecLaws.{is_number, is_opaque, is_then}
-use Rattle.nfs_rpc.specs.declared.refusal.Refusal.{Refusal}
-use Rattle.nfs_rpc.specs.declared.refusal.Refusal.TheVariants.{Silent, Mismatch, Auth, Accept}
-use Rattle.nfs_rpc.specs.declared.refusal.AcceptStat.TheVariants.{ProgUnavail, ProgMismatch, ProcUnavail, GarbageArgs}
-use Rattle.nfs_rpc.specs.Reply.{spell_head, spell_refusal}
+use Rattle.nfs_rpc.specs.{declared.refusal.Refusal.Refusal, declared.refusal.Refusal.TheVariants.{Silent, Mismatch, Auth, Accept}}
+use Rattle.nfs_rpc.specs.{declared.refusal.AcceptStat.TheVariants.{ProgUnavail, ProgMismatch, ProcUnavail, GarbageArgs}, Reply.{spell_head, spell_refusal}}
 use Rattle.nfs_serve.proofs.Promises.Reader.{head, by_head, answer_in, front, by_front, sequenced}
 
 -- The head of a reply.

@@ -1,59 +1,31 @@
 -- Each lock state was begun by a LOCK of a new lock owner, which gave the string of its owner.
 use Rattle.std.proofs.Common.{◌≡◌, ◌⊎◌, ℕ, suc, ◌+◌, Bool, not, List, [], ◌∷◌, ◌++◌, Option, Some, None, refl, sym, ◌∙◌, ap, subst, arith, inl, inr}
-use Rattle.std.specs.Prelude.{◌==◌, Ok, ok_or}
 use Rattle.std.proofs.lemmas.Bool.{eqb-true}
-use Rattle.nfs_xdr.specs.Tables.{In}
-use Rattle.nfs_xdr.specs.declared.time.Time.{Time}
-use Rattle.nfs_xdr.specs.declared.status.Status.TheVariants.{BadStateId}
-use Rattle.nfs_xdr.proofs.Lists.{find_in, in_filter, in_push}
-use Rattle.nfs_xdr.proofs.Tables.{in_bounds}
+use Rattle.std.specs.Prelude.{◌==◌, Ok, ok_or}
+use Rattle.nfs_xdr.specs.{Tables.In, declared.time.Time.Time, declared.status.Status.TheVariants.BadStateId}
+use Rattle.nfs_xdr.proofs.{Lists.{find_in, in_filter, in_push}, Tables.in_bounds}
 use Rattle.nfs_compound.specs.declared.lock_args.Lock as args
-use Rattle.nfs_compound.specs.declared.lock_args.Locker.{Locker}
-use Rattle.nfs_compound.specs.declared.lock_args.Locker.TheVariants.{LockOwner, OpenOwner}
-use Rattle.nfs_compound.specs.declared.lock_args.OpenToLockOwner.{OpenToLockOwner}
-use Rattle.nfs_compound.specs.declared.op.Item.{Item}
-use Rattle.nfs_compound.specs.declared.op.Item.TheVariants.{Operation}
+use Rattle.nfs_compound.specs.{declared.lock_args.Locker.Locker, declared.lock_args.Locker.TheVariants.{LockOwner, OpenOwner}}
+use Rattle.nfs_compound.specs.{declared.lock_args.OpenToLockOwner.OpenToLockOwner, declared.op.Item.Item, declared.op.Item.TheVariants.Operation}
 use Rattle.nfs_compound.specs.declared.op.Op.{Op}
-use Rattle.nfs_results.specs.declared.res.Res.{Res}
-use Rattle.nfs_results.specs.Results.{status_of_result}
-use Rattle.nfs_opens.specs.declared.records.LockState.{LockState}
-use Rattle.nfs_opens.specs.declared.records.OpenState.{OpenState}
-use Rattle.nfs_opens.specs.declared.judging.Sort.TheVariants.{LockOnly}
-use Rattle.nfs_opens.specs.declared.locking.OpenFault.TheVariants.{Refused}
-use Rattle.nfs_opens.specs.declared.locking.Wish.{Wish}
-use Rattle.nfs_opens.specs.declared.stateid.StateId.{StateId}
-use Rattle.nfs_opens.specs.Closing.{not_under}
-use Rattle.nfs_opens.specs.Judging.{judge}
-use Rattle.nfs_opens.specs.Locking.{access_in, lock_judged, lock_known}
+use Rattle.nfs_results.specs.{declared.res.Res.Res, Results.status_of_result}
+use Rattle.nfs_opens.specs.{declared.records.LockState.LockState, declared.records.OpenState.OpenState, declared.judging.Sort.TheVariants.LockOnly}
+use Rattle.nfs_opens.specs.{declared.locking.OpenFault.TheVariants.Refused, declared.locking.Wish.Wish, declared.stateid.StateId.StateId, Closing.not_under}
+use Rattle.nfs_opens.specs.{Judging.judge, Locking.{access_in, lock_judged, lock_known}, Steps.map_err, Table.{Table, Asked, lock_at}, TableInvariants.IsTable}
 use Rattle.nfs_opens.specs.Opening as opening
-use Rattle.nfs_opens.specs.Steps.{map_err}
-use Rattle.nfs_opens.specs.Table.{Table, Asked, lock_at}
-use Rattle.nfs_opens.specs.TableInvariants.{IsTable}
 use Rattle.nfs_opens.proofs.CallLaws.{IsLocked, first_state, came, ok_is}
-use Rattle.nfs_names.specs.declared.context.Context.{Context}
-use Rattle.nfs_names.specs.Outcome.{is_ok}
+use Rattle.nfs_names.specs.{declared.context.Context.Context, Outcome.is_ok, State.moment}
 use Rattle.nfs_names.specs.State as of_store
-use Rattle.nfs_names.specs.State.{moment}
 use Rattle.nfs_names.proofs.Untouched.{leaves_each}
 use Rattle.nfs_files.specs.Lock.{locks_as}
-use Rattle.nfs_files.proofs.Effects.{Effect, Opens, Closes, Locks, Begins, Unlocks, Frees, Caused, table_behind}
-use Rattle.nfs_files.proofs.Effected.{caused_opens}
-use Rattle.nfs_files.proofs.OpensMoved.{lock_is}
-use Rattle.nfs_files.proofs.Outcomes.{comes_to}
-use Rattle.nfs_files.proofs.ToldLocks.{left_by}
-use Rattle.nfs_exec.specs.Runs.LockHeld.{LocksFor}
+use Rattle.nfs_files.proofs.{Effects.{Effect, Opens, Closes, Locks, Begins, Unlocks, Frees, Caused, table_behind}, Effected.caused_opens, OpensMoved.lock_is}
+use Rattle.nfs_files.proofs.{Outcomes.comes_to, ToldLocks.left_by}
+use Rattle.nfs_exec.specs.{Runs.LockHeld.LocksFor, Runs.Ops.{RanOp, ops_by, AreChained}, Step.Laws.{MachineEvent, stepped}, Step.Machine.Machine}
 use Rattle.nfs_exec.specs.Runs.Ops as run
-use Rattle.nfs_exec.specs.Runs.Ops.{RanOp, ops_by, AreChained}
-use Rattle.nfs_exec.specs.Step.Laws.{MachineEvent, stepped}
-use Rattle.nfs_exec.specs.Step.Machine.{Machine}
-use Rattle.nfs_exec.proofs.Runs.KeptByRuns.{Is}
-use Rattle.nfs_exec.proofs.Runs.LockOwners.{owned_behind, owned_client}
-use Rattle.nfs_exec.proofs.Runs.LockStates.{IsAs, as_itself, changed_from}
-use Rattle.nfs_exec.proofs.Runs.OneRun.{IsRun, by_ok, by_run}
-use Rattle.nfs_exec.proofs.Runs.OneWalk.{Ran, Idled, event_did, ended, none_at}
+use Rattle.nfs_exec.proofs.{Runs.KeptByRuns.Is, Runs.LockOwners.{owned_behind, owned_client}, Runs.LockStates.{IsAs, as_itself, changed_from}}
+use Rattle.nfs_exec.proofs.{Runs.OneRun.{IsRun, by_ok, by_run}, Runs.OneWalk.{Ran, Idled, event_did, ended, none_at}}
 use Rattle.nfs_serve.specs.Promises.Denials.{IsBegunBy}
-use Rattle.nfs_serve.proofs.Promises.HeldBefore.{IsGranting, Granting, granted_told}
-use Rattle.nfs_serve.proofs.Promises.HeldTraced.{IsDone, done_of, chained_front, in_front}
+use Rattle.nfs_serve.proofs.{Promises.HeldBefore.{IsGranting, Granting, granted_told}, Promises.HeldTraced.{IsDone, done_of, chained_front, in_front}}
 
 -- Tables.
 

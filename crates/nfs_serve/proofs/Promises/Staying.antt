@@ -6,18 +6,12 @@ use Rattle.nfs_compound.specs.Request.{Request}
 use Rattle.nfs_opens.specs.Table.{Table}
 use Rattle.nfs_names.specs.State.{State as Store}
 use Rattle.nfs_files.specs.Own.{HasAsBefore}
-use Rattle.nfs_exec.specs.Step.Machine.{Machine}
-use Rattle.nfs_exec.specs.Runs.Kept.{Kept, While, AreSpared, after_all}
-use Rattle.nfs_exec.specs.Step.Laws.{MachineEvent, Expires, Asks}
-use Rattle.nfs_exec.specs.Runs.LockHeld.{renews, replaces}
-use Rattle.nfs_exec.specs.Runs.Ops.{RanOp, ops_by}
+use Rattle.nfs_exec.specs.{Step.Machine.Machine, Runs.Kept.{Kept, While, AreSpared, after_all}, Step.Laws.{MachineEvent, Expires, Asks}}
+use Rattle.nfs_exec.specs.{Runs.LockHeld.{renews, replaces}, Runs.Ops.{RanOp, ops_by}}
 use Rattle.nfs_exec.proofs.Runs.OneWalk as walk
-use Rattle.nfs_exec.proofs.Runs.OneWalk.{IsTold, event_walked, none_at}
-use Rattle.nfs_exec.proofs.Runs.OthersByRuns.{SparesClient, event_apart}
-use Rattle.nfs_exec.proofs.Runs.Renewing.{AtLeast, in_time, least_expired, least_behind, compound_lease}
-use Rattle.nfs_exec.proofs.Runs.KeptByRuns.{Is}
-use Rattle.nfs_serve.specs.Step.{State, new_state}
-use Rattle.nfs_serve.specs.Promises.Endpoint.{Arrival}
+use Rattle.nfs_exec.proofs.{Runs.OneWalk.{IsTold, event_walked, none_at}, Runs.OthersByRuns.{SparesClient, event_apart}}
+use Rattle.nfs_exec.proofs.{Runs.Renewing.{AtLeast, in_time, least_expired, least_behind, compound_lease}, Runs.KeptByRuns.Is}
+use Rattle.nfs_serve.specs.{Step.{State, new_state}, Promises.Endpoint.Arrival}
 use Rattle.nfs_serve.specs.Promises.Points.{state_after, state_after_all, reached, taken, before, asked_by, ops_of}
 use Rattle.nfs_serve.specs.Promises.LockKept.{renews_by, replaces_by, StaysFor, InTimeFor}
 use Rattle.nfs_serve.proofs.Promises.Points.{left, for_asked, next_is, IsSound, whole_before, taken_later, sound_next, sound_all, sound_new}

@@ -1,36 +1,22 @@
 -- Expiry at two moments, and steps that do nothing but take their moment.
 use Rattle.std.proofs.Common.{◌≡◌, ℕ, max, Bool, true, false, List, [], ◌∷◌, length, Option, Some, None, refl, sym, ◌∙◌, ap, arith, inl, inr}
-use Rattle.std.specs.Prelude.{◌==◌, ◌&&◌, ◌||◌, not, nat_lt}
 use Rattle.std.proofs.lemmas.Bool.{cases_Bool}
-use Rattle.nfs_xdr.specs.Caller.{Caller}
-use Rattle.nfs_xdr.specs.declared.status.Status.{Status}
-use Rattle.nfs_rpc.specs.declared.refusal.Refusal.TheVariants.{Silent, Mismatch, Auth, Accept}
-use Rattle.nfs_rpc.specs.declared.call.Procedure.{Procedure}
-use Rattle.nfs_rpc.specs.declared.call.Procedure.TheVariants as Procedures
+use Rattle.std.specs.{Prelude.{◌==◌, ◌&&◌, ◌||◌, not, nat_lt, is_some}, Option.option_map_or}
+use Rattle.nfs_xdr.specs.{Caller.Caller, declared.status.Status.Status}
+use Rattle.nfs_rpc.specs.{declared.refusal.Refusal.TheVariants.{Silent, Mismatch, Auth, Accept}, declared.call.Procedure.Procedure}
 use Rattle.nfs_rpc.specs.CallHead.{Called, Accepted, Refused, call_of}
-use Rattle.nfs_compound.specs.declared.op.Item.{Item}
-use Rattle.nfs_compound.specs.declared.op.Item.TheVariants.{Operation, Fault}
-use Rattle.nfs_compound.specs.declared.op.Op.TheVariants as Op
-use Rattle.nfs_compound.specs.Request.{Request, item_number}
-use Rattle.nfs_compound.specs.ReadRequest.{request_at}
+use Rattle.nfs_rpc.specs.declared.call.Procedure.TheVariants as Procedures
+use Rattle.nfs_compound.specs.{declared.op.Item.Item, declared.op.Item.TheVariants.{Operation, Fault}, Request.{Request, item_number}, ReadRequest.request_at}
 use Rattle.nfs_compound.specs.declared.session_args.Sequence.{Sequence}
-use Rattle.nfs_exec.specs.Step.Machine.{Machine, Outcome}
-use Rattle.nfs_exec.specs.Step.Place.{place_fault}
+use Rattle.nfs_compound.specs.declared.op.Op.TheVariants as Op
+use Rattle.nfs_exec.specs.{Step.Machine.{Machine, Outcome}, Step.Place.place_fault, Step.Sequence.{Sequenced, sequenced}, Step.Run.is_here}
+use Rattle.nfs_exec.specs.{Step.Compound.{carried_out, by_fault, first_item, in_session, by_first, compound}, Step.Expiry.expired}
+use Rattle.nfs_exec.specs.{Step.Laws.{if_runs, first_runs}, Step.Executing.{is_alone, executes}}
 use Rattle.nfs_exec.specs.Step.Sequence as sequence
-use Rattle.nfs_exec.specs.Step.Sequence.{Sequenced, sequenced}
-use Rattle.nfs_exec.specs.Step.Run.{is_here}
-use Rattle.nfs_exec.specs.Step.Compound.{carried_out, by_fault, first_item, in_session, by_first, compound}
-use Rattle.nfs_exec.specs.Step.Expiry.{expired}
-use Rattle.nfs_exec.specs.Step.Laws.{if_runs, first_runs}
 use Rattle.nfs_exec.proofs.Step.Repeating.{expires}
-use Rattle.nfs_serve.proofs.Promises.ServerLaws.{KeepsTime}
-use Rattle.nfs_serve.proofs.Promises.Settled.{IsSettled, settled_new, settled_step, ticks_nothing}
-use Rattle.nfs_exec.specs.Step.Executing.{is_alone, executes}
-use Rattle.nfs_serve.specs.Promises.Endpoint.{Answer}
-use Rattle.nfs_serve.specs.Step.{asked_of, State, Stepped, with_arguments, by_procedure, reply_to, step}
+use Rattle.nfs_serve.proofs.{Promises.ServerLaws.KeepsTime, Promises.Settled.{IsSettled, settled_new, settled_step, ticks_nothing}}
+use Rattle.nfs_serve.specs.{Promises.Endpoint.Answer, Step.{asked_of, State, Stepped, with_arguments, by_procedure, reply_to, step}}
 use Rattle.nfs_serve.specs.Promises.Seen.{ticked, executes_by, seen, server}
-use Rattle.std.specs.Prelude.{is_some}
-use Rattle.std.specs.Option.{option_map_or}
 
 -- A compound that does not execute changes nothing.
 

@@ -1,26 +1,15 @@
 -- A run of many connections is the run of its script, and nothing is lost on a connection that is served at its end.
 use Rattle.std.proofs.Common.{◌≡◌, ◌≢◌, ◌⊎◌, ℕ, ◌≤◌, List, [], ◌∷◌, ◌++◌, flat_map, true, false, All, refl, sym, ap, subst, ◌∙◌, append_assoc}
-use Rattle.std.proofs.Common.{append-nil, arith, nat_eq, eqb, if◌then◌else◌, inl, inr}
-use Rattle.std.proofs.lemmas.Bool.{eq-eqb, ne_eqb}
-use Rattle.std.proofs.lemmas.Bool.Decides.{eqb_tells}
-use Rattle.std.proofs.lemmas.List.Elements.{All-nil, All-cons, All-append}
-use Rattle.std.proofs.lemmas.List.Concat.{flat_map-append}
-use Rattle.nfs_rpc.specs.RecordMarking.{start}
-use Rattle.nfs_rpc.specs.Stream.{Open, IsReading}
+use Rattle.std.proofs.{Common.{append-nil, arith, nat_eq, eqb, if◌then◌else◌, inl, inr}, lemmas.Bool.{eq-eqb, ne_eqb}, lemmas.Bool.Decides.eqb_tells}
+use Rattle.std.proofs.{lemmas.List.Elements.{All-nil, All-cons, All-append}, lemmas.List.Concat.flat_map-append}
+use Rattle.nfs_rpc.specs.{RecordMarking.start, Stream.{Open, IsReading}}
 use Rattle.nfs_rpc.proofs.Readings.{part_unfinished}
-use Rattle.nfs_serve.specs.declared.form.Form.TheVariants.{Plain}
-use Rattle.nfs_serve.specs.Script.{Entry, Fits, last_connection}
-use Rattle.nfs_serve.specs.Step.{State}
+use Rattle.nfs_serve.specs.{declared.form.Form.TheVariants.Plain, Script.{Entry, Fits, last_connection}, Step.State}
 use Rattle.nfs_serve.specs.Run.{Streams, with_stream, all_closed, TakesAll, StreamEvent, Move, events, after, after_event, output_of}
-use Rattle.nfs_serve.specs.Desk.{opened, Act, Goes}
-use Rattle.nfs_serve.specs.Hub.{Desks, none_live, Round, Opens, Turns, OthersStay, Turning}
-use Rattle.nfs_serve.specs.Promises.Laws.{call_on, NoneCloses}
+use Rattle.nfs_serve.specs.{Desk.{opened, Act, Goes}, Hub.{Desks, none_live, Round, Opens, Turns, OthersStay, Turning}, Promises.Laws.{call_on, NoneCloses}}
 use Rattle.nfs_serve.specs.Promises.Account.{came, taken, part_of}
 use Rattle.nfs_serve.specs.Promises.Whole.{close, entries_of, script, RunsScript, HubRunsScript, acts_on, port_of, output_on, LosesNothing, NothingIsLostInARun, TurningInto, NothingIsLostInATurn}
-use Rattle.nfs_serve.proofs.Moves.{after-append, events-append}
-use Rattle.nfs_serve.proofs.Pieces.{start_holds, no_bytes}
-use Rattle.nfs_serve.proofs.Connections.{stretch}
-use Rattle.nfs_serve.proofs.Scripts.{others_open, stream_script}
+use Rattle.nfs_serve.proofs.{Moves.{after-append, events-append}, Pieces.{start_holds, no_bytes}, Connections.stretch, Scripts.{others_open, stream_script}}
 use Rattle.nfs_serve.proofs.Turns.{not_served, output_own, output_other, stream_same, stream_other, Holds, flows_on, Flow, Ran, ran}
 
 -- entries one after the other

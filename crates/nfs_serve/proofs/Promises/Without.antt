@@ -1,29 +1,18 @@
 -- What an operation is refused with is none of some statuses: `bad` says which.
 use Rattle.std.proofs.Common.{◌≡◌, ℕ, Bool, true, false, cond, not, List, [], ◌∷◌, ◌++◌, Option, Some, None, refl, sym, ◌∙◌, ap}
 use Rattle.std.specs.Prelude.{Result, Ok, Err, ok_or}
-use Rattle.nfs_xdr.specs.Checks.{first_fault, judged}
-use Rattle.nfs_xdr.specs.declared.status.Status.{Status}
+use Rattle.nfs_xdr.specs.{Checks.{first_fault, judged}, declared.status.Status.Status}
 use Rattle.nfs_xdr.specs.declared.status.Status.TheVariants as S
-use Rattle.nfs_compound.specs.OpNum.{op_number}
-use Rattle.nfs_compound.specs.declared.op_num.OpNum.{OpNum}
-use Rattle.nfs_compound.specs.declared.stateid.Stateid.{Stateid}
+use Rattle.nfs_compound.specs.{OpNum.op_number, declared.op_num.OpNum.OpNum, declared.stateid.Stateid.Stateid}
 use Rattle.nfs_results.specs.Results.{status_of_result}
-use Rattle.nfs_opens.specs.declared.judging.Seat.{Seat}
-use Rattle.nfs_opens.specs.declared.judging.Seat.TheVariants.{Anonymous, ReadBypass}
-use Rattle.nfs_opens.specs.declared.judging.Sort.TheVariants.{Either}
-use Rattle.nfs_opens.specs.declared.stateid.CurrentSeqid.TheVariants.{Any}
-use Rattle.nfs_opens.specs.declared.stateid.StateId.{StateId}
-use Rattle.nfs_opens.specs.Judging.{judge_checks, seated, judge_named, judge, named}
-use Rattle.nfs_opens.specs.StateId.{is_current, with_seqid, is_anonymous, is_bypass}
-use Rattle.nfs_opens.specs.Table.{Table}
+use Rattle.nfs_opens.specs.{declared.judging.Seat.Seat, declared.judging.Seat.TheVariants.{Anonymous, ReadBypass}, declared.judging.Sort.TheVariants.Either}
+use Rattle.nfs_opens.specs.{declared.stateid.CurrentSeqid.TheVariants.Any, declared.stateid.StateId.StateId}
+use Rattle.nfs_opens.specs.{Judging.{judge_checks, seated, judge_named, judge, named}, StateId.{is_current, with_seqid, is_anonymous, is_bypass}, Table.Table}
 use Rattle.nfs_opens.specs.Steps.{◌>>=◌, ◌>>◌, in_order, require}
-use Rattle.nfs_names.specs.declared.context.Context.{Context}
-use Rattle.nfs_names.specs.declared.node.Node.{Node}
-use Rattle.nfs_names.specs.Outcome.{Outcome, passed, checked, mapped, answers, or_refusal}
+use Rattle.nfs_names.specs.{declared.context.Context.Context, declared.node.Node.Node, Outcome.{Outcome, passed, checked, mapped, answers, or_refusal}}
 use Rattle.nfs_names.specs.State.{State}
 use Rattle.nfs_names.proofs.Faulted.{status_of_refusal}
-use Rattle.nfs_files.specs.Bytes.{seat, if_passed}
-use Rattle.nfs_files.specs.StateIds.{state_id, meant}
+use Rattle.nfs_files.specs.{Bytes.{seat, if_passed}, StateIds.{state_id, meant}}
 use Rattle.nfs_files.proofs.Prompt.{all_pass, first_passes, not_true}
 
 -- a check that passes stands in the way of no other

@@ -1,17 +1,11 @@
 -- A byte that was told stays through whatever records come.
 use Rattle.std.proofs.Common.{◌≡◌, List, [], ◌∷◌, ◌++◌, Option, Some, None, sym, ap, subst}
 use Rattle.std.specs.Option.{option_map_or}
-use Rattle.nfs_exec.specs.Step.Machine.{Machine}
-use Rattle.nfs_exec.specs.Step.Laws.{MachineEvent, Expires}
-use Rattle.nfs_exec.specs.Runs.Ops.{RanOp, ops_by}
-use Rattle.nfs_files.specs.Written.{Byte}
+use Rattle.nfs_exec.specs.{Step.Machine.Machine, Step.Laws.{MachineEvent, Expires}, Runs.Ops.{RanOp, ops_by}}
 use Rattle.nfs_exec.specs.Runs.WrittenRun.{WritesIt, the_byte, AreSpared, StandsWhile}
-use Rattle.nfs_exec.proofs.Runs.OneWalk.{event_walked, none_at}
-use Rattle.nfs_exec.proofs.Runs.KeptByRuns.{Is}
-use Rattle.nfs_exec.proofs.Runs.WrittenRun.{LastsIn, byte_stays, event_told}
-use Rattle.nfs_serve.specs.Step.{State, new_state}
-use Rattle.nfs_serve.specs.Promises.Endpoint.{Arrival}
-use Rattle.nfs_serve.specs.Promises.Points.{state_after, reached, taken, before, asked_by}
+use Rattle.nfs_files.specs.Written.{Byte}
+use Rattle.nfs_exec.proofs.{Runs.OneWalk.{event_walked, none_at}, Runs.KeptByRuns.Is, Runs.WrittenRun.{LastsIn, byte_stays, event_told}}
+use Rattle.nfs_serve.specs.{Step.{State, new_state}, Promises.Endpoint.Arrival, Promises.Points.{state_after, reached, taken, before, asked_by}}
 use Rattle.nfs_serve.specs.Promises.WrittenStays.{StaysWritten, BytesStay}
 use Rattle.nfs_serve.proofs.Promises.Staying.{Through, through_asked}
 use Rattle.nfs_serve.proofs.Promises.Points.{left, next_is, IsSound, whole_before, sound_next, sound_all, sound_new}

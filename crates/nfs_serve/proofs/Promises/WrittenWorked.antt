@@ -1,27 +1,20 @@
 -- The run of a byte that stays, computed.
 use Rattle.std.proofs.Common.{◌≡◌, ℕ, ◌++◌, length, ◌<◌, Bool, true, false, List, [], ◌∷◌, take, Some, refl, sym, ◌∙◌, ap, subst, arith, inl, inr}
-use Rattle.std.specs.Prelude.{◌&&◌, not, nat_le}
 use Rattle.std.proofs.lemmas.Bool.{and_parts, not-true, leb-false, ltb-true, true≢false}
+use Rattle.std.specs.Prelude.{◌&&◌, not, nat_le}
 use Rattle.nfs_xdr.specs.Spelling.{number}
 use Rattle.nfs_compound.specs.declared.op_num.OpNum.TheVariants as Num
 use Rattle.nfs_compound.specs.declared.file_args.Write as args
-use Rattle.nfs_compound.specs.declared.file_args.Read.{Read}
-use Rattle.nfs_compound.specs.declared.file_args.StableHow.TheVariants.{Unstable}
-use Rattle.nfs_compound.specs.declared.op.Item.{Item}
+use Rattle.nfs_compound.specs.{declared.file_args.Read.Read, declared.file_args.StableHow.TheVariants.Unstable, declared.op.Item.Item}
 use Rattle.nfs_compound.specs.declared.op.Item.TheVariants.{Operation}
 use Rattle.nfs_compound.specs.declared.op.Op.TheVariants as Op
 use Rattle.nfs_results.specs.Results.{done_head}
-use Rattle.nfs_names.specs.declared.context.Context.{Context}
-use Rattle.nfs_names.specs.Context.{anonymous}
+use Rattle.nfs_names.specs.{declared.context.Context.Context, Context.anonymous}
 use Rattle.nfs_files.specs.Written.{Byte, WritesOver, Reads, bytes_in}
-use Rattle.nfs_exec.specs.Runs.Ops.{RanOp}
-use Rattle.nfs_exec.specs.Runs.WrittenRun.{WritesIt, SparesIt, AreSpared}
-use Rattle.nfs_serve.specs.Promises.Points.{ops_of}
-use Rattle.nfs_serve.specs.Promises.Exchanges.{words}
-use Rattle.nfs_serve.specs.Promises.HeldLock.{last_of}
+use Rattle.nfs_exec.specs.{Runs.Ops.RanOp, Runs.WrittenRun.{WritesIt, SparesIt, AreSpared}}
+use Rattle.nfs_serve.specs.{Promises.Points.ops_of, Promises.Exchanges.words, Promises.HeldLock.last_of}
 use Rattle.nfs_serve.specs.Promises.WrittenWorked.{StaysTo, BytesRefused, made, writes, written, goes_on, grown, closes, closed, reads, byte, answering}
-use Rattle.nfs_serve.proofs.Promises.HeldLock.{nothing, three}
-use Rattle.nfs_serve.proofs.Promises.Computing.{computing}
+use Rattle.nfs_serve.proofs.{Promises.HeldLock.{nothing, three}, Promises.Computing.computing}
 
 -- A WRITE behind the place, and whatever is none of the three that change bytes, spares the byte.
 

@@ -1,12 +1,9 @@
 -- The runs in which laws fail of wrong answers, computed.
-use Rattle.std.proofs.Common.{◌≡◌, ℕ, true, List, [], ◌∷◌, length, get_or, Some, None, refl, ap, arith}
+use Rattle.std.proofs.{Common.{◌≡◌, ℕ, true, List, [], ◌∷◌, length, get_or, Some, None, refl, ap, arith}, lemmas.Bool.{false≢true}}
 use Rattle.std.specs.Prelude.{option_map}
-use Rattle.std.proofs.lemmas.Bool.{false≢true}
 use Rattle.nfs_xdr.specs.Spelling.{number}
 use Rattle.nfs_rpc.specs.Reply.{spell_head}
-use Rattle.nfs_serve.specs.Promises.Endpoint.{Heading, Answer, Arrival, Server, stepped}
-use Rattle.nfs_serve.specs.Promises.WrongServers.{Small, place}
-use Rattle.nfs_serve.specs.Promises.AnsweredAgain.{Stands}
+use Rattle.nfs_serve.specs.{Promises.Endpoint.{Heading, Answer, Arrival, Server, stepped}, Promises.WrongServers.{Small, place}, Promises.AnsweredAgain.Stands}
 use Rattle.nfs_serve.specs.Promises.WrongAnswers.{refuses_some, makes_anew, runs_again, AnswersAreRefused}
 use Rattle.nfs_serve.proofs.Promises.LostReply.{is_bytes}
 

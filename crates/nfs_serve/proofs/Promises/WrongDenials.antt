@@ -1,14 +1,10 @@
 -- The run of a denial that is true, and the denials that are refused, computed.
 use Rattle.std.proofs.Common.{◌≡◌, ◌⊎◌, ℕ, ◌+◌, ◌*◌, ◌≤◌, Bool, true, false, List, [], ◌∷◌, ◌++◌, length, take, get_or, Some, None, refl, sym, ◌∙◌, ap, subst, arith, inl, inr}
 use Rattle.std.specs.Prelude.{◌^◌, ◌&&◌, filter}
-use Rattle.nfs_xdr.specs.Tables.{In}
-use Rattle.nfs_xdr.specs.Spelling.{number, hyper}
+use Rattle.nfs_xdr.specs.{Tables.In, Spelling.{number, hyper}}
 use Rattle.nfs_xdr.proofs.Lists.{stays_in}
-use Rattle.nfs_compound.specs.declared.lock_args.Lock.{Lock}
-use Rattle.nfs_compound.specs.declared.lock_args.Locker.TheVariants.{OpenOwner}
-use Rattle.nfs_compound.specs.declared.lock_args.OpenToLockOwner.{OpenToLockOwner}
-use Rattle.nfs_compound.specs.declared.op.Item.{Item}
-use Rattle.nfs_compound.specs.declared.op.Item.TheVariants.{Operation}
+use Rattle.nfs_compound.specs.{declared.lock_args.Lock.Lock, declared.lock_args.Locker.TheVariants.OpenOwner}
+use Rattle.nfs_compound.specs.{declared.lock_args.OpenToLockOwner.OpenToLockOwner, declared.op.Item.Item, declared.op.Item.TheVariants.Operation}
 use Rattle.nfs_compound.specs.declared.op.Op.TheVariants as Op
 use Rattle.nfs_compound.specs.declared.op_num.OpNum.TheVariants as Num
 use Rattle.nfs_results.specs.declared.res.Denied as result
@@ -16,22 +12,14 @@ use Rattle.nfs_results.specs.declared.res.Res.TheVariants as Res
 use Rattle.nfs_results.specs.Results.{spell_result, done_head}
 use Rattle.nfs_opens.specs.declared.locking.Wish.{Wish}
 use Rattle.nfs_files.specs.LockTold.{LockTold}
-use Rattle.nfs_exec.specs.Runs.LockHeld.{LocksFor}
-use Rattle.nfs_exec.specs.Runs.Ops.{RanOp}
+use Rattle.nfs_exec.specs.{Runs.LockHeld.LocksFor, Runs.Ops.RanOp}
 use Rattle.nfs_exec.proofs.Runs.OneWalk.{in_back}
-use Rattle.nfs_serve.specs.Step.{State, new_state}
-use Rattle.nfs_serve.specs.Promises.Endpoint.{Arrival}
-use Rattle.nfs_serve.specs.Promises.HeldLock.{earlier, locks, clashes, start, asked, last_of}
-use Rattle.nfs_serve.specs.Promises.ChangeTells.{RunsIn}
-use Rattle.nfs_serve.specs.Promises.Exchanges.{words}
-use Rattle.nfs_serve.specs.Promises.Denials.{IsBegunBy, IsRefusedFor, ByLock, ByTest, byte_of, Grants}
-use Rattle.nfs_serve.specs.Promises.NoIsTrue.{IsInLease, IsGrantedIn, IsGranted, Before, Within, IsTrue}
-use Rattle.nfs_serve.specs.Promises.Outlived.{last_renewal}
+use Rattle.nfs_serve.specs.{Step.{State, new_state}, Promises.Endpoint.Arrival, Promises.HeldLock.{earlier, locks, clashes, start, asked, last_of}}
+use Rattle.nfs_serve.specs.{Promises.ChangeTells.RunsIn, Promises.Exchanges.words, Promises.Denials.{IsBegunBy, IsRefusedFor, ByLock, ByTest, byte_of, Grants}}
+use Rattle.nfs_serve.specs.{Promises.NoIsTrue.{IsInLease, IsGrantedIn, IsGranted, Before, Within, IsTrue}, Promises.Outlived.last_renewal}
 use Rattle.nfs_serve.specs.Promises.Points.{state_after, state_after_all, reached, taken, ops_of}
 use Rattle.nfs_serve.specs.Promises.WrongDenials.{before_clash, IsDeniedTruly, denies, blames_another, silence, asks_late, before_again, asks_again, DenialsRefused}
-use Rattle.nfs_serve.proofs.Promises.Computing.{computing}
-use Rattle.nfs_serve.proofs.Promises.HeldLock.{nothing, three, says_ok, asking}
-use Rattle.nfs_serve.proofs.Promises.StatesBegun.{same_lock}
+use Rattle.nfs_serve.proofs.{Promises.Computing.computing, Promises.HeldLock.{nothing, three, says_ok, asking}, Promises.StatesBegun.same_lock}
 
 -- A LOCK that granted something says NFS4_OK, and is among the operations of the records or of the compound.
 

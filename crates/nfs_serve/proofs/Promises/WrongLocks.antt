@@ -2,43 +2,22 @@
 use Rattle.std.proofs.lemmas.Bool.{and_parts, eqb-true, false≢true}
 use Rattle.std.proofs.Common.{◌≡◌, ℕ, Bool, true, false, ◌+◌, ◌≤◌, List, [], ◌∷◌, ◌++◌, length, take, get_or, Option, Some, None, refl, sym, ◌∙◌, ap, subst, arith, inl, inr}
 use Rattle.std.specs.Prelude.{◌==◌, ◌&&◌, Result, Ok}
-use Rattle.nfs_xdr.specs.Spelling.{number, hyper}
-use Rattle.nfs_compound.specs.declared.op.Item.{Item}
-use Rattle.nfs_compound.specs.declared.op.Item.TheVariants.{Operation}
+use Rattle.nfs_xdr.specs.{Spelling.{number, hyper}, declared.status.Status.Status, Tables.In, Caller.Caller}
+use Rattle.nfs_compound.specs.{declared.op.Item.Item, declared.op.Item.TheVariants.Operation, declared.lock_args.Lock.Lock, declared.open_args.Close.Close}
+use Rattle.nfs_compound.specs.{declared.lock_args.LockU.LockU, Request.Request, declared.session_args.Sequence.Sequence}
 use Rattle.nfs_compound.specs.declared.op.Op.TheVariants as Op
-use Rattle.nfs_compound.specs.declared.lock_args.Lock.{Lock}
 use Rattle.nfs_ranges.specs.declared.Kind.TheVariants.{Write}
-use Rattle.nfs_opens.specs.Table.{Table}
-use Rattle.nfs_opens.specs.declared.stateid.StateId.{StateId}
-use Rattle.nfs_opens.specs.declared.stateid.CurrentSeqid.TheVariants.{Own}
-use Rattle.nfs_compound.specs.declared.open_args.Close.{Close}
-use Rattle.nfs_compound.specs.declared.lock_args.LockU.{LockU}
-use Rattle.nfs_xdr.specs.declared.status.Status.{Status}
-use Rattle.nfs_xdr.specs.Tables.{In}
+use Rattle.nfs_opens.specs.{Table.Table, declared.stateid.StateId.StateId, declared.stateid.CurrentSeqid.TheVariants.Own, declared.records.LockState.LockState}
 use Rattle.nfs_names.specs.declared.context.Context.{Context}
-use Rattle.nfs_files.specs.StateIds.{meant}
-use Rattle.nfs_files.specs.LockTold.{Stands}
-use Rattle.nfs_exec.specs.Step.Machine.{Machine}
-use Rattle.nfs_xdr.specs.Caller.{Caller}
-use Rattle.nfs_compound.specs.Request.{Request}
-use Rattle.nfs_compound.specs.declared.session_args.Sequence.{Sequence}
-use Rattle.nfs_exec.specs.Step.Compound.{Answered, compound}
-use Rattle.nfs_exec.specs.Step.Laws.{MachineEvent, Expires, Asks, first_runs}
-use Rattle.nfs_exec.specs.Step.Delayed.{IsDelayed, kept_by, with_ok}
-use Rattle.nfs_exec.specs.Runs.Ops.{RanOp}
-use Rattle.nfs_exec.specs.Runs.LockHeld.{Spares, AreSpared}
-use Rattle.nfs_serve.specs.Promises.Exchanges.{words}
-use Rattle.nfs_serve.specs.Promises.LockKept.{StaysHeld, replaces_by}
-use Rattle.nfs_opens.specs.declared.records.LockState.{LockState}
-use Rattle.nfs_serve.specs.Promises.Outlived.{last_renewal, IsInTime}
-use Rattle.nfs_serve.specs.Step.{State, new_state}
-use Rattle.nfs_serve.specs.Promises.Endpoint.{Arrival}
-use Rattle.nfs_serve.specs.Promises.Points.{state_after, taken, before, ops_of, asked_by}
-use Rattle.nfs_serve.specs.Promises.HeldLock as worked
+use Rattle.nfs_files.specs.{StateIds.meant, LockTold.Stands}
+use Rattle.nfs_exec.specs.{Step.Machine.Machine, Step.Compound.{Answered, compound}, Step.Laws.{MachineEvent, Expires, Asks, first_runs}}
+use Rattle.nfs_exec.specs.{Step.Delayed.{IsDelayed, kept_by, with_ok}, Runs.Ops.RanOp, Runs.LockHeld.{Spares, AreSpared}}
+use Rattle.nfs_serve.specs.{Promises.Exchanges.words, Promises.LockKept.{StaysHeld, replaces_by}, Promises.Outlived.{last_renewal, IsInTime}}
+use Rattle.nfs_serve.specs.{Step.{State, new_state}, Promises.Endpoint.Arrival, Promises.Points.{state_after, taken, before, ops_of, asked_by}}
 use Rattle.nfs_serve.specs.Promises.HeldLock.{renewal, last_of}
 use Rattle.nfs_serve.specs.Promises.WrongLocks.{AreRefused, repeats, ended, NoneDelayed, short_leases, set_back, told_anyway, closes_another}
-use Rattle.nfs_serve.proofs.Promises.HeldLock.{locks_for}
-use Rattle.nfs_serve.proofs.Promises.Computing.{computing}
+use Rattle.nfs_serve.specs.Promises.HeldLock as worked
+use Rattle.nfs_serve.proofs.{Promises.HeldLock.locks_for, Promises.Computing.computing}
 
 late_by : (last : ℕ) → ◌≡◌ {A = _} (Some 102) (Some last) → 193 ≤ last + 90 → ⊥
 late_by last e within = let same : 102 ≡ last = cc in absurd (omega arith)

@@ -1,24 +1,14 @@
 -- Wrong steps that the promise of opens refuses, computed.
-use Rattle.std.proofs.Common.{◌≡◌, Bool, true, false, [], ◌∷◌, refl, sym, ◌∙◌, ap, subst, inl, inr}
-use Rattle.std.proofs.lemmas.Bool.{true≢false}
+use Rattle.std.proofs.{Common.{◌≡◌, Bool, true, false, [], ◌∷◌, refl, sym, ◌∙◌, ap, subst, inl, inr}, lemmas.Bool.{true≢false}}
 use Rattle.nfs_xdr.specs.Tables.{In}
-use Rattle.nfs_compound.specs.declared.op.Op.{Op}
-use Rattle.nfs_compound.specs.declared.op.Item.TheVariants.{Operation}
-use Rattle.nfs_compound.specs.declared.open_args.Open.{Open}
-use Rattle.nfs_compound.specs.declared.open_args.Close.{Close}
+use Rattle.nfs_compound.specs.{declared.op.Op.Op, declared.op.Item.TheVariants.Operation, declared.open_args.Open.Open, declared.open_args.Close.Close}
 use Rattle.nfs_compound.specs.declared.open_args.OpenDowngrade.{OpenDowngrade}
-use Rattle.nfs_opens.specs.declared.share.Share.{Share}
-use Rattle.nfs_opens.specs.declared.records.OpenState.{OpenState}
-use Rattle.nfs_opens.specs.Share.{neither}
-use Rattle.nfs_opens.specs.Table.{Table}
+use Rattle.nfs_opens.specs.{declared.share.Share.Share, declared.records.OpenState.OpenState, Share.neither, Table.Table}
 use Rattle.nfs_files.specs.OpenTold.{Bits, IsOpenWith}
-use Rattle.nfs_serve.specs.Promises.Points.{ops_of}
-use Rattle.nfs_serve.specs.Promises.HeldLock.{last_of}
-use Rattle.nfs_serve.specs.Promises.WrongLocks.{closes_another}
-use Rattle.nfs_serve.specs.Promises.HeldOpen as worked
+use Rattle.nfs_serve.specs.{Promises.Points.ops_of, Promises.HeldLock.last_of, Promises.WrongLocks.closes_another}
 use Rattle.nfs_serve.specs.Promises.WrongOpens.{reads_too, reading, puts_in_place, keeps_bits, OpensAreRefused}
-use Rattle.nfs_serve.proofs.Promises.WrongLocks.{closes_other}
-use Rattle.nfs_serve.proofs.Promises.Computing.{computing}
+use Rattle.nfs_serve.specs.Promises.HeldOpen as worked
+use Rattle.nfs_serve.proofs.{Promises.WrongLocks.closes_other, Promises.Computing.computing}
 
 -- the one open that stands there denies what it ought not to, or denies not what it ought to
 other_deny : (t : Table) (b : Bits) (o : OpenState) (v w : Bool) → t.opens ≡ o ∷ [] → o.deny.writes ≡ v → b.deny.writes ≡ w → (v ≡ w → ⊥)

@@ -1,16 +1,12 @@
 -- The runs in which the laws fail of the wrong servers, computed.
 use Rattle.std.proofs.Common.{◌≡◌, inl, inr, ℕ, ◌<◌, zero, suc, true, false, List, [], ◌∷◌, ◌++◌, length, get_or, Option, Some, None, refl, sym, ◌∙◌, ap, subst, arith}
 use Rattle.std.proofs.lemmas.Bool.{cases_Bool, true≢false}
-use Rattle.nfs_xdr.specs.Text.{IsBytes}
-use Rattle.nfs_xdr.specs.Tables.{In}
-use Rattle.nfs_slots.specs.declared.slot.Verdict.{Verdict}
-use Rattle.nfs_slots.specs.declared.slot.Verdict.TheVariants.{Fresh, Again, FalseRetry, Misordered, NoSlot}
+use Rattle.nfs_xdr.specs.{Text.IsBytes, Tables.In}
+use Rattle.nfs_slots.specs.{declared.slot.Verdict.Verdict, declared.slot.Verdict.TheVariants.{Fresh, Again, FalseRetry, Misordered, NoSlot}}
 use Rattle.nfs_serve.specs.Promises.Endpoint.{Place, Heading, Compound, Answer, SlotNumber, Stepped, Arrival}
-use Rattle.nfs_serve.specs.Promises.Network.{Callers, Packet, Next, NetworkEvent, Sends, Arrives, Accepts, begins, same_place}
-use Rattle.nfs_serve.specs.Promises.Numbered.{Happens}
+use Rattle.nfs_serve.specs.{Promises.Network.{Callers, Packet, Next, NetworkEvent, Sends, Arrives, Accepts, begins, same_place}, Promises.Numbered.Happens}
 use Rattle.nfs_serve.specs.Promises.WrongServers.{Small, place, heading, spell, arguments, judged, is_fresh, by_verdict, taken, executes, runs_repeats, says_one, LawsRefuse}
-use Rattle.nfs_serve.proofs.Promises.ServerLaws.{KeepsSlots, Runs, Repeats}
-use Rattle.nfs_serve.proofs.Promises.NetworkLines.{same_place_is, same_place_self}
+use Rattle.nfs_serve.proofs.{Promises.ServerLaws.{KeepsSlots, Runs, Repeats}, Promises.NetworkLines.{same_place_is, same_place_self}}
 use Rattle.nfs_serve.proofs.Promises.NetworkEvents.{exactly_once_by_number}
 
 -- The first server keeps its slots as it should.

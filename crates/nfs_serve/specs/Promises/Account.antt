@@ -1,8 +1,7 @@
 -- One connection of many, from one act to a later one: nothing that came is lost, and no reply is lost, doubled or out of its order.
 use Rattle.std.specs.Prelude.{◌≡◌, ℕ, List, [], ◌∷◌, ◌++◌, flat_map, true}
 use Rattle.nfs_rpc.specs.RecordMarking.{Gathered}
-use Rattle.nfs_serve.specs.Step.{State}
-use Rattle.nfs_serve.specs.Desk.{Desk, Act, Came, Took, Stepped, TakesPart, Goes}
+use Rattle.nfs_serve.specs.{Step.State, Desk.{Desk, Act, Came, Took, Stepped, TakesPart, Goes}}
 
 abbrev pub came : Act → List ℕ
 came (Came bytes) = bytes

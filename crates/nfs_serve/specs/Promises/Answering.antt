@@ -1,8 +1,7 @@
 -- Each call is answered under its xid, whatever it asks for and in whatever state; and what is no call is not answered (RFC 5531 sections 8.2 and 9).
 use Rattle.std.specs.Prelude.{◌≡◌, ℕ, List, ◌++◌, Option, Some, None, ⊤}
 use Rattle.nfs_xdr.specs.Spelling.{number}
-use Rattle.nfs_rpc.specs.declared.refusal.Refusal.TheVariants.{Silent, Mismatch, Auth, Accept}
-use Rattle.nfs_rpc.specs.CallHead.{Called, Accepted, Refused, call_of}
+use Rattle.nfs_rpc.specs.{declared.refusal.Refusal.TheVariants.{Silent, Mismatch, Auth, Accept}, CallHead.{Called, Accepted, Refused, call_of}}
 use Rattle.nfs_serve.specs.Step.{State, step}
 
 -- the xid of a record that is a call, as far as it can be read

@@ -5,15 +5,9 @@ use Rattle.std.specs.Prelude.{◌≡◌, ℕ, true, List, [], ◌∷◌, ◌++�
 use Rattle.nfs_xdr.specs.Text.{IsBytes}
 use Rattle.nfs_rpc.specs.CallHead.{call_of}
 use Rattle.nfs_slots.specs.Slot.{next_number}
-use Rattle.nfs_serve.specs.Step.{new_state, step}
-use Rattle.nfs_serve.specs.Promises.Endpoint.{Answer, Arrival, stepped, ran}
-use Rattle.nfs_serve.specs.Promises.Exchanges.{words}
-use Rattle.nfs_serve.specs.Promises.HeldLock.{came, in_session}
-use Rattle.nfs_serve.specs.Promises.LostReply.{before, here, place, packet, answer, exchange_id}
-use Rattle.nfs_serve.specs.Promises.AnsweredAgain.{AreElsewhere, Stands}
-use Rattle.nfs_serve.specs.Promises.Answering.{xid_of}
-use Rattle.nfs_serve.specs.Promises.FreshRuns.{Passes}
-use Rattle.nfs_serve.specs.Promises.Seen.{ticked}
+use Rattle.nfs_serve.specs.{Step.{new_state, step}, Promises.Endpoint.{Answer, Arrival, stepped, ran}, Promises.Exchanges.words}
+use Rattle.nfs_serve.specs.{Promises.HeldLock.{came, in_session}, Promises.LostReply.{before, here, place, packet, answer, exchange_id}}
+use Rattle.nfs_serve.specs.{Promises.AnsweredAgain.{AreElsewhere, Stands}, Promises.Answering.xid_of, Promises.FreshRuns.Passes, Promises.Seen.ticked}
 
 -- a packet of the exchange that comes at a moment
 abbrev pub comes : (xid number now : ℕ) → Arrival

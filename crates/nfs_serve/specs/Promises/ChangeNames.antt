@@ -1,16 +1,12 @@
 -- The change attribute tells of names: in a directory whose change is the same each name leads to the same object, or to none, and a listing has the same entries
 -- (RFC 8881 sections 10.8 and 18.13).
 use Rattle.std.specs.Prelude.{◌≡◌, ◌⊎◌, ℕ, true, List, ◌∷◌, ◌++◌, Some}
-use Rattle.nfs_xdr.specs.Tables.{In}
-use Rattle.nfs_xdr.specs.declared.status.Status.{Status}
-use Rattle.nfs_xdr.specs.declared.status.Status.TheVariants.{Nfs4Ok, NoEnt}
+use Rattle.nfs_xdr.specs.{Tables.In, declared.status.Status.Status, declared.status.Status.TheVariants.{Nfs4Ok, NoEnt}}
 use Rattle.nfs_compound.specs.declared.op.Item.TheVariants.{Operation}
 use Rattle.nfs_compound.specs.declared.op.Op.TheVariants as Op
 use Rattle.nfs_tree.specs.Files.{is_there, change_of, lookup, listing}
 use Rattle.nfs_exec.specs.Runs.Ops.{RanOp}
-use Rattle.nfs_serve.specs.Promises.Endpoint.{Arrival}
-use Rattle.nfs_serve.specs.Promises.Points.{state_after, reached, ops_of}
-use Rattle.nfs_serve.specs.Promises.ChangeTells.{RunsIn}
+use Rattle.nfs_serve.specs.{Promises.Endpoint.Arrival, Promises.Points.{state_after, reached, ops_of}, Promises.ChangeTells.RunsIn}
 
 -- a LOOKUP of a name in directory n, and what it was answered
 pub record LooksUp (n : ℕ) (name : List ℕ) (status : Status) (d : RanOp) : Type 0 where

@@ -4,12 +4,8 @@ use Rattle.std.specs.Prelude.{◌≡◌, ℕ, true, List, [], ◌∷◌, ◌++�
 use Rattle.nfs_xdr.specs.declared.status.Status.TheVariants.{Nfs4Ok, NoEnt}
 use Rattle.nfs_tree.specs.Files.{root, is_there, change_of, lookup}
 use Rattle.nfs_exec.specs.Runs.Ops.{RanOp}
-use Rattle.nfs_serve.specs.Promises.Points.{ops_of}
-use Rattle.nfs_serve.specs.Promises.HeldLock.{last_of}
-use Rattle.nfs_serve.specs.Promises.WrittenWorked.{closed, reads}
-use Rattle.nfs_serve.specs.Promises.ChangeWorked.{reads_again, read_once}
-use Rattle.nfs_serve.specs.Promises.ChangeTells.{RunsIn}
-use Rattle.nfs_serve.specs.Promises.ChangeNames.{LooksUp, AreNamed}
+use Rattle.nfs_serve.specs.{Promises.Points.ops_of, Promises.HeldLock.last_of, Promises.WrittenWorked.{closed, reads}}
+use Rattle.nfs_serve.specs.{Promises.ChangeWorked.{reads_again, read_once}, Promises.ChangeTells.RunsIn, Promises.ChangeNames.{LooksUp, AreNamed}}
 
 -- `f`
 abbrev pub name : List ℕ

@@ -2,30 +2,18 @@
 -- directory's change is so (RFC 8881 sections 5.8.1.4, 10.3.1, 18.4, 18.9, 18.16, 18.25 and 18.26).
 use Rattle.std.specs.Prelude.{◌≡◌, ◌⊎◌, ℕ, ◌<◌, ◌&&◌, true, List, ◌∷◌, ◌++◌, length, Some, Ok}
 use Rattle.nfs_xdr.specs.Tables.{In}
-use Rattle.nfs_compound.specs.declared.name_args.Create.{Create}
-use Rattle.nfs_compound.specs.declared.name_args.Rename.{Rename}
-use Rattle.nfs_compound.specs.declared.open_args.Open.{Open}
-use Rattle.nfs_compound.specs.declared.file_args.Write.{Write}
-use Rattle.nfs_compound.specs.declared.file_args.SetAttr.{SetAttr}
-use Rattle.nfs_compound.specs.declared.op.Item.TheVariants.{Operation}
+use Rattle.nfs_compound.specs.{declared.name_args.Create.Create, declared.name_args.Rename.Rename, declared.open_args.Open.Open, declared.file_args.Write.Write}
+use Rattle.nfs_compound.specs.{declared.file_args.SetAttr.SetAttr, declared.op.Item.TheVariants.Operation}
 use Rattle.nfs_compound.specs.declared.op.Op.TheVariants as Op
-use Rattle.nfs_results.specs.declared.res.ChangeInfo.{ChangeInfo}
-use Rattle.nfs_results.specs.declared.res.CreateOk.{CreateOk}
-use Rattle.nfs_results.specs.declared.res.OpenOk.{OpenOk}
-use Rattle.nfs_results.specs.declared.res.RenameOk.{RenameOk}
-use Rattle.nfs_results.specs.declared.res.Res.TheVariants as Res
+use Rattle.nfs_results.specs.{declared.res.ChangeInfo.ChangeInfo, declared.res.CreateOk.CreateOk, declared.res.OpenOk.OpenOk, declared.res.RenameOk.RenameOk}
 use Rattle.nfs_results.specs.Results.{spell_result}
+use Rattle.nfs_results.specs.declared.res.Res.TheVariants as Res
 use Rattle.nfs_tree.specs.Files.{is_there, change_of}
 use Rattle.nfs_attrs.specs.declared.wanted.Wanted.{Wanted}
-use Rattle.nfs_names.specs.declared.context.Saved.{Saved}
-use Rattle.nfs_names.specs.Create.{attributes_in}
-use Rattle.nfs_names.specs.Outcome.{is_ok}
-use Rattle.nfs_files.specs.FileImage.{claimed, is_number, asks_empty}
-use Rattle.nfs_files.specs.SetAttr.{gives_some}
+use Rattle.nfs_names.specs.{declared.context.Saved.Saved, Create.attributes_in, Outcome.is_ok}
+use Rattle.nfs_files.specs.{FileImage.{claimed, is_number, asks_empty}, SetAttr.gives_some}
 use Rattle.nfs_exec.specs.Runs.Ops.{RanOp}
-use Rattle.nfs_serve.specs.Promises.Endpoint.{Arrival}
-use Rattle.nfs_serve.specs.Promises.Points.{state_after, reached, ops_of}
-use Rattle.nfs_serve.specs.Promises.ChangeTells.{RunsIn}
+use Rattle.nfs_serve.specs.{Promises.Endpoint.Arrival, Promises.Points.{state_after, reached, ops_of}, Promises.ChangeTells.RunsIn}
 
 -- A directory's change as it was reported: it is that before the operation and that behind it, with nothing between.
 pub record IsTheirs (n : ℕ) (d : RanOp) (info : ChangeInfo) : Type 0 where

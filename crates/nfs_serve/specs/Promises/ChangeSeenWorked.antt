@@ -1,16 +1,12 @@
 -- A change that is seen, worked by hand over the run of `WrittenWorked`, and wrong reports that the promises refuse (RFC 8881 sections 5.8.1.4, 18.16 and 18.32). OPEN
 -- makes the file `f` in the root, and reports the root's change; then the file is written, and its change rises.
 use Rattle.std.specs.Prelude.{◌≡◌, ◌<◌, true, false, List, [], ◌∷◌, ◌++◌}
-use Rattle.nfs_results.specs.declared.res.OpenOk.{OpenOk}
+use Rattle.nfs_results.specs.{declared.res.OpenOk.OpenOk, Results.spell_result}
 use Rattle.nfs_results.specs.declared.res.Res.TheVariants as Res
-use Rattle.nfs_results.specs.Results.{spell_result}
 use Rattle.nfs_tree.specs.Files.{root, is_there, change_of}
 use Rattle.nfs_exec.specs.Runs.Ops.{RanOp}
-use Rattle.nfs_serve.specs.Promises.Points.{ops_of}
-use Rattle.nfs_serve.specs.Promises.HeldLock.{start, last_of}
-use Rattle.nfs_serve.specs.Promises.WrittenWorked.{makes, made, writes}
-use Rattle.nfs_serve.specs.Promises.ChangeWorked.{with_change, unwritten, written}
-use Rattle.nfs_serve.specs.Promises.ChangeSeen.{IsTheirs, Changes}
+use Rattle.nfs_serve.specs.{Promises.Points.ops_of, Promises.HeldLock.{start, last_of}, Promises.WrittenWorked.{makes, made, writes}}
+use Rattle.nfs_serve.specs.{Promises.ChangeWorked.{with_change, unwritten, written}, Promises.ChangeSeen.{IsTheirs, Changes}}
 
 -- The run meets the premises of the promises, and computes to what they say.
 pub record IsSeen : Type 0 where

@@ -3,17 +3,12 @@
 use Rattle.std.specs.Prelude.{◌≡◌, ℕ, ◌<◌, ◌-◌, ◌==◌, true, List, [], ◌∷◌, ◌++◌, map, if◌then◌else◌}
 use Rattle.nfs_compound.specs.declared.op_num.OpNum.TheVariants as Num
 use Rattle.nfs_results.specs.Results.{done_head}
-use Rattle.nfs_tree.specs.declared.stored.Stored.{Stored}
-use Rattle.nfs_tree.specs.Files.{Files, root, is_there, change_of}
+use Rattle.nfs_tree.specs.{declared.stored.Stored.Stored, Files.{Files, root, is_there, change_of}}
 use Rattle.nfs_exec.specs.Runs.Ops.{RanOp}
-use Rattle.nfs_serve.specs.Step.{State}
-use Rattle.nfs_serve.specs.Promises.Endpoint.{Arrival}
-use Rattle.nfs_serve.specs.Promises.Points.{state_after, ops_of}
-use Rattle.nfs_serve.specs.Promises.Exchanges.{words}
-use Rattle.nfs_serve.specs.Promises.SeenWrite as seen
-use Rattle.nfs_serve.specs.Promises.HeldLock.{came, in_session, last_of}
-use Rattle.nfs_serve.specs.Promises.WrittenWorked.{made, writes, closed, reads, answering}
+use Rattle.nfs_serve.specs.{Step.State, Promises.Endpoint.Arrival, Promises.Points.{state_after, ops_of}, Promises.Exchanges.words}
+use Rattle.nfs_serve.specs.{Promises.HeldLock.{came, in_session, last_of}, Promises.WrittenWorked.{made, writes, closed, reads, answering}}
 use Rattle.nfs_serve.specs.Promises.ChangeTells.{Tells, ReadsOf, GetsOf, RunsIn}
+use Rattle.nfs_serve.specs.Promises.SeenWrite as seen
 
 -- the same READ once more
 abbrev pub reads_again : Arrival

@@ -2,23 +2,15 @@
 use Rattle.std.specs.Prelude.{◌≡◌, ◌≢◌, ℕ, true, false, Bool, List, Ok}
 use Rattle.nfs_compound.specs.declared.lock_args.Lock as lock_args
 use Rattle.nfs_compound.specs.declared.lock_args.LockT as test_args
-use Rattle.nfs_compound.specs.declared.lock_args.ExistLockOwner.{ExistLockOwner}
-use Rattle.nfs_compound.specs.declared.lock_args.Locker.TheVariants.{LockOwner, OpenOwner}
-use Rattle.nfs_compound.specs.declared.lock_args.OpenToLockOwner.{OpenToLockOwner}
-use Rattle.nfs_compound.specs.declared.op.Item.{Item}
-use Rattle.nfs_compound.specs.declared.op.Item.TheVariants.{Operation}
+use Rattle.nfs_compound.specs.{declared.lock_args.ExistLockOwner.ExistLockOwner, declared.lock_args.Locker.TheVariants.{LockOwner, OpenOwner}}
+use Rattle.nfs_compound.specs.{declared.lock_args.OpenToLockOwner.OpenToLockOwner, declared.op.Item.Item, declared.op.Item.TheVariants.Operation}
 use Rattle.nfs_compound.specs.declared.op.Op.TheVariants as Op
 use Rattle.nfs_results.specs.declared.res.Denied as result
 use Rattle.nfs_results.specs.declared.res.Res.TheVariants as Res
 use Rattle.nfs_results.specs.Results.{spell_result}
-use Rattle.nfs_opens.specs.declared.locking.Wish.{Wish}
-use Rattle.nfs_opens.specs.declared.stateid.CurrentSeqid.TheVariants.{Any}
-use Rattle.nfs_opens.specs.declared.stateid.StateId.{StateId}
-use Rattle.nfs_files.specs.LockTold.{LockTold}
-use Rattle.nfs_files.specs.StateIds.{meant}
-use Rattle.nfs_files.specs.Ranges.{wished}
-use Rattle.nfs_exec.specs.Runs.LockHeld.{LocksFor, Tells}
-use Rattle.nfs_exec.specs.Runs.Ops.{RanOp}
+use Rattle.nfs_opens.specs.{declared.locking.Wish.Wish, declared.stateid.CurrentSeqid.TheVariants.Any, declared.stateid.StateId.StateId}
+use Rattle.nfs_files.specs.{LockTold.LockTold, StateIds.meant, Ranges.wished}
+use Rattle.nfs_exec.specs.{Runs.LockHeld.{LocksFor, Tells}, Runs.Ops.RanOp}
 
 -- a LOCK or a LOCKT asked for these bytes in this way, and its result is a report of this lock
 pub data IsRefusedFor (d : RanOp) (w : Wish) (r : result.Denied) : Type 0 where

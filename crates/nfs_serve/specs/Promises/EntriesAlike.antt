@@ -1,14 +1,11 @@
 -- While an object's change is the same, READDIR tells the same of it as GETATTR, and as READDIR told before (RFC 8881 sections 5.8.1.4, 18.7 and 18.23).
 use Rattle.std.specs.Prelude.{◌≡◌, ◌⊎◌, ℕ, List, ◌∷◌, ◌++◌, Some}
 use Rattle.nfs_xdr.specs.Tables.{In}
-use Rattle.nfs_results.specs.declared.res.Entry.{Entry}
+use Rattle.nfs_results.specs.{declared.res.Entry.Entry, Results.spell_result}
 use Rattle.nfs_results.specs.declared.res.Res.TheVariants as Res
-use Rattle.nfs_results.specs.Results.{spell_result}
 use Rattle.nfs_tree.specs.Files.{change_of, lookup}
 use Rattle.nfs_exec.specs.Runs.Ops.{RanOp}
-use Rattle.nfs_serve.specs.Promises.ChangeTells.{RunsIn, GetsOf}
-use Rattle.nfs_serve.specs.Promises.Endpoint.{Arrival}
-use Rattle.nfs_serve.specs.Promises.ListsAll.{Page, IsPage}
+use Rattle.nfs_serve.specs.{Promises.ChangeTells.{RunsIn, GetsOf}, Promises.Endpoint.Arrival, Promises.ListsAll.{Page, IsPage}}
 use Rattle.nfs_serve.specs.Promises.Points.{state_after, reached, ops_of}
 
 -- An operation told these attributes of an object: a GETATTR of it; or a READDIR, in an entry whose name leads to the object before it. They are given as a GETATTR

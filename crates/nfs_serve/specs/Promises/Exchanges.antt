@@ -2,9 +2,7 @@
 -- (RFC 8881 section 16.1), and EXCHANGE_ID (RFC 8881 section 18.35) of the owner `A`, sent twice.
 use Rattle.std.specs.Prelude.{◌≡◌, ℕ, List, [], ◌∷◌, ◌++◌, All, flat_map, None}
 use Rattle.nfs_xdr.specs.Spelling.{number}
-use Rattle.nfs_serve.specs.declared.form.Form.TheVariants.{Tagged}
-use Rattle.nfs_serve.specs.Script.{Entry, IsWhole}
-use Rattle.nfs_serve.specs.Step.{new_state}
+use Rattle.nfs_serve.specs.{declared.form.Form.TheVariants.Tagged, Script.{Entry, IsWhole}, Step.new_state}
 use Rattle.nfs_serve.specs.Run.{Streams, all_closed, TakesAll, Move, events, output}
 
 abbrev pub words : List ℕ → List ℕ

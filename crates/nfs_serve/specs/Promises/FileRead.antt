@@ -2,19 +2,14 @@
 -- sections 18.16, 18.22, 18.30 and 18.32).
 use Rattle.std.specs.Prelude.{◌≡◌, ℕ, true, false, List, [], ◌∷◌, ◌++◌, Some, unwrap_or, if◌then◌else◌}
 use Rattle.nfs_xdr.specs.Spelling.{hyper}
-use Rattle.nfs_compound.specs.declared.open_args.Open.{Open}
-use Rattle.nfs_compound.specs.declared.file_args.Read.{Read}
-use Rattle.nfs_compound.specs.declared.op.Item.TheVariants.{Operation}
+use Rattle.nfs_compound.specs.{declared.open_args.Open.Open, declared.file_args.Read.Read, declared.op.Item.TheVariants.Operation}
 use Rattle.nfs_compound.specs.declared.op.Op.TheVariants as Op
 use Rattle.nfs_tree.specs.Files.{is_there}
 use Rattle.nfs_attrs.specs.Mask.{mask_of, has}
 use Rattle.nfs_names.specs.Outcome.{is_ok}
-use Rattle.nfs_exec.specs.Runs.AttributesTold.{TellsValue}
+use Rattle.nfs_exec.specs.{Runs.AttributesTold.TellsValue, Runs.Ops.RanOp}
 use Rattle.nfs_files.specs.FileImage.{Image, unwritten, new_size, left_of, read_answer}
-use Rattle.nfs_exec.specs.Runs.Ops.{RanOp}
-use Rattle.nfs_serve.specs.Step.{State}
-use Rattle.nfs_serve.specs.Promises.Endpoint.{Arrival}
-use Rattle.nfs_serve.specs.Promises.Points.{state_after, reached, ops_of}
+use Rattle.nfs_serve.specs.{Step.State, Promises.Endpoint.Arrival, Promises.Points.{state_after, reached, ops_of}}
 
 -- What it leaves, and what a list of operations does; one that is answered otherwise leaves all.
 abbrev pub image_after : ℕ → Image → RanOp → Image

@@ -3,14 +3,11 @@
 use Rattle.std.specs.Prelude.{◌≡◌, ℕ, List, [], ◌∷◌, ◌++◌}
 use Rattle.nfs_files.specs.FileImage.{Image, unwritten, bytes_read, read_answer}
 use Rattle.nfs_exec.specs.Runs.Ops.{RanOp}
-use Rattle.nfs_serve.specs.Step.{State}
-use Rattle.nfs_serve.specs.Promises.Endpoint.{Arrival}
-use Rattle.nfs_serve.specs.Promises.Points.{state_after, ops_of}
-use Rattle.nfs_serve.specs.Promises.Exchanges.{words}
-use Rattle.nfs_serve.specs.Promises.SeenWrite as seen
+use Rattle.nfs_serve.specs.{Step.State, Promises.Endpoint.Arrival, Promises.Points.{state_after, ops_of}, Promises.Exchanges.words}
 use Rattle.nfs_serve.specs.Promises.HeldLock.{came, in_session, start, last_of}
 use Rattle.nfs_serve.specs.Promises.WrittenWorked.{makes, made, writes, written, goes_on, grown, closes, closed, reads, answering}
 use Rattle.nfs_serve.specs.Promises.FileRead.{image_after_all, ReadsImage, MakesFile}
+use Rattle.nfs_serve.specs.Promises.SeenWrite as seen
 
 -- PUTROOTFH, LOOKUP of `f`, and SETATTR of a size under the anonymous stateid
 abbrev pub sets : (now xid number size : ℕ) → Arrival

@@ -1,22 +1,14 @@
 -- A file that is open stays: what becomes, over any list of records, of a file that an OPEN opened, whatever becomes of its names (RFC 8881 sections 18.2, 18.16 and
 -- 18.25).
 use Rattle.std.specs.Prelude.{◌≡◌, ◌≢◌, ℕ, ◌<◌, ◌^◌, Bool, true, false, List, ◌∷◌, ◌++◌, Option, Some}
-use Rattle.nfs_xdr.specs.Tables.{In}
-use Rattle.nfs_xdr.specs.declared.status.Status.TheVariants.{Stale}
-use Rattle.nfs_compound.specs.declared.op.Item.{Item}
-use Rattle.nfs_compound.specs.declared.op.Item.TheVariants.{Operation}
+use Rattle.nfs_xdr.specs.{Tables.In, declared.status.Status.TheVariants.Stale}
+use Rattle.nfs_compound.specs.{declared.op.Item.Item, declared.op.Item.TheVariants.Operation}
 use Rattle.nfs_compound.specs.declared.op.Op.TheVariants as Op
 use Rattle.nfs_tree.specs.Files.{is_there, has_row}
 use Rattle.nfs_names.specs.declared.context.Context.{Context}
 use Rattle.nfs_files.specs.OpenTold.{OpenTold, Bits, bits_behind, IsOpenWith}
-use Rattle.nfs_exec.specs.Runs.Handles.{Gives}
-use Rattle.nfs_exec.specs.Runs.Kept.{Kept, While, AreSpared}
-use Rattle.nfs_exec.specs.Runs.LockHeld.{ClosesOf}
-use Rattle.nfs_exec.specs.Runs.OpenHeld.{bits_left, TellsOpen}
-use Rattle.nfs_exec.specs.Runs.Ops.{RanOp}
-use Rattle.nfs_serve.specs.Promises.Endpoint.{Arrival}
-use Rattle.nfs_serve.specs.Promises.LockKept.{StaysFor}
-use Rattle.nfs_serve.specs.Promises.NameStays.{Name, Says, HoldsFrom}
+use Rattle.nfs_exec.specs.{Runs.Handles.Gives, Runs.Kept.{Kept, While, AreSpared}, Runs.LockHeld.ClosesOf, Runs.OpenHeld.{bits_left, TellsOpen}, Runs.Ops.RanOp}
+use Rattle.nfs_serve.specs.{Promises.Endpoint.Arrival, Promises.LockKept.StaysFor, Promises.NameStays.{Name, Says, HoldsFrom}}
 use Rattle.nfs_serve.specs.Promises.Points.{state_after, reached, taken, ops_of}
 
 -- A GETFH in some record gave this filehandle for the object.

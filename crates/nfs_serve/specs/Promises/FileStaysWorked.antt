@@ -2,30 +2,19 @@
 -- `A` makes and opens the file `f`, writes four bytes, asks for its filehandle and removes `f`. By the filehandle the bytes are read; the name is not found. Then A closes
 -- the file, and the filehandle is stale.
 use Rattle.std.specs.Prelude.{◌≡◌, true, false, List, [], ◌∷◌, ◌++◌, Option, Some}
-use Rattle.nfs_xdr.specs.declared.status.Status.{Status}
-use Rattle.nfs_xdr.specs.declared.status.Status.TheVariants.{Nfs4Ok, NoEnt, Stale}
+use Rattle.nfs_xdr.specs.{declared.status.Status.Status, declared.status.Status.TheVariants.{Nfs4Ok, NoEnt, Stale}}
 use Rattle.nfs_compound.specs.declared.op_num.OpNum.TheVariants as Num
 use Rattle.nfs_results.specs.Results.{done_head}
 use Rattle.nfs_tree.specs.Files.{is_there, has_row}
 use Rattle.nfs_opens.specs.Share.{neither}
 use Rattle.nfs_names.specs.declared.context.Context.{Context}
-use Rattle.nfs_files.specs.FileImage.{Image, unwritten}
-use Rattle.nfs_files.specs.OpenTold.{Bits}
-use Rattle.nfs_exec.specs.Runs.OpenHeld.{TellsOpen}
-use Rattle.nfs_exec.specs.Runs.Ops.{RanOp}
-use Rattle.nfs_serve.specs.Step.{State}
-use Rattle.nfs_serve.specs.Promises.Endpoint.{Arrival}
-use Rattle.nfs_serve.specs.Promises.Exchanges.{words}
-use Rattle.nfs_serve.specs.Promises.FileRead.{image_after_all, ReadsImage}
-use Rattle.nfs_serve.specs.Promises.FileStays.{IsHandleOf, IsThere, IsNameless}
-use Rattle.nfs_serve.specs.Promises.Handles.{given}
-use Rattle.nfs_serve.specs.Promises.HeldLock.{came, in_session, start, last_of, statuses}
-use Rattle.nfs_serve.specs.Promises.HeldOpen.{its_open}
-use Rattle.nfs_serve.specs.Promises.NameWorked.{looks_up, with_names}
-use Rattle.nfs_serve.specs.Promises.OpenKept.{LeaveOpen}
-use Rattle.nfs_serve.specs.Promises.OpenReads.{CanBeHad}
-use Rattle.nfs_serve.specs.Promises.Points.{state_after, ops_of}
-use Rattle.nfs_serve.specs.Promises.WrittenWorked.{makes, made, writes, written, answering, without_objects}
+use Rattle.nfs_files.specs.{FileImage.{Image, unwritten}, OpenTold.Bits}
+use Rattle.nfs_exec.specs.{Runs.OpenHeld.TellsOpen, Runs.Ops.RanOp}
+use Rattle.nfs_serve.specs.{Step.State, Promises.Endpoint.Arrival, Promises.Exchanges.words, Promises.FileRead.{image_after_all, ReadsImage}}
+use Rattle.nfs_serve.specs.{Promises.FileStays.{IsHandleOf, IsThere, IsNameless}, Promises.Handles.given}
+use Rattle.nfs_serve.specs.{Promises.HeldLock.{came, in_session, start, last_of, statuses}, Promises.HeldOpen.its_open}
+use Rattle.nfs_serve.specs.{Promises.NameWorked.{looks_up, with_names}, Promises.OpenKept.LeaveOpen, Promises.OpenReads.CanBeHad}
+use Rattle.nfs_serve.specs.{Promises.Points.{state_after, ops_of}, Promises.WrittenWorked.{makes, made, writes, written, answering, without_objects}}
 
 -- PUTROOTFH, LOOKUP of `f`, and GETFH
 abbrev pub finds : Arrival

@@ -1,30 +1,14 @@
 -- A record, a piece, a script, a talk over one connection and many connections at once: each is a run of the records that arrive, in their order
 -- (RFC 5531 section 11).
 -- So what holds of every list of records holds of the program in each of its forms.
-use Rattle.std.specs.Prelude.{◌≡◌, ◌⊎◌, ℕ, ◌<◌, Bool, List, [], ◌∷◌, ◌++◌, length, map, flat_map, Option, Result}
-use Rattle.std.specs.Io.KnownBytes.{Consumes, Appends}
-use Rattle.nfs_rpc.specs.RecordMarking.{Gathered}
-use Rattle.nfs_rpc.specs.Stream.{End}
-use Rattle.nfs_serve.specs.declared.fault.ReplayFault.{ReplayFault}
-use Rattle.nfs_serve.specs.declared.form.Form.{Form}
-use Rattle.nfs_serve.specs.declared.form.Flow.{Flow}
-use Rattle.nfs_serve.specs.declared.form.Outcome.{Outcome}
-use Rattle.nfs_serve.specs.declared.moving.WriteFailed.{WriteFailed}
-use Rattle.nfs_serve.specs.declared.form.Form.TheVariants.{Tagged, Plain}
-use Rattle.nfs_serve.specs.declared.talking.Talk.{Talk}
-use Rattle.nfs_serve.specs.Script.{Entry, spell_entry}
-use Rattle.nfs_serve.specs.Step.{State}
+use Rattle.std.specs.{Prelude.{◌≡◌, ◌⊎◌, ℕ, ◌<◌, Bool, List, [], ◌∷◌, ◌++◌, length, map, flat_map, Option, Result}, Io.KnownBytes.{Consumes, Appends}}
+use Rattle.nfs_rpc.specs.{RecordMarking.Gathered, Stream.End}
+use Rattle.nfs_serve.specs.{declared.fault.ReplayFault.ReplayFault, declared.form.Form.Form, declared.form.Flow.Flow, declared.form.Outcome.Outcome}
+use Rattle.nfs_serve.specs.{declared.moving.WriteFailed.WriteFailed, declared.form.Form.TheVariants.{Tagged, Plain}, declared.talking.Talk.Talk}
+use Rattle.nfs_serve.specs.{Script.{Entry, spell_entry}, Step.State}
 use Rattle.nfs_serve.specs.Run.{Streams, all_closed, Brings, TakesAll, StreamEvent, Arrives, Overflows, Move, events, output}
-use Rattle.nfs_serve.specs.Server.{ServerModel, state_of, Stands, Steps, FeedsOr}
-use Rattle.nfs_serve.specs.Replay.{Replays}
-use Rattle.nfs_serve.specs.Talk.{Talks}
-use Rattle.nfs_serve.specs.Told.{Told, Moment, Logs}
-use Rattle.nfs_serve.specs.Desk.{Desk}
-use Rattle.nfs_serve.specs.Hub.{ServesRounds}
-use Rattle.nfs_serve.specs.Deeds.{Deed}
-use Rattle.nfs_serve.specs.Promises.Whole.{script}
-use Rattle.nfs_serve.specs.Promises.Endpoint.{Answer, Arrival, ran}
-use Rattle.nfs_serve.specs.Promises.Seen.{server}
+use Rattle.nfs_serve.specs.{Server.{ServerModel, state_of, Stands, Steps, FeedsOr}, Replay.Replays, Talk.Talks, Told.{Told, Moment, Logs}, Desk.Desk}
+use Rattle.nfs_serve.specs.{Hub.ServesRounds, Deeds.Deed, Promises.Whole.script, Promises.Endpoint.{Answer, Arrival, ran}, Promises.Seen.server}
 use Rattle.nfs_serve.specs.Promises.Points.{state_after_all}
 
 -- the record that a move steps, if it is one that arrives

@@ -6,8 +6,7 @@ use Rattle.nfs_rpc.specs.CallHead.{Call, Accepted, call_of}
 use Rattle.nfs_compound.specs.Request.{Request}
 use Rattle.nfs_slots.specs.Slot.{next_number}
 use Rattle.nfs_sessions.specs.Sessions.{Session, session_at}
-use Rattle.nfs_serve.specs.Step.{State, asked_of}
-use Rattle.nfs_serve.specs.Promises.Endpoint.{Place, Heading, Server, Arrival, stepped, ran}
+use Rattle.nfs_serve.specs.{Step.{State, asked_of}, Promises.Endpoint.{Place, Heading, Server, Arrival, stepped, ran}}
 use Rattle.nfs_serve.specs.Promises.AnsweredAgain.{AreElsewhere, Stands}
 
 -- it executes, and is answered under its xid by a result whose SEQUENCE is NFS4_OK and bears the slot and the number

@@ -3,10 +3,8 @@
 -- third one is late, and the caller gives it up too. It sends the fourth one, which is refused, as the third has not run. So it sends another compound under the
 -- third number, which runs, and accepts its result. Then the third one comes, and does not run. The caller sends the fourth one again, and accepts its result.
 use Rattle.std.specs.Prelude.{◌≡◌, ℕ, List, [], ◌∷◌, Option, None}
-use Rattle.nfs_serve.specs.Promises.Exchanges.{words}
-use Rattle.nfs_serve.specs.Promises.Endpoint.{Compound, Answer}
-use Rattle.nfs_serve.specs.Promises.Network.{Packet, RanCompound, NetworkEvent, Sends, Arrives, Accepts, ended}
-use Rattle.nfs_serve.specs.Promises.Numbered.{Happens}
+use Rattle.nfs_serve.specs.{Promises.Exchanges.words, Promises.Endpoint.{Compound, Answer}}
+use Rattle.nfs_serve.specs.{Promises.Network.{Packet, RanCompound, NetworkEvent, Sends, Arrives, Accepts, ended}, Promises.Numbered.Happens}
 use Rattle.nfs_serve.specs.Promises.LostReply.{call, place, callers, compound, with_highest, packet, answer, start, done}
 
 -- SEQUENCE under number 3 as before, but that its reply is to be kept

@@ -4,16 +4,11 @@ use Rattle.std.specs.Prelude.{◌≡◌, ℕ, ◌<◌, ◌^◌, List, [], ◌∷
 use Rattle.nfs_compound.specs.declared.op_num.OpNum.TheVariants as Num
 use Rattle.nfs_results.specs.Results.{done_head}
 use Rattle.nfs_files.specs.Written.{Byte, WritesOver, SetsSize, OpensEmpty, Reads, GivesIt}
-use Rattle.nfs_exec.specs.Runs.Ops.{RanOp}
-use Rattle.nfs_exec.specs.Runs.WrittenRun.{WritesIt}
-use Rattle.nfs_serve.specs.Step.{State, new_state}
-use Rattle.nfs_serve.specs.Promises.Endpoint.{Arrival}
-use Rattle.nfs_serve.specs.Promises.Exchanges.{words}
-use Rattle.nfs_serve.specs.Promises.Handles.{given}
+use Rattle.nfs_exec.specs.{Runs.Ops.RanOp, Runs.WrittenRun.WritesIt}
+use Rattle.nfs_serve.specs.{Step.{State, new_state}, Promises.Endpoint.Arrival, Promises.Exchanges.words, Promises.Handles.given}
 use Rattle.nfs_serve.specs.Promises.HeldLock.{came, in_session}
 use Rattle.nfs_serve.specs.Promises.KnownHandles.{KnownName, Known, starts, behind, known_after, known_after_all, names_after, root_of}
-use Rattle.nfs_serve.specs.Promises.KnownHandlesWorked.{found}
-use Rattle.nfs_serve.specs.Promises.Points.{state_after, reached, ops_of}
+use Rattle.nfs_serve.specs.{Promises.KnownHandlesWorked.found, Promises.Points.{state_after, reached, ops_of}}
 
 -- a byte at a place of a filehandle's file
 pub record ByteAt : Type 0 where

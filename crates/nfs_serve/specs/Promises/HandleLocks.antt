@@ -7,16 +7,10 @@ use Rattle.nfs_results.specs.Results.{done_head}
 use Rattle.nfs_ranges.specs.Told.{meets}
 use Rattle.nfs_opens.specs.declared.locking.Wish.{Wish}
 use Rattle.nfs_files.specs.LockTold.{LockTold}
-use Rattle.nfs_exec.specs.Runs.LockHeld.{LocksFor, AreSpared, Tells}
-use Rattle.nfs_exec.specs.Runs.Ops.{RanOp}
-use Rattle.nfs_serve.specs.Step.{State, new_state}
-use Rattle.nfs_serve.specs.Promises.Endpoint.{Arrival}
-use Rattle.nfs_serve.specs.Promises.Exchanges.{words}
-use Rattle.nfs_serve.specs.Promises.HandleBytes.{names_behind}
-use Rattle.nfs_serve.specs.Promises.Handles.{given}
-use Rattle.nfs_serve.specs.Promises.HeldLock.{came, in_session, earlier, waits, start, told, wish, stateid_of_lock}
-use Rattle.nfs_serve.specs.Promises.KnownHandles.{starts, known_after_all, root_of}
-use Rattle.nfs_serve.specs.Promises.LockKept.{AreInTime}
+use Rattle.nfs_exec.specs.{Runs.LockHeld.{LocksFor, AreSpared, Tells}, Runs.Ops.RanOp}
+use Rattle.nfs_serve.specs.{Step.{State, new_state}, Promises.Endpoint.Arrival, Promises.Exchanges.words, Promises.HandleBytes.names_behind}
+use Rattle.nfs_serve.specs.{Promises.Handles.given, Promises.HeldLock.{came, in_session, earlier, waits, start, told, wish, stateid_of_lock}}
+use Rattle.nfs_serve.specs.{Promises.KnownHandles.{starts, known_after_all, root_of}, Promises.LockKept.AreInTime}
 use Rattle.nfs_serve.specs.Promises.Points.{state_after, reached, taken, ops_of}
 
 -- a wish of another lock state for a byte of the lock's range, where one of the two is Write

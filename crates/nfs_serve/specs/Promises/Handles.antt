@@ -1,19 +1,13 @@
 -- A filehandle is a file: the promise over any list of records (RFC 8881 sections 4.2, 18.8 and 18.19), and a run worked by hand behind that of `HeldLock`, in words of
 -- four bytes.
 use Rattle.std.specs.Prelude.{◌≡◌, ◌↔◌, ℕ, ◌<◌, ◌^◌, List, [], ◌∷◌, ◌++◌, Some}
-use Rattle.nfs_xdr.specs.Tables.{In}
-use Rattle.nfs_xdr.specs.declared.status.Status.TheVariants.{Stale}
-use Rattle.nfs_compound.specs.declared.op.Item.TheVariants.{Operation}
+use Rattle.nfs_xdr.specs.{Tables.In, declared.status.Status.TheVariants.Stale}
+use Rattle.nfs_compound.specs.{declared.op.Item.TheVariants.Operation, OpNum.op_number}
 use Rattle.nfs_compound.specs.declared.op.Op.TheVariants as Op
 use Rattle.nfs_compound.specs.declared.op_num.OpNum.TheVariants as Num
-use Rattle.nfs_compound.specs.OpNum.{op_number}
 use Rattle.nfs_results.specs.Results.{spell_result, refusal}
-use Rattle.nfs_exec.specs.Runs.Handles.{Gives, Leads}
-use Rattle.nfs_exec.specs.Runs.Ops.{RanOp}
-use Rattle.nfs_serve.specs.Step.{State}
-use Rattle.nfs_serve.specs.Promises.Endpoint.{Arrival}
-use Rattle.nfs_serve.specs.Promises.Exchanges.{words}
-use Rattle.nfs_serve.specs.Promises.HeldLock.{came, in_session, locked}
+use Rattle.nfs_exec.specs.{Runs.Handles.{Gives, Leads}, Runs.Ops.RanOp}
+use Rattle.nfs_serve.specs.{Step.State, Promises.Endpoint.Arrival, Promises.Exchanges.words, Promises.HeldLock.{came, in_session, locked}}
 use Rattle.nfs_serve.specs.Promises.Points.{state_after, reached, ops_of}
 
 -- What a GETFH gave leads back to its object by PUTFH, in whatever record, whatever came before that: so too in each that comes behind it, whoever sends it.

@@ -3,19 +3,13 @@
 -- alone, each 90 seconds behind the last. A client `B` comes meanwhile, opens `f`, and asks for the byte 90 seconds behind the last renewal:
 -- it is denied. Then A unlocks.
 use Rattle.std.specs.Prelude.{◌≡◌, ℕ, ◌+◌, ◌*◌, ◌^◌, ◌≤◌, List, [], ◌∷◌, ◌++◌, map, Some, None}
-use Rattle.nfs_xdr.specs.declared.status.Status.{Status}
-use Rattle.nfs_xdr.specs.declared.status.Status.TheVariants.{Nfs4Ok, Denied}
+use Rattle.nfs_xdr.specs.{declared.status.Status.Status, declared.status.Status.TheVariants.{Nfs4Ok, Denied}}
 use Rattle.nfs_ranges.specs.declared.Kind.TheVariants.{Write}
 use Rattle.nfs_opens.specs.declared.locking.Wish.{Wish}
 use Rattle.nfs_files.specs.LockTold.{LockTold}
-use Rattle.nfs_exec.specs.Runs.Ops.{RanOp}
-use Rattle.nfs_exec.specs.Runs.LockHeld.{LocksFor, AreSpared, Tells}
-use Rattle.nfs_serve.specs.Step.{State, new_state}
-use Rattle.nfs_serve.specs.Promises.Endpoint.{Arrival}
-use Rattle.nfs_serve.specs.Promises.Points.{state_after, state_after_all, reached, taken, before, ops_of}
-use Rattle.nfs_serve.specs.Promises.LockKept.{AreInTime}
-use Rattle.nfs_serve.specs.Promises.Outlived.{last_renewal}
-use Rattle.nfs_serve.specs.Promises.Exchanges.{words}
+use Rattle.nfs_exec.specs.{Runs.Ops.RanOp, Runs.LockHeld.{LocksFor, AreSpared, Tells}}
+use Rattle.nfs_serve.specs.{Step.{State, new_state}, Promises.Endpoint.Arrival, Promises.Points.{state_after, state_after_all, reached, taken, before, ops_of}}
+use Rattle.nfs_serve.specs.{Promises.LockKept.AreInTime, Promises.Outlived.last_renewal, Promises.Exchanges.words}
 use Rattle.nfs_serve.specs.Promises.LostReply.{call, exchange_id, create_session}
 
 abbrev pub came : (now xid : ℕ) → List ℕ → Arrival

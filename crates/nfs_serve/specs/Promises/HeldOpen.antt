@@ -6,14 +6,9 @@ use Rattle.std.specs.Prelude.{◌≡◌, ℕ, ◌+◌, ◌*◌, ◌^◌, true, f
 use Rattle.nfs_xdr.specs.declared.status.Status.TheVariants.{Nfs4Ok, ShareDenied}
 use Rattle.nfs_opens.specs.Share.{neither}
 use Rattle.nfs_files.specs.OpenTold.{OpenTold, Bits}
-use Rattle.nfs_exec.specs.Runs.Ops.{RanOp}
-use Rattle.nfs_exec.specs.Runs.OpenHeld.{TellsOpen}
-use Rattle.nfs_serve.specs.Step.{State}
-use Rattle.nfs_serve.specs.Promises.Endpoint.{Arrival}
-use Rattle.nfs_serve.specs.Promises.Points.{state_after, state_after_all, ops_of}
-use Rattle.nfs_serve.specs.Promises.OpenKept.{LeaveOpen}
-use Rattle.nfs_serve.specs.Promises.Exchanges.{words}
-use Rattle.nfs_serve.specs.Promises.HeldLock.{came, in_session, waits, start, statuses}
+use Rattle.nfs_exec.specs.{Runs.Ops.RanOp, Runs.OpenHeld.TellsOpen}
+use Rattle.nfs_serve.specs.{Step.State, Promises.Endpoint.Arrival, Promises.Points.{state_after, state_after_all, ops_of}, Promises.OpenKept.LeaveOpen}
+use Rattle.nfs_serve.specs.{Promises.Exchanges.words, Promises.HeldLock.{came, in_session, waits, start, statuses}}
 
 -- PUTROOTFH; and OPEN by the open owner `o` of `f`, which is made where it is not there, without attributes
 abbrev pub opening : (access deny : ℕ) → List ℕ

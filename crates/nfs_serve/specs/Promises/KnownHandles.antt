@@ -2,28 +2,19 @@
 -- 18.25 to 18.28). Whoever sees all calls and their replies knows the filehandles of some names; and goes over the operations of a compound with the current filehandle and
 -- the saved one, where it knows them.
 use Rattle.std.specs.Prelude.{◌≡◌, ℕ, ◌<◌, ◌^◌, ◌&&◌, Bool, true, not, nat_lt, List, [], ◌∷◌, take, drop, filter, find, Option, Some, None, is_some, option_map, option_and_then, bytes_eq, if◌then◌else◌}
-use Rattle.std.specs.Int.{w32, from_be_bytes}
-use Rattle.std.specs.List.{list_all}
-use Rattle.std.specs.Option.{option_map_or}
+use Rattle.std.specs.{Int.{w32, from_be_bytes}, List.list_all, Option.option_map_or}
 use Rattle.nfs_xdr.specs.declared.status.Status.TheVariants.{NoFileHandle}
-use Rattle.nfs_compound.specs.declared.name_args.Rename.{Rename}
-use Rattle.nfs_compound.specs.declared.open_args.OpenClaim.{OpenClaim}
-use Rattle.nfs_compound.specs.declared.open_args.OpenClaim.TheVariants.{Null}
-use Rattle.nfs_compound.specs.declared.op.Item.{Item}
-use Rattle.nfs_compound.specs.declared.op.Item.TheVariants.{Operation}
+use Rattle.nfs_compound.specs.{declared.name_args.Rename.Rename, declared.open_args.OpenClaim.OpenClaim, declared.open_args.OpenClaim.TheVariants.Null}
+use Rattle.nfs_compound.specs.{declared.op.Item.Item, declared.op.Item.TheVariants.Operation, OpNum.op_number}
 use Rattle.nfs_compound.specs.declared.op.Op.TheVariants as Op
 use Rattle.nfs_compound.specs.declared.op_num.OpNum.TheVariants as Num
-use Rattle.nfs_compound.specs.OpNum.{op_number}
 use Rattle.nfs_results.specs.declared.res.Res.TheVariants as Res
 use Rattle.nfs_results.specs.Results.{spell_result, refusal}
 use Rattle.nfs_tree.specs.Files.{root}
 use Rattle.nfs_attrs.specs.Wire.{nfs_fh4}
 use Rattle.nfs_names.specs.Outcome.{is_ok}
 use Rattle.nfs_exec.specs.Runs.Ops.{RanOp}
-use Rattle.nfs_serve.specs.Step.{State, new_state}
-use Rattle.nfs_serve.specs.Promises.Endpoint.{Arrival}
-use Rattle.nfs_serve.specs.Promises.NameStays.{finds_none}
-use Rattle.nfs_serve.specs.Promises.Points.{state_after, ops_of}
+use Rattle.nfs_serve.specs.{Step.{State, new_state}, Promises.Endpoint.Arrival, Promises.NameStays.finds_none, Promises.Points.{state_after, ops_of}}
 
 -- a name in a directory
 pub record Place : Type 0 where

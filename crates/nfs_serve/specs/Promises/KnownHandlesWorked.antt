@@ -7,15 +7,9 @@ use Rattle.nfs_compound.specs.OpNum.{op_number}
 use Rattle.nfs_results.specs.declared.res.Res.TheVariants as Res
 use Rattle.nfs_results.specs.Results.{spell_result, refusal}
 use Rattle.nfs_exec.specs.Runs.Ops.{RanOp}
-use Rattle.nfs_serve.specs.Step.{State}
-use Rattle.nfs_serve.specs.Promises.Endpoint.{Arrival}
-use Rattle.nfs_serve.specs.Promises.Exchanges.{words}
-use Rattle.nfs_serve.specs.Promises.Handles.{given}
-use Rattle.nfs_serve.specs.Promises.HeldLock.{came, in_session}
-use Rattle.nfs_serve.specs.Promises.KnownHandles.{KnownName, starts, Follow, names_after}
-use Rattle.nfs_serve.specs.Promises.NameStays.{finds_none}
-use Rattle.nfs_serve.specs.Promises.Points.{state_after, ops_of}
-use Rattle.nfs_serve.specs.Promises.WrittenWorked.{made}
+use Rattle.nfs_serve.specs.{Step.State, Promises.Endpoint.Arrival, Promises.Exchanges.words, Promises.Handles.given, Promises.HeldLock.{came, in_session}}
+use Rattle.nfs_serve.specs.{Promises.KnownHandles.{KnownName, starts, Follow, names_after}, Promises.NameStays.finds_none}
+use Rattle.nfs_serve.specs.{Promises.Points.{state_after, ops_of}, Promises.WrittenWorked.made}
 
 -- PUTROOTFH, GETFH, LOOKUP of `f`, and GETFH
 abbrev pub finds : Arrival

@@ -1,8 +1,7 @@
 -- Statements on the definitions alone.
 use Rattle.std.specs.Prelude.{◌≡◌, ◌≢◌, ◌⊎◌, ℕ, nat_eq, List, [], ◌∷◌, ◌++◌, All, flat_map, Option, if◌then◌else◌}
 use Rattle.nfs_rpc.specs.Stream.{End, IsReading}
-use Rattle.nfs_serve.specs.declared.fault.Stop.{Stop}
-use Rattle.nfs_serve.specs.Script.{Entry, IsRead}
+use Rattle.nfs_serve.specs.{declared.fault.Stop.Stop, Script.{Entry, IsRead}}
 use Rattle.nfs_serve.specs.Run.{Streams, all_closed, Brings, TakesAll, StreamEvent, Arrives, Overflows, overflow}
 
 -- Which fault a script has, if any, and its whole entries before it are decided by its bytes.

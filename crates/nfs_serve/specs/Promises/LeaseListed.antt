@@ -1,20 +1,14 @@
 -- The lease is told by READDIR too (RFC 8881 sections 5.8.1.11 and 18.23); and a listing worked by hand over the run of `HeldLock`, in words of four bytes.
 use Rattle.std.specs.Prelude.{◌≡◌, ℕ, true, List, [], ◌∷◌, ◌++◌}
-use Rattle.nfs_xdr.specs.Spelling.{number}
-use Rattle.nfs_xdr.specs.Tables.{In}
-use Rattle.nfs_compound.specs.declared.name_args.ReadDir.{ReadDir}
-use Rattle.nfs_compound.specs.declared.op.Item.TheVariants.{Operation}
+use Rattle.nfs_xdr.specs.{Spelling.number, Tables.In}
+use Rattle.nfs_compound.specs.{declared.name_args.ReadDir.ReadDir, declared.op.Item.TheVariants.Operation}
 use Rattle.nfs_compound.specs.declared.op.Op.TheVariants as Op
 use Rattle.nfs_compound.specs.declared.op_num.OpNum.TheVariants as Num
-use Rattle.nfs_results.specs.declared.res.Fattr.{Fattr}
-use Rattle.nfs_results.specs.Results.{done_head}
+use Rattle.nfs_results.specs.{declared.res.Fattr.Fattr, Results.done_head}
 use Rattle.nfs_attrs.specs.Mask.{mask_of, has}
 use Rattle.nfs_names.specs.Outcome.{is_ok}
-use Rattle.nfs_exec.specs.Runs.AttributesTold.{HasValue, EntriesTell}
-use Rattle.nfs_exec.specs.Runs.Ops.{RanOp}
-use Rattle.nfs_serve.specs.Promises.Endpoint.{Arrival}
-use Rattle.nfs_serve.specs.Promises.Exchanges.{words}
-use Rattle.nfs_serve.specs.Promises.HeldLock.{came, in_session, locked}
+use Rattle.nfs_exec.specs.{Runs.AttributesTold.{HasValue, EntriesTell}, Runs.Ops.RanOp}
+use Rattle.nfs_serve.specs.{Promises.Endpoint.Arrival, Promises.Exchanges.words, Promises.HeldLock.{came, in_session, locked}}
 use Rattle.nfs_serve.specs.Promises.Points.{reached, ops_of}
 
 -- A READDIR of entries with attribute 10, lease_time, whatever else it asks for, that answers NFS4_OK gives with each entry the very number of seconds that leases last.

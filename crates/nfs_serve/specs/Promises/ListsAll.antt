@@ -1,24 +1,16 @@
 -- A listing in pages is whole: each name that stands all the while is listed once, with its cookie and its object's attributes, and nothing is listed that does not
 -- stand, whatever comes between the pages (RFC 8881 section 18.23).
-use Rattle.std.specs.Prelude.{◌≡◌, ℕ, suc, ◌<◌, true, false, List, [], ◌∷◌, ◌++◌, Some, count_by, bytes_eq}
-use Rattle.std.specs.List.{flat_map}
+use Rattle.std.specs.{Prelude.{◌≡◌, ℕ, suc, ◌<◌, true, false, List, [], ◌∷◌, ◌++◌, Some, count_by, bytes_eq}, List.flat_map}
 use Rattle.nfs_xdr.specs.Tables.{IsRising, In}
-use Rattle.nfs_compound.specs.declared.name_args.ReadDir.{ReadDir}
-use Rattle.nfs_compound.specs.declared.op.Item.TheVariants.{Operation}
+use Rattle.nfs_compound.specs.{declared.name_args.ReadDir.ReadDir, declared.op.Item.TheVariants.Operation}
 use Rattle.nfs_compound.specs.declared.op.Op.TheVariants as Op
-use Rattle.nfs_results.specs.declared.res.Entry.{Entry}
-use Rattle.nfs_results.specs.declared.res.ReadDirOk.{ReadDirOk}
+use Rattle.nfs_results.specs.{declared.res.Entry.Entry, declared.res.ReadDirOk.ReadDirOk, ResultCodec.FitsResult, Results.spell_result}
 use Rattle.nfs_results.specs.declared.res.Res.TheVariants as Res
-use Rattle.nfs_results.specs.ResultCodec.{FitsResult}
-use Rattle.nfs_results.specs.Results.{spell_result}
-use Rattle.nfs_tree.specs.declared.row.Row.{Row}
-use Rattle.nfs_tree.specs.Files.{listed}
+use Rattle.nfs_tree.specs.{declared.row.Row.Row, Files.listed}
 use Rattle.nfs_attrs.specs.Mask.{mask_of}
 use Rattle.nfs_names.specs.ReadDir.{entry_of}
 use Rattle.nfs_exec.specs.Runs.Ops.{RanOp}
-use Rattle.nfs_serve.specs.Step.{State, new_state}
-use Rattle.nfs_serve.specs.Promises.ChangeTells.{RunsIn}
-use Rattle.nfs_serve.specs.Promises.Endpoint.{Arrival}
+use Rattle.nfs_serve.specs.{Step.{State, new_state}, Promises.ChangeTells.RunsIn, Promises.Endpoint.Arrival}
 use Rattle.nfs_serve.specs.Promises.NameStays.{Name, TakesIt, MakesIt, Says, Denies, AllSpare, next_of, row_of}
 use Rattle.nfs_serve.specs.Promises.Points.{state_after, reached, ops_of}
 

@@ -3,18 +3,13 @@
 use Rattle.std.specs.Prelude.{◌≡◌, ℕ, Bool, true, false, List, [], ◌∷◌, ◌++◌}
 use Rattle.nfs_xdr.specs.Tables.{In}
 use Rattle.nfs_compound.specs.declared.name_args.ReadDir.{ReadDir}
-use Rattle.nfs_results.specs.declared.res.Entry.{Entry}
-use Rattle.nfs_results.specs.declared.res.ReadDirOk.{ReadDirOk}
+use Rattle.nfs_results.specs.{declared.res.Entry.Entry, declared.res.ReadDirOk.ReadDirOk}
 use Rattle.nfs_tree.specs.Files.{root}
 use Rattle.nfs_names.specs.ReadDir.{zeros}
 use Rattle.nfs_exec.specs.Runs.Ops.{RanOp}
-use Rattle.nfs_serve.specs.Step.{State}
-use Rattle.nfs_serve.specs.Promises.Endpoint.{Arrival}
-use Rattle.nfs_serve.specs.Promises.Exchanges.{words}
-use Rattle.nfs_serve.specs.Promises.HeldLock.{came, in_session, last_of}
+use Rattle.nfs_serve.specs.{Step.State, Promises.Endpoint.Arrival, Promises.Exchanges.words, Promises.HeldLock.{came, in_session, last_of}}
 use Rattle.nfs_serve.specs.Promises.ListsAll.{Page, ArePages, IsListedOnce, IsPart, all_ops}
-use Rattle.nfs_serve.specs.Promises.NameStays.{Name, TakesIt, Says, AllSpare, next_of, row_of}
-use Rattle.nfs_serve.specs.Promises.Points.{state_after, ops_of}
+use Rattle.nfs_serve.specs.{Promises.NameStays.{Name, TakesIt, Says, AllSpare, next_of, row_of}, Promises.Points.{state_after, ops_of}}
 use Rattle.nfs_serve.specs.Promises.WrittenWorked.{made}
 
 -- PUTROOTFH, and OPEN by the open owner `o` for reading and writing, which denies nothing, of a name of one byte, which is made where it is not there, without attributes

@@ -1,23 +1,17 @@
 -- A lock told is a lock kept: what becomes, over any list of records, of a byte range that a LOCK told as held (RFC 8881
 -- sections 8.3, 9.1 to 9.5 and 18.10).
-use Rattle.std.specs.Prelude.{◌≡◌, ℕ, ◌+◌, ◌≤◌, Bool, true, false, List, [], ◌∷◌, ◌++◌, if◌then◌else◌}
-use Rattle.std.specs.Option.{option_map_or}
-use Rattle.nfs_xdr.specs.Spelling.{number}
-use Rattle.nfs_xdr.specs.Tables.{In}
+use Rattle.std.specs.{Prelude.{◌≡◌, ℕ, ◌+◌, ◌≤◌, Bool, true, false, List, [], ◌∷◌, ◌++◌, if◌then◌else◌}, Option.option_map_or}
+use Rattle.nfs_xdr.specs.{Spelling.number, Tables.In}
 use Rattle.nfs_compound.specs.declared.op.Item.TheVariants.{Operation}
 use Rattle.nfs_compound.specs.declared.op.Op.TheVariants as Op
 use Rattle.nfs_attrs.specs.Mask.{mask_of, has}
 use Rattle.nfs_names.specs.Outcome.{is_ok}
-use Rattle.nfs_exec.specs.Runs.AttributesTold.{TellsValue}
-use Rattle.nfs_exec.specs.Runs.Ops.{RanOp}
+use Rattle.nfs_exec.specs.{Runs.AttributesTold.TellsValue, Runs.Ops.RanOp, Runs.Kept.{Kept, While, after_all}}
+use Rattle.nfs_exec.specs.Runs.LockHeld.{LocksFor, the_lock, AreSpared, StandsWhile, Tells, replaces, renews}
 use Rattle.nfs_opens.specs.declared.locking.Wish.{Wish}
 use Rattle.nfs_files.specs.LockTold.{LockTold, Clashes}
 use Rattle.nfs_exec.specs.Runs.Kept as kept
-use Rattle.nfs_exec.specs.Runs.Kept.{Kept, While, after_all}
-use Rattle.nfs_exec.specs.Runs.LockHeld.{LocksFor, the_lock, AreSpared, StandsWhile, Tells, replaces, renews}
-use Rattle.nfs_serve.specs.Step.{State}
-use Rattle.nfs_serve.specs.Promises.Endpoint.{Arrival}
-use Rattle.nfs_serve.specs.Promises.Points.{state_after, reached, taken, before, asked_by, ops_of}
+use Rattle.nfs_serve.specs.{Step.State, Promises.Endpoint.Arrival, Promises.Points.{state_after, reached, taken, before, asked_by, ops_of}}
 
 -- a request of it runs in a session of the client, and so renews the client's lease
 abbrev pub renews_by : ℕ → State → Arrival → Bool

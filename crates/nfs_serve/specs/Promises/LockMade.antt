@@ -2,19 +2,12 @@
 -- and 18.10). So a CLOSE of this open ends the lock, and one of another open does not.
 use Rattle.std.specs.Prelude.{◌≡◌, ◌⊎◌, ℕ, ◌≤◌, List, [], ◌∷◌, ◌++◌, Ok}
 use Rattle.nfs_xdr.specs.Tables.{In}
-use Rattle.nfs_compound.specs.declared.lock_args.Locker.TheVariants.{OpenOwner}
-use Rattle.nfs_compound.specs.declared.lock_args.OpenToLockOwner.{OpenToLockOwner}
-use Rattle.nfs_opens.specs.declared.locking.Wish.{Wish}
-use Rattle.nfs_opens.specs.declared.stateid.CurrentSeqid.TheVariants.{Any}
-use Rattle.nfs_opens.specs.declared.stateid.StateId.{StateId}
+use Rattle.nfs_compound.specs.{declared.lock_args.Locker.TheVariants.OpenOwner, declared.lock_args.OpenToLockOwner.OpenToLockOwner}
+use Rattle.nfs_opens.specs.{declared.locking.Wish.Wish, declared.stateid.CurrentSeqid.TheVariants.Any, declared.stateid.StateId.StateId}
 use Rattle.nfs_files.specs.StateIds.{meant}
-use Rattle.nfs_exec.specs.Runs.LockHeld.{LocksFor, Tells}
-use Rattle.nfs_exec.specs.Runs.Ops.{RanOp}
-use Rattle.nfs_serve.specs.Promises.ChangeTells.{RunsIn}
-use Rattle.nfs_serve.specs.Promises.Endpoint.{Arrival}
-use Rattle.nfs_serve.specs.Promises.HeldLock.{start, locks, last_of}
-use Rattle.nfs_serve.specs.Promises.Points.{reached, ops_of}
-use Rattle.nfs_serve.specs.Step.{new_state}
+use Rattle.nfs_exec.specs.{Runs.LockHeld.{LocksFor, Tells}, Runs.Ops.RanOp}
+use Rattle.nfs_serve.specs.{Promises.ChangeTells.RunsIn, Promises.Endpoint.Arrival, Promises.HeldLock.{start, locks, last_of}}
+use Rattle.nfs_serve.specs.{Promises.Points.{reached, ops_of}, Step.new_state}
 
 -- The LOCK of a new lock owner was answered NFS4_OK and the stateid of lock state n. Its argument names the open by a stateid, which may be the current one.
 pub record MakesUnder (n opened : ℕ) (d : RanOp) : Type 0 where

@@ -2,15 +2,10 @@
 -- and 18.10). So two owners are told two lock states, of which `LockKept` says that they do not clash.
 use Rattle.std.specs.Prelude.{◌≡◌, ℕ, List, [], ◌∷◌}
 use Rattle.nfs_xdr.specs.Tables.{In}
-use Rattle.nfs_compound.specs.declared.lock_args.Locker.TheVariants.{OpenOwner}
-use Rattle.nfs_compound.specs.declared.lock_args.OpenToLockOwner.{OpenToLockOwner}
-use Rattle.nfs_opens.specs.declared.locking.Wish.{Wish}
-use Rattle.nfs_opens.specs.declared.records.LockState.{LockState}
-use Rattle.nfs_exec.specs.Runs.LockHeld.{LocksFor}
-use Rattle.nfs_exec.specs.Runs.Ops.{RanOp}
-use Rattle.nfs_serve.specs.Promises.Endpoint.{Arrival}
-use Rattle.nfs_serve.specs.Promises.Points.{reached, ops_of}
-use Rattle.nfs_serve.specs.Promises.HeldLock.{start, locks, last_of}
+use Rattle.nfs_compound.specs.{declared.lock_args.Locker.TheVariants.OpenOwner, declared.lock_args.OpenToLockOwner.OpenToLockOwner}
+use Rattle.nfs_opens.specs.{declared.locking.Wish.Wish, declared.records.LockState.LockState}
+use Rattle.nfs_exec.specs.{Runs.LockHeld.LocksFor, Runs.Ops.RanOp}
+use Rattle.nfs_serve.specs.{Promises.Endpoint.Arrival, Promises.Points.{reached, ops_of}, Promises.HeldLock.{start, locks, last_of}}
 
 -- behind the operation the lock state of a number is of this owner, and of the client whose session the operation ran in
 pub record IsOwned (d : RanOp) (n : ℕ) (name : List ℕ) : Type 0 where

@@ -1,21 +1,14 @@
 -- Whose a lock is, over any list of records: a lock state is of one lock owner, and of two owners that clash only one is told (RFC 8881 sections 8.2.5, 9.1 and 18.10).
 use Rattle.std.specs.Prelude.{◌≡◌, ◌⊎◌, ℕ, ◌+◌, ◌≤◌, List, [], ◌∷◌, ◌++◌}
-use Rattle.nfs_xdr.specs.Tables.{In}
-use Rattle.nfs_xdr.specs.declared.status.Status.TheVariants.{Denied}
-use Rattle.nfs_compound.specs.declared.lock_args.Locker.TheVariants.{OpenOwner}
-use Rattle.nfs_compound.specs.declared.lock_args.OpenToLockOwner.{OpenToLockOwner}
+use Rattle.nfs_xdr.specs.{Tables.In, declared.status.Status.TheVariants.Denied}
+use Rattle.nfs_compound.specs.{declared.lock_args.Locker.TheVariants.OpenOwner, declared.lock_args.OpenToLockOwner.OpenToLockOwner}
 use Rattle.nfs_compound.specs.declared.op_num.OpNum.TheVariants as Num
 use Rattle.nfs_results.specs.Results.{done_head}
 use Rattle.nfs_opens.specs.declared.locking.Wish.{Wish}
 use Rattle.nfs_files.specs.LockTold.{LockTold}
-use Rattle.nfs_exec.specs.Runs.LockHeld.{LocksFor, AreSpared, Tells}
-use Rattle.nfs_exec.specs.Runs.LockOwners.{AreOne, AreTwo, Meets}
-use Rattle.nfs_exec.specs.Runs.Ops.{RanOp}
-use Rattle.nfs_serve.specs.Promises.ChangeTells.{RunsIn}
-use Rattle.nfs_serve.specs.Promises.Endpoint.{Arrival}
-use Rattle.nfs_serve.specs.Promises.Exchanges.{words}
-use Rattle.nfs_serve.specs.Promises.HeldLock.{came, in_session, start, locks, locked, wish, stateid_of_lock}
-use Rattle.nfs_serve.specs.Promises.LockKept.{AreInTime}
+use Rattle.nfs_exec.specs.{Runs.LockHeld.{LocksFor, AreSpared, Tells}, Runs.LockOwners.{AreOne, AreTwo, Meets}, Runs.Ops.RanOp}
+use Rattle.nfs_serve.specs.{Promises.ChangeTells.RunsIn, Promises.Endpoint.Arrival, Promises.Exchanges.words}
+use Rattle.nfs_serve.specs.{Promises.HeldLock.{came, in_session, start, locks, locked, wish, stateid_of_lock}, Promises.LockKept.AreInTime}
 use Rattle.nfs_serve.specs.Promises.Points.{state_after, reached, taken, ops_of}
 
 -- In every run, of two LOCKs of new lock owners that are told the same lock state, one in front of the other, in one compound or in different records, the owners are

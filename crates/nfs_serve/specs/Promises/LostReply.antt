@@ -3,12 +3,9 @@
 -- alone. The reply to the second does not reach it; it sends that one again, under another xid and with another highest slot, and accepts what
 -- comes.
 use Rattle.std.specs.Prelude.{◌≡◌, ℕ, ◌+◌, ◌*◌, ◌^◌, ◌==◌, if◌then◌else◌, List, [], ◌∷◌, ◌++◌, Option, None, take, drop}
-use Rattle.nfs_serve.specs.Promises.Exchanges.{words}
-use Rattle.nfs_serve.specs.Promises.Endpoint.{Place, Compound, Answer, Arrival, Server, ran}
+use Rattle.nfs_serve.specs.{Promises.Exchanges.words, Promises.Endpoint.{Place, Compound, Answer, Arrival, Server, ran}}
 use Rattle.nfs_serve.specs.Promises.Network.{Callers, Packet, RanCompound, NetworkEvent, Sends, Resends, Arrives, Accepts, Schedule, IsUnused, Network, begins, ended}
-use Rattle.nfs_serve.specs.Promises.Seen.{server}
-use Rattle.nfs_serve.specs.Promises.PerfectWire.{wire, done_on, IsAsOverAWire}
-use Rattle.nfs_serve.specs.Promises.RealTime.{RunsBehind}
+use Rattle.nfs_serve.specs.{Promises.Seen.server, Promises.PerfectWire.{wire, done_on, IsAsOverAWire}, Promises.RealTime.RunsBehind}
 
 -- a call of COMPOUND under AUTH_SYS: stamp 3, a machine with no name, uid 5, gid 6, no other group
 abbrev pub call : ℕ → List ℕ → List ℕ

@@ -1,28 +1,18 @@
 -- A name leads where it was said until it is taken away, and one that is gone is not found until it is made: what becomes of a name in a directory over any list of
 -- records (RFC 8881 sections 18.4, 18.9, 18.13, 18.16, 18.25 and 18.26).
 use Rattle.std.specs.Prelude.{◌≡◌, ◌≢◌, ℕ, true, List, [], ◌∷◌, ◌++◌, Option, Some, None}
-use Rattle.nfs_xdr.specs.Tables.{In}
-use Rattle.nfs_xdr.specs.declared.status.Status.TheVariants.{NoEnt}
-use Rattle.nfs_compound.specs.declared.name_args.Create.{Create}
-use Rattle.nfs_compound.specs.declared.name_args.Rename.{Rename}
-use Rattle.nfs_compound.specs.declared.open_args.Open.{Open}
-use Rattle.nfs_compound.specs.declared.open_args.OpenClaim.TheVariants.{Null}
-use Rattle.nfs_compound.specs.declared.op.Item.{Item}
-use Rattle.nfs_compound.specs.declared.op.Item.TheVariants.{Operation}
+use Rattle.nfs_xdr.specs.{Tables.In, declared.status.Status.TheVariants.NoEnt}
+use Rattle.nfs_compound.specs.{declared.name_args.Create.Create, declared.name_args.Rename.Rename, declared.open_args.Open.Open}
+use Rattle.nfs_compound.specs.{declared.open_args.OpenClaim.TheVariants.Null, declared.op.Item.Item, declared.op.Item.TheVariants.Operation}
+use Rattle.nfs_compound.specs.{declared.op_num.OpNum.OpNum, OpNum.op_number}
 use Rattle.nfs_compound.specs.declared.op.Op.TheVariants as Op
-use Rattle.nfs_compound.specs.declared.op_num.OpNum.{OpNum}
 use Rattle.nfs_compound.specs.declared.op_num.OpNum.TheVariants as Num
-use Rattle.nfs_compound.specs.OpNum.{op_number}
 use Rattle.nfs_results.specs.Results.{spell_result, done_head, refusal}
-use Rattle.nfs_tree.specs.declared.row.Row.{Row}
-use Rattle.nfs_tree.specs.Files.{entry, lookup}
-use Rattle.nfs_names.specs.declared.context.Context.{Context}
-use Rattle.nfs_names.specs.Checks.{saved_object}
+use Rattle.nfs_tree.specs.{declared.row.Row.Row, Files.{entry, lookup}}
+use Rattle.nfs_names.specs.{declared.context.Context.Context, Checks.saved_object}
 use Rattle.nfs_files.specs.OpenTold.{names_open}
 use Rattle.nfs_exec.specs.Runs.Ops.{RanOp}
-use Rattle.nfs_serve.specs.Step.{State}
-use Rattle.nfs_serve.specs.Promises.Endpoint.{Arrival}
-use Rattle.nfs_serve.specs.Promises.Points.{state_after, reached, ops_of}
+use Rattle.nfs_serve.specs.{Step.State, Promises.Endpoint.Arrival, Promises.Points.{state_after, reached, ops_of}}
 
 -- a name in a directory, and the object that it leads to
 pub record Name : Type 0 where

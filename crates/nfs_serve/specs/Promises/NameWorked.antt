@@ -3,16 +3,11 @@
 use Rattle.std.specs.Prelude.{◌≡◌, ℕ, ◌+◌, List, [], ◌∷◌, ◌++◌, Option, Some}
 use Rattle.nfs_compound.specs.declared.op_num.OpNum.TheVariants as Num
 use Rattle.nfs_results.specs.Results.{done_head}
-use Rattle.nfs_tree.specs.declared.row.Row.{Row}
-use Rattle.nfs_tree.specs.Files.{root}
+use Rattle.nfs_tree.specs.{declared.row.Row.Row, Files.root}
 use Rattle.nfs_names.specs.declared.context.Context.{Context}
 use Rattle.nfs_exec.specs.Runs.Ops.{RanOp}
-use Rattle.nfs_serve.specs.Step.{State}
-use Rattle.nfs_serve.specs.Promises.Endpoint.{Arrival}
-use Rattle.nfs_serve.specs.Promises.Points.{state_after, ops_of}
-use Rattle.nfs_serve.specs.Promises.Exchanges.{words}
-use Rattle.nfs_serve.specs.Promises.HeldLock.{came, in_session, last_of}
-use Rattle.nfs_serve.specs.Promises.WrittenWorked.{made}
+use Rattle.nfs_serve.specs.{Step.State, Promises.Endpoint.Arrival, Promises.Points.{state_after, ops_of}, Promises.Exchanges.words}
+use Rattle.nfs_serve.specs.{Promises.HeldLock.{came, in_session, last_of}, Promises.WrittenWorked.made}
 use Rattle.nfs_serve.specs.Promises.NameStays.{Name, IsDone, finds_none, TakesIt, Leaves, Says, Denies, AllSpare, next_of, LeadsBefore, MissesBefore}
 
 -- PUTROOTFH, LOOKUP of a name of one byte, and GETFH

@@ -1,8 +1,7 @@
 -- Callers and a server over a network that loses, repeats, delays and reorders, and what is promised there: each compound that is sent on a
 -- slot executes at most once (RFC 8881 section 2.10.6).
 use Rattle.std.specs.Prelude.{◌≡◌, ◌⊎◌, ℕ, ◌+◌, ◌<◌, ◌≤◌, ◌^◌, ◌==◌, ◌&&◌, max, Bool, true, false, List, [], ◌∷◌, ◌++◌, map, count_by, Option, Some, None, if◌then◌else◌, ⊤}
-use Rattle.nfs_xdr.specs.Text.{IsBytes}
-use Rattle.nfs_xdr.specs.Tables.{In}
+use Rattle.nfs_xdr.specs.{Text.IsBytes, Tables.In}
 use Rattle.nfs_slots.specs.Slot.{SlotState}
 use Rattle.nfs_sessions.specs.Laws.{is_id}
 use Rattle.nfs_serve.specs.Promises.Endpoint.{Place, Heading, Answer, Stepped, Compound, Server, Arrival, stepped, ran}

@@ -1,20 +1,12 @@
 -- A no is true: whoever is refused a lock is told of one that a LOCK granted before, and that nothing has ended since (RFC 8881 sections 8.3, 9.1, 18.10 and 18.11).
 use Rattle.std.specs.Prelude.{◌≡◌, ◌⊎◌, ℕ, ◌+◌, ◌<◌, ◌≤◌, ◌^◌, true, false, List, [], ◌∷◌, ◌++◌, take, Some, None}
-use Rattle.nfs_xdr.specs.Limits.{opaque_limit}
-use Rattle.nfs_xdr.specs.Tables.{In}
-use Rattle.nfs_xdr.specs.declared.status.Status.TheVariants.{Denied}
+use Rattle.nfs_xdr.specs.{Limits.opaque_limit, Tables.In, declared.status.Status.TheVariants.Denied}
 use Rattle.nfs_ranges.specs.Told.{meets}
 use Rattle.nfs_opens.specs.declared.locking.Wish.{Wish}
-use Rattle.nfs_files.specs.Denied.{type_of, size_of}
-use Rattle.nfs_files.specs.LockTold.{LockTold}
-use Rattle.nfs_exec.specs.Runs.LockHeld.{AreSpared}
-use Rattle.nfs_exec.specs.Runs.Ops.{RanOp}
-use Rattle.nfs_serve.specs.Step.{new_state}
-use Rattle.nfs_serve.specs.Promises.Denials.{IsRefusedFor, asks_for_lock, byte_of, Grants, IsBegunBy, IsOthers}
-use Rattle.nfs_serve.specs.Promises.ChangeTells.{RunsIn}
-use Rattle.nfs_serve.specs.Promises.Endpoint.{Arrival}
-use Rattle.nfs_serve.specs.Promises.LockKept.{replaces_by}
-use Rattle.nfs_serve.specs.Promises.Outlived.{last_renewal}
+use Rattle.nfs_files.specs.{Denied.{type_of, size_of}, LockTold.LockTold}
+use Rattle.nfs_exec.specs.{Runs.LockHeld.AreSpared, Runs.Ops.RanOp}
+use Rattle.nfs_serve.specs.{Step.new_state, Promises.Denials.{IsRefusedFor, asks_for_lock, byte_of, Grants, IsBegunBy, IsOthers}, Promises.ChangeTells.RunsIn}
+use Rattle.nfs_serve.specs.{Promises.Endpoint.Arrival, Promises.LockKept.replaces_by, Promises.Outlived.last_renewal}
 use Rattle.nfs_serve.specs.Promises.Points.{state_after, reached, taken, before, ops_of}
 
 -- Nothing has ended it.

@@ -2,8 +2,7 @@
 -- number of the compound that waits there, whatever its xid and whomever it was sent to. So xids are as callers like, but where one sent two compounds under
 -- a number. And a slot may come on the way: it is unused at the beginning, or when its caller sends its first compound.
 use Rattle.std.specs.Prelude.{◌≡◌, ◌⊎◌, ◌<◌, ◌^◌, ℕ, true, List, [], ◌∷◌, Option, Some, None, ⊤}
-use Rattle.nfs_xdr.specs.Text.{IsBytes}
-use Rattle.nfs_xdr.specs.Tables.{In}
+use Rattle.nfs_xdr.specs.{Text.IsBytes, Tables.In}
 use Rattle.nfs_serve.specs.Promises.Endpoint.{Place, Heading, Compound, Answer, Server, Arrival, ran}
 use Rattle.nfs_serve.specs.Promises.Network.{Callers, Packet, Network, NetworkEvent, Sends, Resends, Arrives, Asks, Intrudes, Accepts, after, IsNext, IsLast, IsForeign, Schedule, IsUnused, begins, ended, IsExact}
 

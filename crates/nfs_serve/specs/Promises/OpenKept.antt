@@ -2,16 +2,12 @@
 -- 9.7, 18.2, 18.16 and 18.18).
 use Rattle.std.specs.Prelude.{◌≡◌, ℕ, true, List, ◌∷◌, ◌++◌}
 use Rattle.nfs_xdr.specs.Tables.{In}
-use Rattle.nfs_compound.specs.declared.open_args.Open.{Open}
+use Rattle.nfs_compound.specs.{declared.open_args.Open.Open, declared.op.Item.TheVariants.Operation}
 use Rattle.nfs_compound.specs.declared.op_num.OpNum.TheVariants as Num
-use Rattle.nfs_compound.specs.declared.op.Item.TheVariants.{Operation}
 use Rattle.nfs_compound.specs.declared.op.Op.TheVariants as Op
 use Rattle.nfs_files.specs.OpenTold.{names_open, OpenTold, Bits}
-use Rattle.nfs_exec.specs.Runs.Ops.{RanOp}
-use Rattle.nfs_exec.specs.Runs.OpenHeld.{the_open, OpenWhile, NoneCloses, bits_left, TellsOpen}
-use Rattle.nfs_serve.specs.Step.{State}
-use Rattle.nfs_serve.specs.Promises.Endpoint.{Arrival}
-use Rattle.nfs_serve.specs.Promises.Points.{state_after, reached, taken, ops_of}
+use Rattle.nfs_exec.specs.{Runs.Ops.RanOp, Runs.OpenHeld.{the_open, OpenWhile, NoneCloses, bits_left, TellsOpen}}
+use Rattle.nfs_serve.specs.{Step.State, Promises.Endpoint.Arrival, Promises.Points.{state_after, reached, taken, ops_of}}
 use Rattle.nfs_serve.specs.Promises.LockKept.{StaysFor, InTimeFor}
 
 -- The open stands here with these bits, and stays through these records, with the bits that it has by then, while none of their operations closes it: no OPEN

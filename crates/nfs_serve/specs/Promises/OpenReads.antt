@@ -2,22 +2,14 @@
 -- 18.7, 18.16 and 18.22).
 use Rattle.std.specs.Prelude.{◌≡◌, ◌⊎◌, ℕ, true, false, List, ◌∷◌, ◌++◌, Some, Ok}
 use Rattle.nfs_xdr.specs.declared.status.Status.TheVariants.{RepTooBig}
-use Rattle.nfs_compound.specs.declared.file_args.Read.{Read}
-use Rattle.nfs_compound.specs.declared.op.Item.TheVariants.{Operation}
+use Rattle.nfs_compound.specs.{declared.file_args.Read.Read, declared.op.Item.TheVariants.Operation}
 use Rattle.nfs_compound.specs.declared.op.Op.TheVariants as Op
 use Rattle.nfs_attrs.specs.Mask.{mask_of, asks_set_only}
-use Rattle.nfs_opens.specs.declared.stateid.CurrentSeqid.TheVariants.{Any}
-use Rattle.nfs_opens.specs.declared.stateid.StateId.{StateId}
+use Rattle.nfs_opens.specs.{declared.stateid.CurrentSeqid.TheVariants.Any, declared.stateid.StateId.StateId}
 use Rattle.nfs_names.specs.Outcome.{is_ok}
-use Rattle.nfs_files.specs.OpenTold.{OpenTold, Bits, bits_behind, IsOpenWith}
-use Rattle.nfs_files.specs.StateIds.{meant}
-use Rattle.nfs_exec.specs.Runs.Kept.{Kept, While, AreSpared}
-use Rattle.nfs_exec.specs.Runs.LockHeld.{ClosesOf}
-use Rattle.nfs_exec.specs.Runs.OpenHeld.{bits_left, TellsOpen}
-use Rattle.nfs_exec.specs.Runs.Ops.{RanOp}
-use Rattle.nfs_serve.specs.Promises.Endpoint.{Arrival}
-use Rattle.nfs_serve.specs.Promises.LockKept.{StaysFor}
-use Rattle.nfs_serve.specs.Promises.Points.{state_after, reached, taken, ops_of}
+use Rattle.nfs_files.specs.{OpenTold.{OpenTold, Bits, bits_behind, IsOpenWith}, StateIds.meant}
+use Rattle.nfs_exec.specs.{Runs.Kept.{Kept, While, AreSpared}, Runs.LockHeld.ClosesOf, Runs.OpenHeld.{bits_left, TellsOpen}, Runs.Ops.RanOp}
+use Rattle.nfs_serve.specs.{Promises.Endpoint.Arrival, Promises.LockKept.StaysFor, Promises.Points.{state_after, reached, taken, ops_of}}
 
 -- it is answered NFS4_OK, or its result has no room in the reply
 abbrev pub IsAnswered : RanOp → Type 0

@@ -1,16 +1,12 @@
 -- Nobody else touches what is a client's: what becomes of its opens, lock states, stateids and locked bytes while records of others come (RFC 8881
 -- sections 8.2, 8.3 and 9.1).
-use Rattle.std.specs.Prelude.{◌≡◌, ℕ, ◌+◌, ◌≤◌, ◌<◌, ◌^◌, Bool, true, false, List, [], ◌∷◌, Some}
-use Rattle.std.specs.Option.{option_map_or}
+use Rattle.std.specs.{Prelude.{◌≡◌, ℕ, ◌+◌, ◌≤◌, ◌<◌, ◌^◌, Bool, true, false, List, [], ◌∷◌, Some}, Option.option_map_or}
 use Rattle.nfs_ranges.specs.declared.Kind.TheVariants.{Write}
 use Rattle.nfs_opens.specs.Closing.{without_lock, without_open}
 use Rattle.nfs_files.specs.Own.{HasAsBefore}
 use Rattle.nfs_exec.specs.Runs.Own.{IsAsBefore, is_named_by}
-use Rattle.nfs_serve.specs.Step.{State}
-use Rattle.nfs_serve.specs.Promises.Endpoint.{Arrival}
-use Rattle.nfs_serve.specs.Promises.Points.{state_after, state_after_all, reached, taken, before, asked_by}
-use Rattle.nfs_serve.specs.Promises.LockKept.{renews_by, replaces_by}
-use Rattle.nfs_serve.specs.Promises.LostReply.{exchange_id, create_session}
+use Rattle.nfs_serve.specs.{Step.State, Promises.Endpoint.Arrival, Promises.Points.{state_after, state_after_all, reached, taken, before, asked_by}}
+use Rattle.nfs_serve.specs.{Promises.LockKept.{renews_by, replaces_by}, Promises.LostReply.{exchange_id, create_session}}
 use Rattle.nfs_serve.specs.Promises.HeldLock.{came, in_session, opens_and_locks, start, locks, locked, told}
 
 -- These records are others' and come in time: none runs in a session of the client, each is taken at most one lease behind the moment `last`, and none

@@ -4,8 +4,7 @@ use Rattle.std.specs.Prelude.{◌≡◌, List, [], ◌∷◌, ◌++◌, flat_map
 use Rattle.nfs_xdr.specs.Tables.{In}
 use Rattle.nfs_serve.specs.Promises.Endpoint.{Place, Heading, Answer, Server, Arrival, stepped, ran}
 use Rattle.nfs_serve.specs.Promises.Network.{Callers, RanCompound, Line, NetworkEvent, Arrives, Asks, Intrudes, same_place, result_of, begins, ended, IsExact}
-use Rattle.nfs_serve.specs.Promises.Numbered.{Happens}
-use Rattle.nfs_serve.specs.Promises.Alone.{alone}
+use Rattle.nfs_serve.specs.{Promises.Numbered.Happens, Promises.Alone.alone}
 
 -- the record that an event brings to the server, if it brings one
 abbrev pub reaching : NetworkEvent → List Arrival

@@ -1,33 +1,17 @@
 -- Permission: what an operation does to an object is what the object's mode, owner and group give to its user, and what is refused by NFS4ERR_ACCESS is what they do not
 -- give (RFC 8881 sections 5.9, 6.2.4, 18.4, 18.9, 18.13, 18.14, 18.16, 18.22, 18.23, 18.25 and 18.32).
-use Rattle.std.specs.Prelude.{◌≡◌, ◌≢◌, ℕ, ◌/◌, ◌%◌, ◌||◌, Bool, true, false, List, [], ◌∷◌, Option, Some, None, Ok, option_map}
-use Rattle.std.specs.Int.{bit_at}
-use Rattle.nfs_xdr.specs.Caller.{Caller}
-use Rattle.nfs_xdr.specs.Tables.{In}
-use Rattle.nfs_xdr.specs.declared.status.Status.TheVariants.{Access}
-use Rattle.nfs_compound.specs.declared.file_args.Read.{Read}
-use Rattle.nfs_compound.specs.declared.file_args.Write.{Write}
-use Rattle.nfs_compound.specs.declared.op.Item.{Item}
-use Rattle.nfs_compound.specs.declared.op.Item.TheVariants.{Operation}
+use Rattle.std.specs.{Prelude.{◌≡◌, ◌≢◌, ℕ, ◌/◌, ◌%◌, ◌||◌, Bool, true, false, List, [], ◌∷◌, Option, Some, None, Ok, option_map}, Int.bit_at}
+use Rattle.nfs_xdr.specs.{Caller.Caller, Tables.In, declared.status.Status.TheVariants.Access}
+use Rattle.nfs_compound.specs.{declared.file_args.Read.Read, declared.file_args.Write.Write, declared.op.Item.Item, declared.op.Item.TheVariants.Operation}
+use Rattle.nfs_compound.specs.{declared.open_args.Open.Open, declared.open_args.OpenClaim.TheVariants.{Null, Fh}, declared.stateid.Stateid.Stateid}
 use Rattle.nfs_compound.specs.declared.op.Op.TheVariants as Op
-use Rattle.nfs_compound.specs.declared.open_args.Open.{Open}
-use Rattle.nfs_compound.specs.declared.open_args.OpenClaim.TheVariants.{Null, Fh}
-use Rattle.nfs_compound.specs.declared.stateid.Stateid.{Stateid}
-use Rattle.nfs_tree.specs.declared.object.Object.{Object}
-use Rattle.nfs_tree.specs.Files.{Files, stored_in, lookup}
-use Rattle.nfs_opens.specs.declared.records.OpenState.{OpenState}
-use Rattle.nfs_opens.specs.declared.share.Share.{Share}
-use Rattle.nfs_opens.specs.declared.stateid.CurrentSeqid.TheVariants.{Any}
-use Rattle.nfs_opens.specs.declared.stateid.StateId.{StateId}
-use Rattle.nfs_opens.specs.StateId.{is_anonymous, is_bypass}
-use Rattle.nfs_opens.specs.Table.{Table}
+use Rattle.nfs_tree.specs.{declared.object.Object.Object, Files.{Files, stored_in, lookup}}
+use Rattle.nfs_opens.specs.{declared.records.OpenState.OpenState, declared.share.Share.Share, declared.stateid.CurrentSeqid.TheVariants.Any}
+use Rattle.nfs_opens.specs.{declared.stateid.StateId.StateId, StateId.{is_anonymous, is_bypass}, Table.Table}
 use Rattle.nfs_names.specs.Outcome.{is_ok}
-use Rattle.nfs_files.specs.Open.{access_of}
-use Rattle.nfs_files.specs.OpenTold.{claimed}
-use Rattle.nfs_files.specs.StateIds.{meant}
+use Rattle.nfs_files.specs.{Open.access_of, OpenTold.claimed, StateIds.meant}
 use Rattle.nfs_exec.specs.Runs.Ops.{RanOp}
-use Rattle.nfs_serve.specs.Promises.Endpoint.{Arrival}
-use Rattle.nfs_serve.specs.Promises.Points.{reached, ops_of}
+use Rattle.nfs_serve.specs.{Promises.Endpoint.Arrival, Promises.Points.{reached, ops_of}}
 
 -- what decides: the mode, the owner and the group of an object
 pub record Rights : Type 0 where

@@ -4,16 +4,11 @@
 use Rattle.std.specs.Prelude.{◌≡◌, ℕ, ◌+◌, List, [], ◌∷◌, ◌++◌}
 use Rattle.nfs_xdr.specs.declared.status.Status.TheVariants.{Nfs4Ok, Access}
 use Rattle.nfs_exec.specs.Runs.Ops.{RanOp}
-use Rattle.nfs_serve.specs.Step.{State}
-use Rattle.nfs_serve.specs.Promises.Endpoint.{Arrival}
-use Rattle.nfs_serve.specs.Promises.Exchanges.{words}
-use Rattle.nfs_serve.specs.Promises.FileStaysWorked.{with_status}
-use Rattle.nfs_serve.specs.Promises.HeldLock.{came, in_session, start, last_of, statuses}
-use Rattle.nfs_serve.specs.Promises.Permitted.{Rights, IsAt, IsGranted, IsRefused}
-use Rattle.nfs_serve.specs.Promises.Points.{state_after, ops_of}
-use Rattle.nfs_serve.specs.Promises.RightsTold.{rights_after_all, HasRights, MakesWith}
-use Rattle.nfs_serve.specs.Promises.SeenWrite as seen
+use Rattle.nfs_serve.specs.{Step.State, Promises.Endpoint.Arrival, Promises.Exchanges.words, Promises.FileStaysWorked.with_status}
+use Rattle.nfs_serve.specs.{Promises.HeldLock.{came, in_session, start, last_of, statuses}, Promises.Permitted.{Rights, IsAt, IsGranted, IsRefused}}
+use Rattle.nfs_serve.specs.{Promises.Points.{state_after, ops_of}, Promises.RightsTold.{rights_after_all, HasRights, MakesWith}}
 use Rattle.nfs_serve.specs.Promises.WrittenWorked.{makes, made}
+use Rattle.nfs_serve.specs.Promises.SeenWrite as seen
 
 -- PUTROOTFH, LOOKUP of `f`, and SETATTR of the mode, which is attribute 33
 abbrev pub sets : (now number mode : ℕ) → Arrival

@@ -1,16 +1,11 @@
 -- The points of a run over any list of records that come to a server: behind each record, and before each operation of its
 -- compound. At none of them has a byte a writer beside another holder, and no two opens of different owners clash (RFC 8881
 -- sections 9.1 and 9.7).
-use Rattle.std.specs.Prelude.{ℕ, max, List, [], ◌∷◌, length, Option, None, option_map}
-use Rattle.std.specs.Option.{option_map_or}
+use Rattle.std.specs.{Prelude.{ℕ, max, List, [], ◌∷◌, length, Option, None, option_map}, Option.option_map_or}
 use Rattle.nfs_xdr.specs.Tables.{In}
 use Rattle.nfs_rpc.specs.CallHead.{Called, Accepted, Refused, call_of}
-use Rattle.nfs_exec.specs.Step.Machine.{Machine, HasNoClashes}
-use Rattle.nfs_exec.specs.Step.Expiry.{expired}
-use Rattle.nfs_exec.specs.Step.Laws.{MachineEvent, Asks}
-use Rattle.nfs_exec.specs.Runs.Ops.{RanOp, ops_by}
-use Rattle.nfs_serve.specs.Promises.Endpoint.{Arrival}
-use Rattle.nfs_serve.specs.Step.{State, new_state, step, asked_of}
+use Rattle.nfs_exec.specs.{Step.Machine.{Machine, HasNoClashes}, Step.Expiry.expired, Step.Laws.{MachineEvent, Asks}, Runs.Ops.{RanOp, ops_by}}
+use Rattle.nfs_serve.specs.{Promises.Endpoint.Arrival, Step.{State, new_state, step, asked_of}}
 
 -- the state behind a record, and behind a list of them: `ran` of Endpoint, for this server (`EachFormRunsRecords`)
 abbrev pub state_after : State → Arrival → State

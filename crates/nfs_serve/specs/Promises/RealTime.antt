@@ -3,8 +3,7 @@
 use Rattle.std.specs.Prelude.{◌≡◌, List, [], ◌∷◌, ◌++◌}
 use Rattle.nfs_xdr.specs.Tables.{In}
 use Rattle.nfs_serve.specs.Promises.Endpoint.{Place, Compound, Answer, Server, Arrival, ran}
-use Rattle.nfs_serve.specs.Promises.Network.{Callers, Packet, RanCompound, NetworkEvent, Sends, Accepts, begins}
-use Rattle.nfs_serve.specs.Promises.Numbered.{Happens}
+use Rattle.nfs_serve.specs.{Promises.Network.{Callers, Packet, RanCompound, NetworkEvent, Sends, Accepts, begins}, Promises.Numbered.Happens}
 use Rattle.nfs_serve.specs.Promises.PerfectWire.{wire, done_on, IsAsOverAWire}
 
 -- In a list of records that run one after the other from state m on: a compound on slot p, whose result was told, and a later one on slot q.

@@ -1,24 +1,14 @@
 -- The mode, owner and group of an object are those that a CREATE or an OPEN made it with, and SETATTRs set since (RFC 8881 sections 18.4, 18.16 and 18.30).
 use Rattle.std.specs.Prelude.{◌≡◌, ℕ, false, true, List, [], ◌∷◌, ◌++◌, Some, Result, Ok, Err, unwrap_or, if◌then◌else◌}
-use Rattle.nfs_xdr.specs.Caller.{Caller}
-use Rattle.nfs_xdr.specs.declared.status.Status.{Status}
-use Rattle.nfs_compound.specs.declared.name_args.Create.{Create}
-use Rattle.nfs_compound.specs.declared.op.Item.{Item}
-use Rattle.nfs_compound.specs.declared.op.Item.TheVariants.{Operation}
+use Rattle.nfs_xdr.specs.{Caller.Caller, declared.status.Status.Status}
+use Rattle.nfs_compound.specs.{declared.name_args.Create.Create, declared.op.Item.Item, declared.op.Item.TheVariants.Operation, declared.open_args.Open.Open}
 use Rattle.nfs_compound.specs.declared.op.Op.TheVariants as Op
-use Rattle.nfs_compound.specs.declared.open_args.Open.{Open}
 use Rattle.nfs_tree.specs.Files.{root, is_there}
 use Rattle.nfs_attrs.specs.declared.wanted.Wanted.{Wanted}
-use Rattle.nfs_names.specs.declared.context.Context.{Context}
-use Rattle.nfs_names.specs.Create.{attributes_in, new_of, plain_mode}
-use Rattle.nfs_names.specs.Outcome.{is_ok}
-use Rattle.nfs_files.specs.FileImage.{is_number}
-use Rattle.nfs_files.specs.Open.{makes}
-use Rattle.nfs_exec.specs.Runs.Kept.{after_all}
-use Rattle.nfs_exec.specs.Runs.Ops.{RanOp}
-use Rattle.nfs_serve.specs.Step.{State, new_state}
-use Rattle.nfs_serve.specs.Promises.Endpoint.{Arrival}
-use Rattle.nfs_serve.specs.Promises.Permitted.{Rights, rights_at}
+use Rattle.nfs_names.specs.{declared.context.Context.Context, Create.{attributes_in, new_of, plain_mode}, Outcome.is_ok}
+use Rattle.nfs_files.specs.{FileImage.is_number, Open.makes}
+use Rattle.nfs_exec.specs.{Runs.Kept.after_all, Runs.Ops.RanOp}
+use Rattle.nfs_serve.specs.{Step.{State, new_state}, Promises.Endpoint.Arrival, Promises.Permitted.{Rights, rights_at}}
 use Rattle.nfs_serve.specs.Promises.Points.{state_after, reached, ops_of}
 
 -- what is given is taken over, and the rest stays

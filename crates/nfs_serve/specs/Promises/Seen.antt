@@ -2,24 +2,16 @@
 -- (RFC 5531 section 9, RFC 8881 section 16.2).
 use Rattle.std.specs.Prelude.{◌≡◌, ◌↔◌, ℕ, max, Bool, false, List, [], length, Option, Some, None, slice_get, option_map, option_and_then}
 use Rattle.std.specs.Option.{option_map_or}
-use Rattle.nfs_xdr.specs.Text.{Text, ◌then◌, void, uint32, enum, fixed, opaque, Begins, Leads}
-use Rattle.nfs_xdr.specs.Limits.{opaque_limit}
-use Rattle.nfs_xdr.specs.declared.status.Status.TheVariants.{Nfs4Ok}
-use Rattle.nfs_rpc.specs.CallHead.{Call, Called, Accepted, Refused, call_of}
-use Rattle.nfs_rpc.specs.Wire.{opaque_auth}
-use Rattle.nfs_compound.specs.declared.session_args.Sequence.{Sequence}
+use Rattle.nfs_xdr.specs.{Text.{Text, ◌then◌, void, uint32, enum, fixed, opaque, Begins, Leads}, Limits.opaque_limit, declared.status.Status.TheVariants.Nfs4Ok}
+use Rattle.nfs_rpc.specs.{CallHead.{Call, Called, Accepted, Refused, call_of}, Wire.opaque_auth}
+use Rattle.nfs_compound.specs.{declared.session_args.Sequence.Sequence, OpNum.op_number, Request.Request}
 use Rattle.nfs_compound.specs.declared.op_num.OpNum.TheVariants as Num
-use Rattle.nfs_compound.specs.OpNum.{op_number}
-use Rattle.nfs_compound.specs.Request.{Request}
 use Rattle.nfs_results.specs.Wire.{text_of, ends}
 use Rattle.nfs_slots.specs.Slot.{SlotState}
-use Rattle.nfs_sessions.specs.Id.{id_of}
-use Rattle.nfs_sessions.specs.Sessions.{Session, session_at}
+use Rattle.nfs_sessions.specs.{Id.id_of, Sessions.{Session, session_at}}
 use Rattle.nfs_exec.specs.Step.Executing as requests
-use Rattle.nfs_exec.specs.Step.Sequence.{compared}
-use Rattle.nfs_exec.specs.Step.Expiry.{expired}
-use Rattle.nfs_serve.specs.Promises.Endpoint.{Heading, Answer, SlotNumber, Stepped as Seen, Server}
-use Rattle.nfs_serve.specs.Step.{State, Stepped, new_state, step, asked_of}
+use Rattle.nfs_exec.specs.{Step.Sequence.compared, Step.Expiry.expired}
+use Rattle.nfs_serve.specs.{Promises.Endpoint.{Heading, Answer, SlotNumber, Stepped as Seen, Server}, Step.{State, Stepped, new_state, step, asked_of}}
 
 -- the head of a reply that says success: its xid, REPLY 1, MSG_ACCEPTED 0, a verifier AUTH_NONE 0 of no bytes, SUCCESS 0
 abbrev pub accepted_reply : ℕ → Text

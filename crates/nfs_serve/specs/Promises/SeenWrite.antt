@@ -3,14 +3,10 @@
 -- sends the write again, with another highest slot, and accepts what comes. Then a client `B` comes, makes a session, and reads the file on slot 1 of that; a packet of the
 -- write reaches the server once more before the read does. B is answered the four bytes. Both go by SEQUENCE's result, and each call has one xid.
 use Rattle.std.specs.Prelude.{◌≡◌, ℕ, ◌+◌, ◌*◌, ◌^◌, List, [], ◌∷◌, ◌++◌, map, Option, None, take, drop}
-use Rattle.nfs_serve.specs.Promises.Exchanges.{words}
-use Rattle.nfs_serve.specs.Promises.Endpoint.{Place, Compound, Answer, Arrival, Server, ran}
+use Rattle.nfs_serve.specs.{Promises.Exchanges.words, Promises.Endpoint.{Place, Compound, Answer, Arrival, Server, ran}}
 use Rattle.nfs_serve.specs.Promises.Network.{Callers, Packet, RanCompound, NetworkEvent, Sends, Resends, Arrives, Asks, Accepts, Network, begins, ended}
-use Rattle.nfs_serve.specs.Promises.Numbered.{Happens}
-use Rattle.nfs_serve.specs.Promises.Seen.{server}
-use Rattle.nfs_serve.specs.Promises.LostReply.{call, exchange_id, create_session, with_highest}
-use Rattle.nfs_serve.specs.Promises.PerfectWire.{wire, done_on, IsAsOverAWire}
-use Rattle.nfs_serve.specs.Promises.RealTime.{RunsBehind}
+use Rattle.nfs_serve.specs.{Promises.Numbered.Happens, Promises.Seen.server, Promises.LostReply.{call, exchange_id, create_session, with_highest}}
+use Rattle.nfs_serve.specs.{Promises.PerfectWire.{wire, done_on, IsAsOverAWire}, Promises.RealTime.RunsBehind}
 
 abbrev pub arrival : (now : ℕ) → List ℕ → Arrival
 arrival now bytes = record { bytes = bytes; now = now; choice = None }

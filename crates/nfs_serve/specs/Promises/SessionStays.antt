@@ -1,19 +1,11 @@
 -- A session stays, with its slots: what becomes of it, over any list of records, while its client renews in time, nobody ends it and nobody takes the client's place
 -- (RFC 8881 sections 2.10, 8.3, 18.36 and 18.37). While it stays, a lost reply can be had again.
-use Rattle.std.specs.Prelude.{◌≡◌, ℕ, ◌+◌, ◌*◌, ◌^◌, ◌≤◌, true, false, Bool, List, [], ◌∷◌, Some, is_some, if◌then◌else◌}
-use Rattle.std.specs.Option.{option_map_or}
+use Rattle.std.specs.{Prelude.{◌≡◌, ℕ, ◌+◌, ◌*◌, ◌^◌, ◌≤◌, true, false, Bool, List, [], ◌∷◌, Some, is_some, if◌then◌else◌}, Option.option_map_or}
 use Rattle.nfs_compound.specs.declared.session_args.Sequence.{Sequence}
-use Rattle.nfs_sessions.specs.declared.id.SessionId.{SessionId}
-use Rattle.nfs_sessions.specs.Id.{id_of}
-use Rattle.nfs_sessions.specs.Sessions.{session_at, no_sessions}
-use Rattle.nfs_exec.specs.Step.Machine.{Machine}
-use Rattle.nfs_exec.specs.Step.Laws.{MachineEvent, ran}
-use Rattle.nfs_exec.specs.Runs.SessionLasts.{ends_session}
-use Rattle.nfs_serve.specs.Step.{State}
-use Rattle.nfs_serve.specs.Promises.Endpoint.{Arrival}
-use Rattle.nfs_serve.specs.Promises.Points.{state_after, reached, taken, before, asked_by}
-use Rattle.nfs_serve.specs.Promises.LockKept.{renews_by, replaces_by}
-use Rattle.nfs_serve.specs.Promises.HeldLock.{start, locks, locked, waits}
+use Rattle.nfs_sessions.specs.{declared.id.SessionId.SessionId, Id.id_of, Sessions.{session_at, no_sessions}}
+use Rattle.nfs_exec.specs.{Step.Machine.Machine, Step.Laws.{MachineEvent, ran}, Runs.SessionLasts.ends_session}
+use Rattle.nfs_serve.specs.{Step.State, Promises.Endpoint.Arrival, Promises.Points.{state_after, reached, taken, before, asked_by}}
+use Rattle.nfs_serve.specs.{Promises.LockKept.{renews_by, replaces_by}, Promises.HeldLock.{start, locks, locked, waits}}
 
 abbrev pub HasSession : SessionId → Machine → Type 0
 HasSession id m = is_some (session_at m.sessions id) ≡ true

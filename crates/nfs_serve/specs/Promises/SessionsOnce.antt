@@ -1,15 +1,9 @@
 -- One session a CREATE_SESSION, in whole runs (RFC 8881 section 18.36.4).
-use Rattle.std.specs.Prelude.{◌≡◌, ◌⊎◌, ℕ, ◌+◌, ◌*◌, ◌-◌, ◌<◌, ◌^◌, Bool, false, List, [], ◌∷◌, ◌++◌, Some, if◌then◌else◌}
-use Rattle.std.specs.Option.{option_map_or}
+use Rattle.std.specs.{Prelude.{◌≡◌, ◌⊎◌, ℕ, ◌+◌, ◌*◌, ◌-◌, ◌<◌, ◌^◌, Bool, false, List, [], ◌∷◌, ◌++◌, Some, if◌then◌else◌}, Option.option_map_or}
 use Rattle.nfs_clients.specs.CreateSession.{following}
-use Rattle.nfs_exec.specs.Step.Laws.{MachineEvent}
-use Rattle.nfs_exec.specs.Runs.OneSession.{asks_session, Gives, MakesOne}
-use Rattle.nfs_serve.specs.Step.{State, new_state}
-use Rattle.nfs_serve.specs.Promises.Endpoint.{Arrival}
-use Rattle.nfs_serve.specs.Promises.Points.{state_after, state_after_all, reached, before, asked_by}
-use Rattle.nfs_serve.specs.Promises.Exchanges.{words}
-use Rattle.nfs_serve.specs.Promises.LostReply.{exchange_id, create_session}
-use Rattle.nfs_serve.specs.Promises.HeldLock.{came}
+use Rattle.nfs_exec.specs.{Step.Laws.MachineEvent, Runs.OneSession.{asks_session, Gives, MakesOne}}
+use Rattle.nfs_serve.specs.{Step.{State, new_state}, Promises.Endpoint.Arrival, Promises.Points.{state_after, state_after_all, reached, before, asked_by}}
+use Rattle.nfs_serve.specs.{Promises.Exchanges.words, Promises.LostReply.{exchange_id, create_session}, Promises.HeldLock.came}
 
 -- the record asks for a session of the client
 abbrev pub asks_by : ℕ → State → Arrival → Bool

@@ -1,9 +1,6 @@
 -- How long a record waits for its turn: as long as a bounded number of records of others takes.
 use Rattle.std.specs.Prelude.{◌≡◌, ◌≤◌, ℕ, ◌+◌, ◌*◌, List, ◌∷◌, ◌++◌}
-use Rattle.nfs_serve.specs.Step.{State}
-use Rattle.nfs_serve.specs.Script.{last_connection}
-use Rattle.nfs_serve.specs.Desk.{Act, HasMore, most_steps}
-use Rattle.nfs_serve.specs.Hub.{Desks, Round, Turns, IsOf, Sweeps, steps_in}
+use Rattle.nfs_serve.specs.{Step.State, Script.last_connection, Desk.{Act, HasMore, most_steps}, Hub.{Desks, Round, Turns, IsOf, Sweeps, steps_in}}
 
 -- Behind its turn something waits on a port. Then it has its next turn in the next sweep, unless another connection begins there, and between the
 -- two no more than 15 times 16 parts are stepped, of other ports.

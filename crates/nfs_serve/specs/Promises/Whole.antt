@@ -2,14 +2,9 @@
 -- end (RFC 5531 section 11). This server's profile.
 use Rattle.std.specs.Prelude.{◌≡◌, ◌≢◌, ◌≤◌, ℕ, nat_eq, List, [], ◌∷◌, ◌++◌, All, flat_map, true, if◌then◌else◌}
 use Rattle.nfs_rpc.specs.Stream.{IsReading}
-use Rattle.nfs_serve.specs.declared.form.Form.TheVariants.{Plain}
-use Rattle.nfs_serve.specs.Script.{Entry, last_connection, Fits}
-use Rattle.nfs_serve.specs.Step.{State}
-use Rattle.nfs_serve.specs.Run.{Streams, all_closed, TakesAll, StreamEvent, Arrives, Overflows, Move, events, after, after_event, output_of}
-use Rattle.nfs_serve.specs.Server.{Stands}
-use Rattle.nfs_serve.specs.Desk.{Act, Closed, Stepped, Goes}
-use Rattle.nfs_serve.specs.Hub.{Desks, none_live, Round, Opens, Turns, OthersStay, Turning}
-use Rattle.nfs_serve.specs.Promises.Laws.{call_on}
+use Rattle.nfs_serve.specs.{declared.form.Form.TheVariants.Plain, Script.{Entry, last_connection, Fits}, Step.State}
+use Rattle.nfs_serve.specs.{Run.{Streams, all_closed, TakesAll, StreamEvent, Arrives, Overflows, Move, events, after, after_event, output_of}, Server.Stands}
+use Rattle.nfs_serve.specs.{Desk.{Act, Closed, Stepped, Goes}, Hub.{Desks, none_live, Round, Opens, Turns, OthersStay, Turning}, Promises.Laws.call_on}
 use Rattle.nfs_serve.specs.Promises.Account.{came, taken, part_of}
 
 -- an entry of no bytes closes its connection

@@ -1,11 +1,8 @@
 -- Bytes written stay until they are changed: what becomes, over any list of records, of a byte that a WRITE told (RFC 8881 sections 18.22 and 18.32).
 use Rattle.std.specs.Prelude.{◌≡◌, ℕ, List, [], ◌∷◌, ◌++◌}
 use Rattle.nfs_files.specs.Written.{Byte}
-use Rattle.nfs_exec.specs.Runs.Ops.{RanOp}
-use Rattle.nfs_exec.specs.Runs.WrittenRun.{WritesIt, AreSpared, StandsWhile}
-use Rattle.nfs_serve.specs.Step.{State}
-use Rattle.nfs_serve.specs.Promises.Endpoint.{Arrival}
-use Rattle.nfs_serve.specs.Promises.Points.{state_after, reached, ops_of}
+use Rattle.nfs_exec.specs.{Runs.Ops.RanOp, Runs.WrittenRun.{WritesIt, AreSpared, StandsWhile}}
+use Rattle.nfs_serve.specs.{Step.State, Promises.Endpoint.Arrival, Promises.Points.{state_after, reached, ops_of}}
 
 -- Through these records the byte stands before each operation, and each READ of it that answers NFS4_OK is given it, as long as all operations before spared
 -- it, whoever asked for them.

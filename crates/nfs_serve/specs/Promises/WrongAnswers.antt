@@ -2,13 +2,9 @@
 -- read, as in `WrongServers`: a record is an xid, a slot of one session, a number and the highest slot in use.
 use Rattle.std.specs.Prelude.{ℕ, nat_lt, List, [], ◌∷◌, ◌++◌, Bool, true, false, Option, Some, None, if◌then◌else◌}
 use Rattle.nfs_rpc.specs.Reply.{spell_head}
-use Rattle.nfs_slots.specs.declared.slot.Verdict.{Verdict}
-use Rattle.nfs_slots.specs.declared.slot.Verdict.TheVariants.{Again}
-use Rattle.nfs_serve.specs.Promises.Endpoint.{Heading, Stepped, Server}
-use Rattle.nfs_serve.specs.Promises.WrongServers.{Small, heading, arguments, judged, by_verdict, small}
-use Rattle.nfs_serve.specs.Promises.AnsweredAgain.{AnsweredAgain}
-use Rattle.nfs_serve.specs.Promises.Answering.{IsUnder}
-use Rattle.nfs_serve.specs.Promises.FreshRuns.{FreshRuns}
+use Rattle.nfs_slots.specs.{declared.slot.Verdict.Verdict, declared.slot.Verdict.TheVariants.Again}
+use Rattle.nfs_serve.specs.{Promises.Endpoint.{Heading, Stepped, Server}, Promises.WrongServers.{Small, heading, arguments, judged, by_verdict, small}}
+use Rattle.nfs_serve.specs.{Promises.AnsweredAgain.AnsweredAgain, Promises.Answering.IsUnder, Promises.FreshRuns.FreshRuns}
 
 abbrev pub is_again : Verdict → Bool
 is_again Again = true

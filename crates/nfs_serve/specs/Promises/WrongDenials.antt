@@ -6,12 +6,9 @@ use Rattle.nfs_compound.specs.declared.lock_args.LockType.TheVariants as LockTyp
 use Rattle.nfs_results.specs.declared.res.Res.TheVariants as Res
 use Rattle.nfs_results.specs.Results.{spell_result}
 use Rattle.nfs_exec.specs.Runs.Ops.{RanOp}
-use Rattle.nfs_serve.specs.Promises.Endpoint.{Arrival}
-use Rattle.nfs_serve.specs.Promises.Exchanges.{words}
+use Rattle.nfs_serve.specs.{Promises.Endpoint.Arrival, Promises.Exchanges.words}
 use Rattle.nfs_serve.specs.Promises.HeldLock.{came, in_session, opens_and_locks, earlier, locks, waits, clashes, start, asked, last_of}
-use Rattle.nfs_serve.specs.Promises.LostReply.{exchange_id, create_session}
-use Rattle.nfs_serve.specs.Promises.Denials.{asks_for_lock}
-use Rattle.nfs_serve.specs.Promises.NoIsTrue.{IsTrue}
+use Rattle.nfs_serve.specs.{Promises.LostReply.{exchange_id, create_session}, Promises.Denials.asks_for_lock, Promises.NoIsTrue.IsTrue}
 use Rattle.nfs_serve.specs.Promises.Points.{reached, ops_of}
 
 abbrev pub before_clash : List Arrival

@@ -9,20 +9,11 @@ use Rattle.nfs_results.specs.Results.{done_head}
 use Rattle.nfs_ranges.specs.declared.Kind.TheVariants.{Write}
 use Rattle.nfs_opens.specs.Closing.{without_open}
 use Rattle.nfs_names.specs.Ending.{with_opens}
-use Rattle.nfs_exec.specs.Step.Machine.{Machine}
-use Rattle.nfs_exec.specs.Step.CreateSession.{without_any_opens}
-use Rattle.nfs_exec.specs.Step.Laws.{MachineEvent, Asks}
-use Rattle.nfs_exec.specs.Step.Delayed.{IsDelayed}
-use Rattle.nfs_exec.specs.Runs.Ended.{HasNothing}
-use Rattle.nfs_exec.specs.Runs.Ops.{RanOp}
-use Rattle.nfs_exec.specs.Runs.LockHeld.{StandsBefore, StandsWhile}
-use Rattle.nfs_serve.specs.Step.{State, new_state}
-use Rattle.nfs_serve.specs.Promises.Points.{state_after, reached, before, asked_by, ops_of}
-use Rattle.nfs_serve.specs.Promises.LockKept.{replaces_by, StaysHeld}
-use Rattle.nfs_serve.specs.Promises.Outlived.{last_renewal, IsInTime}
-use Rattle.nfs_serve.specs.Promises.Exchanges.{words}
-use Rattle.nfs_serve.specs.Promises.Endpoint.{Arrival}
-use Rattle.nfs_serve.specs.Promises.LostReply.{create_session}
+use Rattle.nfs_exec.specs.{Step.Machine.Machine, Step.CreateSession.without_any_opens, Step.Laws.{MachineEvent, Asks}, Step.Delayed.IsDelayed}
+use Rattle.nfs_exec.specs.{Runs.Ended.HasNothing, Runs.Ops.RanOp, Runs.LockHeld.{StandsBefore, StandsWhile}}
+use Rattle.nfs_serve.specs.{Step.{State, new_state}, Promises.Points.{state_after, reached, before, asked_by, ops_of}}
+use Rattle.nfs_serve.specs.{Promises.LockKept.{replaces_by, StaysHeld}, Promises.Outlived.{last_renewal, IsInTime}, Promises.Exchanges.words}
+use Rattle.nfs_serve.specs.{Promises.Endpoint.Arrival, Promises.LostReply.create_session}
 use Rattle.nfs_serve.specs.Promises.HeldLock.{came, earlier, locks, renewal, clashes, locked, asked, told, stateid_of_lock, last_of}
 
 -- a server whose leases last one second, whatever the client was told

@@ -2,24 +2,15 @@
 -- server does not take: what a server that took it did is no open kept.
 use Rattle.std.specs.Prelude.{ℕ, true, false, List, [], ◌∷◌, ◌++◌}
 use Rattle.nfs_compound.specs.declared.op_num.OpNum.TheVariants as Num
-use Rattle.nfs_compound.specs.declared.open_args.Open.{Open}
-use Rattle.nfs_compound.specs.declared.open_args.OpenHow.TheVariants.{Create}
-use Rattle.nfs_compound.specs.declared.open_args.CreateHow.TheVariants.{Unchecked}
-use Rattle.nfs_compound.specs.declared.open_args.OpenClaim.TheVariants.{Null}
-use Rattle.nfs_compound.specs.declared.op.Item.TheVariants.{Operation}
+use Rattle.nfs_compound.specs.{declared.open_args.Open.Open, declared.open_args.OpenHow.TheVariants.Create, declared.open_args.CreateHow.TheVariants.Unchecked}
+use Rattle.nfs_compound.specs.{declared.open_args.OpenClaim.TheVariants.Null, declared.op.Item.TheVariants.Operation}
 use Rattle.nfs_compound.specs.declared.op.Op.TheVariants as Op
 use Rattle.nfs_results.specs.Results.{done_head}
-use Rattle.nfs_opens.specs.declared.share.Share.{Share}
-use Rattle.nfs_opens.specs.Share.{neither}
-use Rattle.nfs_opens.specs.Table.{with_open}
+use Rattle.nfs_opens.specs.{declared.share.Share.Share, Share.neither, Table.with_open}
 use Rattle.nfs_names.specs.Ending.{with_opens}
 use Rattle.nfs_files.specs.Open.{no_attributes}
-use Rattle.nfs_exec.specs.Runs.Ops.{RanOp}
-use Rattle.nfs_exec.specs.Runs.OpenHeld.{IsOpenBefore, OpenWhile}
-use Rattle.nfs_serve.specs.Promises.Points.{ops_of}
-use Rattle.nfs_serve.specs.Promises.Exchanges.{words}
-use Rattle.nfs_serve.specs.Promises.HeldLock.{last_of}
-use Rattle.nfs_serve.specs.Promises.WrongLocks.{closes_another}
+use Rattle.nfs_exec.specs.{Runs.Ops.RanOp, Runs.OpenHeld.{IsOpenBefore, OpenWhile}}
+use Rattle.nfs_serve.specs.{Promises.Points.ops_of, Promises.Exchanges.words, Promises.HeldLock.last_of, Promises.WrongLocks.closes_another}
 use Rattle.nfs_serve.specs.Promises.HeldOpen.{asks, its_open, first_bits, asked}
 
 -- what A asks for as it opens the file once more: to read

@@ -2,14 +2,9 @@
 -- one session, a number and the highest slot in use; a result is a session's id, a slot and a number. Kept are the slots, and of what ran the numbers, in
 -- order.
 use Rattle.std.specs.Prelude.{◌≡◌, ℕ, List, [], ◌∷◌, ◌++◌, Bool, true, false, Option, Some, None, if◌then◌else◌}
-use Rattle.nfs_slots.specs.Slot.{SlotState, unused_slot, judge_slot}
-use Rattle.nfs_slots.specs.declared.slot.Verdict.{Verdict}
-use Rattle.nfs_slots.specs.declared.slot.Verdict.TheVariants.{Fresh, Again}
-use Rattle.nfs_serve.specs.Promises.Endpoint.{Place, Heading, Stepped, Server}
-use Rattle.nfs_serve.specs.Promises.Network.{same_place}
-use Rattle.nfs_serve.specs.Promises.Numbered.{ExactlyOnceByNumber}
-use Rattle.nfs_serve.specs.Promises.PerfectWire.{AsOverAWire}
-use Rattle.nfs_serve.specs.Promises.AnsweredAgain.{AnsweredAgain}
+use Rattle.nfs_slots.specs.{Slot.{SlotState, unused_slot, judge_slot}, declared.slot.Verdict.Verdict, declared.slot.Verdict.TheVariants.{Fresh, Again}}
+use Rattle.nfs_serve.specs.{Promises.Endpoint.{Place, Heading, Stepped, Server}, Promises.Network.same_place, Promises.Numbered.ExactlyOnceByNumber}
+use Rattle.nfs_serve.specs.{Promises.PerfectWire.AsOverAWire, Promises.AnsweredAgain.AnsweredAgain}
 
 pub record Small : Type 0 where
   pub slots : Place → SlotState

@@ -1,5 +1,4 @@
-use Rattle.std.proofs.Common.{length, arith, ◌∙◌, sym}
-use Rattle.std.proofs.lemmas.Slice.Eq.{bytes_eq-Decides}
+use Rattle.std.proofs.{Common.{length, arith, ◌∙◌, sym}, lemmas.Slice.Eq.bytes_eq-Decides}
 use Rattle.nfs_xdr.specs.Codec.{opaque}
 use Rattle.nfs_xdr.proofs.CodecLaws.{is_opaque}
 use Rattle.nfs_attrs.proofs.Fronts.{follows_if}

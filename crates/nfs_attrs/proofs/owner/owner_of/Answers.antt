@@ -1,8 +1,6 @@
-use Rattle.std.proofs.Common.{◌≡◌, ◌∙◌, sym, ap, arith}
-use Rattle.std.specs.Fmt.{decimal}
-use Rattle.std.proofs.lemmas.Slice.Eq.{bytes_eq-Decides}
-use Rattle.std.proofs.lemmas.Fmt.{IsAscii-decimal, parse-decimal}
+use Rattle.std.proofs.{Common.{◌≡◌, ◌∙◌, sym, ap, arith}, lemmas.Slice.Eq.bytes_eq-Decides, lemmas.Fmt.{IsAscii-decimal, parse-decimal}}
 use Rattle.std.proofs.lemmas.Str.{IsUtf8-from_ascii}
+use Rattle.std.specs.Fmt.{decimal}
 use Rattle.nfs_attrs.proofs.Owners.{owner_some, owner_none}
 use Rattle.nfs_attrs.proofs.owner.owner_of.Goals as goal
 

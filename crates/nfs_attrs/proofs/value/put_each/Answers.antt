@@ -1,10 +1,8 @@
-use Rattle.std.proofs.Common.{ℕ, ◌∙◌, ap, arith, get_or, length, take}
+use Rattle.std.proofs.{Common.{ℕ, ◌∙◌, ap, arith, get_or, length, take}, lemmas.List.length-append}
 use Rattle.std.specs.List.{flat_map}
-use Rattle.std.proofs.lemmas.List.{length-append}
 use Rattle.nfs_xdr.proofs.Putting.{puts_then}
 use Rattle.nfs_attrs.specs.Attributes.{attributes, value_at}
-use Rattle.nfs_attrs.proofs.Room.{room_within}
-use Rattle.nfs_attrs.proofs.Asking.{one_more_of, next_of_fits}
+use Rattle.nfs_attrs.proofs.{Room.room_within, Asking.{one_more_of, next_of_fits}}
 use Rattle.nfs_attrs.proofs.value.put_each.Goals as goal
 
 pub put_value-requires : goal.put_value-requires

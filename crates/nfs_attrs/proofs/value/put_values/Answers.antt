@@ -1,7 +1,6 @@
 use Rattle.std.proofs.Common.{◌≡◌, ◌%◌, ℕ, List, length, sym, ap, subst, ◌∙◌}
 use Rattle.nfs_xdr.specs.SheetState.{HasRoom, Puts}
-use Rattle.nfs_attrs.specs.Asked.{values_of}
-use Rattle.nfs_attrs.specs.Attributes.{values}
+use Rattle.nfs_attrs.specs.{Asked.values_of, Attributes.values}
 use Rattle.nfs_attrs.proofs.Asking.{values_of_asked}
 use Rattle.nfs_attrs.proofs.value.put_values.Goals as goal
 

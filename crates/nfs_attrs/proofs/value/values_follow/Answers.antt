@@ -1,8 +1,7 @@
 use Rattle.std.proofs.Common.{ℕ, ap, ◌∙◌, ◌++◌, sym, arith, List, take, get_or, append_assoc}
 use Rattle.std.specs.List.{flat_map}
 use Rattle.nfs_attrs.specs.Value.{asked_at}
-use Rattle.nfs_attrs.proofs.Fronts.{lacks_whole}
-use Rattle.nfs_attrs.proofs.Values.{numbers, values_by_number, one_more_number, all_numbers}
+use Rattle.nfs_attrs.proofs.{Fronts.lacks_whole, Values.{numbers, values_by_number, one_more_number, all_numbers}}
 use Rattle.nfs_attrs.proofs.value.values_follow.Goals as goal
 
 pub returns-then-not-asked_follows : goal.returns-then-not-asked_follows

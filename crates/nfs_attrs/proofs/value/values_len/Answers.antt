@@ -1,6 +1,5 @@
-use Rattle.std.proofs.Common.{ap, ◌∙◌, sym, arith, length, take}
+use Rattle.std.proofs.{Common.{ap, ◌∙◌, sym, arith, length, take}, lemmas.List.length-append}
 use Rattle.std.specs.List.{flat_map}
-use Rattle.std.proofs.lemmas.List.{length-append}
 use Rattle.nfs_attrs.specs.Value.{asked_at}
 use Rattle.nfs_attrs.proofs.Values.{numbers, values_by_number, one_more_number, all_numbers}
 use Rattle.nfs_attrs.proofs.value.values_len.Goals as goal

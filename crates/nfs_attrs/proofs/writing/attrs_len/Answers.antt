@@ -1,10 +1,7 @@
-use Rattle.std.proofs.Common.{◌≡◌, ◌%◌, length, ap, ◌∙◌, arith}
-use Rattle.std.proofs.lemmas.List.{length-append}
+use Rattle.std.proofs.{Common.{◌≡◌, ◌%◌, length, ap, ◌∙◌, arith}, lemmas.List.length-append}
 use Rattle.nfs_xdr.specs.Spelling.{opaque}
-use Rattle.nfs_attrs.specs.Attributes.{values, readable}
-use Rattle.nfs_attrs.specs.Mask.{common, spell_mask}
-use Rattle.nfs_attrs.proofs.Bounds.{attributes_within, told_within}
-use Rattle.nfs_attrs.proofs.Whole.{length_of_words}
+use Rattle.nfs_attrs.specs.{Attributes.{values, readable}, Mask.{common, spell_mask}}
+use Rattle.nfs_attrs.proofs.{Bounds.{attributes_within, told_within}, Whole.length_of_words}
 use Rattle.nfs_attrs.proofs.writing.attrs_len.Goals as goal
 
 pub returns-clause-exact : goal.returns-clause-exact

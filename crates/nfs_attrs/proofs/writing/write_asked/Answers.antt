@@ -1,12 +1,8 @@
-use Rattle.std.proofs.Common.{◌≡◌, ◌≤◌, ◌+◌, ◌-◌, ◌++◌, length, refl, ap, ◌∙◌, arith}
-use Rattle.std.proofs.lemmas.List.{length-append}
+use Rattle.std.proofs.{Common.{◌≡◌, ◌≤◌, ◌+◌, ◌-◌, ◌++◌, length, refl, ap, ◌∙◌, arith}, lemmas.List.length-append}
 use Rattle.nfs_xdr.specs.Spelling.{number, opaque}
 use Rattle.nfs_xdr.proofs.Putting.{length_number, puts_then}
-use Rattle.nfs_attrs.specs.Mask.{common, spell_mask}
-use Rattle.nfs_attrs.specs.Attributes.{values, readable}
-use Rattle.nfs_attrs.proofs.Bounds.{attributes_within}
-use Rattle.nfs_attrs.proofs.Counted.{length_opaque_more, counted, with_more, second_put, length_front}
-use Rattle.nfs_attrs.proofs.Room.{room_within}
+use Rattle.nfs_attrs.specs.{Mask.{common, spell_mask}, Attributes.{values, readable}}
+use Rattle.nfs_attrs.proofs.{Bounds.attributes_within, Counted.{length_opaque_more, counted, with_more, second_put, length_front}, Room.room_within}
 use Rattle.nfs_attrs.proofs.writing.write_asked.Goals as goal
 
 pub put_bytes-requires : goal.put_bytes-requires

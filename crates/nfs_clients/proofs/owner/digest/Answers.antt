@@ -1,7 +1,5 @@
-use Rattle.std.proofs.Common.{◌≡◌, ◌+◌, ◌*◌, ◌%◌, ◌^◌, ℕ, take, length, ap, sym, ◌∙◌, arith, rules}
-use Rattle.std.proofs.Math.Seq.{take-length}
+use Rattle.std.proofs.{Common.{◌≡◌, ◌+◌, ◌*◌, ◌%◌, ◌^◌, ℕ, take, length, ap, sym, ◌∙◌, arith, rules}, Math.Seq.take-length, lemmas.List.Sums.fold_more}
 use Rattle.std.specs.List.{fold}
-use Rattle.std.proofs.lemmas.List.Sums.{fold_more}
 use Rattle.nfs_clients.specs.Owner.{digest_of}
 use Rattle.nfs_clients.proofs.owner.digest.Goals as goal
 

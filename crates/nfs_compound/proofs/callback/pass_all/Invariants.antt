@@ -1,6 +1,5 @@
 use Rattle.std.proofs.Common.{◌≡◌, ◌-◌}
-use Rattle.nfs_xdr.specs.Codec.{array, many_at}
-use Rattle.nfs_xdr.specs.Combinators.{passed}
+use Rattle.nfs_xdr.specs.{Codec.{array, many_at}, Combinators.passed}
 use Rattle.nfs_compound.specs.ArgCodecs.{sec_parms}
 use Rattle.nfs_compound.proofs.callback.pass_all.Given as goal
 

@@ -1,13 +1,6 @@
-use Rattle.nfs_xdr.proofs.WordLaws.{listed_number}
-use Rattle.nfs_xdr.proofs.TextLaws.{leads_from, leads_again}
-use Rattle.nfs_compound.specs.ArgCodecs.{protected}
-use Rattle.nfs_compound.specs.OpCodec.{op_codec}
-use Rattle.nfs_compound.specs.Wire.{protected4, nfs_argop4}
-use Rattle.nfs_compound.specs.OpNum.{op_number, op_nums}
-use Rattle.nfs_compound.proofs.OpNumLaws.{is_op_listing}
-use Rattle.nfs_compound.proofs.ArgLaws.{is_protected}
-use Rattle.nfs_compound.proofs.OpLaws.{is_op}
-use Rattle.nfs_compound.proofs.WireLaws.{ops, protections}
+use Rattle.nfs_xdr.proofs.{WordLaws.listed_number, TextLaws.{leads_from, leads_again}}
+use Rattle.nfs_compound.specs.{ArgCodecs.protected, OpCodec.op_codec, Wire.{protected4, nfs_argop4}, OpNum.{op_number, op_nums}}
+use Rattle.nfs_compound.proofs.{OpNumLaws.is_op_listing, ArgLaws.is_protected, OpLaws.is_op, WireLaws.{ops, protections}}
 use Rattle.nfs_compound.proofs.laws.arguments.Goals as goal
 
 pub returns-clause-table : goal.returns-clause-table

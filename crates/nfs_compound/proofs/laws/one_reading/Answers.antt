@@ -1,8 +1,6 @@
-use Rattle.std.proofs.Common.{refl, sym, ◌∙◌}
-use Rattle.std.proofs.lemmas.Option.{same_Some}
+use Rattle.std.proofs.{Common.{refl, sym, ◌∙◌}, lemmas.Option.same_Some}
 use Rattle.nfs_compound.specs.ReadRequest.{request_at}
-use Rattle.nfs_compound.proofs.GrammarLaws.{none≢some}
-use Rattle.nfs_compound.proofs.RequestLaws.{one_reading, request_again, garbage_again}
+use Rattle.nfs_compound.proofs.{GrammarLaws.{none≢some}, RequestLaws.{one_reading, request_again, garbage_again}}
 use Rattle.nfs_compound.proofs.laws.one_reading.Goals as goal
 
 pub returns-clause-one : goal.returns-clause-one

@@ -1,5 +1,4 @@
-use Rattle.nfs_compound.proofs.FirstNumber.{first_number}
-use Rattle.nfs_compound.proofs.WireLaws.{ops}
+use Rattle.nfs_compound.proofs.{FirstNumber.first_number, WireLaws.ops}
 use Rattle.nfs_compound.proofs.laws.wire.Goals as goal
 
 pub returns-clause-number : goal.returns-clause-number

@@ -1,7 +1,6 @@
 use Rattle.std.proofs.Common.{sym, subst}
 use Rattle.nfs_clients.specs.declared.created.CreateResult.{CreateResult}
-use Rattle.nfs_exec.specs.Step.CreateSession.{kept_again}
-use Rattle.nfs_exec.specs.Step.View.{Does}
+use Rattle.nfs_exec.specs.{Step.CreateSession.kept_again, Step.View.Does}
 use Rattle.nfs_exec.proofs.create_session.put_kept.Goals as goal
 
 pub returns-in-Refused : goal.returns-in-Refused

@@ -1,7 +1,6 @@
 use Rattle.std.proofs.Common.{ℕ, ◌-◌, ◌≤◌, List, length, take, drop, ap, sym, subst, ◌∙◌}
 use Rattle.nfs_results.specs.declared.res.Res.TheVariants as Res
-use Rattle.nfs_results.specs.declared.res.CreateSessionOk.{CreateSessionOk}
-use Rattle.nfs_results.specs.Parts.{parts}
+use Rattle.nfs_results.specs.{declared.res.CreateSessionOk.CreateSessionOk, Parts.parts}
 use Rattle.nfs_exec.proofs.Step.Creating.{made_fits, put_whole, behind_head, longer, body_within}
 use Rattle.nfs_exec.proofs.create_session.put_made.Goals as goal
 

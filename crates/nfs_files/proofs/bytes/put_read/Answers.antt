@@ -1,14 +1,9 @@
-use Rattle.std.proofs.Common.{◌≡◌, ◌+◌, ◌++◌, ℕ, List, Bool, sym, ap, subst, arith}
-use Rattle.nfs_xdr.specs.SheetState.{Puts, HasRoom}
-use Rattle.nfs_xdr.specs.Spelling.{flag, opaque, padding}
-use Rattle.nfs_xdr.specs.declared.status.Status.TheVariants.{Nfs4Ok}
+use Rattle.std.proofs.{Common.{◌≡◌, ◌+◌, ◌++◌, ℕ, List, Bool, sym, ap, subst, arith}, lemmas.List.length-append}
+use Rattle.nfs_xdr.specs.{SheetState.{Puts, HasRoom}, Spelling.{flag, opaque, padding}, declared.status.Status.TheVariants.Nfs4Ok}
 use Rattle.nfs_xdr.proofs.Putting.{puts_then}
-use Rattle.std.proofs.lemmas.List.{length-append}
 use Rattle.nfs_compound.specs.declared.op_num.OpNum.TheVariants as Num
 use Rattle.nfs_compound.specs.OpNum.{op_number}
-use Rattle.nfs_results.specs.Items.{read_ok}
-use Rattle.nfs_results.specs.Largest.{given}
-use Rattle.nfs_results.specs.Results.{head}
+use Rattle.nfs_results.specs.{Items.read_ok, Largest.given, Results.head}
 use Rattle.nfs_results.proofs.Lengths.{length_head}
 use Rattle.nfs_tree.specs.Bytes.{part}
 use Rattle.nfs_names.specs.State.{state_of}

@@ -3,20 +3,13 @@ use Rattle.std.specs.Prelude.{Result, Ok, Err}
 use Rattle.nfs_compound.specs.declared.op_num.OpNum.TheVariants as Num
 use Rattle.nfs_results.specs.declared.res.Res.TheVariants as Res
 use Rattle.nfs_results.specs.Results.{refusal}
-use Rattle.nfs_tree.specs.Bytes.{has_bytes}
+use Rattle.nfs_tree.specs.{Bytes.has_bytes, Files.Files, declared.fault.TreeFault.TreeFault, Calls.{DoesOrWants, write_fault}}
 use Rattle.nfs_xdr.specs.declared.time.Time.{Time}
-use Rattle.nfs_tree.specs.Files.{Files}
-use Rattle.nfs_tree.specs.declared.fault.TreeFault.{TreeFault}
-use Rattle.nfs_tree.specs.Calls.{DoesOrWants, write_fault}
 use Rattle.nfs_tree.specs.Calls as tree
-use Rattle.nfs_names.specs.State.{state_of, with_tree}
-use Rattle.nfs_names.specs.Checks.{current}
-use Rattle.nfs_names.proofs.NameLaws.{current_refuses}
-use Rattle.nfs_names.proofs.Faulted.{told_done, told_fault, told_error}
-use Rattle.nfs_files.specs.Bytes.{writable}
-use Rattle.nfs_files.specs.Write.{write_ok, with_bytes, last_checks, was_written, write}
-use Rattle.nfs_files.proofs.Seats.{writable_refuses}
-use Rattle.nfs_files.proofs.WriteRows.{write_goes, write_stops}
+use Rattle.nfs_names.specs.{State.{state_of, with_tree}, Checks.current}
+use Rattle.nfs_names.proofs.{NameLaws.current_refuses, Faulted.{told_done, told_fault, told_error}}
+use Rattle.nfs_files.specs.{Bytes.writable, Write.{write_ok, with_bytes, last_checks, was_written, write}}
+use Rattle.nfs_files.proofs.{Seats.writable_refuses, WriteRows.{write_goes, write_stops}}
 use Rattle.nfs_files.proofs.bytes.write_bytes.Goals as goal
 
 -- what the tree did of a WRITE of bytes

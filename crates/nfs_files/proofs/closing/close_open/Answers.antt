@@ -1,10 +1,9 @@
 use Rattle.std.proofs.Common.{◌∙◌, ap}
 use Rattle.nfs_results.specs.declared.res.Res.TheVariants as Res
-use Rattle.nfs_files.specs.Target.{with_stateid}
+use Rattle.nfs_files.specs.{Target.with_stateid, Close.{spent, closed}}
 use Rattle.nfs_compound.specs.declared.op_num.OpNum.TheVariants as Num
 use Rattle.nfs_opens.specs.Closing as opens
 use Rattle.nfs_names.specs.State.{State, state_of}
-use Rattle.nfs_files.specs.Close.{spent, closed}
 use Rattle.nfs_files.proofs.Refused.{by_refusal, by_grant}
 use Rattle.nfs_files.proofs.closing.close_open.Goals as goal
 

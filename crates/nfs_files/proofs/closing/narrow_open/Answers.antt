@@ -1,15 +1,11 @@
-use Rattle.nfs_opens.specs.Table.{table}
-use Rattle.nfs_names.specs.Ending.{with_opens}
+use Rattle.nfs_opens.specs.{Table.table, declared.share.Share.Share}
+use Rattle.nfs_names.specs.{Ending.with_opens, State.state_of, Outcome.{Outcome, answers}}
 use Rattle.nfs_results.specs.declared.res.Res.TheVariants as Res
 use Rattle.nfs_compound.specs.declared.stateid.Stateid.{Stateid}
-use Rattle.nfs_files.specs.Target.{with_stateid}
+use Rattle.nfs_files.specs.{Target.with_stateid, OpenDowngrade.{bits, narrowed}}
 use Rattle.std.proofs.Common.{◌∙◌, ap}
 use Rattle.nfs_compound.specs.declared.op_num.OpNum.TheVariants as Num
-use Rattle.nfs_opens.specs.declared.share.Share.{Share}
 use Rattle.nfs_opens.specs.Opening as opens
-use Rattle.nfs_names.specs.State.{state_of}
-use Rattle.nfs_names.specs.Outcome.{Outcome, answers}
-use Rattle.nfs_files.specs.OpenDowngrade.{bits, narrowed}
 use Rattle.nfs_files.proofs.Refused.{by_refusal, by_grant}
 use Rattle.nfs_files.proofs.closing.narrow_open.Goals as goal
 

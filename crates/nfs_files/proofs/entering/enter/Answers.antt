@@ -1,14 +1,8 @@
-use Rattle.std.proofs.Common.{◌≡◌, ◌⊎◌, ◌+◌, true, sym, ap, subst, ◌∙◌}
+use Rattle.std.proofs.{Common.{◌≡◌, ◌⊎◌, ◌+◌, true, sym, ap, subst, ◌∙◌}, lemmas.Result.err_from_is_err_and}
 use Rattle.std.specs.Prelude.{Err}
-use Rattle.std.proofs.lemmas.Result.{err_from_is_err_and}
 use Rattle.nfs_tree.specs.Calls as tree_create
-use Rattle.nfs_tree.specs.Create.{with_new}
-use Rattle.nfs_tree.specs.Calls.{create_fault, does_unless, DoesOrWants}
-use Rattle.nfs_tree.specs.Files.{raised}
-use Rattle.nfs_files.specs.declared.opening.Found.{Found}
-use Rattle.nfs_files.specs.declared.opening.Found.TheVariants.{Absent}
-use Rattle.nfs_files.specs.Open.{file_of, tree_of, name_of}
-use Rattle.nfs_files.specs.OpenParts.{tree_fault}
+use Rattle.nfs_tree.specs.{Create.with_new, Calls.{create_fault, does_unless, DoesOrWants}, Files.raised}
+use Rattle.nfs_files.specs.{declared.opening.Found.Found, declared.opening.Found.TheVariants.Absent, Open.{file_of, tree_of, name_of}, OpenParts.tree_fault}
 use Rattle.nfs_files.proofs.Answering.{refused_again}
 use Rattle.nfs_names.proofs.Faulted.{Wants, Other, refused_tree}
 use Rattle.nfs_files.proofs.entering.enter.Goals as goal

@@ -1,11 +1,9 @@
 use Rattle.std.proofs.Common.{◌≡◌, sym, ap, ◌∙◌, rules}
 use denote.Enum.Bare.{same_true, same_false}
-use Rattle.nfs_xdr.specs.Checks.{judged}
-use Rattle.nfs_xdr.specs.contracts.status.Status.{the_type}
+use Rattle.nfs_xdr.specs.{Checks.judged, contracts.status.Status.the_type}
 use Rattle.nfs_opens.specs.Calls.{open_fault}
 use Rattle.nfs_names.specs.State.{state_of}
-use Rattle.nfs_files.specs.Open.{asking}
-use Rattle.nfs_files.specs.OpenParts.{number_of}
+use Rattle.nfs_files.specs.{Open.asking, OpenParts.number_of}
 use Rattle.nfs_files.proofs.Opened.{room_decides, denied_decides, spent_decides}
 use Rattle.nfs_files.proofs.entering.judge_last.Goals as goal
 use Rattle.nfs_files.proofs.entering.judge_last.Goals.{After-judge_open}

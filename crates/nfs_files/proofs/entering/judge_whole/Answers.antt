@@ -1,8 +1,7 @@
 use Rattle.std.proofs.Common.{◌≡◌, None, sym, ap, ◌∙◌}
 use Rattle.std.specs.Prelude.{Ok}
-use Rattle.nfs_names.specs.State.{state_of}
+use Rattle.nfs_names.specs.{State.state_of, Outcome.{passed, checked}}
 use Rattle.nfs_xdr.specs.Checks.{first_fault}
-use Rattle.nfs_names.specs.Outcome.{passed, checked}
 use Rattle.nfs_names.proofs.Found.{judged_err, judged_ok, stopped}
 use Rattle.nfs_files.specs.Open.{asked_for, last_checks}
 use Rattle.nfs_files.proofs.Granted.{last_same}

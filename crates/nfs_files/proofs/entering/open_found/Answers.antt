@@ -1,17 +1,11 @@
 use Rattle.std.proofs.Common.{◌≡◌, true, Some, None, inl, inr, refl, sym, ap, ◌∙◌}
-use Rattle.nfs_tree.specs.declared.fault.TreeFault.TheVariants.{Memory}
-use Rattle.nfs_tree.specs.Files.{Files}
-use Rattle.nfs_opens.specs.Table.{Kept, table}
+use Rattle.nfs_tree.specs.{declared.fault.TreeFault.TheVariants.Memory, Files.Files}
+use Rattle.nfs_opens.specs.{Table.{Kept, table}, Calls.open_fault}
 use Rattle.nfs_opens.specs.Calls as of_opens
-use Rattle.nfs_opens.specs.Calls.{open_fault}
-use Rattle.nfs_names.specs.State.{State, state_of}
-use Rattle.nfs_names.proofs.Found.{checked_ok}
-use Rattle.nfs_names.proofs.Faulted.{done_by_tree, refused_tree}
-use Rattle.nfs_files.specs.Open.{asking, asked_for, last_checks, file_of, tree_of}
-use Rattle.nfs_files.specs.OpenParts.{tree_fault}
-use Rattle.nfs_names.specs.Faults.{status_of}
-use Rattle.nfs_files.proofs.Granted.{may_change, tree_free}
-use Rattle.nfs_files.proofs.Opened.{shared_free}
+use Rattle.nfs_names.specs.{State.{State, state_of}, Faults.status_of}
+use Rattle.nfs_names.proofs.{Found.checked_ok, Faulted.{done_by_tree, refused_tree}}
+use Rattle.nfs_files.specs.{Open.{asking, asked_for, last_checks, file_of, tree_of}, OpenParts.tree_fault}
+use Rattle.nfs_files.proofs.{Granted.{may_change, tree_free}, Opened.shared_free}
 use Rattle.nfs_files.proofs.entering.open_found.Goals as goal
 
 -- the checks passed, so memory alone was refused

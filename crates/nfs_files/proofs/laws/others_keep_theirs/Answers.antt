@@ -1,6 +1,5 @@
 use Rattle.nfs_files.specs.Own.{HasAsBefore}
-use Rattle.nfs_files.proofs.Outcomes.{for_each}
-use Rattle.nfs_files.proofs.OthersOps.{item_apart}
+use Rattle.nfs_files.proofs.{Outcomes.for_each, OthersOps.item_apart}
 use Rattle.nfs_files.proofs.laws.others_keep_theirs.Goals as goal
 
 pub returns : goal.returns

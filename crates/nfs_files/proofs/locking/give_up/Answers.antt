@@ -1,17 +1,11 @@
-use Rattle.nfs_opens.specs.Table.{table}
-use Rattle.nfs_names.specs.Ending.{with_opens}
+use Rattle.nfs_opens.specs.{Table.table, Locking.unlock, Calls.is_whole}
+use Rattle.nfs_names.specs.{Ending.with_opens, State.state_of, Outcome.{or_delay, is_delay}}
 use Rattle.nfs_compound.specs.declared.stateid.Stateid.{Stateid}
-use Rattle.nfs_files.specs.Target.{with_stateid}
+use Rattle.nfs_files.specs.{Target.with_stateid, LockU.unlocks}
 use Rattle.std.proofs.Common.{ap, ◌∙◌, sym, refl, not}
 use Rattle.std.specs.Prelude.{◌&&◌}
 use Rattle.nfs_compound.specs.declared.op_num.OpNum.TheVariants as Num
-use Rattle.nfs_results.specs.declared.res.Res.{Res}
-use Rattle.nfs_results.specs.Results.{status_of_result}
-use Rattle.nfs_opens.specs.Locking.{unlock}
-use Rattle.nfs_opens.specs.Calls.{is_whole}
-use Rattle.nfs_names.specs.State.{state_of}
-use Rattle.nfs_names.specs.Outcome.{or_delay, is_delay}
-use Rattle.nfs_files.specs.LockU.{unlocks}
+use Rattle.nfs_results.specs.{declared.res.Res.Res, Results.status_of_result}
 use Rattle.nfs_files.proofs.Refused.{refused_outcome, unlock_tells, unlocked_by, ok_unlocked, granted_outcome}
 use Rattle.nfs_files.proofs.locking.give_up.Goals as goal
 

@@ -2,8 +2,7 @@ use Rattle.std.proofs.Common.{◌≡◌, ap, ◌∙◌, sym, not}
 use Rattle.std.specs.Prelude.{Ok, ◌&&◌}
 use Rattle.nfs_compound.specs.declared.op_num.OpNum.TheVariants as Num
 use Rattle.nfs_results.specs.Results.{status_of_result}
-use Rattle.nfs_names.specs.State.{state_of}
-use Rattle.nfs_names.specs.Outcome.{answers, or_delay, is_delay}
+use Rattle.nfs_names.specs.{State.state_of, Outcome.{answers, or_delay, is_delay}}
 use Rattle.nfs_files.specs.LockU.{unlocking, unlocks, lock_u, wants_memory}
 use Rattle.nfs_files.proofs.Spans.{wished_whole}
 use Rattle.nfs_files.proofs.locking.lock_u.Goals as goal

@@ -1,5 +1,4 @@
-use Rattle.std.proofs.Common.{sym, arith}
-use Rattle.std.proofs.lemmas.List.{length-take-le, take_all}
+use Rattle.std.proofs.{Common.{sym, arith}, lemmas.List.{length-take-le, take_all}}
 use Rattle.nfs_files.proofs.locking.owner_of.Goals as goal
 
 pub slice_bounds-result-end : goal.slice_bounds-result-end

@@ -1,9 +1,7 @@
-use Rattle.std.proofs.Common.{◌≡◌, false, not, Some, refl, sym, ap, ◌∙◌, arith}
+use Rattle.std.proofs.{Common.{◌≡◌, false, not, Some, refl, sym, ap, ◌∙◌, arith}, lemmas.Result.err_from_is_err_and}
 use Rattle.std.specs.Prelude.{Ok, Err}
-use Rattle.std.proofs.lemmas.Result.{err_from_is_err_and}
 use Rattle.nfs_xdr.specs.Checks.{first_fault, judged}
-use Rattle.nfs_attrs.specs.Permissions.{write}
-use Rattle.nfs_attrs.specs.Setting.{make_checks}
+use Rattle.nfs_attrs.specs.{Permissions.write, Setting.make_checks}
 use Rattle.nfs_names.specs.Checks.{permits}
 use Rattle.nfs_names.proofs.Found.{judged_err, stopped}
 use Rattle.nfs_files.specs.Open.{makes, absent_checks}

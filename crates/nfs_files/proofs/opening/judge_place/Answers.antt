@@ -1,6 +1,5 @@
-use Rattle.std.proofs.Common.{◌≡◌, false, not, Some, refl, sym, ap, ◌∙◌, arith}
+use Rattle.std.proofs.{Common.{◌≡◌, false, not, Some, refl, sym, ap, ◌∙◌, arith}, lemmas.Result.err_from_is_err_and}
 use Rattle.std.specs.Prelude.{Ok, Err}
-use Rattle.std.proofs.lemmas.Result.{err_from_is_err_and}
 use Rattle.nfs_xdr.specs.Checks.{first_fault}
 use Rattle.nfs_tree.specs.Object.{is_directory}
 use Rattle.nfs_attrs.specs.Permissions.{execute}

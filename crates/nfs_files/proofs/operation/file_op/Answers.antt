@@ -1,17 +1,11 @@
 use Rattle.std.proofs.Common.{rules, ◌≡◌, ◌≤◌, ◌+◌, true, length, sym, ap, subst, Some}
-use Rattle.nfs_compound.specs.declared.op.Item.{Item}
-use Rattle.nfs_compound.specs.declared.op.Item.TheVariants.{Operation}
+use Rattle.nfs_compound.specs.{declared.op.Item.Item, declared.op.Item.TheVariants.Operation}
 use Rattle.nfs_compound.specs.declared.op.Op.TheVariants as Op
-use Rattle.nfs_results.specs.Largest.{largest}
-use Rattle.nfs_results.specs.Results.{status_of_result}
-use Rattle.nfs_names.specs.State.{state_of, moment}
-use Rattle.nfs_names.specs.StoreInvariants.{IsStore}
-use Rattle.nfs_names.specs.Outcome.{Outcome, is_delay}
+use Rattle.nfs_results.specs.{Largest.largest, Results.status_of_result}
+use Rattle.nfs_names.specs.{State.{state_of, moment}, StoreInvariants.IsStore, Outcome.{Outcome, is_delay}}
 use Rattle.nfs_names.proofs.Whole.{within, bounded_may, room_may}
 use Rattle.nfs_files.specs.Operation.{comes_to}
-use Rattle.nfs_files.proofs.ByteAnswers.{may_read_bytes}
-use Rattle.nfs_files.proofs.StraightAnswers.{short_within, short_lock, short_lock_t, short_test}
-use Rattle.nfs_files.proofs.Whole.{keeps, is_plain}
+use Rattle.nfs_files.proofs.{ByteAnswers.may_read_bytes, StraightAnswers.{short_within, short_lock, short_lock_t, short_test}, Whole.{keeps, is_plain}}
 use Rattle.nfs_files.proofs.Sound.{sound_item}
 use Rattle.nfs_files.proofs.operation.file_op.Goals as goal
 

@@ -1,13 +1,10 @@
-use Rattle.std.proofs.Common.{◌≡◌, Some, None, refl, sym, ap, ◌∙◌}
+use Rattle.std.proofs.{Common.{◌≡◌, Some, None, refl, sym, ap, ◌∙◌}, lemmas.Result.err_from_is_err_and}
 use Rattle.std.specs.Prelude.{Ok, Err}
-use Rattle.std.proofs.lemmas.Result.{err_from_is_err_and}
 use Rattle.nfs_xdr.specs.Checks.{first_fault}
 use Rattle.nfs_attrs.specs.Setting.{may_set}
-use Rattle.nfs_names.specs.State.{state_of}
-use Rattle.nfs_names.specs.Outcome.{passed, checked}
+use Rattle.nfs_names.specs.{State.state_of, Outcome.{passed, checked}}
 use Rattle.nfs_names.proofs.Found.{judged_err, judged_ok, stopped}
-use Rattle.nfs_files.specs.declared.setting.Setting.{Setting}
-use Rattle.nfs_files.specs.SetAttr.{setting, owner_checks}
+use Rattle.nfs_files.specs.{declared.setting.Setting.Setting, SetAttr.{setting, owner_checks}}
 use Rattle.nfs_files.proofs.SetRows.{set_by}
 use Rattle.nfs_files.proofs.setting.judge_setting.Goals as goal
 

@@ -1,16 +1,12 @@
 use Rattle.std.proofs.Common.{ℕ, List, sym, ap, ◌∙◌}
 use Rattle.nfs_compound.specs.declared.op_num.OpNum.TheVariants as Num
-use Rattle.nfs_results.specs.declared.res.Res.{Res}
-use Rattle.nfs_results.specs.Results.{refusal}
+use Rattle.nfs_results.specs.{declared.res.Res.Res, Results.refusal}
 use Rattle.nfs_xdr.specs.declared.status.Status.TheVariants.{Nfs4Ok}
 use Rattle.nfs_tree.specs.Files.{Files}
 use Rattle.nfs_attrs.specs.Mask.{mask_of, trimmed_words}
-use Rattle.nfs_names.specs.State.{state_of, with_tree}
-use Rattle.nfs_names.specs.Faults.{status_of}
-use Rattle.nfs_names.specs.Outcome.{Outcome}
+use Rattle.nfs_names.specs.{State.{state_of, with_tree}, Faults.status_of, Outcome.Outcome}
 use Rattle.nfs_names.proofs.Faulted.{did_ok, does_err, by_error}
-use Rattle.nfs_files.specs.SetAttr.{asked_for, last_checks, with_set, was_set, set_attr}
-use Rattle.nfs_files.specs.SetAttrParts.{tree_fault}
+use Rattle.nfs_files.specs.{SetAttr.{asked_for, last_checks, with_set, was_set, set_attr}, SetAttrParts.tree_fault}
 use Rattle.nfs_files.proofs.SetRows.{set_goes, set_stops}
 use Rattle.nfs_files.proofs.setting.set_attr.Goals as goal
 

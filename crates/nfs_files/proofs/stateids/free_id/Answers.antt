@@ -1,9 +1,7 @@
 use Rattle.nfs_compound.specs.declared.op_num.OpNum.TheVariants as Num
 use Rattle.nfs_results.specs.declared.res.Res.TheVariants as Res
 use Rattle.nfs_opens.specs.Closing as opens
-use Rattle.nfs_names.specs.State.{state_of}
-use Rattle.nfs_names.specs.Outcome.{done}
-use Rattle.nfs_names.specs.Ending.{with_opens}
+use Rattle.nfs_names.specs.{State.state_of, Outcome.done, Ending.with_opens}
 use Rattle.nfs_files.proofs.Refused.{by_refusal}
 use Rattle.nfs_files.proofs.stateids.free_id.Goals as goal
 

@@ -1,5 +1,4 @@
-use Rattle.std.proofs.Common.{length, ap, refl, arith}
-use Rattle.std.proofs.lemmas.List.{length-append}
+use Rattle.std.proofs.{Common.{length, ap, refl, arith}, lemmas.List.length-append}
 use Rattle.nfs_results.specs.Straight.{test_stateid_head}
 use Rattle.nfs_names.specs.State.{state_of}
 use Rattle.nfs_files.specs.TestStateid.{test_stateid}

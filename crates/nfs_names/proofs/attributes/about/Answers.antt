@@ -1,8 +1,7 @@
 use Rattle.std.proofs.Common.{◌∙◌, ℕ, ap, sym}
 use Rattle.nfs_attrs.specs.Attributes.{values}
 use Rattle.nfs_attrs.proofs.Unasked.{values_without_links}
-use Rattle.nfs_names.specs.Attributes.{about}
-use Rattle.nfs_names.specs.State.{state_of}
+use Rattle.nfs_names.specs.{Attributes.about, State.state_of}
 use Rattle.nfs_names.proofs.attributes.about.Goals.{then-has, else-has}
 use Rattle.nfs_names.proofs.attributes.about.Goals as goal
 

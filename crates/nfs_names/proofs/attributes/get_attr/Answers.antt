@@ -1,15 +1,11 @@
 use Rattle.std.proofs.Common.{sym, refl, subst, ◌∙◌}
 use Rattle.std.specs.Prelude.{Ok, Err}
-use Rattle.nfs_xdr.specs.SheetState.{Puts}
-use Rattle.nfs_xdr.specs.declared.status.Status.TheVariants.{Nfs4Ok}
+use Rattle.nfs_xdr.specs.{SheetState.Puts, declared.status.Status.TheVariants.Nfs4Ok}
 use Rattle.nfs_compound.specs.declared.op_num.OpNum.TheVariants as Num
 use Rattle.nfs_results.specs.declared.res.Res.TheVariants as Res
 use Rattle.nfs_results.specs.Results.{spell_result}
 use Rattle.nfs_attrs.specs.declared.mask.Mask.{Mask}
-use Rattle.nfs_names.specs.State.{state_of}
-use Rattle.nfs_names.specs.Outcome.{Outcome}
-use Rattle.nfs_names.specs.Attributes.{attributes_of}
-use Rattle.nfs_names.specs.Comes.{Comes}
+use Rattle.nfs_names.specs.{State.state_of, Outcome.Outcome, Attributes.attributes_of, Comes.Comes}
 use Rattle.nfs_names.proofs.Fronted.{get_attr_by, refusal_comes}
 use Rattle.nfs_names.proofs.attributes.get_attr.Goals as goal
 

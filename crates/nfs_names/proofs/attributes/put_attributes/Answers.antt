@@ -1,20 +1,15 @@
 use Rattle.std.proofs.Common.{◌≡◌, ◌≤◌, ◌+◌, ◌++◌, ◌∙◌, List, ℕ, length, sym, ap, subst, arith}
-use Rattle.nfs_xdr.specs.SheetState.{Puts}
-use Rattle.nfs_xdr.specs.Spelling.{opaque}
-use Rattle.nfs_xdr.specs.declared.status.Status.TheVariants.{Nfs4Ok}
+use Rattle.nfs_xdr.specs.{SheetState.Puts, Spelling.opaque, declared.status.Status.TheVariants.Nfs4Ok}
 use Rattle.nfs_xdr.proofs.Putting.{puts_then}
 use Rattle.nfs_compound.specs.declared.op_num.OpNum.TheVariants as Num
 use Rattle.nfs_compound.specs.OpNum.{op_number}
 use Rattle.nfs_results.specs.declared.res.Res.TheVariants as Res
-use Rattle.nfs_results.specs.Results.{head}
-use Rattle.nfs_results.specs.Items.{fattr}
+use Rattle.nfs_results.specs.{Results.head, Items.fattr}
 use Rattle.nfs_results.proofs.Lengths.{length_head, behind_within}
-use Rattle.nfs_attrs.specs.Attributes.{spell_attrs}
+use Rattle.nfs_attrs.specs.{Attributes.spell_attrs, Mask.{common, spell_mask}}
 use Rattle.nfs_attrs.specs.Attributes as table
-use Rattle.nfs_attrs.specs.Mask.{common, spell_mask}
 use Rattle.nfs_attrs.proofs.Bounds.{attributes_within}
-use Rattle.nfs_names.specs.State.{state_of}
-use Rattle.nfs_names.specs.Attributes.{about, attributes_of}
+use Rattle.nfs_names.specs.{State.state_of, Attributes.{about, attributes_of}}
 use Rattle.nfs_names.proofs.Masks.{room_then, at_most_three_words, attributes_spelled}
 use Rattle.nfs_names.proofs.attributes.put_attributes.Goals as goal
 

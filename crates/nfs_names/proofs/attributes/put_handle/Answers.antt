@@ -1,7 +1,5 @@
 use Rattle.std.proofs.Common.{◌≤◌, ◌+◌, List, ℕ, length, sym, subst, arith}
-use Rattle.nfs_xdr.specs.SheetState.{HasRoom}
-use Rattle.nfs_xdr.specs.Spelling.{opaque}
-use Rattle.nfs_xdr.specs.declared.status.Status.TheVariants.{Nfs4Ok}
+use Rattle.nfs_xdr.specs.{SheetState.HasRoom, Spelling.opaque, declared.status.Status.TheVariants.Nfs4Ok}
 use Rattle.nfs_compound.specs.declared.op_num.OpNum.TheVariants as Num
 use Rattle.nfs_compound.specs.OpNum.{op_number}
 use Rattle.nfs_results.specs.declared.res.Res.TheVariants as Res

@@ -1,13 +1,8 @@
 use Rattle.std.proofs.Common.{ℕ, List, ap, ◌∙◌, ◌||◌, not}
 use Rattle.std.specs.Prelude.{bytes_eq, Ok, Err, if◌then◌else◌}
-use Rattle.nfs_attrs.specs.Attributes.{supported}
-use Rattle.nfs_attrs.specs.Comparing.{same}
-use Rattle.nfs_attrs.specs.Mask.{has, within, asks_set_only}
-use Rattle.nfs_attrs.specs.declared.mask.Mask.{Mask}
+use Rattle.nfs_attrs.specs.{Attributes.supported, Comparing.same, Mask.{has, within, asks_set_only}, declared.mask.Mask.Mask}
 use Rattle.nfs_attrs.specs.declared.wanted.AttrFault.TheVariants.{AttrNotSupp, Inval}
-use Rattle.nfs_names.specs.Attributes.{about}
-use Rattle.nfs_names.specs.State.{state_of}
-use Rattle.nfs_names.specs.Verify.{same_at}
+use Rattle.nfs_names.specs.{Attributes.about, State.state_of, Verify.same_at}
 use Rattle.nfs_names.proofs.attributes.same_at.Goals as goal
 
 pub returns : goal.returns

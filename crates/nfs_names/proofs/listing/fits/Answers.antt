@@ -1,5 +1,4 @@
-use Rattle.std.proofs.Common.{◌≤◌, ◌+◌, ◌∙◌, length, sym, arith}
-use Rattle.std.proofs.lemmas.Bool.{le-leb}
+use Rattle.std.proofs.{Common.{◌≤◌, ◌+◌, ◌∙◌, length, sym, arith}, lemmas.Bool.le-leb}
 use Rattle.nfs_results.specs.Straight.{entry_head}
 use Rattle.nfs_attrs.specs.Attributes.{spell_attrs}
 use Rattle.nfs_attrs.proofs.Bounds.{attrs_within}

@@ -1,11 +1,8 @@
 use Rattle.std.proofs.Common.{◌-◌, List, sym, subst, ap, refl, arith, inl, ◌∙◌}
 use Rattle.std.specs.Prelude.{option_map}
-use Rattle.nfs_tree.specs.Files.{stored_in}
-use Rattle.nfs_tree.specs.Listing.{listed_of}
-use Rattle.nfs_tree.specs.declared.stored.Stored.{Stored}
+use Rattle.nfs_tree.specs.{Files.stored_in, Listing.listed_of, declared.stored.Stored.Stored}
 use Rattle.nfs_xdr.specs.Tables.{In}
-use Rattle.nfs_names.specs.State.{state_of}
-use Rattle.nfs_names.specs.ReadDir.{entry_of}
+use Rattle.nfs_names.specs.{State.state_of, ReadDir.entry_of}
 use Rattle.nfs_names.proofs.Entering.{AllThere, going_starts, going_on, going_stops, going_ends, listed_there, found_there, ended_lists}
 use Rattle.nfs_names.proofs.listing.put_entries.Goals as goal
 

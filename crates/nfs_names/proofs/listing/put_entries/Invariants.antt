@@ -1,6 +1,5 @@
 use Rattle.std.proofs.Common.{◌≡◌}
-use Rattle.nfs_names.specs.State.{state_of}
-use Rattle.nfs_names.specs.ReadDir.{entry_of}
+use Rattle.nfs_names.specs.{State.state_of, ReadDir.entry_of}
 use Rattle.nfs_names.proofs.Entering.{Going}
 use Rattle.nfs_names.proofs.listing.put_entries.Given as goal
 

@@ -1,13 +1,11 @@
-use Rattle.std.proofs.Common.{ℕ, List, refl, sym, subst, arith, ◌∙◌}
-use Rattle.std.proofs.lemmas.Bool.{leb-true, leb-false}
+use Rattle.std.proofs.{Common.{ℕ, List, refl, sym, subst, arith, ◌∙◌}, lemmas.Bool.{leb-true, leb-false}}
 use Rattle.nfs_xdr.specs.SheetState.{Puts}
 use Rattle.nfs_xdr.proofs.Putting.{puts_then}
 use Rattle.nfs_results.specs.Straight.{entry_head}
 use Rattle.nfs_tree.specs.Listing.{listed_of}
 use Rattle.nfs_attrs.specs.Attributes.{spell_attrs}
 use Rattle.nfs_names.specs.State.{state_of}
-use Rattle.nfs_names.proofs.Masks.{room_then}
-use Rattle.nfs_names.proofs.Entering.{length_entry_head, entry_parts, entry_length, told_as_asked}
+use Rattle.nfs_names.proofs.{Masks.room_then, Entering.{length_entry_head, entry_parts, entry_length, told_as_asked}}
 use Rattle.nfs_names.proofs.listing.put_entry.Goals as goal
 
 pub returns-then-not-fits : goal.returns-then-not-fits

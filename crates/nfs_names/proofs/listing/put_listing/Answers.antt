@@ -1,12 +1,8 @@
-use Rattle.std.proofs.Common.{◌≡◌, ◌+◌, length, refl, sym, ap, subst, arith, ◌∙◌}
+use Rattle.std.proofs.{Common.{◌≡◌, ◌+◌, length, refl, sym, ap, subst, arith, ◌∙◌}, lemmas.List.length-append}
 use Rattle.std.specs.List.{flat_map}
-use Rattle.std.proofs.lemmas.List.{length-append}
-use Rattle.nfs_xdr.specs.SheetState.{SheetState, Puts}
-use Rattle.nfs_xdr.specs.declared.status.Status.TheVariants.{TooSmall}
-use Rattle.nfs_results.specs.Results.{spell_result, refusal}
-use Rattle.nfs_results.specs.Straight.{entry_text, read_dir_head}
-use Rattle.nfs_names.specs.State.{state_of}
-use Rattle.nfs_names.specs.ReadDir.{zeros, fitting}
+use Rattle.nfs_xdr.specs.{SheetState.{SheetState, Puts}, declared.status.Status.TheVariants.TooSmall}
+use Rattle.nfs_results.specs.{Results.{spell_result, refusal}, Straight.{entry_text, read_dir_head}}
+use Rattle.nfs_names.specs.{State.state_of, ReadDir.{zeros, fitting}}
 use Rattle.nfs_names.proofs.Entering.{given_least}
 use Rattle.nfs_names.proofs.Listed.{too_small, all_small, some_small, fitting_within, front_length, end_length, taken_back, listed_whole, lists_some}
 use Rattle.nfs_names.proofs.Listed.{lists_none}

@@ -2,8 +2,7 @@ use Rattle.std.proofs.Common.{sym, ◌∙◌}
 use Rattle.std.specs.Prelude.{Err}
 use Rattle.nfs_compound.specs.declared.op_num.OpNum.TheVariants as Num
 use Rattle.nfs_names.specs.State.{state_of}
-use Rattle.nfs_names.proofs.Fronted.{refusal_comes}
-use Rattle.nfs_names.proofs.Listed.{listing_comes, read_dir_by}
+use Rattle.nfs_names.proofs.{Fronted.refusal_comes, Listed.{listing_comes, read_dir_by}}
 use Rattle.nfs_names.proofs.listing.read_dir.Goals as goal
 
 pub returns-in-Ok : goal.returns-in-Ok

@@ -3,24 +3,13 @@ use Rattle.std.specs.Prelude.{Result, Ok, Err}
 use Rattle.nfs_compound.specs.declared.op_num.OpNum.TheVariants as Num
 use Rattle.nfs_results.specs.declared.res.CreateOk.{CreateOk}
 use Rattle.nfs_results.specs.declared.res.Res.TheVariants as Res
-use Rattle.nfs_tree.specs.Files.{raised}
-use Rattle.nfs_tree.specs.Calls.{DoesOrWants, create_fault}
-use Rattle.nfs_tree.specs.Create.{New, with_new}
-use Rattle.nfs_tree.specs.Calls as tree_create
-use Rattle.nfs_tree.specs.declared.sets.Sets.{Sets}
-use Rattle.nfs_tree.specs.declared.fault.TreeFault.{TreeFault}
+use Rattle.nfs_tree.specs.{Files.raised, Calls.{DoesOrWants, create_fault}, Create.{New, with_new}, declared.sets.Sets.Sets, declared.fault.TreeFault.TreeFault}
 use Rattle.nfs_tree.specs.declared.done.Created.{Created}
-use Rattle.nfs_attrs.specs.declared.mask.Mask.{Mask}
-use Rattle.nfs_attrs.specs.Mask.{mask_of, trimmed_words}
-use Rattle.nfs_names.specs.declared.context.Context.{Context}
-use Rattle.nfs_names.specs.State.{state_of, with_tree}
-use Rattle.nfs_names.specs.Context.{at_object}
-use Rattle.nfs_names.specs.Outcome.{Outcome}
-use Rattle.nfs_names.specs.Create.{new_of, sets_of, change_info, create}
-use Rattle.nfs_names.proofs.NameLaws.{created}
-use Rattle.nfs_names.specs.Fronts.{creating}
-use Rattle.nfs_names.proofs.Changing.{creating_refuses, create_asks, goes, stops, errs}
-use Rattle.nfs_names.proofs.Faulted.{told_done, told_fault, told_stop}
+use Rattle.nfs_tree.specs.Calls as tree_create
+use Rattle.nfs_attrs.specs.{declared.mask.Mask.Mask, Mask.{mask_of, trimmed_words}}
+use Rattle.nfs_names.specs.{declared.context.Context.Context, State.{state_of, with_tree}, Context.at_object, Outcome.Outcome}
+use Rattle.nfs_names.specs.{Create.{new_of, sets_of, change_info, create}, Fronts.creating}
+use Rattle.nfs_names.proofs.{NameLaws.created, Changing.{creating_refuses, create_asks, goes, stops, errs}, Faulted.{told_done, told_fault, told_stop}}
 use Rattle.nfs_names.proofs.making.create.Goals as goal
 use Rattle.nfs_names.proofs.making.create.Goals.{After-create}
 

@@ -2,16 +2,9 @@ use Rattle.std.proofs.Common.{◌≡◌, true, refl, sym, ap, ◌∙◌}
 use Rattle.std.specs.Prelude.{Ok, Err}
 use Rattle.nfs_compound.specs.declared.op_num.OpNum.TheVariants as Num
 use Rattle.nfs_results.specs.declared.res.Res.TheVariants as Res
-use Rattle.nfs_tree.specs.Files.{raised}
-use Rattle.nfs_tree.specs.Names.{with_link}
-use Rattle.nfs_tree.specs.Calls.{link_fault}
-use Rattle.nfs_names.specs.State.{state_of, with_tree}
-use Rattle.nfs_names.specs.Create.{change_info}
-use Rattle.nfs_names.specs.Link.{link}
-use Rattle.nfs_names.proofs.NameLaws.{linked}
-use Rattle.nfs_names.specs.Fronts.{linking}
-use Rattle.nfs_names.proofs.Changing.{linking_refuses, link_asks, goes, stops, errs}
-use Rattle.nfs_names.proofs.Faulted.{told_done, told_fault, told_stop}
+use Rattle.nfs_tree.specs.{Files.raised, Names.with_link, Calls.link_fault}
+use Rattle.nfs_names.specs.{State.{state_of, with_tree}, Create.change_info, Link.link, Fronts.linking}
+use Rattle.nfs_names.proofs.{NameLaws.linked, Changing.{linking_refuses, link_asks, goes, stops, errs}, Faulted.{told_done, told_fault, told_stop}}
 use Rattle.nfs_names.proofs.making.link.Goals as goal
 
 pub returns-in-Ok-link : goal.returns-in-Ok-link

@@ -1,21 +1,12 @@
 use Rattle.std.proofs.Common.{◌≡◌, not, sym, ap, ◌∙◌, false}
 use Rattle.std.specs.Prelude.{Ok, ◌==◌}
-use Rattle.nfs_results.specs.declared.res.ChangeInfo.{ChangeInfo}
-use Rattle.nfs_results.specs.declared.res.Res.{Res}
-use Rattle.nfs_tree.specs.declared.row.Row.{Row}
-use Rattle.nfs_tree.specs.declared.done.Removed.{Removed}
-use Rattle.nfs_tree.specs.Files.{Files, is_entry, named, has_entries, raised}
-use Rattle.nfs_tree.specs.Names.{without_name}
+use Rattle.nfs_results.specs.{declared.res.ChangeInfo.ChangeInfo, declared.res.Res.Res}
+use Rattle.nfs_tree.specs.{declared.row.Row.Row, declared.done.Removed.Removed, Files.{Files, is_entry, named, has_entries, raised}, Names.without_name}
 use Rattle.nfs_tree.specs.Calls.{remove_fault}
 use Rattle.nfs_tree.proofs.Trees.{remove_granted}
-use Rattle.nfs_names.specs.State.{State, state_of, with_tree, without_unused}
-use Rattle.nfs_names.specs.Outcome.{Outcome}
-use Rattle.nfs_names.specs.Create.{change_info}
-use Rattle.nfs_names.specs.Faults.{status_of}
+use Rattle.nfs_names.specs.{State.{State, state_of, with_tree, without_unused}, Outcome.Outcome, Create.change_info, Faults.status_of, Fronts.removing}
 use Rattle.nfs_xdr.proofs.Lists.{none_left}
-use Rattle.nfs_names.specs.Fronts.{removing}
-use Rattle.nfs_names.proofs.Changing.{remove_asks, goes, stops, errs}
-use Rattle.nfs_names.proofs.Faulted.{did_ok, does_err}
+use Rattle.nfs_names.proofs.{Changing.{remove_asks, goes, stops, errs}, Faulted.{did_ok, does_err}}
 use Rattle.nfs_names.proofs.making.remove.Goals as goal
 
 pub drop_empty-requires : goal.drop_empty-requires

@@ -1,23 +1,13 @@
-use Rattle.std.proofs.Common.{◌≡◌, false, None, refl, sym, ap, ◌∙◌, inl, inr}
+use Rattle.std.proofs.{Common.{◌≡◌, false, None, refl, sym, ap, ◌∙◌, inl, inr}, lemmas.Bool.{cases_Bool, and_right}}
 use Rattle.std.specs.Prelude.{Ok, Err, ◌&&◌}
-use Rattle.std.proofs.lemmas.Bool.{cases_Bool, and_right}
 use Rattle.nfs_compound.specs.declared.op_num.OpNum.TheVariants as Num
 use Rattle.nfs_results.specs.declared.res.RenameOk.{RenameOk}
 use Rattle.nfs_results.specs.declared.res.Res.TheVariants as Res
-use Rattle.nfs_tree.specs.Files.{lookup, raised, stays}
-use Rattle.nfs_tree.specs.declared.done.Renamed.{Renamed}
+use Rattle.nfs_tree.specs.{Files.{lookup, raised, stays}, declared.done.Renamed.Renamed, Names.{moves, with_moved}}
 use Rattle.nfs_tree.specs.Calls as tree
-use Rattle.nfs_tree.specs.Names.{moves, with_moved}
-use Rattle.nfs_names.specs.State.{State, state_of, with_tree}
-use Rattle.nfs_names.specs.Outcome.{Outcome}
-use Rattle.nfs_names.specs.Checks.{both}
-use Rattle.nfs_names.specs.Create.{change_info}
-use Rattle.nfs_names.specs.Faults.{status_of}
-use Rattle.nfs_names.specs.Operation.{moves_in}
-use Rattle.nfs_names.specs.Rename.{move_of, without_replaced, renamed, rename}
-use Rattle.nfs_names.specs.Fronts.{renaming}
-use Rattle.nfs_names.proofs.Changing.{renaming_refuses, rename_asks, goes, errs}
-use Rattle.nfs_names.proofs.Faulted.{told_refusal_by, told_stop, not_delayed}
+use Rattle.nfs_names.specs.{State.{State, state_of, with_tree}, Outcome.Outcome, Checks.both, Create.change_info, Faults.status_of, Operation.moves_in}
+use Rattle.nfs_names.specs.{Rename.{move_of, without_replaced, renamed, rename}, Fronts.renaming}
+use Rattle.nfs_names.proofs.{Changing.{renaming_refuses, rename_asks, goes, errs}, Faulted.{told_refusal_by, told_stop, not_delayed}}
 use Rattle.nfs_names.proofs.Renaming.{as_named, went, went_empty, rename_refused}
 use Rattle.nfs_names.proofs.making.rename.Goals as goal
 

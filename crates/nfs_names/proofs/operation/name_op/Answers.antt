@@ -1,20 +1,11 @@
 use Rattle.std.proofs.Common.{rules, ◌≡◌, ◌≤◌, ◌+◌, length, sym, ap, subst, Some}
 use Rattle.nfs_xdr.specs.declared.time.Time.{Time}
-use Rattle.nfs_compound.specs.declared.op.Item.{Item}
-use Rattle.nfs_compound.specs.declared.op.Item.TheVariants.{Operation}
+use Rattle.nfs_compound.specs.{declared.op.Item.Item, declared.op.Item.TheVariants.Operation}
 use Rattle.nfs_compound.specs.declared.op.Op.TheVariants as Op
-use Rattle.nfs_results.specs.Largest.{largest}
-use Rattle.nfs_results.specs.declared.res.Res.{Res}
-use Rattle.nfs_results.specs.Results.{status_of_result}
+use Rattle.nfs_results.specs.{Largest.largest, declared.res.Res.Res, Results.status_of_result}
 use Rattle.nfs_tree.specs.TreeInvariants.{IsTree}
-use Rattle.nfs_names.specs.declared.context.Context.{Context}
-use Rattle.nfs_names.specs.State.{State, state_of, moment}
-use Rattle.nfs_names.specs.StoreInvariants.{IsStore}
-use Rattle.nfs_names.specs.Outcome.{is_delay}
-use Rattle.nfs_names.specs.Operation.{comes_to}
-use Rattle.nfs_names.proofs.Bounds.{answers_one}
-use Rattle.nfs_names.proofs.Ones.{each_of}
-use Rattle.nfs_names.proofs.Whole.{Keeps, keeps, within, bounded_may, room_may}
+use Rattle.nfs_names.specs.{declared.context.Context.Context, State.{State, state_of, moment}, StoreInvariants.IsStore, Outcome.is_delay, Operation.comes_to}
+use Rattle.nfs_names.proofs.{Bounds.answers_one, Ones.each_of, Whole.{Keeps, keeps, within, bounded_may, room_may}}
 use Rattle.nfs_names.proofs.operation.name_op.Goals as goal
 
 pub returns-in-GetAttr-clause-within : goal.returns-in-GetAttr-clause-within

@@ -1,5 +1,4 @@
-use Rattle.std.proofs.Common.{rules, of_calls}
-use Rattle.std.proofs.lemmas.Fn.{always_returns_same}
+use Rattle.std.proofs.{Common.{rules, of_calls}, lemmas.Fn.always_returns_same}
 use Rattle.nfs_opens.specs.ByNumber.{ends_below}
 use Rattle.nfs_opens.proofs.NumberLemmas.{numbers_parted}
 use Rattle.nfs_opens.proofs.by_number.block_of.Goals as goal

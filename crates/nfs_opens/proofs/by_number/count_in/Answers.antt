@@ -1,7 +1,6 @@
 use Rattle.std.proofs.Common.{◌≡◌, ◌<◌, ◌+◌, suc, List, length, subst, sym, ap, ◌∙◌, arith, rules}
 use Rattle.std.specs.Prelude.{min}
-use Rattle.nfs_opens.specs.Flat.{front_of}
-use Rattle.nfs_opens.specs.StateId.{last_number}
+use Rattle.nfs_opens.specs.{Flat.front_of, StateId.last_number}
 use Rattle.nfs_opens.proofs.FlatLemmas.{front_none, front_longer, front_is_all}
 use Rattle.nfs_opens.proofs.by_number.count_in.Goals as goal
 

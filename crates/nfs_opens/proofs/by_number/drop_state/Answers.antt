@@ -1,8 +1,7 @@
 use Rattle.std.proofs.Common.{◌≡◌, Some, None, sym, ◌∙◌, ap, subst}
 use Rattle.std.specs.Prelude.{◌==◌, position}
 use Rattle.nfs_opens.specs.TableInvariants.{Rises}
-use Rattle.nfs_xdr.proofs.Lists.{position_nowhere}
-use Rattle.nfs_xdr.proofs.Tables.{removed, without_none}
+use Rattle.nfs_xdr.proofs.{Lists.position_nowhere, Tables.{removed, without_none}}
 use Rattle.nfs_opens.proofs.by_number.drop_state.Goals as goal
 
 pub place_of-requires : goal.place_of-requires

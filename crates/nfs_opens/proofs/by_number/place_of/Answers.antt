@@ -1,5 +1,4 @@
-use Rattle.std.proofs.Common.{◌∙◌, rules}
-use Rattle.std.proofs.lemmas.List.Sorted.{answers_always}
+use Rattle.std.proofs.{Common.{◌∙◌, rules}, lemmas.List.Sorted.answers_always}
 use Rattle.nfs_xdr.proofs.Tables.{searched}
 use Rattle.nfs_opens.proofs.by_number.place_of.Goals as goal
 

@@ -1,8 +1,6 @@
 use Rattle.std.proofs.Common.{◌≡◌, Some, None, refl, sym, ◌∙◌, ap}
-use Rattle.std.specs.Prelude.{◌==◌, find}
-use Rattle.std.specs.Option.{option_copied}
-use Rattle.nfs_opens.specs.Holding.{held_by}
-use Rattle.nfs_opens.specs.declared.records.LockState.{LockState}
+use Rattle.std.specs.{Prelude.{◌==◌, find}, Option.option_copied}
+use Rattle.nfs_opens.specs.{Holding.held_by, declared.records.LockState.LockState}
 use Rattle.nfs_opens.proofs.LeaveLemmas.{left_gone, left_locks, left_bytes, fewer_gone}
 use Rattle.nfs_opens.proofs.closing.leave_open.Goals as goal
 

@@ -1,10 +1,7 @@
-use Rattle.std.proofs.Common.{ℕ, Some, map, sym, ◌∙◌, ap, subst}
+use Rattle.std.proofs.{Common.{ℕ, Some, map, sym, ◌∙◌, ap, subst}, lemmas.Bool.{eqb-true, eq-eqb, false≢true}, lemmas.Option.slice_get-map}
 use Rattle.std.specs.Option.{option_copied, option_map}
-use Rattle.std.proofs.lemmas.Bool.{eqb-true, eq-eqb, false≢true}
-use Rattle.std.proofs.lemmas.Option.{slice_get-map}
 use Rattle.nfs_opens.specs.Index.{IsNext}
-use Rattle.nfs_opens.proofs.EntryLemmas.{got_map}
-use Rattle.nfs_opens.proofs.IndexLemmas.{next_found, next_other, next_none}
+use Rattle.nfs_opens.proofs.{EntryLemmas.got_map, IndexLemmas.{next_found, next_other, next_none}}
 use Rattle.nfs_opens.proofs.index.next_in.Goals as goal
 
 pub returns-in-Some : goal.returns-in-Some

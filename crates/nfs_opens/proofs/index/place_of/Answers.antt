@@ -1,9 +1,6 @@
-use Rattle.std.proofs.Common.{◌≡◌, true, false, map, rules, of_calls}
-use Rattle.std.proofs.lemmas.Fn.{always_returns_same}
-use Rattle.nfs_opens.specs.declared.index.Pair.{Pair}
-use Rattle.nfs_opens.specs.Index.{is_before}
-use Rattle.nfs_opens.proofs.EntryLemmas.{parted_map, point_map}
-use Rattle.nfs_opens.proofs.IndexLemmas.{parted}
+use Rattle.std.proofs.{Common.{◌≡◌, true, false, map, rules, of_calls}, lemmas.Fn.always_returns_same}
+use Rattle.nfs_opens.specs.{declared.index.Pair.Pair, Index.is_before}
+use Rattle.nfs_opens.proofs.{EntryLemmas.{parted_map, point_map}, IndexLemmas.parted}
 use Rattle.nfs_opens.proofs.index.place_of.Goals as goal
 
 pub returns-clause-split : goal.returns-clause-split

@@ -1,9 +1,7 @@
-use Rattle.std.proofs.Common.{◌≡◌, ℕ, List, false, map, sym, ◌∙◌, ap, subst, arith}
+use Rattle.std.proofs.{Common.{◌≡◌, ℕ, List, false, map, sym, ◌∙◌, ap, subst, arith}, lemmas.Grind.common_steps}
 use Rattle.std.specs.List.{insert}
-use Rattle.std.proofs.lemmas.Grind.{common_steps}
 use Rattle.nfs_opens.specs.Index.{IsAscending}
-use Rattle.nfs_opens.proofs.EntryLemmas.{insert_map}
-use Rattle.nfs_opens.proofs.IndexLemmas.{SplitAt, has_put}
+use Rattle.nfs_opens.proofs.{EntryLemmas.insert_map, IndexLemmas.{SplitAt, has_put}}
 use Rattle.nfs_opens.proofs.index.put.Goals as goal
 
 pub place_of-place-requires : goal.place_of-place-requires

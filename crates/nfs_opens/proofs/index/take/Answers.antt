@@ -1,8 +1,6 @@
-use Rattle.std.proofs.Common.{ℕ, ◌<◌, List, length, false, map, sym, subst, ap, ◌∙◌}
-use Rattle.std.proofs.lemmas.List.{length-map}
+use Rattle.std.proofs.{Common.{ℕ, ◌<◌, List, length, false, map, sym, subst, ap, ◌∙◌}, lemmas.List.length-map}
 use Rattle.nfs_opens.specs.Index.{IsAscending, pair_of}
-use Rattle.nfs_opens.proofs.EntryLemmas.{remove_map}
-use Rattle.nfs_opens.proofs.IndexLemmas.{SplitAt, stands_at, got_within, has_taken}
+use Rattle.nfs_opens.proofs.{EntryLemmas.remove_map, IndexLemmas.{SplitAt, stands_at, got_within, has_taken}}
 use Rattle.nfs_opens.proofs.index.take.Goals as goal
 
 pub place_of-place-requires : goal.place_of-place-requires

@@ -1,7 +1,6 @@
 use Rattle.std.proofs.Common.{ℕ, sym, subst, ap, ◌∙◌, refl}
 use Rattle.std.specs.Option.{option_copied}
-use Rattle.nfs_opens.specs.declared.counts.Reservation.{Reservation}
-use Rattle.nfs_opens.specs.Counts.{count_at, reserved, with_one, without_one, CountsAnew}
+use Rattle.nfs_opens.specs.{declared.counts.Reservation.Reservation, Counts.{count_at, reserved, with_one, without_one, CountsAnew}}
 use Rattle.nfs_opens.proofs.CountedLemmas.{counted_changed, counted_there, unchanged_with}
 use Rattle.nfs_opens.proofs.open_states.count_changed.Goals as goal
 

@@ -1,11 +1,6 @@
-use Rattle.std.proofs.Common.{ap, ◌∙◌}
-use Rattle.std.proofs.lemmas.Result.{on_ok_weaker, on_err_weaker}
-use Rattle.nfs_ranges.specs.Intervals.{without}
-use Rattle.nfs_ranges.specs.Holders.{at, cleared, bytes_of}
-use Rattle.nfs_ranges.proofs.EditLemmas.{without-canonical}
-use Rattle.nfs_ranges.proofs.OwnerLemmas.{at_cleared, bytes-canonical}
-use Rattle.nfs_ranges.proofs.AnswerLemmas.{still_kept}
-use Rattle.nfs_ranges.specs.Blocks.{flat}
+use Rattle.std.proofs.{Common.{ap, ◌∙◌}, lemmas.Result.{on_ok_weaker, on_err_weaker}}
+use Rattle.nfs_ranges.specs.{Intervals.without, Holders.{at, cleared, bytes_of}, Blocks.flat}
+use Rattle.nfs_ranges.proofs.{EditLemmas.without-canonical, OwnerLemmas.{at_cleared, bytes-canonical}, AnswerLemmas.still_kept}
 use Rattle.nfs_ranges.proofs.Ranges.clear.Goals as goal
 
 pub returns-clause-ok : goal.returns-clause-ok

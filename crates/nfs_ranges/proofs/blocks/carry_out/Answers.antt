@@ -1,7 +1,6 @@
 use Rattle.std.proofs.Common.{◌≡◌, suc, min, List, ◌++◌, take, drop, length, ap, ◌∙◌, arith}
 use Rattle.std.specs.Option.{option_to_list}
-use Rattle.nfs_ranges.specs.declared.interval.Interval.{Interval}
-use Rattle.nfs_ranges.specs.Blocks.{block_at}
+use Rattle.nfs_ranges.specs.{declared.interval.Interval.Interval, Blocks.block_at}
 use Rattle.nfs_ranges.proofs.BlockLemmas.{carried, carried_some}
 use Rattle.nfs_ranges.proofs.blocks.carry_out.Goals as goal
 

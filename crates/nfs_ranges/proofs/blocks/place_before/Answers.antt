@@ -1,6 +1,5 @@
 use Rattle.std.proofs.Common.{◌≡◌, ◌-◌, min, length, ap, ◌∙◌, arith}
-use Rattle.nfs_ranges.specs.Edits.{lead, ends_before}
-use Rattle.nfs_ranges.specs.Blocks.{ends_whole}
+use Rattle.nfs_ranges.specs.{Edits.{lead, ends_before}, Blocks.ends_whole}
 use Rattle.nfs_ranges.proofs.BlockLemmas.{block_canonical, placed_before, spot_is}
 use Rattle.nfs_ranges.proofs.blocks.place_before.Goals as goal
 

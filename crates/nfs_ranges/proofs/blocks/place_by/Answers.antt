@@ -1,6 +1,5 @@
 use Rattle.std.proofs.Common.{◌≡◌, ◌-◌, min, length, ap, ◌∙◌, arith}
-use Rattle.nfs_ranges.specs.Edits.{lead, ends_by}
-use Rattle.nfs_ranges.specs.Blocks.{ends_whole_by}
+use Rattle.nfs_ranges.specs.{Edits.{lead, ends_by}, Blocks.ends_whole_by}
 use Rattle.nfs_ranges.proofs.BlockLemmas.{block_canonical, placed_by, spot_is}
 use Rattle.nfs_ranges.proofs.blocks.place_by.Goals as goal
 

@@ -1,6 +1,5 @@
 use Rattle.std.proofs.Common.{subst, arith}
-use Rattle.nfs_ranges.specs.Edits.{ends_before}
-use Rattle.nfs_ranges.specs.Blocks.{IsPlace}
+use Rattle.nfs_ranges.specs.{Edits.ends_before, Blocks.IsPlace}
 use Rattle.nfs_ranges.proofs.PlaceLemmas.{set_spliced, places_order, behind_end}
 use Rattle.nfs_ranges.proofs.edits.edit_to_set.Goals as goal
 

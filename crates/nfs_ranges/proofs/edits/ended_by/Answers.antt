@@ -1,5 +1,4 @@
-use Rattle.std.proofs.Common.{rules, of_calls}
-use Rattle.std.proofs.lemmas.Fn.{always_returns_same}
+use Rattle.std.proofs.{Common.{rules, of_calls}, lemmas.Fn.always_returns_same}
 use Rattle.nfs_ranges.specs.Edits.{ends_by}
 use Rattle.nfs_ranges.proofs.PlaceLemmas.{lead_point, parted_by}
 use Rattle.nfs_ranges.proofs.edits.ended_by.Goals as goal

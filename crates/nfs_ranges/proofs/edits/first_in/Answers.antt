@@ -1,9 +1,7 @@
 use Rattle.std.proofs.Common.{◌∙◌, ◌+◌, ◌≤◌, sym, ap, subst, drop}
 use Rattle.std.specs.Prelude.{find}
-use Rattle.nfs_ranges.specs.Clashes.{hits}
-use Rattle.nfs_ranges.specs.Blocks.{flat}
-use Rattle.nfs_ranges.proofs.BlockLemmas.{got_canonical}
-use Rattle.nfs_ranges.proofs.ClashLemmas.{find_front, find_behind, at_block, none_later}
+use Rattle.nfs_ranges.specs.{Clashes.hits, Blocks.flat}
+use Rattle.nfs_ranges.proofs.{BlockLemmas.got_canonical, ClashLemmas.{find_front, find_behind, at_block, none_later}}
 use Rattle.nfs_ranges.proofs.edits.first_in.Goals as goal
 
 pub first_of_block-requires : goal.first_of_block-requires

@@ -1,7 +1,6 @@
 use Rattle.std.proofs.Common.{◌≡◌, drop}
 use Rattle.std.specs.Prelude.{find}
-use Rattle.nfs_ranges.specs.Clashes.{hits}
-use Rattle.nfs_ranges.specs.Blocks.{flat}
+use Rattle.nfs_ranges.specs.{Clashes.hits, Blocks.flat}
 use Rattle.nfs_ranges.proofs.edits.first_in.Given as goal
 
 abbrev pub invariant-loop-b : goal.invariant-loop-b

@@ -1,10 +1,7 @@
-use Rattle.std.proofs.Common.{ap, ◌∙◌}
+use Rattle.std.proofs.{Common.{ap, ◌∙◌}, lemmas.List.take_rest}
 use Rattle.std.specs.Prelude.{find}
-use Rattle.std.proofs.lemmas.List.{take_rest}
-use Rattle.nfs_ranges.specs.Clashes.{hits}
-use Rattle.nfs_ranges.specs.Blocks.{flat}
-use Rattle.nfs_ranges.proofs.BlockLemmas.{blocks_drop}
-use Rattle.nfs_ranges.proofs.ClashLemmas.{skip_blocks}
+use Rattle.nfs_ranges.specs.{Clashes.hits, Blocks.flat}
+use Rattle.nfs_ranges.proofs.{BlockLemmas.blocks_drop, ClashLemmas.skip_blocks}
 use Rattle.nfs_ranges.proofs.edits.hit_in.Goals as goal
 
 pub first_in-requires : goal.first_in-requires

@@ -1,6 +1,5 @@
 use Rattle.std.proofs.Common.{◌∙◌, sym, subst}
-use Rattle.nfs_ranges.specs.Owners.{IsSpan}
-use Rattle.nfs_ranges.specs.Blocks.{flat}
+use Rattle.nfs_ranges.specs.{Owners.IsSpan, Blocks.flat}
 use Rattle.nfs_ranges.proofs.SpanLemmas.{no_span, no_end, span_is}
 use Rattle.nfs_ranges.proofs.edits.span_of.Goals as goal
 

@@ -1,5 +1,4 @@
-use Rattle.std.proofs.Common.{◌+◌, drop, sym, ◌∙◌, ap}
-use Rattle.std.proofs.lemmas.Bool.{OnTrue_at}
+use Rattle.std.proofs.{Common.{◌+◌, drop, sym, ◌∙◌, ap}, lemmas.Bool.OnTrue_at}
 use Rattle.nfs_ranges.specs.Clashes.{tell, sooner}
 use Rattle.nfs_ranges.proofs.ClashLemmas.{one_canonical, told_next}
 use Rattle.nfs_ranges.proofs.groups.clash_among.Goals as goal

@@ -1,8 +1,5 @@
-use Rattle.std.proofs.Common.{◌≡◌, List, length, ap, ◌∙◌, arith}
-use Rattle.std.proofs.lemmas.List.{length-set}
-use Rattle.nfs_ranges.specs.Holders.{LockedBytes}
-use Rattle.nfs_ranges.specs.Blocks.{spot}
-use Rattle.nfs_ranges.specs.Groups.{are_below}
+use Rattle.std.proofs.{Common.{◌≡◌, List, length, ap, ◌∙◌, arith}, lemmas.List.length-set}
+use Rattle.nfs_ranges.specs.{Holders.LockedBytes, Blocks.spot, Groups.are_below}
 use Rattle.nfs_ranges.proofs.GroupLemmas.{within_some, some_of, got_group, but_set, drop_put}
 use Rattle.nfs_ranges.proofs.groups.drop_owner.Goals as goal
 

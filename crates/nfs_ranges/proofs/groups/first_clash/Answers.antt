@@ -1,9 +1,6 @@
-use Rattle.std.proofs.Common.{◌+◌, None, drop, sym, ◌∙◌}
-use Rattle.std.proofs.lemmas.Bool.{OnTrue_at}
-use Rattle.nfs_ranges.specs.Clashes.{tell}
-use Rattle.nfs_ranges.specs.Blocks.{flat}
-use Rattle.nfs_ranges.proofs.ClashLemmas.{told_group}
-use Rattle.nfs_ranges.proofs.GroupLemmas.{got_group}
+use Rattle.std.proofs.{Common.{◌+◌, None, drop, sym, ◌∙◌}, lemmas.Bool.OnTrue_at}
+use Rattle.nfs_ranges.specs.{Clashes.tell, Blocks.flat}
+use Rattle.nfs_ranges.proofs.{ClashLemmas.told_group, GroupLemmas.got_group}
 use Rattle.nfs_ranges.proofs.groups.first_clash.Goals as goal
 
 pub clash-best-requires : goal.clash-best-requires

@@ -1,6 +1,5 @@
 use Rattle.std.proofs.Common.{◌≡◌, None, drop}
-use Rattle.nfs_ranges.specs.Clashes.{tell}
-use Rattle.nfs_ranges.specs.Blocks.{flat}
+use Rattle.nfs_ranges.specs.{Clashes.tell, Blocks.flat}
 use Rattle.nfs_ranges.proofs.groups.first_clash.Given as goal
 
 abbrev pub invariant-loop-g : goal.invariant-loop-g

@@ -1,10 +1,6 @@
-use Rattle.std.proofs.Common.{◌≡◌, ◌-◌, min, length, ◌∙◌, rules, of_calls, arith}
-use Rattle.std.proofs.lemmas.Fn.{always_returns_same}
-use Rattle.nfs_ranges.specs.Edits.{lead}
-use Rattle.nfs_ranges.specs.Groups.{are_below}
-use Rattle.nfs_ranges.proofs.BlockLemmas.{spot_is}
-use Rattle.nfs_ranges.proofs.GroupLemmas.{groups_parted}
-use Rattle.nfs_ranges.proofs.PlaceLemmas.{lead_point}
+use Rattle.std.proofs.{Common.{◌≡◌, ◌-◌, min, length, ◌∙◌, rules, of_calls, arith}, lemmas.Fn.always_returns_same}
+use Rattle.nfs_ranges.specs.{Edits.lead, Groups.are_below}
+use Rattle.nfs_ranges.proofs.{BlockLemmas.spot_is, GroupLemmas.groups_parted, PlaceLemmas.lead_point}
 use Rattle.nfs_ranges.proofs.groups.group_of.Goals as goal
 
 pub returns : goal.returns

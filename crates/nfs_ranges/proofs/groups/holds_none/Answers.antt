@@ -1,6 +1,5 @@
 use Rattle.std.proofs.Common.{ap, ◌∙◌}
-use Rattle.nfs_ranges.specs.Holders.{bytes_of}
-use Rattle.nfs_ranges.specs.Owners.{is_empty}
+use Rattle.nfs_ranges.specs.{Holders.bytes_of, Owners.is_empty}
 use Rattle.nfs_ranges.proofs.GroupLemmas.{group_canonical, group_bytes}
 use Rattle.nfs_ranges.proofs.groups.holds_none.Goals as goal
 

@@ -1,8 +1,5 @@
-use Rattle.std.proofs.Common.{◌≡◌, List, length, ap, ◌∙◌, arith}
-use Rattle.std.proofs.lemmas.Result.{on_ok_weaker}
-use Rattle.nfs_ranges.specs.Holders.{LockedBytes}
-use Rattle.nfs_ranges.specs.Blocks.{spot}
-use Rattle.nfs_ranges.specs.Groups.{are_below}
+use Rattle.std.proofs.{Common.{◌≡◌, List, length, ap, ◌∙◌, arith}, lemmas.Result.on_ok_weaker}
+use Rattle.nfs_ranges.specs.{Holders.LockedBytes, Blocks.spot, Groups.are_below}
 use Rattle.nfs_ranges.proofs.GroupLemmas.{within_some, some_of, got_group, kept_same, set_put}
 use Rattle.nfs_ranges.proofs.groups.set.Goals as goal
 

@@ -1,8 +1,5 @@
-use Rattle.std.proofs.Common.{take, sym, subst, arith}
-use Rattle.std.proofs.lemmas.List.{take_all}
-use Rattle.std.proofs.lemmas.List.Elements.{All-more, All-weaker, All-same}
-use Rattle.nfs_ranges.specs.Holders.{Owned}
-use Rattle.nfs_ranges.specs.Owners.{IsSpanOf}
+use Rattle.std.proofs.{Common.{take, sym, subst, arith}, lemmas.List.take_all, lemmas.List.Elements.{All-more, All-weaker, All-same}}
+use Rattle.nfs_ranges.specs.{Holders.Owned, Owners.IsSpanOf}
 use Rattle.nfs_ranges.proofs.groups.span_of.Goals as goal
 
 pub loop-o-preserved : goal.loop-o-preserved

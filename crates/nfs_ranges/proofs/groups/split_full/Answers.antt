@@ -1,6 +1,5 @@
-use Rattle.std.proofs.Common.{◌≡◌, suc, List, set, get_or, ap, ◌∙◌, arith}
+use Rattle.std.proofs.{Common.{◌≡◌, suc, List, set, get_or, ap, ◌∙◌, arith}, lemmas.Grind.common_steps}
 use Rattle.std.specs.List.{insert}
-use Rattle.std.proofs.lemmas.Grind.{common_steps}
 use Rattle.nfs_ranges.specs.Holders.{LockedBytes}
 use Rattle.nfs_ranges.proofs.GroupLemmas.{in_two}
 use Rattle.nfs_ranges.proofs.groups.split_full.Goals as goal

@@ -1,5 +1,4 @@
-use Rattle.std.proofs.Common.{◌≡◌, sym, subst, leb}
-use Rattle.std.proofs.lemmas.Bool.{OnTrue_from, leb-true}
+use Rattle.std.proofs.{Common.{◌≡◌, sym, subst, leb}, lemmas.Bool.{OnTrue_from, leb-true}}
 use Rattle.nfs_ranges.specs.Clashes.{tell}
 use Rattle.nfs_ranges.proofs.ClashLemmas.{stays}
 use Rattle.nfs_ranges.proofs.groups.stays_told.Goals as goal

@@ -1,7 +1,5 @@
-use Rattle.std.proofs.Common.{ap, sym, ◌∙◌, drop}
-use Rattle.std.proofs.lemmas.Bool.{OnTrue_at}
-use Rattle.nfs_ranges.specs.Edits.{lead, head}
-use Rattle.nfs_ranges.specs.Groups.{is_below, is_own}
+use Rattle.std.proofs.{Common.{ap, sym, ◌∙◌, drop}, lemmas.Bool.OnTrue_at}
+use Rattle.nfs_ranges.specs.{Edits.{lead, head}, Groups.{is_below, is_own}}
 use Rattle.nfs_ranges.proofs.KeptLemmas.{none_cleared, own_covered, own_canonical, own_emptied, own_cleared}
 use Rattle.nfs_ranges.proofs.owners.clear_among.Goals as goal
 

@@ -1,6 +1,5 @@
 use Rattle.std.proofs.Common.{ap, ◌∙◌, drop}
-use Rattle.nfs_ranges.specs.Edits.{lead, head}
-use Rattle.nfs_ranges.specs.Groups.{is_below, is_own}
+use Rattle.nfs_ranges.specs.{Edits.{lead, head}, Groups.{is_below, is_own}}
 use Rattle.nfs_ranges.proofs.KeptLemmas.{own_removed, own_dropped}
 use Rattle.nfs_ranges.proofs.owners.drop_among.Goals as goal
 

@@ -1,8 +1,6 @@
-use Rattle.std.proofs.Common.{rules, of_calls}
-use Rattle.std.proofs.lemmas.Fn.{always_returns_same}
+use Rattle.std.proofs.{Common.{rules, of_calls}, lemmas.Fn.always_returns_same}
 use Rattle.nfs_ranges.specs.Groups.{is_below}
-use Rattle.nfs_ranges.proofs.KeptLemmas.{owners_parted}
-use Rattle.nfs_ranges.proofs.PlaceLemmas.{lead_point}
+use Rattle.nfs_ranges.proofs.{KeptLemmas.owners_parted, PlaceLemmas.lead_point}
 use Rattle.nfs_ranges.proofs.owners.place_of.Goals as goal
 
 pub returns-clause-place : goal.returns-clause-place

@@ -1,7 +1,5 @@
-use Rattle.std.proofs.Common.{ap, ◌∙◌, drop}
-use Rattle.std.proofs.lemmas.Result.{on_ok_weaker}
-use Rattle.nfs_ranges.specs.Edits.{lead, head}
-use Rattle.nfs_ranges.specs.Groups.{is_below, is_own}
+use Rattle.std.proofs.{Common.{ap, ◌∙◌, drop}, lemmas.Result.on_ok_weaker}
+use Rattle.nfs_ranges.specs.{Edits.{lead, head}, Groups.{is_below, is_own}}
 use Rattle.nfs_ranges.proofs.KeptLemmas.{own_canonical, own_held, new_held}
 use Rattle.nfs_ranges.proofs.owners.set_among.Goals as goal
 

@@ -1,6 +1,5 @@
 use Rattle.std.proofs.Common.{◌≡◌, ◌-◌}
-use Rattle.nfs_xdr.specs.Combinators.{passed}
-use Rattle.nfs_xdr.specs.Chain.{chain_at, chain}
+use Rattle.nfs_xdr.specs.{Combinators.passed, Chain.{chain_at, chain}}
 use Rattle.nfs_results.specs.Items.{entry}
 use Rattle.nfs_results.proofs.entries.pass.Given as goal
 

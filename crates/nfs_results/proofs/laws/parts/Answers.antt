@@ -1,8 +1,7 @@
 use Rattle.std.proofs.Common.{ℕ, List, ◌++◌, ap}
 use Rattle.nfs_compound.specs.declared.op_num.OpNum.TheVariants as Num
 use Rattle.nfs_results.specs.Results.{done_head}
-use Rattle.nfs_results.proofs.WireLaws.{attributes_told}
-use Rattle.nfs_results.proofs.StraightLaws.{read_in_parts, read_dir_in_parts, test_stateid_in_parts}
+use Rattle.nfs_results.proofs.{WireLaws.attributes_told, StraightLaws.{read_in_parts, read_dir_in_parts, test_stateid_in_parts}}
 use Rattle.nfs_results.proofs.laws.parts.Goals as goal
 
 pub returns-clause-read : goal.returns-clause-read

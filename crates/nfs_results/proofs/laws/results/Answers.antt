@@ -1,10 +1,6 @@
 use Rattle.nfs_xdr.proofs.TextLaws.{leads_from, leads_again, begins_no_other}
-use Rattle.nfs_results.specs.ResultCodec.{result}
-use Rattle.nfs_results.specs.CompoundResult.{compound_result}
-use Rattle.nfs_results.specs.Wire.{result4, compound4res}
-use Rattle.nfs_results.proofs.ResultLaws.{is_result}
-use Rattle.nfs_results.proofs.CompoundLaws.{is_compound}
-use Rattle.nfs_results.proofs.WireLaws.{results, compounds}
+use Rattle.nfs_results.specs.{ResultCodec.result, CompoundResult.compound_result, Wire.{result4, compound4res}}
+use Rattle.nfs_results.proofs.{ResultLaws.is_result, CompoundLaws.is_compound, WireLaws.{results, compounds}}
 use Rattle.nfs_results.proofs.laws.results.Goals as goal
 
 pub returns-clause-results : goal.returns-clause-results

@@ -1,7 +1,5 @@
 use Rattle.std.proofs.Common.{◌∙◌, sym, ap}
-use Rattle.nfs_results.specs.CompoundResult.{compound_result}
-use Rattle.nfs_results.specs.ReadReply.{whole, is_whole}
-use Rattle.nfs_results.specs.ResultCodec.{result}
+use Rattle.nfs_results.specs.{CompoundResult.compound_result, ReadReply.{whole, is_whole}, ResultCodec.result}
 use Rattle.nfs_xdr.specs.Codec.{many_at}
 use Rattle.nfs_results.proofs.ReplyLaws.{reply_from}
 use Rattle.nfs_results.proofs.reply.read.Goals as goal

@@ -1,11 +1,8 @@
-use Rattle.std.proofs.Common.{rules, ◌≡◌, length, take, drop, refl, sym, subst, ◌∙◌, take-append-drop, []}
-use Rattle.std.proofs.lemmas.List.{nil_from_length}
-use Rattle.std.proofs.lemmas.Bool.{eqb-true}
+use Rattle.std.proofs.{Common.{rules, ◌≡◌, length, take, drop, refl, sym, subst, ◌∙◌, take-append-drop, []}, lemmas.List.nil_from_length, lemmas.Bool.eqb-true}
 use Rattle.std.proofs.lemmas.Result.{err_from_is_err_and}
 use Rattle.std.specs.Io.KnownBytes.{Appends}
 use Rattle.nfs_serve.specs.Ends.{AppendsFront}
-use Rattle.nfs_serve.proofs.Parts.{front_and_rest}
-use Rattle.nfs_serve.proofs.Framing.{lent}
+use Rattle.nfs_serve.proofs.{Parts.front_and_rest, Framing.lent}
 use Rattle.nfs_serve.proofs.Pieces.{taking_start, taking_more, taking_ends, taking_empty, taking_long, breaking, breaking_long, flow_open}
 use Rattle.nfs_serve.proofs.connection.take_piece.Goals as goal
 

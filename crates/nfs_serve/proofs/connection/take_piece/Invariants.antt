@@ -1,7 +1,6 @@
 -- The piece was taken as far as the rest.
 use Rattle.std.proofs.Common.{◌≡◌, false, length}
-use Rattle.nfs_rpc.specs.Feeding.{waits}
-use Rattle.nfs_rpc.specs.RecordMarking.{is_too_long}
+use Rattle.nfs_rpc.specs.{Feeding.waits, RecordMarking.is_too_long}
 use Rattle.nfs_serve.specs.Server.{state_of}
 use Rattle.nfs_serve.proofs.Pieces.{Taking}
 use Rattle.nfs_serve.proofs.connection.take_piece.Given as goal

@@ -1,8 +1,6 @@
 use Rattle.std.proofs.Common.{◌≡◌, ◌<◌, true, false, sym, subst, ◌∙◌, length, rules}
-use Rattle.nfs_serve.specs.Desk.{HasMore}
-use Rattle.nfs_serve.specs.Lane.{desk_of}
-use Rattle.nfs_serve.proofs.Rounds.{at_lane}
-use Rattle.nfs_serve.proofs.Sweeps.{none_more}
+use Rattle.nfs_serve.specs.{Desk.HasMore, Lane.desk_of}
+use Rattle.nfs_serve.proofs.{Rounds.at_lane, Sweeps.none_more}
 use Rattle.nfs_serve.proofs.hub.have_more.Goals as goal
 
 no : true ≡ false → ⊥

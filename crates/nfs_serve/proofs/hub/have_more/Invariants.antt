@@ -1,8 +1,6 @@
 -- On none of the ports so far.
 use Rattle.std.proofs.Common.{◌<◌, ℕ}
-use Rattle.nfs_serve.specs.Desk.{HasMore}
-use Rattle.nfs_serve.specs.Hub.{at}
-use Rattle.nfs_serve.specs.Lane.{desks_of}
+use Rattle.nfs_serve.specs.{Desk.HasMore, Hub.at, Lane.desks_of}
 use Rattle.nfs_serve.proofs.hub.have_more.Given as goal
 
 abbrev pub invariant-loop-port : goal.invariant-loop-port

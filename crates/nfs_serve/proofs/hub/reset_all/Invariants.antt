@@ -1,8 +1,6 @@
 -- The connections so far are closed.
 use Rattle.std.proofs.Common.{◌≡◌, ◌<◌, ℕ, length}
-use Rattle.nfs_serve.specs.Desk.{closed}
-use Rattle.nfs_serve.specs.Hub.{at}
-use Rattle.nfs_serve.specs.Lane.{desks_of}
+use Rattle.nfs_serve.specs.{Desk.closed, Hub.at, Lane.desks_of}
 use Rattle.nfs_serve.proofs.hub.reset_all.Given as goal
 
 abbrev pub invariant-loop-port : goal.invariant-loop-port

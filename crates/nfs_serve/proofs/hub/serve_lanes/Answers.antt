@@ -1,10 +1,6 @@
 use Rattle.std.proofs.Common.{arith, ◌≡◌, ◌^◌, ◌-◌, true, false, inl, inr, refl, subst, rules}
-use Rattle.nfs_serve.specs.Server.{state_of}
-use Rattle.nfs_serve.specs.Hub.{at}
-use Rattle.nfs_serve.specs.Lane.{desks_of}
-use Rattle.nfs_serve.specs.Sweep.{Begins}
-use Rattle.nfs_serve.proofs.Rounds.{start, more}
-use Rattle.nfs_serve.proofs.Sweeps.{swept}
+use Rattle.nfs_serve.specs.{Server.state_of, Hub.at, Lane.desks_of, Sweep.Begins}
+use Rattle.nfs_serve.proofs.{Rounds.{start, more}, Sweeps.swept}
 use Rattle.nfs_serve.proofs.hub.serve_lanes.Goals as goal
 
 pub loop-init : goal.loop-init

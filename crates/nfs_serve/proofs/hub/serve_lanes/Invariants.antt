@@ -1,8 +1,6 @@
 -- What was done so far were sweeps.
 use Rattle.std.proofs.Common.{◌≡◌, length}
-use Rattle.nfs_serve.specs.Server.{state_of}
-use Rattle.nfs_serve.specs.Hub.{ServesRounds}
-use Rattle.nfs_serve.specs.Lane.{desks_of}
+use Rattle.nfs_serve.specs.{Server.state_of, Hub.ServesRounds, Lane.desks_of}
 use Rattle.nfs_serve.proofs.hub.serve_lanes.Given as goal
 
 abbrev pub invariant-loop : goal.invariant-loop

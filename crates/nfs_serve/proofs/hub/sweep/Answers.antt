@@ -1,7 +1,5 @@
 use Rattle.std.proofs.Common.{◌≤◌, ◌<◌, length, length-set, rules}
-use Rattle.nfs_serve.specs.Server.{state_of}
-use Rattle.nfs_serve.specs.Hub.{at}
-use Rattle.nfs_serve.specs.Lane.{desks_of}
+use Rattle.nfs_serve.specs.{Server.state_of, Hub.at, Lane.desks_of}
 use Rattle.nfs_serve.proofs.Sweeps.{sweep_start, visited}
 use Rattle.nfs_serve.proofs.hub.sweep.Goals as goal
 

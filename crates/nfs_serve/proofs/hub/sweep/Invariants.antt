@@ -1,9 +1,6 @@
 -- The ports so far were visited.
 use Rattle.std.proofs.Common.{◌≡◌, length}
-use Rattle.nfs_serve.specs.Server.{state_of}
-use Rattle.nfs_serve.specs.Hub.{at}
-use Rattle.nfs_serve.specs.Lane.{desks_of}
-use Rattle.nfs_serve.specs.Sweep.{SweepsBelow}
+use Rattle.nfs_serve.specs.{Server.state_of, Hub.at, Lane.desks_of, Sweep.SweepsBelow}
 use Rattle.nfs_serve.proofs.hub.sweep.Given as goal
 
 abbrev pub invariant-loop-port : goal.invariant-loop-port

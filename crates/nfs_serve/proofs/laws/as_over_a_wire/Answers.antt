@@ -1,7 +1,5 @@
-use Rattle.nfs_serve.proofs.Promises.PerfectWire.{as_over_a_wire}
+use Rattle.nfs_serve.proofs.{Promises.PerfectWire.as_over_a_wire, Promises.KeptSlots.keeps_slots, Promises.Ticking.keeps_time}
 use Rattle.nfs_serve.specs.Promises.Seen.{server}
-use Rattle.nfs_serve.proofs.Promises.KeptSlots.{keeps_slots}
-use Rattle.nfs_serve.proofs.Promises.Ticking.{keeps_time}
 use Rattle.nfs_serve.proofs.laws.as_over_a_wire.Goals as goal
 
 pub returns : goal.returns

@@ -1,7 +1,5 @@
-use Rattle.nfs_serve.proofs.Promises.RealTime.{atomic}
+use Rattle.nfs_serve.proofs.{Promises.RealTime.atomic, Promises.KeptSlots.keeps_slots, Promises.Ticking.keeps_time}
 use Rattle.nfs_serve.specs.Promises.Seen.{server}
-use Rattle.nfs_serve.proofs.Promises.KeptSlots.{keeps_slots}
-use Rattle.nfs_serve.proofs.Promises.Ticking.{keeps_time}
 use Rattle.nfs_serve.proofs.laws.atomic_in_real_time.Goals as goal
 
 pub returns : goal.returns

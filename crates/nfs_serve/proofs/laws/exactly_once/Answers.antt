@@ -1,6 +1,5 @@
-use Rattle.nfs_serve.proofs.Promises.ByXid.{exactly_once}
+use Rattle.nfs_serve.proofs.{Promises.ByXid.exactly_once, Promises.KeptSlots.keeps_slots}
 use Rattle.nfs_serve.specs.Promises.Seen.{server}
-use Rattle.nfs_serve.proofs.Promises.KeptSlots.{keeps_slots}
 use Rattle.nfs_serve.proofs.laws.exactly_once.Goals as goal
 
 pub returns : goal.returns

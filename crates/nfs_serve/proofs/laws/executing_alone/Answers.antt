@@ -1,6 +1,5 @@
-use Rattle.nfs_serve.proofs.Promises.AloneRuns.{executing_alone}
+use Rattle.nfs_serve.proofs.{Promises.AloneRuns.executing_alone, Promises.Ticking.keeps_time}
 use Rattle.nfs_serve.specs.Promises.Seen.{server}
-use Rattle.nfs_serve.proofs.Promises.Ticking.{keeps_time}
 use Rattle.nfs_serve.proofs.laws.executing_alone.Goals as goal
 
 pub returns : goal.returns

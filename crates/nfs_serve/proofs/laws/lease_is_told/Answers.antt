@@ -1,5 +1,4 @@
-use Rattle.nfs_serve.proofs.Promises.LeaseListed.{lease_is_listed}
-use Rattle.nfs_serve.proofs.Promises.LockKept.{lease_is_told}
+use Rattle.nfs_serve.proofs.{Promises.LeaseListed.lease_is_listed, Promises.LockKept.lease_is_told}
 use Rattle.nfs_serve.proofs.laws.lease_is_told.Goals as goal
 
 pub returns : goal.returns

@@ -1,5 +1,4 @@
-use Rattle.nfs_serve.proofs.Promises.Reader.{sequenced, slot_number}
-use Rattle.nfs_serve.proofs.Promises.Replies.{finding, sequenced_is, sequenced_again, bears_is, bears_again}
+use Rattle.nfs_serve.proofs.{Promises.Reader.{sequenced, slot_number}, Promises.Replies.{finding, sequenced_is, sequenced_again, bears_is, bears_again}}
 use Rattle.nfs_serve.proofs.laws.replies_can_be_read.Goals as goal
 
 pub returns : goal.returns

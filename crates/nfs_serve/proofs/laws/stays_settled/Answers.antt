@@ -1,6 +1,5 @@
-use Rattle.nfs_serve.proofs.Promises.AloneRuns.{stays_settled}
+use Rattle.nfs_serve.proofs.{Promises.AloneRuns.stays_settled, Promises.Ticking.keeps_time}
 use Rattle.nfs_serve.specs.Promises.Seen.{server}
-use Rattle.nfs_serve.proofs.Promises.Ticking.{keeps_time}
 use Rattle.nfs_serve.proofs.laws.stays_settled.Goals as goal
 
 pub returns : goal.returns

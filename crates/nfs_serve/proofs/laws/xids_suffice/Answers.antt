@@ -1,6 +1,5 @@
-use Rattle.nfs_serve.proofs.Promises.ByXid.{happens}
+use Rattle.nfs_serve.proofs.{Promises.ByXid.happens, Promises.KeptSlots.keeps_slots}
 use Rattle.nfs_serve.specs.Promises.Seen.{server}
-use Rattle.nfs_serve.proofs.Promises.KeptSlots.{keeps_slots}
 use Rattle.nfs_serve.proofs.laws.xids_suffice.Goals as goal
 
 pub returns : goal.returns

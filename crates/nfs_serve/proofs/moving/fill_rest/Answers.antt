@@ -1,6 +1,5 @@
-use Rattle.std.proofs.Common.{rules, subst}
+use Rattle.std.proofs.{Common.{rules, subst}, KnownBytes.Consumes-trans}
 use Rattle.std.specs.Io.KnownBytes.{Consumes}
-use Rattle.std.proofs.KnownBytes.{Consumes-trans}
 use Rattle.nfs_serve.proofs.Parts.{take-read}
 use Rattle.nfs_serve.proofs.moving.fill_rest.Goals as goal
 

@@ -1,5 +1,4 @@
-use Rattle.std.proofs.Common.{rules, ◌++◌, take}
-use Rattle.std.proofs.KnownBytes.{Appends-trans}
+use Rattle.std.proofs.{Common.{rules, ◌++◌, take}, KnownBytes.Appends-trans}
 use Rattle.nfs_serve.proofs.Parts.{moves_front}
 use Rattle.nfs_serve.proofs.moving.put.Goals as goal
 

@@ -1,7 +1,6 @@
 use Rattle.std.proofs.Common.{◌≡◌, rules, arith, refl, sym, ap, ◌∙◌, add-one, is_err}
 use Rattle.nfs_serve.specs.Reading.{entry}
-use Rattle.nfs_serve.proofs.Entries.{entry_within, entry_taken}
-use Rattle.nfs_serve.proofs.Runs.{going_start, going_more, going_stops, going_breaks, going_behind, ran_well, ran_broken}
+use Rattle.nfs_serve.proofs.{Entries.{entry_within, entry_taken}, Runs.{going_start, going_more, going_stops, going_breaks, going_behind, ran_well, ran_broken}}
 use Rattle.nfs_serve.proofs.running.run.Goals.{in-Some, in-None+in-Ok-Some}
 use Rattle.nfs_serve.proofs.running.run.Goals as goal
 

@@ -1,10 +1,6 @@
-use Rattle.std.proofs.Common.{◌≡◌, ◌<◌, length, sym, ap, ◌∙◌, subst, arith}
-use Rattle.std.proofs.lemmas.List.{nil_from_length, get_or_read_under}
+use Rattle.std.proofs.{Common.{◌≡◌, ◌<◌, length, sym, ap, ◌∙◌, subst, arith}, lemmas.List.{nil_from_length, get_or_read_under}}
 use Rattle.std.proofs.lemmas.Bool.{eqb-true, eqb-false}
-use Rattle.nfs_serve.specs.declared.form.Form.TheVariants.{Tagged}
-use Rattle.nfs_serve.specs.Script.{Entry}
-use Rattle.nfs_serve.specs.Reading.{entry}
-use Rattle.nfs_serve.specs.Server.{fresh, held_on, Feeds, state_of}
+use Rattle.nfs_serve.specs.{declared.form.Form.TheVariants.Tagged, Script.Entry, Reading.entry, Server.{fresh, held_on, Feeds, state_of}}
 use Rattle.nfs_serve.proofs.Runs.{entry_fed, entry_closed}
 use Rattle.nfs_serve.proofs.running.run_entry.Goals as goal
 

@@ -1,5 +1,4 @@
-use Rattle.std.proofs.Common.{rules, sym}
-use Rattle.std.proofs.lemmas.Nat.{be_bytes_8}
+use Rattle.std.proofs.{Common.{rules, sym}, lemmas.Nat.be_bytes_8}
 use Rattle.nfs_xdr.specs.Spelling.{hyper}
 use Rattle.nfs_serve.proofs.script.be64.Goals as goal
 

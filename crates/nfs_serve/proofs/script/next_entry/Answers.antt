@@ -1,6 +1,6 @@
 use Rattle.std.proofs.Common.{◌≡◌, ◌<◌, ◌+◌, None, rules, arith, sym, subst, ◌∙◌, ◌++◌, length, take, take_all, length-append, length-take-le}
-use Rattle.std.specs.Io.KnownBytes.{Consumes}
 use Rattle.std.proofs.KnownBytes.{Consumes-trans}
+use Rattle.std.specs.Io.KnownBytes.{Consumes}
 use Rattle.nfs_serve.specs.Script.{head, refusal}
 use Rattle.nfs_serve.proofs.Entries.{length-head, partial_piece, stops_short, refused_stops}
 use Rattle.nfs_serve.proofs.script.next_entry.Goals as goal

@@ -1,9 +1,7 @@
 use Rattle.std.proofs.Common.{◌≡◌, None, is_some, rules, arith, refl, sym, ap, ◌∙◌}
-use Rattle.nfs_xdr.proofs.Bytes.{IsBytes-drop}
-use Rattle.nfs_xdr.proofs.CodecLaws.{IsBytes-take}
+use Rattle.nfs_xdr.proofs.{Bytes.IsBytes-drop, CodecLaws.IsBytes-take}
 use Rattle.nfs_serve.specs.Script.{refusal}
-use Rattle.nfs_serve.proofs.Entries.{front_entry, entry_within}
-use Rattle.nfs_serve.proofs.OneReading.{front_is_entry}
+use Rattle.nfs_serve.proofs.{Entries.{front_entry, entry_within}, OneReading.front_is_entry}
 use Rattle.nfs_serve.proofs.script.whole_entry.Goals.{then-is_some-via-then-is_some, then-is_some-via-else-is_some+then-len-rest}
 use Rattle.nfs_serve.proofs.script.whole_entry.Goals as goal
 

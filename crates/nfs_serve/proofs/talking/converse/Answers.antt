@@ -1,8 +1,6 @@
-use Rattle.std.proofs.Common.{◌≡◌, rules, arith, refl, sym, subst, ◌∙◌, [], take, length}
+use Rattle.std.proofs.{Common.{◌≡◌, rules, arith, refl, sym, subst, ◌∙◌, [], take, length}, KnownBytes.{Consumes-kept, Consumes-nil}}
 use Rattle.std.specs.Io.KnownBytes.{Consumes}
-use Rattle.std.proofs.KnownBytes.{Consumes-kept, Consumes-nil}
-use Rattle.nfs_serve.specs.Script.{Entry}
-use Rattle.nfs_serve.specs.Talk.{IsPiece}
+use Rattle.nfs_serve.specs.{Script.Entry, Talk.IsPiece}
 use Rattle.nfs_serve.proofs.Speaking.{speaking_start, speaking_more, speaking_breaks, open_is, ends, fails, is_full, shuts}
 use Rattle.nfs_serve.proofs.talking.converse.Given as given
 use Rattle.nfs_serve.proofs.talking.converse.Goals as goal

@@ -1,5 +1,4 @@
-use Rattle.std.proofs.Common.{rules, tests}
-use Rattle.std.proofs.lemmas.Fn.{filter_same}
+use Rattle.std.proofs.{Common.{rules, tests}, lemmas.Fn.filter_same}
 use Rattle.nfs_sessions.proofs.sessions.drop_sessions_of.Goals as goal
 
 pub returns : goal.returns

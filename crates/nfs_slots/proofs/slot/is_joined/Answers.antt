@@ -1,7 +1,6 @@
-use Rattle.std.proofs.Common.{ℕ, ◌≡◌, ◌≤◌, ◌++◌, List, [], ◌∷◌, length, take, drop, nat_eq, ap, refl, sym, ◌∙◌, arith}
-use Rattle.std.specs.Prelude.{◌&&◌, Bool, bytes_eq}
-use Rattle.std.proofs.Math.Bool.{and_assoc}
+use Rattle.std.proofs.{Common.{ℕ, ◌≡◌, ◌≤◌, ◌++◌, List, [], ◌∷◌, length, take, drop, nat_eq, ap, refl, sym, ◌∙◌, arith}, Math.Bool.and_assoc}
 use Rattle.std.proofs.lemmas.Grind.{common_steps}
+use Rattle.std.specs.Prelude.{◌&&◌, Bool, bytes_eq}
 use Rattle.nfs_slots.proofs.slot.is_joined.Goals as goal
 
 -- bytes are two texts joined where their front is the one and what is behind it the other

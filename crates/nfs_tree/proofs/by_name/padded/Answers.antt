@@ -1,5 +1,4 @@
-use Rattle.std.proofs.Common.{ℕ, List, ◌++◌, length, drop, ◌∙◌, ap}
-use Rattle.std.proofs.Math.ListN.{replicate, set}
+use Rattle.std.proofs.{Common.{ℕ, List, ◌++◌, length, drop, ◌∙◌, ap}, Math.ListN.{replicate, set}}
 use Rattle.nfs_tree.proofs.ShortKeys.{set_last}
 use Rattle.nfs_tree.proofs.by_name.padded.Goals as goal
 

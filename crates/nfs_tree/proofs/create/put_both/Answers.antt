@@ -1,11 +1,8 @@
 use Rattle.std.proofs.Common.{sym, ◌∙◌, ap}
 use Rattle.std.specs.Prelude.{option_map}
 use Rattle.nfs_xdr.proofs.Lists.{find_push_none}
-use Rattle.nfs_tree.specs.declared.row.Row.{Row}
-use Rattle.nfs_tree.specs.Files.{is_entry, entry, without_entry}
-use Rattle.nfs_tree.specs.Finding.{found_of}
-use Rattle.nfs_tree.proofs.RowsKept.{entry_self}
-use Rattle.nfs_tree.proofs.MapLemmas.{put_back}
+use Rattle.nfs_tree.specs.{declared.row.Row.Row, Files.{is_entry, entry, without_entry}, Finding.found_of}
+use Rattle.nfs_tree.proofs.{RowsKept.entry_self, MapLemmas.put_back}
 use Rattle.nfs_tree.proofs.create.put_both.Goals as goal
 
 pub drop_entry-requires : goal.drop_entry-requires

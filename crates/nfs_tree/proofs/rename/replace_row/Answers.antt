@@ -1,7 +1,5 @@
 use Rattle.std.proofs.Common.{sym, ◌∙◌, ap}
-use Rattle.nfs_tree.specs.declared.row.Row.{Row}
-use Rattle.nfs_tree.specs.Files.{without_entry}
-use Rattle.nfs_tree.specs.Finding.{found_at}
+use Rattle.nfs_tree.specs.{declared.row.Row.Row, Files.without_entry, Finding.found_at}
 use Rattle.nfs_tree.proofs.MapLemmas.{gone_push, found_named, found_stays}
 use Rattle.nfs_tree.proofs.rename.replace_row.Goals as goal
 

@@ -1,9 +1,5 @@
 use Rattle.std.proofs.Common.{◌≡◌, ℕ, ◌≤◌, List, [], ◌∷◌, None, refl, rules, false, subst}
-use Rattle.std.specs.Prelude.{IsSome}
-use Rattle.std.specs.Ordering.{is_gt}
-use Rattle.std.specs.BTreeMap.{BTreeMap, get}
-use Rattle.std.specs.BTreeMap.Range.{IsRangeOf}
-use Rattle.std.specs.declared.ops.Bound.TheVariants.{Included, Unbounded}
+use Rattle.std.specs.{Prelude.IsSome, Ordering.is_gt, BTreeMap.{BTreeMap, get}, BTreeMap.Range.IsRangeOf, declared.ops.Bound.TheVariants.{Included, Unbounded}}
 use Rattle.nfs_tree.specs.Maps.{pair_cmp}
 use Rattle.nfs_tree.proofs.PairLemmas.{pair_from, pair_least, pair_first, none_there}
 use Rattle.nfs_tree.proofs.rows.first_from.Goals as goal

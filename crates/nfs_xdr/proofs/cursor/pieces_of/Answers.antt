@@ -1,5 +1,4 @@
-use Rattle.std.proofs.Common.{◌∙◌, ap, drop}
-use Rattle.std.proofs.lemmas.List.{drop-drop}
+use Rattle.std.proofs.{Common.{◌∙◌, ap, drop}, lemmas.List.drop-drop}
 use Rattle.nfs_xdr.proofs.Pieces.{pieces_from}
 use Rattle.nfs_xdr.proofs.cursor.pieces_of.Goals as goal
 

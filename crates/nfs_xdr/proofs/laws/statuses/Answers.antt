@@ -1,13 +1,6 @@
 use Rattle.std.proofs.Common.{refl}
-use Rattle.nfs_xdr.specs.declared.status.Status.{Status}
-use Rattle.nfs_xdr.specs.Status.{status_number}
-use Rattle.nfs_xdr.specs.StatusCodec.{statuses, status}
-use Rattle.nfs_xdr.specs.Time.{time}
-use Rattle.nfs_xdr.specs.Text.{enum}
-use Rattle.nfs_xdr.specs.Wire.{nfstime4}
-use Rattle.nfs_xdr.proofs.TextLaws.{times, readable}
-use Rattle.nfs_xdr.proofs.WordLaws.{is_time, listed_number}
-use Rattle.nfs_xdr.proofs.StatusLaws.{is_status, is_status_listing}
+use Rattle.nfs_xdr.specs.{declared.status.Status.Status, Status.status_number, StatusCodec.{statuses, status}, Time.time, Text.enum, Wire.nfstime4}
+use Rattle.nfs_xdr.proofs.{TextLaws.{times, readable}, WordLaws.{is_time, listed_number}, StatusLaws.{is_status, is_status_listing}}
 use Rattle.nfs_xdr.proofs.laws.statuses.Goals as goal
 
 pub returns-clause-status : goal.returns-clause-status

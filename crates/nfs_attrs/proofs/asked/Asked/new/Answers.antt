@@ -1,12 +1,9 @@
 use Rattle.std.proofs.Common.{◌≡◌, ℕ, ◌<◌, ◌++◌, List, ◌∷◌, [], true, false, length, get_or, sym, ap, ◌∙◌, arith}
+use Rattle.std.proofs.{lemmas.List.{take_more_set, take_all, append-nil, length-set}, lemmas.List.Elements.filter_more}
 use Rattle.std.specs.List.{filter}
-use Rattle.std.proofs.lemmas.List.{take_more_set, take_all, append-nil, length-set}
-use Rattle.std.proofs.lemmas.List.Elements.{filter_more}
 use Rattle.nfs_xdr.specs.Spelling.{number}
-use Rattle.nfs_attrs.specs.Mask.{has, spell_mask}
-use Rattle.nfs_attrs.specs.declared.mask.Mask.{Mask}
-use Rattle.nfs_attrs.proofs.Values.{numbers}
-use Rattle.nfs_attrs.proofs.Asking.{asked_of_table}
+use Rattle.nfs_attrs.specs.{Mask.{has, spell_mask}, declared.mask.Mask.Mask}
+use Rattle.nfs_attrs.proofs.{Values.numbers, Asking.asked_of_table}
 use Rattle.nfs_attrs.proofs.asked.Asked.new.Goals.{then-has, else-has}
 use Rattle.nfs_attrs.proofs.asked.Asked.new.Goals as goal
 

@@ -1,11 +1,9 @@
-use Rattle.std.proofs.Common.{ℕ, ◌+◌, ◌≤◌, ◌++◌, List, length, take, get_or, ap, arith}
+use Rattle.std.proofs.{Common.{ℕ, ◌+◌, ◌≤◌, ◌++◌, List, length, take, get_or, ap, arith}, lemmas.List.length-append}
 use Rattle.std.specs.List.{flat_map}
-use Rattle.std.proofs.lemmas.List.{length-append}
 use Rattle.nfs_xdr.specs.Spelling.{number}
 use Rattle.nfs_xdr.proofs.Putting.{length_number}
 use Rattle.nfs_attrs.specs.Mask.{trimmed_words}
-use Rattle.nfs_attrs.proofs.MaskWords.{further_word}
-use Rattle.nfs_attrs.proofs.Room.{room_within}
+use Rattle.nfs_attrs.proofs.{MaskWords.further_word, Room.room_within}
 use Rattle.nfs_attrs.proofs.mask.Mask.put.Goals as goal
 
 pub put_u32-requires-in-loop-word : goal.put_u32-requires-in-loop-word

@@ -1,7 +1,6 @@
 use Rattle.std.proofs.Common.{◌++◌, length, take}
 use Rattle.std.specs.List.{flat_map}
-use Rattle.nfs_xdr.specs.Spelling.{number}
-use Rattle.nfs_xdr.specs.SheetState.{Puts}
+use Rattle.nfs_xdr.specs.{Spelling.number, SheetState.Puts}
 use Rattle.nfs_attrs.proofs.mask.Mask.put.Given as goal
 
 abbrev pub invariant-loop-word : goal.invariant-loop-word

@@ -1,8 +1,6 @@
-use Rattle.std.proofs.Common.{ap, arith}
+use Rattle.std.proofs.{Common.{ap, arith}, lemmas.Bool.{and_parts, ltb-true}}
 use Rattle.std.specs.Result.{is_ok}
-use Rattle.std.proofs.lemmas.Bool.{and_parts, ltb-true}
-use Rattle.nfs_clients.specs.Roster.{Roster, last_counter}
-use Rattle.nfs_clients.specs.ExchangeId.{asks}
+use Rattle.nfs_clients.specs.{Roster.{Roster, last_counter}, ExchangeId.asks}
 use Rattle.nfs_clients.proofs.Changes.{pushed, roster_pushed}
 use Rattle.nfs_clients.proofs.clients.Clients.add.Goals as goal
 

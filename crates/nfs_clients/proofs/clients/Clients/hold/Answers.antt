@@ -1,5 +1,4 @@
-use Rattle.nfs_clients.proofs.Members.{mild_holds}
-use Rattle.nfs_clients.proofs.Changes.{changed_view, changed_roster, unchanged_view}
+use Rattle.nfs_clients.proofs.{Members.mild_holds, Changes.{changed_view, changed_roster, unchanged_view}}
 use Rattle.nfs_clients.proofs.clients.Clients.hold.Goals as goal
 
 pub invariant_of-self : goal.invariant_of-self

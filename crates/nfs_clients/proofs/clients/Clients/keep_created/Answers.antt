@@ -1,7 +1,6 @@
 use Rattle.std.proofs.Common.{sym, ◌∙◌}
 use Rattle.nfs_clients.specs.CreateSession.{keeps}
-use Rattle.nfs_clients.proofs.Members.{mild_keeps, keeps_used, not_kept}
-use Rattle.nfs_clients.proofs.Changes.{changed_view, changed_roster, unchanged_view}
+use Rattle.nfs_clients.proofs.{Members.{mild_keeps, keeps_used, not_kept}, Changes.{changed_view, changed_roster, unchanged_view}}
 use Rattle.nfs_clients.proofs.clients.Clients.keep_created.Goals as goal
 
 pub returns-then-not-uses_up : goal.returns-then-not-uses_up

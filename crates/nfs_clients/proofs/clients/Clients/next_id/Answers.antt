@@ -1,5 +1,4 @@
-use Rattle.std.proofs.Common.{inl, inr, ap, subst, arith}
-use Rattle.std.proofs.lemmas.Bool.{cases_lt}
+use Rattle.std.proofs.{Common.{inl, inr, ap, subst, arith}, lemmas.Bool.cases_lt}
 use Rattle.nfs_xdr.proofs.Tables.{at_above, at_below}
 use Rattle.nfs_clients.specs.Roster.{Roster, IsRoster, next_id, id_of}
 use Rattle.nfs_clients.proofs.Members.{the_id}

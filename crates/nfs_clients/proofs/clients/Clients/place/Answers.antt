@@ -1,7 +1,5 @@
-use Rattle.std.proofs.Common.{rules}
-use Rattle.std.proofs.lemmas.List.Sorted.{answers_always}
-use Rattle.nfs_clients.proofs.Members.{the_id}
-use Rattle.nfs_clients.proofs.Changes.{searched_place}
+use Rattle.std.proofs.{Common.rules, lemmas.List.Sorted.answers_always}
+use Rattle.nfs_clients.proofs.{Members.the_id, Changes.searched_place}
 use Rattle.nfs_clients.proofs.clients.Clients.place.Goals as goal
 
 pub returns : goal.returns

@@ -1,7 +1,6 @@
 use Rattle.std.proofs.Common.{◌≡◌, true, false, ap, sym, ◌∙◌, refl}
 use Rattle.nfs_clients.specs.Marks.{is_reclaimed, has_reclaimed}
-use Rattle.nfs_clients.proofs.Members.{mild_reclaims}
-use Rattle.nfs_clients.proofs.Changes.{changed_view, changed_roster, unchanged_view, record_there, no_record}
+use Rattle.nfs_clients.proofs.{Members.mild_reclaims, Changes.{changed_view, changed_roster, unchanged_view, record_there, no_record}}
 use Rattle.nfs_clients.proofs.clients.Clients.reclaimed.Goals as goal
 
 pub invariant_of-self : goal.invariant_of-self

@@ -1,8 +1,7 @@
 use Rattle.std.proofs.Common.{◌∙◌, sym, ap, arith}
 use Rattle.std.specs.Prelude.{is_some}
 use Rattle.nfs_compound.specs.ReadRequest.{items_at, items_left}
-use Rattle.nfs_compound.proofs.Walk.{at_other, at_minor_one, request_from}
-use Rattle.nfs_compound.proofs.RequestLaws.{tag_bound}
+use Rattle.nfs_compound.proofs.{Walk.{at_other, at_minor_one, request_from}, RequestLaws.tag_bound}
 use Rattle.nfs_compound.proofs.compound.Compound.read.Goals as goal
 
 pub returns-then-minor-ne-MINOR_VERSION : goal.returns-then-minor-ne-MINOR_VERSION

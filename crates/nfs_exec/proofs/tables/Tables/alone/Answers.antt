@@ -1,15 +1,10 @@
 use Rattle.std.proofs.Common.{refl, ap, sym, subst, ◌∙◌}
 use Rattle.nfs_xdr.specs.Caller.{caller}
-use Rattle.nfs_compound.specs.declared.op.Item.{Item}
-use Rattle.nfs_compound.specs.declared.op.Item.TheVariants.{Fault}
-use Rattle.nfs_results.specs.ResultCodec.{IsBounded}
-use Rattle.nfs_results.specs.Results.{status_of_result}
+use Rattle.nfs_compound.specs.{declared.op.Item.Item, declared.op.Item.TheVariants.Fault}
+use Rattle.nfs_results.specs.{ResultCodec.IsBounded, Results.status_of_result}
 use Rattle.nfs_names.specs.Outcome.{is_delay}
-use Rattle.nfs_exec.specs.Step.Machine.{with_result, machine_of}
-use Rattle.nfs_exec.specs.Step.Compound.{first_item}
-use Rattle.nfs_exec.specs.Step.View.{IsSmall, CanBear, Does}
-use Rattle.nfs_exec.proofs.Step.RefusalsFit.{place_small}
-use Rattle.nfs_exec.proofs.Step.AloneResults.{small_fits, put_does, misplaced}
+use Rattle.nfs_exec.specs.{Step.Machine.{with_result, machine_of}, Step.Compound.first_item, Step.View.{IsSmall, CanBear, Does}}
+use Rattle.nfs_exec.proofs.{Step.RefusalsFit.place_small, Step.AloneResults.{small_fits, put_does, misplaced}}
 use Rattle.nfs_exec.proofs.tables.Tables.alone.Goals as goal
 
 pub write-requires : goal.write-requires

@@ -1,15 +1,10 @@
 use Rattle.std.proofs.Common.{refl, ap, sym, subst, ◌∙◌}
-use Rattle.nfs_xdr.specs.Caller.{caller}
-use Rattle.nfs_xdr.specs.declared.status.Status.TheVariants.{NotSupp}
-use Rattle.nfs_compound.specs.Request.{item_number}
-use Rattle.nfs_results.specs.declared.res.Res.{Res}
-use Rattle.nfs_results.specs.Results.{refusal, status_of_result}
-use Rattle.nfs_results.specs.ResultCodec.{IsBounded}
-use Rattle.nfs_compound.specs.declared.op.Item.TheVariants.{Operation}
+use Rattle.nfs_xdr.specs.{Caller.caller, declared.status.Status.TheVariants.NotSupp}
+use Rattle.nfs_compound.specs.{Request.item_number, declared.op.Item.TheVariants.Operation}
+use Rattle.nfs_results.specs.{declared.res.Res.Res, Results.{refusal, status_of_result}, ResultCodec.IsBounded}
 use Rattle.nfs_compound.specs.declared.op.Op.TheVariants as Op
 use Rattle.nfs_names.specs.Outcome.{is_delay}
-use Rattle.nfs_exec.specs.Step.Machine.{Machine, with_result, machine_of}
-use Rattle.nfs_exec.specs.Step.View.{IsSmall}
+use Rattle.nfs_exec.specs.{Step.Machine.{Machine, with_result, machine_of}, Step.View.IsSmall}
 use Rattle.nfs_exec.proofs.Step.RefusalsFit.{place_small, rest_small, exchanged_small}
 use Rattle.nfs_exec.proofs.Step.AloneResults.{small_fits, put_does, misplaced, branch_done, not_carried}
 use Rattle.nfs_exec.proofs.tables.Tables.alone_as.Goals as goal

@@ -1,16 +1,10 @@
 use Rattle.std.proofs.Common.{List, ◌∷◌, length, inr, ap, sym, subst, ◌∙◌, arith}
-use Rattle.nfs_xdr.specs.Caller.{caller}
-use Rattle.nfs_xdr.specs.Tables.{In}
-use Rattle.nfs_xdr.specs.declared.status.Status.TheVariants.{Nfs4Ok, MinorVersMismatch}
-use Rattle.nfs_compound.specs.declared.op.Item.{Item}
-use Rattle.nfs_compound.specs.Request.{Request}
-use Rattle.nfs_names.specs.StoreInvariants.{IsStore}
-use Rattle.nfs_names.specs.Outcome.{is_delay}
+use Rattle.nfs_xdr.specs.{Caller.caller, Tables.In, declared.status.Status.TheVariants.{Nfs4Ok, MinorVersMismatch}}
+use Rattle.nfs_compound.specs.{declared.op.Item.Item, Request.Request}
+use Rattle.nfs_names.specs.{StoreInvariants.IsStore, Outcome.is_delay}
 use Rattle.nfs_exec.specs.Step.Machine.{Machine, machine_of}
-use Rattle.nfs_exec.proofs.Step.LeaseMoments.{first_stores}
-use Rattle.nfs_exec.proofs.Step.RefusalsFit.{opened_all, opened_bears, opened_few}
-use Rattle.nfs_exec.proofs.Step.RepliesKept.{any_head_fits, head_fits, alone_fits, has_one}
-use Rattle.nfs_exec.proofs.Step.CompoundCases.{for_sequence, for_other}
+use Rattle.nfs_exec.proofs.{Step.LeaseMoments.first_stores, Step.RefusalsFit.{opened_all, opened_bears, opened_few}}
+use Rattle.nfs_exec.proofs.{Step.RepliesKept.{any_head_fits, head_fits, alone_fits, has_one}, Step.CompoundCases.{for_sequence, for_other}}
 use Rattle.nfs_exec.proofs.tables.Tables.compound.Goals as goal
 
 pub write_compound_head-requires-clause-room : goal.write_compound_head-requires-clause-room

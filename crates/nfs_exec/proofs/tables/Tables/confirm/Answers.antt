@@ -1,6 +1,5 @@
 use Rattle.std.proofs.Common.{sym, subst}
-use Rattle.nfs_lease.specs.Renewals.{leases_of}
-use Rattle.nfs_lease.specs.Queue.{IsLatest}
+use Rattle.nfs_lease.specs.{Renewals.leases_of, Queue.IsLatest}
 use Rattle.nfs_exec.specs.Step.Machine.{Machine}
 use Rattle.nfs_exec.proofs.Step.LeaseMoments.{latest_left}
 use Rattle.nfs_exec.proofs.tables.Tables.confirm.Goals as goal

@@ -2,9 +2,7 @@ use Rattle.std.proofs.Common.{refl, ap, subst}
 use Rattle.nfs_xdr.specs.declared.status.Status.TheVariants.{StaleClientId, SeqMisordered, ClidInUse}
 use Rattle.nfs_clients.specs.CreateSession.{Verdict, Stale, Misordered, InUse, create_verdict}
 use Rattle.nfs_names.specs.Outcome.{is_delay}
-use Rattle.nfs_exec.specs.Step.Machine.{machine_of}
-use Rattle.nfs_exec.specs.Step.CreateSession.{by_verdict}
-use Rattle.nfs_exec.specs.Step.View.{Does}
+use Rattle.nfs_exec.specs.{Step.Machine.machine_of, Step.CreateSession.by_verdict, Step.View.Does}
 use Rattle.nfs_exec.proofs.Step.Creating.{refused_call}
 use Rattle.nfs_exec.proofs.tables.Tables.create_session.Goals as goal
 use Rattle.nfs_exec.proofs.tables.Tables.create_session.Goals.{in-Stale, in-Misordered, in-InUse}

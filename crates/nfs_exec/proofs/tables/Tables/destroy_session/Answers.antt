@@ -1,9 +1,7 @@
 use Rattle.std.proofs.Common.{sym, ap, ◌∙◌, subst}
 use Rattle.nfs_results.specs.Results.{refusal}
-use Rattle.nfs_exec.specs.Step.View.{IsSmall}
-use Rattle.nfs_exec.specs.Step.Machine.{machine_of}
-use Rattle.nfs_exec.proofs.Step.RefusalsFit.{session_done_small, destroy_session_small}
-use Rattle.nfs_exec.proofs.Step.Destroying.{no_session}
+use Rattle.nfs_exec.specs.{Step.View.IsSmall, Step.Machine.machine_of}
+use Rattle.nfs_exec.proofs.{Step.RefusalsFit.{session_done_small, destroy_session_small}, Step.Destroying.no_session}
 use Rattle.nfs_exec.proofs.tables.Tables.destroy_session.Goals as goal
 
 pub returns-then-destroy-clause-size : goal.returns-then-destroy-clause-size

@@ -1,17 +1,11 @@
 use Rattle.std.proofs.Common.{◌≡◌, ℕ, List, Err, refl, sym, ◌∙◌, ap, subst}
-use Rattle.nfs_xdr.specs.Caller.{Caller, caller}
-use Rattle.nfs_xdr.specs.Checks.{judged}
+use Rattle.nfs_xdr.specs.{Caller.{Caller, caller}, Checks.judged}
 use Rattle.nfs_compound.specs.declared.session_args.ExchangeId.{ExchangeId}
-use Rattle.nfs_clients.specs.ExchangeId.{Ask, asks, case_of, exchange}
-use Rattle.nfs_clients.specs.Calls.{exchange_fault, ExchangesOrWants}
+use Rattle.nfs_clients.specs.{ExchangeId.{Ask, asks, case_of, exchange}, Calls.{exchange_fault, ExchangesOrWants}}
 use Rattle.nfs_lease.specs.Renewals.{Book, leases_of, without_lease}
-use Rattle.nfs_results.specs.declared.res.Res.{Res}
-use Rattle.nfs_results.specs.declared.res.ExchangeIdOk.{ExchangeIdOk}
-use Rattle.nfs_results.specs.Results.{status_of_result}
+use Rattle.nfs_results.specs.{declared.res.Res.Res, declared.res.ExchangeIdOk.ExchangeIdOk, Results.status_of_result}
 use Rattle.nfs_names.specs.Outcome.{is_delay}
-use Rattle.nfs_exec.specs.Step.Machine.{with_result, or_delay, machine_of}
-use Rattle.nfs_exec.specs.Step.ExchangeId.{exchange_id, exchange_id_number, ask_of}
-use Rattle.nfs_exec.specs.Step.View.{settled}
+use Rattle.nfs_exec.specs.{Step.Machine.{with_result, or_delay, machine_of}, Step.ExchangeId.{exchange_id, exchange_id_number, ask_of}, Step.View.settled}
 use Rattle.nfs_exec.proofs.Step.Exchanging.{answered_ok, refused_first, refused_last}
 use Rattle.nfs_exec.proofs.tables.Tables.exchange_id.Goals as goal
 

@@ -1,8 +1,6 @@
 use Rattle.std.proofs.Common.{sym, ap, ◌∙◌}
-use Rattle.nfs_lease.specs.Renewals.{leases_of}
-use Rattle.nfs_lease.specs.Queue.{standing}
-use Rattle.nfs_exec.specs.Step.Expiry.{expired}
-use Rattle.nfs_exec.specs.Step.Machine.{machine_of}
+use Rattle.nfs_lease.specs.{Renewals.leases_of, Queue.standing}
+use Rattle.nfs_exec.specs.{Step.Expiry.expired, Step.Machine.machine_of}
 use Rattle.nfs_exec.proofs.Step.Expiring.{expired_without, expired_none, fewer}
 use Rattle.nfs_exec.proofs.tables.Tables.expire.Goals as goal
 

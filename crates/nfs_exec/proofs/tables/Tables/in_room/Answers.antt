@@ -1,7 +1,5 @@
-use Rattle.std.proofs.Common.{◌≤◌, length, ap, sym, subst, arith}
-use Rattle.std.proofs.lemmas.List.{length-append}
-use Rattle.nfs_results.specs.declared.res.Res.{Res}
-use Rattle.nfs_results.specs.Results.{spell_result}
+use Rattle.std.proofs.{Common.{◌≤◌, length, ap, sym, subst, arith}, lemmas.List.length-append}
+use Rattle.nfs_results.specs.{declared.res.Res.Res, Results.spell_result}
 use Rattle.nfs_xdr.specs.declared.status.Status.TheVariants.{RepTooBig}
 use Rattle.nfs_exec.proofs.Step.RefusalsFit.{refusal_short}
 use Rattle.nfs_exec.proofs.tables.Tables.in_room.Goals as goal

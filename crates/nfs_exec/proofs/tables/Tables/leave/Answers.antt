@@ -2,8 +2,7 @@ use Rattle.std.proofs.Common.{ap, sym, ◌∙◌}
 use Rattle.nfs_lease.specs.Renewals.{Book, leases_of, without_lease}
 use Rattle.nfs_sessions.specs.Sessions.{SessionTable, without_client}
 use Rattle.nfs_names.specs.State.{State, state_of}
-use Rattle.nfs_exec.specs.Step.View.{without_left}
-use Rattle.nfs_exec.specs.Step.Machine.{machine_of}
+use Rattle.nfs_exec.specs.{Step.View.without_left, Step.Machine.machine_of}
 use Rattle.nfs_exec.proofs.tables.Tables.leave.Goals as goal
 
 pub returns-in-Some : goal.returns-in-Some

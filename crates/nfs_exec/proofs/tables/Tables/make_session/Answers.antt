@@ -1,11 +1,8 @@
 use Rattle.std.proofs.Common.{◌≡◌, ℕ, Option, Ok, Err, ap, sym, subst, ◌∙◌}
 use Rattle.nfs_xdr.specs.declared.status.Status.{Status}
-use Rattle.nfs_sessions.specs.declared.channel.Wish.{Wish}
-use Rattle.nfs_sessions.specs.Sessions.{create}
-use Rattle.nfs_sessions.specs.SessionTables.{CreatesOrWants}
+use Rattle.nfs_sessions.specs.{declared.channel.Wish.Wish, Sessions.create, SessionTables.CreatesOrWants}
 use Rattle.nfs_names.specs.Outcome.{is_delay}
-use Rattle.nfs_exec.specs.Step.Machine.{or_delay, refuses, machine_of}
-use Rattle.nfs_exec.specs.Step.CreateSession.{create_session_number, wish_of, channel_of, creates}
+use Rattle.nfs_exec.specs.{Step.Machine.{or_delay, refuses, machine_of}, Step.CreateSession.{create_session_number, wish_of, channel_of, creates}}
 use Rattle.nfs_exec.specs.Step.View.{Does}
 use Rattle.nfs_exec.proofs.Step.Creating.{made, refused_session}
 use Rattle.nfs_exec.proofs.tables.Tables.make_session.Goals as goal

@@ -1,7 +1,6 @@
 use Rattle.std.proofs.Common.{sym, ◌∙◌}
 use Rattle.nfs_compound.specs.declared.op.Item.TheVariants.{Operation}
-use Rattle.nfs_exec.specs.Step.Machine.{machine_of}
-use Rattle.nfs_exec.specs.Step.Behind.{moves_opens}
+use Rattle.nfs_exec.specs.{Step.Machine.machine_of, Step.Behind.moves_opens}
 use Rattle.nfs_exec.proofs.Step.Behind.{marks_moved, marks_nothing}
 use Rattle.nfs_exec.proofs.tables.Tables.mark_open.Goals as goal
 

@@ -1,21 +1,11 @@
-use Rattle.std.proofs.Common.{◌≡◌, ◌+◌, ◌-◌, ◌≤◌, length, ap, sym, subst, arith}
+use Rattle.std.proofs.Common.{◌≡◌, ◌+◌, ◌-◌, ◌≤◌, length, ap, sym, subst, arith, ℕ, List, Option, ◌∙◌}
 use Rattle.nfs_results.specs.declared.res.Res.TheVariants as Res
-use Rattle.nfs_results.specs.declared.res.SequenceOk.{SequenceOk}
-use Rattle.nfs_results.specs.Results.{spell_result, spell_compound_head}
-use Rattle.std.proofs.Common.{ℕ, List, Option, ◌∙◌}
-use Rattle.nfs_xdr.specs.SheetState.{Puts}
-use Rattle.nfs_xdr.specs.declared.status.Status.TheVariants.{Nfs4Ok}
-use Rattle.nfs_results.specs.OpenHead.{HeadsAt}
-use Rattle.nfs_xdr.specs.Caller.{caller}
-use Rattle.nfs_names.specs.declared.context.Context.{Context}
-use Rattle.nfs_sessions.specs.declared.id.SessionId.{SessionId}
-use Rattle.nfs_sessions.specs.Id.{id_of}
-use Rattle.nfs_names.specs.Context.{begins}
+use Rattle.nfs_results.specs.{declared.res.SequenceOk.SequenceOk, Results.{spell_result, spell_compound_head}, OpenHead.HeadsAt}
+use Rattle.nfs_xdr.specs.{SheetState.Puts, declared.status.Status.TheVariants.Nfs4Ok, Caller.caller}
+use Rattle.nfs_names.specs.{declared.context.Context.Context, Context.begins}
+use Rattle.nfs_sessions.specs.{declared.id.SessionId.SessionId, Id.id_of}
 use Rattle.nfs_exec.specs.Step.Sequence as Sequence
-use Rattle.nfs_exec.specs.Step.Run.{run, behind_here}
-use Rattle.nfs_exec.specs.Step.Compound.{begun, run_in}
-use Rattle.nfs_exec.specs.Step.View.{RunsTo}
-use Rattle.nfs_exec.specs.Step.Machine.{machine_of}
+use Rattle.nfs_exec.specs.{Step.Run.{run, behind_here}, Step.Compound.{begun, run_in}, Step.View.RunsTo, Step.Machine.machine_of}
 use Rattle.nfs_exec.proofs.Step.Running.{later, later_behind}
 use Rattle.nfs_exec.proofs.Step.RepliesKept.{accepted_long, head_fits, second_fits, run_fits, has_head, within_64, begun_is, put_closed, last_fits}
 use Rattle.nfs_exec.proofs.tables.Tables.put_run.Goals as goal

@@ -1,11 +1,8 @@
 use Rattle.std.proofs.Common.{◌∙◌, sym, subst, length, ◌≤◌}
-use Rattle.nfs_results.specs.declared.res.Res.{Res}
-use Rattle.nfs_results.specs.Results.{spell_result}
-use Rattle.nfs_results.specs.ResultCodec.{IsBounded}
+use Rattle.nfs_results.specs.{declared.res.Res.Res, Results.spell_result, ResultCodec.IsBounded}
 use Rattle.nfs_xdr.specs.declared.status.Status.TheVariants.{CompleteAlready}
 use Rattle.nfs_exec.specs.Step.Machine.{machine_of}
-use Rattle.nfs_exec.proofs.Step.RefusalsFit.{refusal_bounded, refusal_short}
-use Rattle.nfs_exec.proofs.Step.Behind.{current_bears, reclaimed_short}
+use Rattle.nfs_exec.proofs.{Step.RefusalsFit.{refusal_bounded, refusal_short}, Step.Behind.{current_bears, reclaimed_short}}
 use Rattle.nfs_exec.proofs.tables.Tables.reclaim_complete.Goals as goal
 
 pub returns-in-Ok-clause-short : goal.returns-in-Ok-clause-short

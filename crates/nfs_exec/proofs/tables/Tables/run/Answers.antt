@@ -1,13 +1,8 @@
 use Rattle.std.proofs.Common.{refl, ℕ, ◌+◌, ◌-◌, ◌≤◌, ◌∷◌, ap, subst, ◌∙◌, List, length}
-use Rattle.nfs_compound.specs.declared.op.Item.{Item}
-use Rattle.nfs_compound.specs.Request.{Request}
-use Rattle.nfs_names.specs.declared.context.Context.{Context}
+use Rattle.nfs_compound.specs.{declared.op.Item.Item, Request.Request}
+use Rattle.nfs_names.specs.{declared.context.Context.Context, Outcome.is_delay}
 use Rattle.nfs_xdr.specs.SheetState.{SheetState}
-use Rattle.nfs_exec.specs.declared.tables.Tables.{Tables}
-use Rattle.nfs_names.specs.Outcome.{is_delay}
-use Rattle.nfs_exec.specs.Step.Machine.{machine_of}
-use Rattle.nfs_exec.specs.Step.Run.{in_room}
-use Rattle.nfs_exec.specs.Step.View.{Steps}
+use Rattle.nfs_exec.specs.{declared.tables.Tables.Tables, Step.Machine.machine_of, Step.Run.in_room, Step.View.Steps}
 use Rattle.nfs_exec.proofs.Step.Running.{Stand, Going, Stepped, so_far, begins, goes_on, ends, ends_with, ends_within, not_ok, counted}
 use Rattle.nfs_exec.proofs.tables.Tables.run.Goals as goal
 use Rattle.nfs_exec.proofs.tables.Tables.run.Goals.{After-in_room-status}

@@ -2,16 +2,11 @@ use Rattle.std.proofs.Common.{ℕ, ◌≡◌, ◌-◌, ◌≤◌, List, ◌++◌
 use Rattle.nfs_xdr.specs.Caller.{caller}
 use Rattle.nfs_compound.specs.Request.{Request}
 use Rattle.nfs_lease.specs.Renewals.{leases_of}
-use Rattle.nfs_exec.specs.Step.Machine.{Machine, machine_of}
+use Rattle.nfs_exec.specs.{Step.Machine.{Machine, machine_of}, Step.Run.behind_here, Step.Sequence.compared}
+use Rattle.nfs_exec.specs.{Step.Compound.{answers, begun, renewed, runs_behind}, Step.View.Answers}
 use Rattle.nfs_names.specs.Context.{begins}
 use Rattle.nfs_sessions.specs.Id.{id_of}
-use Rattle.nfs_exec.specs.Step.Run.{behind_here}
-use Rattle.nfs_exec.specs.Step.Sequence.{compared}
-use Rattle.nfs_exec.specs.Step.Compound.{answers, begun, renewed, runs_behind}
-use Rattle.nfs_exec.specs.Step.View.{Answers}
-use Rattle.nfs_exec.proofs.Step.Behind.{run_sessions}
-use Rattle.nfs_exec.proofs.Step.Judging.{joined}
-use Rattle.nfs_exec.proofs.Step.RepliesKept.{starts_within, text_of, renewed_machine, kept_machine, may_keep}
+use Rattle.nfs_exec.proofs.{Step.Behind.run_sessions, Step.Judging.joined, Step.RepliesKept.{starts_within, text_of, renewed_machine, kept_machine, may_keep}}
 use Rattle.nfs_exec.proofs.tables.Tables.run_new.Goals as goal
 
 pub slice_bounds-reply-count : goal.slice_bounds-reply-count

@@ -1,14 +1,8 @@
 use Rattle.std.proofs.Common.{◌≡◌, ◌∙◌, false, ap, sym, subst, refl, length, ◌≤◌}
-use Rattle.nfs_compound.specs.Request.{item_number}
-use Rattle.nfs_compound.specs.declared.op.Item.TheVariants.{Operation}
-use Rattle.nfs_results.specs.declared.res.Res.{Res}
-use Rattle.nfs_results.specs.Results.{spell_result, refusal}
-use Rattle.nfs_results.specs.ResultCodec.{IsBounded}
-use Rattle.nfs_exec.specs.Step.Machine.{with_result, machine_of}
-use Rattle.nfs_exec.specs.Step.Place.{status_behind}
-use Rattle.nfs_exec.specs.Step.Behind.{Step}
-use Rattle.nfs_exec.proofs.Step.RefusalsFit.{behind_bears, refusal_bounded, refusal_short}
-use Rattle.nfs_exec.proofs.Step.Behind.{other_stays}
+use Rattle.nfs_compound.specs.{Request.item_number, declared.op.Item.TheVariants.Operation}
+use Rattle.nfs_results.specs.{declared.res.Res.Res, Results.{spell_result, refusal}, ResultCodec.IsBounded}
+use Rattle.nfs_exec.specs.{Step.Machine.{with_result, machine_of}, Step.Place.status_behind, Step.Behind.Step}
+use Rattle.nfs_exec.proofs.{Step.RefusalsFit.{behind_bears, refusal_bounded, refusal_short}, Step.Behind.other_stays}
 use Rattle.nfs_exec.proofs.tables.Tables.unstored.Goals as goal
 
 pub returns-in_default : goal.returns-in_default

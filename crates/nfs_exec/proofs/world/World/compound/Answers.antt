@@ -1,10 +1,8 @@
 use Rattle.std.proofs.Common.{sym, subst}
 use Rattle.nfs_xdr.specs.Caller.{caller}
 use Rattle.nfs_lease.specs.Queue.{IsLatest}
-use Rattle.nfs_exec.specs.Step.Machine.{Machine, IsMachine, machine_of}
-use Rattle.nfs_exec.specs.declared.tables.Tables.{Tables}
-use Rattle.nfs_exec.proofs.Step.Invariant.{of_compound}
-use Rattle.nfs_exec.proofs.Step.LeaseMoments.{latest_compound}
+use Rattle.nfs_exec.specs.{Step.Machine.{Machine, IsMachine, machine_of}, declared.tables.Tables.Tables}
+use Rattle.nfs_exec.proofs.{Step.Invariant.of_compound, Step.LeaseMoments.latest_compound}
 use Rattle.nfs_exec.proofs.world.World.compound.Goals as goal
 
 pub invariant_of-self : goal.invariant_of-self

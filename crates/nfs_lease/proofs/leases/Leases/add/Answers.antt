@@ -1,7 +1,6 @@
 use Rattle.std.proofs.Common.{◌∙◌, ap, sym, subst, arith}
 use Rattle.std.specs.Prelude.{length, ◌<◌}
-use Rattle.nfs_lease.specs.Renewals.{leases_of, with_lease}
-use Rattle.nfs_lease.specs.Queue.{IsLatest}
+use Rattle.nfs_lease.specs.{Renewals.{leases_of, with_lease}, Queue.IsLatest}
 use Rattle.nfs_lease.proofs.Queue.{put_front, queue_front, maps_front}
 use Rattle.nfs_lease.proofs.leases.Leases.add.Goals as goal
 

@@ -1,6 +1,5 @@
-use Rattle.std.proofs.Common.{sym, arith}
+use Rattle.std.proofs.{Common.{sym, arith}, lemmas.Bool.lt-ltb}
 use Rattle.std.specs.Prelude.{◌-◌}
-use Rattle.std.proofs.lemmas.Bool.{lt-ltb}
 use Rattle.nfs_lease.proofs.Queue.{none_out, some_out, not_out}
 use Rattle.nfs_lease.proofs.leases.Leases.next_out.Goals as goal
 

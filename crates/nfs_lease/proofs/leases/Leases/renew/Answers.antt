@@ -1,6 +1,5 @@
 use Rattle.std.proofs.Common.{◌∙◌, ap, sym, subst}
-use Rattle.nfs_lease.specs.Renewals.{leases_of, with_renewal}
-use Rattle.nfs_lease.specs.Queue.{IsLatest}
+use Rattle.nfs_lease.specs.{Renewals.{leases_of, with_renewal}, Queue.IsLatest}
 use Rattle.nfs_lease.proofs.Queue.{renews, rests}
 use Rattle.nfs_lease.proofs.leases.Leases.renew.Goals as goal
 use Rattle.nfs_lease.proofs.leases.Leases.renew.Goals.{in-Some, in_default}

@@ -1,10 +1,7 @@
 use Rattle.std.proofs.Common.{◌≡◌, not, sym, ap, subst, ◌∙◌}
 use Rattle.std.specs.Prelude.{◌==◌}
-use Rattle.nfs_opens.specs.Table.{table}
-use Rattle.nfs_opens.specs.Calls.{without_client}
-use Rattle.nfs_names.specs.State.{State, state_of}
-use Rattle.nfs_names.specs.StoreInvariants.{IsStore}
-use Rattle.nfs_names.specs.Ending.{with_opens, staying}
+use Rattle.nfs_opens.specs.{Table.table, Calls.without_client}
+use Rattle.nfs_names.specs.{State.{State, state_of}, StoreInvariants.IsStore, Ending.{with_opens, staying}}
 use Rattle.nfs_names.proofs.Staying.{staying_others, store_staying}
 use Rattle.nfs_names.proofs.store.Store.drop_client.Goals as goal
 use Rattle.nfs_names.proofs.store.Store.drop_client.Goals.{After-end_client}

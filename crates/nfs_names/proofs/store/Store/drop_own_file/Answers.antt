@@ -1,6 +1,5 @@
 use Rattle.std.proofs.Common.{sym, ◌∙◌}
-use Rattle.nfs_names.specs.State.{state_of}
-use Rattle.nfs_names.specs.Ending.{without_opens}
+use Rattle.nfs_names.specs.{State.state_of, Ending.without_opens}
 use Rattle.nfs_names.proofs.StoreInvariants.{unused_empty}
 use Rattle.nfs_names.proofs.store.Store.drop_own_file.Goals as goal
 

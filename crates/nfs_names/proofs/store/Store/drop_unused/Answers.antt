@@ -1,6 +1,5 @@
 use Rattle.std.proofs.Common.{sym, subst}
-use Rattle.nfs_names.specs.State.{State, state_of}
-use Rattle.nfs_names.specs.StoreInvariants.{IsRooted, IsStore}
+use Rattle.nfs_names.specs.{State.{State, state_of}, StoreInvariants.{IsRooted, IsStore}}
 use Rattle.nfs_names.proofs.StoreInvariants.{unused_empty, rooted_without, store_without}
 use Rattle.nfs_names.proofs.store.Store.drop_unused.Goals as goal
 

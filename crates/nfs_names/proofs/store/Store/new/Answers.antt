@@ -1,9 +1,7 @@
 use Rattle.std.proofs.Common.{sym, ap, subst, ◌∙◌}
-use Rattle.nfs_tree.specs.Files.{Files}
-use Rattle.nfs_tree.specs.Create.{new_tree}
+use Rattle.nfs_tree.specs.{Files.Files, Create.new_tree}
 use Rattle.nfs_opens.specs.Table.{Table, table}
-use Rattle.nfs_names.specs.State.{State}
-use Rattle.nfs_names.specs.StoreInvariants.{IsStore}
+use Rattle.nfs_names.specs.{State.State, StoreInvariants.IsStore}
 use Rattle.nfs_names.proofs.StoreInvariants.{store_at_first}
 use Rattle.nfs_names.proofs.store.Store.new.Goals as goal
 

@@ -1,8 +1,7 @@
 use Rattle.std.proofs.Common.{List, ◌-◌, length, Some, subst, ◌≡◌, ◌∙◌}
 use Rattle.std.specs.Prelude.{slice_get}
 use Rattle.nfs_opens.specs.declared.index.Pair.{Pair}
-use Rattle.nfs_opens.proofs.EntryLemmas.{last_map}
-use Rattle.nfs_opens.proofs.BlockLemmas.{ends_at}
+use Rattle.nfs_opens.proofs.{EntryLemmas.last_map, BlockLemmas.ends_at}
 use Rattle.nfs_opens.proofs.blocks.Block.ends_before.Goals as goal
 
 pub returns-in-Some : goal.returns-in-Some

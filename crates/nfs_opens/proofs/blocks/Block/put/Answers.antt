@@ -1,7 +1,5 @@
-use Rattle.std.proofs.Common.{◌≡◌, List, [], ◌∷◌, ◌++◌, length, map, refl, ap, sym, ◌∙◌, subst, arith, length-append}
-use Rattle.std.proofs.lemmas.List.{append-nil, map-append}
-use Rattle.nfs_opens.specs.declared.index.Pair.{Pair}
-use Rattle.nfs_opens.specs.Index.{HasPut}
+use Rattle.std.proofs.{Common.{◌≡◌, List, [], ◌∷◌, ◌++◌, length, map, refl, ap, sym, ◌∙◌, subst, arith, length-append}, lemmas.List.{append-nil, map-append}}
+use Rattle.nfs_opens.specs.{declared.index.Pair.Pair, Index.HasPut}
 use Rattle.nfs_opens.proofs.blocks.Block.put.Goals as goal
 
 -- what maps to nothing is nothing

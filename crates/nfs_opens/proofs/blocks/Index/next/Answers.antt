@@ -1,11 +1,7 @@
 use Rattle.std.proofs.Common.{◌≡◌, List, true, None, subst, sym, ap, ◌∙◌}
-use Rattle.std.specs.Prelude.{slice_get}
-use Rattle.std.specs.Option.{option_copied}
-use Rattle.nfs_opens.specs.declared.index.Pair.{Pair}
-use Rattle.nfs_opens.specs.Index.{IsNext}
-use Rattle.nfs_opens.specs.Blocks.{Listed}
-use Rattle.nfs_opens.proofs.FlatLemmas.{got_block, no_block}
-use Rattle.nfs_opens.proofs.BlockLemmas.{BlocksAt, block_order, next_there, next_nowhere}
+use Rattle.std.specs.{Prelude.slice_get, Option.option_copied}
+use Rattle.nfs_opens.specs.{declared.index.Pair.Pair, Index.IsNext, Blocks.Listed}
+use Rattle.nfs_opens.proofs.{FlatLemmas.{got_block, no_block}, BlockLemmas.{BlocksAt, block_order, next_there, next_nowhere}}
 use Rattle.nfs_opens.proofs.blocks.Index.next.Goals as goal
 
 pub next-requires : goal.next-requires

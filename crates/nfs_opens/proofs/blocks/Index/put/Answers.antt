@@ -1,12 +1,7 @@
-use Rattle.std.proofs.Common.{◌≡◌, ℕ, ◌<◌, suc, set, List, ◌++◌, length, Option, ◌∙◌, ap, subst, arith}
+use Rattle.std.proofs.{Common.{◌≡◌, ℕ, ◌<◌, suc, set, List, ◌++◌, length, Option, ◌∙◌, ap, subst, arith}, lemmas.Grind.common_steps, lemmas.List.length-set}
 use Rattle.std.specs.List.{insert}
-use Rattle.std.proofs.lemmas.Grind.{common_steps}
-use Rattle.std.proofs.lemmas.List.{length-set}
 use Rattle.nfs_xdr.specs.Tables.{In}
-use Rattle.nfs_opens.specs.declared.index.Pair.{Pair}
-use Rattle.nfs_opens.specs.Index.{HasPut, pair_of}
-use Rattle.nfs_opens.specs.Flat.{flat}
-use Rattle.nfs_opens.specs.Blocks.{Listed, IsPlace, pairs_in}
+use Rattle.nfs_opens.specs.{declared.index.Pair.Pair, Index.{HasPut, pair_of}, Flat.flat, Blocks.{Listed, IsPlace, pairs_in}}
 use Rattle.nfs_opens.proofs.BlockLemmas.{put_plain, put_split, block_order, block_pairs}
 use Rattle.nfs_opens.proofs.blocks.Index.put.Goals as goal
 

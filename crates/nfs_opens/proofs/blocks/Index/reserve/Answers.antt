@@ -1,7 +1,6 @@
 use Rattle.std.proofs.Common.{◌≡◌, ℕ, false, List, Option, Some, None, sym, ◌∙◌, subst, arith}
 use Rattle.std.specs.Prelude.{is_some, vec_capacity}
-use Rattle.nfs_opens.specs.declared.index.Pair.{Pair}
-use Rattle.nfs_opens.specs.Blocks.{AreOrdered, AreBlocks}
+use Rattle.nfs_opens.specs.{declared.index.Pair.Pair, Blocks.{AreOrdered, AreBlocks}}
 use Rattle.nfs_opens.proofs.blocks.Index.reserve.Goals as goal
 
 -- where no block is spare, any room is enough

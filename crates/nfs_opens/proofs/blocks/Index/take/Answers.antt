@@ -1,12 +1,7 @@
-use Rattle.std.proofs.Common.{◌<◌, set, List, length, get_or, subst, sym, arith}
-use Rattle.std.proofs.lemmas.List.{length-set}
+use Rattle.std.proofs.{Common.{◌<◌, set, List, length, get_or, subst, sym, arith}, lemmas.List.length-set}
 use Rattle.nfs_xdr.specs.Tables.{In}
-use Rattle.nfs_opens.specs.declared.index.Pair.{Pair}
-use Rattle.nfs_opens.specs.Index.{HasTaken, pair_of}
-use Rattle.nfs_opens.specs.Flat.{flat}
-use Rattle.nfs_opens.specs.Blocks.{Listed}
-use Rattle.nfs_opens.proofs.FlatLemmas.{room_kept}
-use Rattle.nfs_opens.proofs.BlockLemmas.{take_plain, take_empty, block_order}
+use Rattle.nfs_opens.specs.{declared.index.Pair.Pair, Index.{HasTaken, pair_of}, Flat.flat, Blocks.Listed}
+use Rattle.nfs_opens.proofs.{FlatLemmas.room_kept, BlockLemmas.{take_plain, take_empty, block_order}}
 use Rattle.nfs_opens.proofs.blocks.Index.take.Goals as goal
 
 pub place_with-place-requires-clause-ordered : goal.place_with-place-requires-clause-ordered

@@ -1,6 +1,5 @@
-use Rattle.std.proofs.Common.{◌≡◌, ◌<◌, ◌≤◌, List, length, map, subst, ap, ◌∙◌, arith}
+use Rattle.std.proofs.{Common.{◌≡◌, ◌<◌, ◌≤◌, List, length, map, subst, ap, ◌∙◌, arith}, lemmas.List.length-set}
 use Rattle.std.specs.Prelude.{◌==◌, if◌then◌else◌}
-use Rattle.std.proofs.lemmas.List.{length-set}
 use Rattle.nfs_opens.specs.ByNumber.{Numbered}
 use Rattle.nfs_opens.proofs.NumberLemmas.{NumbersAt, block_rises, changed_in, changed_nowhere}
 use Rattle.nfs_opens.proofs.by_number.ByNumber.change.Goals as goal

@@ -1,9 +1,7 @@
 use Rattle.std.proofs.Common.{◌≡◌, List, Some, None, subst, sym, ap, ◌∙◌}
-use Rattle.std.specs.Prelude.{◌==◌, slice_get, find}
-use Rattle.std.specs.Option.{option_copied}
+use Rattle.std.specs.{Prelude.{◌==◌, slice_get, find}, Option.option_copied}
 use Rattle.nfs_opens.specs.ByNumber.{Numbered}
-use Rattle.nfs_opens.proofs.FlatLemmas.{got_block, no_block}
-use Rattle.nfs_opens.proofs.NumberLemmas.{NumbersAt, block_rises, found_in, found_nowhere}
+use Rattle.nfs_opens.proofs.{FlatLemmas.{got_block, no_block}, NumberLemmas.{NumbersAt, block_rises, found_in, found_nowhere}}
 use Rattle.nfs_opens.proofs.by_number.ByNumber.get.Goals as goal
 
 pub get-requires : goal.get-requires

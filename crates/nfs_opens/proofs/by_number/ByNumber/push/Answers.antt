@@ -1,6 +1,4 @@
-use Rattle.std.proofs.Common.{◌≡◌, ◌<◌, ◌++◌, ◌∷◌, [], suc, length, subst, sym, ap, ◌∙◌, arith}
-use Rattle.std.proofs.lemmas.Grind.{common_steps}
-use Rattle.std.proofs.lemmas.List.{length-set}
+use Rattle.std.proofs.{Common.{◌≡◌, ◌<◌, ◌++◌, ◌∷◌, [], suc, length, subst, sym, ap, ◌∙◌, arith}, lemmas.Grind.common_steps, lemmas.List.length-set}
 use Rattle.nfs_xdr.specs.Tables.{In}
 use Rattle.nfs_opens.specs.ByNumber.{Numbered}
 use Rattle.nfs_opens.proofs.NumberLemmas.{pushed_last, pushed_new}

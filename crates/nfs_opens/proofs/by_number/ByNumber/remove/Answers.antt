@@ -1,9 +1,7 @@
-use Rattle.std.proofs.Common.{◌≡◌, ◌<◌, List, length, not, subst, ap, ◌∙◌, arith}
+use Rattle.std.proofs.{Common.{◌≡◌, ◌<◌, List, length, not, subst, ap, ◌∙◌, arith}, lemmas.List.length-set}
 use Rattle.std.specs.Prelude.{◌==◌, filter}
-use Rattle.std.proofs.lemmas.List.{length-set}
 use Rattle.nfs_opens.specs.ByNumber.{Numbered}
-use Rattle.nfs_opens.proofs.FlatLemmas.{room_kept}
-use Rattle.nfs_opens.proofs.NumberLemmas.{NumbersAt, block_rises, removed_plain, removed_empty, removed_nowhere}
+use Rattle.nfs_opens.proofs.{FlatLemmas.room_kept, NumberLemmas.{NumbersAt, block_rises, removed_plain, removed_empty, removed_nowhere}}
 use Rattle.nfs_opens.proofs.by_number.ByNumber.remove.Goals as goal
 
 pub remove-stays-requires : goal.remove-stays-requires

@@ -1,8 +1,6 @@
 use Rattle.std.proofs.Common.{refl, subst, ap, ◌∙◌}
 use Rattle.std.specs.Prelude.{◌==◌, find}
-use Rattle.nfs_opens.specs.declared.records.LockState.{LockState}
-use Rattle.nfs_opens.specs.ByNumber.{Numbered}
-use Rattle.nfs_opens.specs.TableInvariants.{Rises}
+use Rattle.nfs_opens.specs.{declared.records.LockState.LockState, ByNumber.Numbered, TableInvariants.Rises}
 use Rattle.nfs_opens.proofs.lock_states.LockStates.first_under.Goals as goal
 
 pub returns-clause-found : goal.returns-clause-found

@@ -1,10 +1,7 @@
 use Rattle.std.proofs.Common.{subst, ◌∙◌}
 use Rattle.std.specs.Option.{option_copied}
-use Rattle.nfs_opens.specs.declared.records.LockState.{LockState}
-use Rattle.nfs_opens.specs.ByNumber.{Numbered}
-use Rattle.nfs_opens.specs.TableInvariants.{Rises}
-use Rattle.nfs_opens.proofs.IndexLemmas.{state_seen}
-use Rattle.nfs_opens.proofs.IndexedLemmas.{copied_some}
+use Rattle.nfs_opens.specs.{declared.records.LockState.LockState, ByNumber.Numbered, TableInvariants.Rises}
+use Rattle.nfs_opens.proofs.{IndexLemmas.state_seen, IndexedLemmas.copied_some}
 use Rattle.nfs_opens.proofs.lock_states.LockStates.is_on.Goals as goal
 
 pub returns : goal.returns

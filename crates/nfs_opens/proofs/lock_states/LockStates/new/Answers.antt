@@ -1,8 +1,5 @@
 use Rattle.std.proofs.Common.{List, [], ℕ, sym, subst}
-use Rattle.nfs_opens.specs.declared.index.Pair.{Pair}
-use Rattle.nfs_opens.specs.declared.records.LockState.{LockState}
-use Rattle.nfs_opens.specs.Index.{IsIndex}
-use Rattle.nfs_opens.specs.Keys.{lock_key}
+use Rattle.nfs_opens.specs.{declared.index.Pair.Pair, declared.records.LockState.LockState, Index.IsIndex, Keys.lock_key}
 use Rattle.nfs_opens.proofs.IndexLemmas.{index_none}
 use Rattle.nfs_opens.proofs.lock_states.LockStates.new.Goals as goal
 

@@ -1,8 +1,6 @@
 use Rattle.std.proofs.Common.{refl, ap, ◌∙◌}
 use Rattle.std.specs.Prelude.{◌==◌, find}
-use Rattle.nfs_opens.specs.declared.records.LockState.{LockState}
-use Rattle.nfs_opens.specs.ByNumber.{Numbered}
-use Rattle.nfs_opens.specs.Keys.{lock_key, key_of}
+use Rattle.nfs_opens.specs.{declared.records.LockState.LockState, ByNumber.Numbered, Keys.{lock_key, key_of}}
 use Rattle.nfs_opens.proofs.lock_states.LockStates.owned.Goals as goal
 
 pub returns : goal.returns

@@ -1,9 +1,6 @@
 use Rattle.std.proofs.Common.{ℕ, ◌<◌, List, ap, sym, ◌∙◌, subst}
 use Rattle.nfs_xdr.specs.Tables.{In}
-use Rattle.nfs_opens.specs.declared.records.LockState.{LockState}
-use Rattle.nfs_opens.specs.ByNumber.{Numbered}
-use Rattle.nfs_opens.specs.Index.{IsIndex, HasPut, pair_of}
-use Rattle.nfs_opens.specs.Keys.{lock_key, owner_key}
+use Rattle.nfs_opens.specs.{declared.records.LockState.LockState, ByNumber.Numbered, Index.{IsIndex, HasPut, pair_of}, Keys.{lock_key, owner_key}}
 use Rattle.nfs_opens.proofs.IndexLemmas.{index_put, index_apart}
 use Rattle.nfs_opens.proofs.lock_states.LockStates.push.Goals as goal
 

@@ -1,7 +1,5 @@
 use Rattle.std.proofs.Common.{refl}
-use Rattle.nfs_opens.specs.declared.records.LockState.{LockState}
-use Rattle.nfs_opens.specs.Locking.{raised}
-use Rattle.nfs_opens.specs.Keys.{lock_key}
+use Rattle.nfs_opens.specs.{declared.records.LockState.LockState, Locking.raised, Keys.lock_key}
 use Rattle.nfs_opens.proofs.IndexLemmas.{index_changed}
 use Rattle.nfs_opens.proofs.lock_states.LockStates.raise.Goals as goal
 

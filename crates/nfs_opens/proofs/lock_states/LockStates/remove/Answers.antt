@@ -1,10 +1,7 @@
 use Rattle.std.proofs.Common.{◌≡◌, ℕ, Some, None, sym, subst, ap, ◌∙◌}
-use Rattle.std.specs.Prelude.{◌==◌, find}
-use Rattle.std.specs.Option.{option_copied}
+use Rattle.std.specs.{Prelude.{◌==◌, find}, Option.option_copied}
 use Rattle.nfs_xdr.specs.Tables.{In}
-use Rattle.nfs_opens.specs.declared.records.LockState.{LockState}
-use Rattle.nfs_opens.specs.Index.{HasTaken, pair_of}
-use Rattle.nfs_opens.specs.Keys.{lock_key}
+use Rattle.nfs_opens.specs.{declared.records.LockState.LockState, Index.{HasTaken, pair_of}, Keys.lock_key}
 use Rattle.nfs_opens.proofs.IndexLemmas.{pair_in, index_taken, index_left}
 use Rattle.nfs_opens.proofs.lock_states.LockStates.remove.Goals as goal
 use Rattle.nfs_opens.proofs.lock_states.LockStates.remove.Goals.{in-Some, in_default}

@@ -1,5 +1,4 @@
-use Rattle.std.proofs.Common.{sym, ◌∙◌, ap}
-use Rattle.std.proofs.lemmas.Result.{on_ok_weaker, on_err_weaker}
+use Rattle.std.proofs.{Common.{sym, ◌∙◌, ap}, lemmas.Result.{on_ok_weaker, on_err_weaker}}
 use Rattle.nfs_ranges.specs.Holders.{Holders, cleared}
 use Rattle.nfs_opens.specs.Holding.{held_by}
 use Rattle.nfs_opens.proofs.FileLemmas.{holders_of, held_found, held_written, written_same, on_file_same, nobody_cleared, lists_same}

@@ -1,5 +1,4 @@
-use Rattle.std.proofs.Common.{ℕ, inr, sym, ◌∙◌, ap, Some}
-use Rattle.std.proofs.lemmas.Result.{on_ok_weaker, on_err_weaker}
+use Rattle.std.proofs.{Common.{ℕ, inr, sym, ◌∙◌, ap, Some}, lemmas.Result.{on_ok_weaker, on_err_weaker}}
 use Rattle.std.specs.BTreeMap.{BTreeMap}
 use Rattle.nfs_ranges.specs.Holders.{Holders, LockedBytes, holding}
 use Rattle.nfs_opens.specs.Holding.{held_by}

@@ -1,9 +1,6 @@
 use Rattle.std.proofs.Common.{ℕ, List, sym, subst, ap}
-use Rattle.nfs_opens.specs.declared.records.OpenState.{OpenState}
-use Rattle.nfs_opens.specs.Counts.{AreCounted}
-use Rattle.nfs_opens.specs.Keys.{open_key, owner_key}
-use Rattle.nfs_opens.proofs.IndexLemmas.{index_changed}
-use Rattle.nfs_opens.proofs.SingleLemmas.{each_changed}
+use Rattle.nfs_opens.specs.{declared.records.OpenState.OpenState, Counts.AreCounted, Keys.{open_key, owner_key}}
+use Rattle.nfs_opens.proofs.{IndexLemmas.index_changed, SingleLemmas.each_changed}
 use Rattle.nfs_opens.proofs.open_states.OpenStates.change.Goals as goal
 
 pub invariant_of-self : goal.invariant_of-self

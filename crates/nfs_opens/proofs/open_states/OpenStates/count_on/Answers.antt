@@ -1,8 +1,6 @@
 use Rattle.std.proofs.Common.{ap, ◌∙◌}
 use Rattle.std.specs.Prelude.{◌==◌}
-use Rattle.nfs_opens.specs.declared.records.OpenState.{OpenState}
-use Rattle.nfs_opens.specs.ByNumber.{Numbered}
-use Rattle.nfs_opens.specs.Counts.{count_of}
+use Rattle.nfs_opens.specs.{declared.records.OpenState.OpenState, ByNumber.Numbered, Counts.count_of}
 use Rattle.nfs_opens.proofs.open_states.OpenStates.count_on.Goals as goal
 
 pub returns : goal.returns

@@ -1,12 +1,7 @@
 use Rattle.std.proofs.Common.{List, [], ℕ, sym, subst}
-use Rattle.nfs_opens.specs.declared.index.Pair.{Pair}
-use Rattle.nfs_opens.specs.declared.records.OpenState.{OpenState}
-use Rattle.nfs_opens.specs.Index.{IsIndex}
-use Rattle.nfs_opens.specs.Keys.{open_key}
-use Rattle.nfs_opens.specs.TableInvariants.{HasOneEach}
+use Rattle.nfs_opens.specs.{declared.index.Pair.Pair, declared.records.OpenState.OpenState, Index.IsIndex, Keys.open_key, TableInvariants.HasOneEach}
 use Rattle.nfs_opens.specs.Counts.{AreCounted}
-use Rattle.nfs_opens.proofs.IndexLemmas.{index_none}
-use Rattle.nfs_opens.proofs.SingleLemmas.{each_none}
+use Rattle.nfs_opens.proofs.{IndexLemmas.index_none, SingleLemmas.each_none}
 use Rattle.nfs_opens.proofs.open_states.OpenStates.new.Goals as goal
 
 pub invariant_of-result : goal.invariant_of-result

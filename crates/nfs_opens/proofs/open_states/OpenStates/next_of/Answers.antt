@@ -1,7 +1,6 @@
 use Rattle.std.proofs.Common.{ap, ◌∙◌}
 use Rattle.std.specs.Prelude.{◌==◌, ◌&&◌, nat_lt, find}
-use Rattle.nfs_opens.specs.declared.records.OpenState.{OpenState}
-use Rattle.nfs_opens.specs.ByNumber.{Numbered}
+use Rattle.nfs_opens.specs.{declared.records.OpenState.OpenState, ByNumber.Numbered}
 use Rattle.nfs_opens.proofs.open_states.OpenStates.next_of.Goals as goal
 
 pub returns : goal.returns

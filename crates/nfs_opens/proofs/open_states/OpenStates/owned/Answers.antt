@@ -1,8 +1,6 @@
 use Rattle.std.proofs.Common.{refl, ap, ◌∙◌}
 use Rattle.std.specs.Prelude.{◌==◌, find}
-use Rattle.nfs_opens.specs.declared.records.OpenState.{OpenState}
-use Rattle.nfs_opens.specs.ByNumber.{Numbered}
-use Rattle.nfs_opens.specs.Keys.{open_key, key_of}
+use Rattle.nfs_opens.specs.{declared.records.OpenState.OpenState, ByNumber.Numbered, Keys.{open_key, key_of}}
 use Rattle.nfs_opens.proofs.open_states.OpenStates.owned.Goals as goal
 
 pub returns : goal.returns

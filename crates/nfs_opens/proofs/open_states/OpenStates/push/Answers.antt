@@ -1,16 +1,9 @@
 use Rattle.std.proofs.Common.{ℕ, ◌≢◌, ◌<◌, List, length, ap, sym, ◌∙◌, subst}
 use Rattle.nfs_xdr.specs.Tables.{In}
-use Rattle.nfs_opens.specs.declared.records.OpenState.{OpenState}
-use Rattle.nfs_opens.specs.ByNumber.{Numbered}
-use Rattle.nfs_opens.specs.Index.{IsIndex, HasPut, pair_of}
-use Rattle.nfs_opens.specs.Keys.{open_key, owner_key}
-use Rattle.nfs_opens.specs.TableInvariants.{whose}
-use Rattle.nfs_opens.specs.Counts.{AreCounted, CountsAnew, count_at, with_one}
-use Rattle.nfs_opens.specs.StateId.{last_number}
+use Rattle.nfs_opens.specs.{declared.records.OpenState.OpenState, ByNumber.Numbered, Index.{IsIndex, HasPut, pair_of}, Keys.{open_key, owner_key}}
+use Rattle.nfs_opens.specs.{TableInvariants.whose, Counts.{AreCounted, CountsAnew, count_at, with_one}, StateId.last_number}
 use Rattle.nfs_opens.specs.declared.counts.Reservation.{Reservation}
-use Rattle.nfs_opens.proofs.CountedLemmas.{counted_pushed}
-use Rattle.nfs_opens.proofs.SingleLemmas.{each_pushed}
-use Rattle.nfs_opens.proofs.IndexLemmas.{index_put, index_apart}
+use Rattle.nfs_opens.proofs.{CountedLemmas.counted_pushed, SingleLemmas.each_pushed, IndexLemmas.{index_put, index_apart}}
 use Rattle.nfs_opens.proofs.open_states.OpenStates.push.Goals as goal
 
 pub put_pair-requires-clause-other : goal.put_pair-requires-clause-other

@@ -1,15 +1,9 @@
 use Rattle.std.proofs.Common.{◌≡◌, ℕ, Some, None, refl, sym, subst, ap, ◌∙◌}
-use Rattle.std.specs.Prelude.{◌==◌, not, find}
-use Rattle.std.specs.Option.{option_copied}
+use Rattle.std.specs.{Prelude.{◌==◌, not, find}, Option.option_copied}
 use Rattle.nfs_xdr.specs.Tables.{In}
-use Rattle.nfs_opens.specs.declared.records.OpenState.{OpenState}
-use Rattle.nfs_opens.specs.declared.counts.Reservation.{Reservation}
-use Rattle.nfs_opens.specs.Counts.{CountsAnew, count_at, without_one}
-use Rattle.nfs_opens.specs.Index.{HasTaken, pair_of}
-use Rattle.nfs_opens.specs.Keys.{open_key}
-use Rattle.nfs_opens.proofs.IndexLemmas.{pair_in, index_taken, index_left}
-use Rattle.nfs_opens.proofs.CountedLemmas.{counted_without, unchanged_without}
-use Rattle.nfs_opens.proofs.SingleLemmas.{each_left}
+use Rattle.nfs_opens.specs.{declared.records.OpenState.OpenState, declared.counts.Reservation.Reservation, Counts.{CountsAnew, count_at, without_one}}
+use Rattle.nfs_opens.specs.{Index.{HasTaken, pair_of}, Keys.open_key}
+use Rattle.nfs_opens.proofs.{IndexLemmas.{pair_in, index_taken, index_left}, CountedLemmas.{counted_without, unchanged_without}, SingleLemmas.each_left}
 use Rattle.nfs_opens.proofs.open_states.OpenStates.remove.Goals as goal
 use Rattle.nfs_opens.proofs.open_states.OpenStates.remove.Goals.{in-Some, in_default}
 

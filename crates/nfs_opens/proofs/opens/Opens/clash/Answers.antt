@@ -1,7 +1,5 @@
 use Rattle.std.proofs.Common.{sym, ap, ◌∙◌, arith}
-use Rattle.nfs_opens.specs.contracts.opens.Opens.{the_view}
-use Rattle.nfs_opens.specs.Table.{Kept, table}
-use Rattle.nfs_opens.specs.Locking.{clash}
+use Rattle.nfs_opens.specs.{contracts.opens.Opens.the_view, Table.{Kept, table}, Locking.clash}
 use Rattle.nfs_opens.proofs.LockLemmas.{clash_told}
 use Rattle.nfs_opens.proofs.opens.Opens.clash.Goals as goal
 

@@ -1,9 +1,6 @@
 use Rattle.std.proofs.Common.{◌≡◌, ap, ◌∙◌}
 use Rattle.std.specs.Prelude.{◌==◌, ◌&&◌}
-use Rattle.nfs_opens.specs.declared.share.Share.{Share}
-use Rattle.nfs_opens.specs.declared.records.OpenState.{OpenState}
-use Rattle.nfs_opens.specs.Counts.{count_of, denied}
-use Rattle.nfs_opens.specs.Table.{Kept, table}
+use Rattle.nfs_opens.specs.{declared.share.Share.Share, declared.records.OpenState.OpenState, Counts.{count_of, denied}, Table.{Kept, table}}
 use Rattle.nfs_opens.proofs.CountLemmas.{many_any}
 use Rattle.nfs_opens.proofs.opens.Opens.denies.Goals as goal
 use Rattle.nfs_opens.proofs.opens.Opens.denies.Goals.{After-denied}

@@ -1,24 +1,11 @@
 use Rattle.std.proofs.Common.{◌≡◌, Bool, Option, Some, None, ℕ, suc, sym, subst, ap, ◌∙◌, refl, false, true, arith}
-use Rattle.std.specs.Prelude.{Ok, Result, ok_or}
-use Rattle.std.specs.Option.{option_copied}
-use Rattle.nfs_xdr.specs.declared.status.Status.{Status}
-use Rattle.nfs_xdr.specs.declared.status.Status.TheVariants.{BadStateId, Inval}
-use Rattle.nfs_opens.specs.contracts.opens.Opens.{the_view}
-use Rattle.nfs_opens.specs.declared.share.Share.{Share}
-use Rattle.nfs_opens.specs.declared.judging.Sort.TheVariants.{OpenOnly}
-use Rattle.nfs_opens.specs.declared.stateid.StateId.{StateId}
-use Rattle.nfs_opens.specs.declared.records.OpenState.{OpenState}
-use Rattle.nfs_opens.specs.Holding.{held_by}
-use Rattle.nfs_opens.specs.Judging.{judge}
-use Rattle.nfs_opens.specs.StateId.{next_seqid}
-use Rattle.nfs_opens.specs.Steps.{◌>>=◌, ◌>>◌, require}
-use Rattle.nfs_opens.specs.Table.{Kept, Table, with_open, table, table_after, answer_of, open_at}
-use Rattle.nfs_opens.specs.TableInvariants.{IsTable}
+use Rattle.std.specs.{Prelude.{Ok, Result, ok_or}, Option.option_copied}
+use Rattle.nfs_xdr.specs.{declared.status.Status.Status, declared.status.Status.TheVariants.{BadStateId, Inval}}
+use Rattle.nfs_opens.specs.{contracts.opens.Opens.the_view, declared.share.Share.Share, declared.judging.Sort.TheVariants.OpenOnly}
+use Rattle.nfs_opens.specs.{declared.stateid.StateId.StateId, declared.records.OpenState.OpenState, Holding.held_by, Judging.judge, StateId.next_seqid}
+use Rattle.nfs_opens.specs.{Steps.{◌>>=◌, ◌>>◌, require}, Table.{Kept, Table, with_open, table, table_after, answer_of, open_at}, TableInvariants.IsTable}
 use Rattle.nfs_opens.specs.Opening.{downgrade, is_narrower, narrows}
-use Rattle.nfs_opens.proofs.CallLaws.{goes_on}
-use Rattle.nfs_opens.proofs.CountLemmas.{rising_few}
-use Rattle.nfs_opens.proofs.LockLemmas.{same_table}
-use Rattle.nfs_opens.proofs.StepLemmas.{table_narrow}
+use Rattle.nfs_opens.proofs.{CallLaws.goes_on, CountLemmas.rising_few, LockLemmas.same_table, StepLemmas.table_narrow}
 use Rattle.nfs_opens.proofs.opens.Opens.downgrade.Goals as goal
 use Rattle.nfs_opens.proofs.opens.Opens.downgrade.Goals.{After-get, After-is_narrower, After-change}
 

@@ -1,6 +1,5 @@
 use Rattle.std.proofs.Common.{sym, ◌∙◌, ap}
-use Rattle.std.specs.Prelude.{◌==◌}
-use Rattle.std.specs.Option.{option_copied}
+use Rattle.std.specs.{Prelude.{◌==◌}, Option.option_copied}
 use Rattle.nfs_opens.specs.Table.{table}
 use Rattle.nfs_opens.proofs.LockedLemmas.{its_file}
 use Rattle.nfs_opens.proofs.opens.Opens.drop_client.Goals as goal

@@ -1,10 +1,7 @@
 use Rattle.std.proofs.Common.{sym, ap, ◌∙◌}
-use Rattle.std.specs.Prelude.{◌==◌}
-use Rattle.std.specs.Option.{option_copied}
-use Rattle.nfs_opens.specs.Table.{Table, table}
-use Rattle.nfs_opens.specs.Calls.{without_client}
-use Rattle.nfs_opens.proofs.LockedLemmas.{its_file}
-use Rattle.nfs_opens.proofs.EndLemmas.{ended_none, ended_step, fewer_opens}
+use Rattle.std.specs.{Prelude.{◌==◌}, Option.option_copied}
+use Rattle.nfs_opens.specs.{Table.{Table, table}, Calls.without_client}
+use Rattle.nfs_opens.proofs.{LockedLemmas.its_file, EndLemmas.{ended_none, ended_step, fewer_opens}}
 use Rattle.nfs_opens.proofs.opens.Opens.end_client.Goals as goal
 
 pub remove_open-requires : goal.remove_open-requires

@@ -1,6 +1,5 @@
 use Rattle.std.specs.Prelude.{◌≡◌, length}
-use Rattle.nfs_opens.specs.Table.{table}
-use Rattle.nfs_opens.specs.Calls.{without_client}
+use Rattle.nfs_opens.specs.{Table.table, Calls.without_client}
 use Rattle.nfs_opens.proofs.opens.Opens.end_client.Given as goal
 
 abbrev pub invariant-loop-open : goal.invariant-loop-open

@@ -1,6 +1,5 @@
 use Rattle.std.proofs.Common.{◌∙◌}
-use Rattle.nfs_opens.specs.declared.records.OpenState.{OpenState}
-use Rattle.nfs_opens.specs.Table.{table}
+use Rattle.nfs_opens.specs.{declared.records.OpenState.OpenState, Table.table}
 use Rattle.nfs_opens.proofs.IndexLemmas.{first_state}
 use Rattle.nfs_opens.proofs.opens.Opens.first_on.Goals as goal
 

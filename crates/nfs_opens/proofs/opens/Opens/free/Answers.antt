@@ -1,24 +1,12 @@
 use Rattle.std.proofs.Common.{◌≡◌, Bool, true, false, not, ℕ, Option, Some, None, List, sym, subst, ap, ◌∙◌, refl}
-use Rattle.std.specs.Prelude.{◌==◌, Result, Ok, ok_or}
-use Rattle.std.specs.Option.{option_copied}
-use Rattle.nfs_xdr.specs.declared.status.Status.{Status}
-use Rattle.nfs_xdr.specs.declared.status.Status.TheVariants.{BadStateId, LocksHeld}
+use Rattle.std.specs.{Prelude.{◌==◌, Result, Ok, ok_or}, Option.option_copied}
+use Rattle.nfs_xdr.specs.{declared.status.Status.Status, declared.status.Status.TheVariants.{BadStateId, LocksHeld}}
 use Rattle.nfs_ranges.specs.Holders.{holds_any}
-use Rattle.nfs_opens.specs.contracts.opens.Opens.{the_view}
-use Rattle.nfs_opens.specs.declared.judging.Seat.{Seat}
-use Rattle.nfs_opens.specs.declared.judging.Sort.TheVariants.{Either}
-use Rattle.nfs_opens.specs.declared.stateid.StateId.{StateId}
-use Rattle.nfs_opens.specs.declared.records.LockState.{LockState}
-use Rattle.nfs_opens.specs.Holding.{held_by}
-use Rattle.nfs_opens.specs.Steps.{◌>>=◌, ◌>>◌, require}
-use Rattle.nfs_opens.specs.Table.{Kept, Table, table, answer_of, table_after, lock_at}
-use Rattle.nfs_opens.specs.TableInvariants.{AreHolders, IsTable}
-use Rattle.nfs_opens.specs.Judging.{judge}
+use Rattle.nfs_opens.specs.{contracts.opens.Opens.the_view, declared.judging.Seat.Seat, declared.judging.Sort.TheVariants.Either}
+use Rattle.nfs_opens.specs.{declared.stateid.StateId.StateId, declared.records.LockState.LockState, Holding.held_by, Steps.{◌>>=◌, ◌>>◌, require}}
+use Rattle.nfs_opens.specs.{Table.{Kept, Table, table, answer_of, table_after, lock_at}, TableInvariants.{AreHolders, IsTable}, Judging.judge}
 use Rattle.nfs_opens.specs.Closing.{lock_in, without_lock, free}
-use Rattle.nfs_opens.proofs.CallLaws.{goes_on}
-use Rattle.nfs_opens.proofs.LockLemmas.{same_table}
-use Rattle.nfs_opens.proofs.StepLemmas.{free_keeps}
-use Rattle.nfs_opens.proofs.LockedLemmas.{listed_left, one_file}
+use Rattle.nfs_opens.proofs.{CallLaws.goes_on, LockLemmas.same_table, StepLemmas.free_keeps, LockedLemmas.{listed_left, one_file}}
 use Rattle.nfs_opens.proofs.opens.Opens.free.Goals as goal
 
 -- what it comes to by what is found under the number, and by whether that holds a byte

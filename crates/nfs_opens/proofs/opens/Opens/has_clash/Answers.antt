@@ -1,10 +1,6 @@
 use Rattle.std.proofs.Common.{◌≡◌, Bool, sym, ap, ◌∙◌}
-use Rattle.std.specs.Prelude.{◌||◌}
-use Rattle.std.specs.List.{list_any}
-use Rattle.nfs_opens.specs.Counts.{count_of, denied, had}
-use Rattle.nfs_opens.specs.Share.{meets}
-use Rattle.nfs_opens.specs.Table.{table, clashes_with}
-use Rattle.nfs_opens.specs.Calls.{asked}
+use Rattle.std.specs.{Prelude.{◌||◌}, List.list_any}
+use Rattle.nfs_opens.specs.{Counts.{count_of, denied, had}, Share.meets, Table.{table, clashes_with}, Calls.asked}
 use Rattle.nfs_opens.proofs.ClashLemmas.{clash_counted, is_others}
 use Rattle.nfs_opens.proofs.opens.Opens.has_clash.Goals as goal
 use Rattle.nfs_opens.proofs.opens.Opens.has_clash.Goals.{After-meets-denies}

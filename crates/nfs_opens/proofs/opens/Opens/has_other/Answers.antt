@@ -1,6 +1,5 @@
 use Rattle.std.proofs.Common.{true, false, sym, ◌∙◌, ap}
-use Rattle.std.specs.Prelude.{◌==◌, ◌&&◌, not}
-use Rattle.std.specs.Option.{option_copied}
+use Rattle.std.specs.{Prelude.{◌==◌, ◌&&◌, not}, Option.option_copied}
 use Rattle.nfs_opens.specs.Table.{table}
 use Rattle.nfs_opens.proofs.IndexedLemmas.{file_of, others_file, walk_bounds, any_begins, any_hits, any_misses, any_ends, said_of}
 use Rattle.nfs_opens.proofs.opens.Opens.has_other.Goals as goal

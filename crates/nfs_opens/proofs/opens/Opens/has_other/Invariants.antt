@@ -1,6 +1,5 @@
 use Rattle.std.proofs.Common.{◌≡◌, suc, ◌-◌}
-use Rattle.std.specs.Prelude.{◌==◌, ◌&&◌, not}
-use Rattle.std.specs.List.{list_any}
+use Rattle.std.specs.{Prelude.{◌==◌, ◌&&◌, not}, List.list_any}
 use Rattle.nfs_opens.specs.Table.{table}
 use Rattle.nfs_opens.proofs.IndexedLemmas.{Coming}
 use Rattle.nfs_opens.proofs.opens.Opens.has_other.Given as goal

@@ -1,9 +1,7 @@
 use Rattle.std.proofs.Common.{◌∙◌, ap}
 use Rattle.std.specs.Prelude.{◌==◌, is_some}
-use Rattle.nfs_opens.specs.declared.records.OpenState.{OpenState}
-use Rattle.nfs_opens.specs.Table.{table}
-use Rattle.nfs_opens.proofs.IndexLemmas.{any_found}
-use Rattle.nfs_opens.proofs.IndexedLemmas.{copied_some}
+use Rattle.nfs_opens.specs.{declared.records.OpenState.OpenState, Table.table}
+use Rattle.nfs_opens.proofs.{IndexLemmas.any_found, IndexedLemmas.copied_some}
 use Rattle.nfs_opens.proofs.opens.Opens.is_open.Goals as goal
 
 pub returns : goal.returns

@@ -1,13 +1,8 @@
-use Rattle.std.proofs.Common.{◌≡◌, Some, sym, ap, ◌∙◌}
+use Rattle.std.proofs.{Common.{◌≡◌, Some, sym, ap, ◌∙◌}, lemmas.Bool.{eqb-true, and_parts}}
 use Rattle.std.specs.Option.{option_copied}
-use Rattle.std.proofs.lemmas.Bool.{eqb-true, and_parts}
-use Rattle.nfs_opens.specs.declared.records.LockState.{LockState}
-use Rattle.nfs_opens.specs.Table.{table}
-use Rattle.nfs_opens.specs.Locking.{is_locker, state_of}
-use Rattle.nfs_xdr.proofs.Lists.{find_in}
-use Rattle.nfs_xdr.proofs.Tables.{at_of_in}
-use Rattle.nfs_opens.proofs.LockLemmas.{judged_lock}
-use Rattle.nfs_opens.proofs.StepLemmas.{all_some}
+use Rattle.nfs_opens.specs.{declared.records.LockState.LockState, Table.table, Locking.{is_locker, state_of}}
+use Rattle.nfs_xdr.proofs.{Lists.find_in, Tables.at_of_in}
+use Rattle.nfs_opens.proofs.{LockLemmas.judged_lock, StepLemmas.all_some}
 use Rattle.nfs_opens.proofs.opens.Opens.lock.Goals as goal
 
 pub lock_as-requires-clause-file : goal.lock_as-requires-clause-file

@@ -1,16 +1,9 @@
 use Rattle.std.proofs.Common.{◌≡◌, Some, ℕ, sym, subst, ap, ◌∙◌, arith, refl}
 use Rattle.nfs_xdr.proofs.Lists.{find_in}
-use Rattle.std.specs.Prelude.{Ok, ◌==◌}
-use Rattle.std.specs.Option.{option_copied}
-use Rattle.nfs_opens.specs.contracts.opens.Opens.{the_view}
-use Rattle.nfs_opens.specs.declared.records.LockState.{LockState}
-use Rattle.nfs_opens.specs.Holding.{held_by}
-use Rattle.nfs_opens.specs.Table.{Kept, table, answer_of, table_after, lock_at}
-use Rattle.nfs_opens.specs.TableInvariants.{IsTable}
-use Rattle.nfs_opens.specs.Locking.{lock_judged, lock_as}
-use Rattle.nfs_opens.proofs.LockLemmas.{same_table}
-use Rattle.nfs_opens.proofs.StepLemmas.{if_some, lock_as_is, table_locked}
-use Rattle.nfs_opens.proofs.LockedLemmas.{listed_set, listed_raised}
+use Rattle.std.specs.{Prelude.{Ok, ◌==◌}, Option.option_copied}
+use Rattle.nfs_opens.specs.{contracts.opens.Opens.the_view, declared.records.LockState.LockState, Holding.held_by}
+use Rattle.nfs_opens.specs.{Table.{Kept, table, answer_of, table_after, lock_at}, TableInvariants.IsTable, Locking.{lock_judged, lock_as}}
+use Rattle.nfs_opens.proofs.{LockLemmas.same_table, StepLemmas.{if_some, lock_as_is, table_locked}, LockedLemmas.{listed_set, listed_raised}}
 use Rattle.nfs_opens.proofs.opens.Opens.lock_as.Goals as goal
 
 pub invariant_of-self-2 : goal.invariant_of-self-2

@@ -1,21 +1,11 @@
-use Rattle.std.proofs.Common.{◌≡◌, ◌<◌, ◌+◌, ◌++◌, ◌∷◌, [], List, suc, sym, subst, ap, ◌∙◌, arith, refl}
+use Rattle.std.proofs.{Common.{◌≡◌, ◌<◌, ◌+◌, ◌++◌, ◌∷◌, [], List, suc, sym, subst, ap, ◌∙◌, arith, refl}, lemmas.Grind.common_steps, lemmas.Bool.ne_eqb}
 use Rattle.std.specs.Prelude.{Ok}
-use Rattle.std.proofs.lemmas.Grind.{common_steps}
-use Rattle.std.proofs.lemmas.Bool.{ne_eqb}
-use Rattle.nfs_opens.specs.contracts.opens.Opens.{the_view}
-use Rattle.nfs_opens.specs.Holding.{held_by}
-use Rattle.nfs_opens.specs.Table.{Kept, table, answer_of, table_after, open_at}
-use Rattle.nfs_opens.specs.TableInvariants.{IsTable}
-use Rattle.nfs_opens.specs.Locking.{lock_judged, lock_first}
-use Rattle.nfs_opens.proofs.LockLemmas.{same_table}
-use Rattle.nfs_opens.proofs.StepLemmas.{judged_tells, table_first, lock_first_is}
-use Rattle.nfs_opens.proofs.CallLaws.{first_state}
-use Rattle.nfs_opens.proofs.LockedLemmas.{listed_pushed}
+use Rattle.nfs_opens.specs.{contracts.opens.Opens.the_view, Holding.held_by, Table.{Kept, table, answer_of, table_after, open_at}, TableInvariants.IsTable}
+use Rattle.nfs_opens.specs.{Locking.{lock_judged, lock_first}, declared.records.LockState.LockState}
+use Rattle.nfs_opens.proofs.{LockLemmas.same_table, StepLemmas.{judged_tells, table_first, lock_first_is}, CallLaws.first_state, LockedLemmas.listed_pushed}
 use Rattle.nfs_opens.proofs.opens.Opens.lock_first.Goals as goal
-use Rattle.nfs_xdr.proofs.Lists.{some_there}
-use Rattle.nfs_opens.specs.declared.records.LockState.{LockState}
+use Rattle.nfs_xdr.proofs.{Lists.some_there, Tables.in_bounds}
 use Rattle.nfs_xdr.specs.Tables.{In}
-use Rattle.nfs_xdr.proofs.Tables.{in_bounds}
 
 pub push-requires-clause-behind : goal.push-requires-clause-behind
 push-requires-clause-behind c = subst (λ (ls : List LockState). (l : LockState) → In l ls → l.number < c.self.inside.last + 1) (sym c.reserve.ensures.items)

@@ -1,13 +1,8 @@
-use Rattle.std.proofs.Common.{◌≡◌, true, refl, sym, ◌∙◌, ap}
-use Rattle.std.specs.Prelude.{◌==◌}
-use Rattle.std.specs.Option.{option_copied}
-use Rattle.std.proofs.lemmas.Bool.{false≢true}
+use Rattle.std.proofs.{Common.{◌≡◌, true, refl, sym, ◌∙◌, ap}, lemmas.Bool.{false≢true}}
+use Rattle.std.specs.{Prelude.{◌==◌}, Option.option_copied}
 use Rattle.nfs_xdr.proofs.Lists.{find_in}
-use Rattle.nfs_opens.specs.Table.{table}
-use Rattle.nfs_opens.specs.Locking.{is_locker}
-use Rattle.nfs_opens.specs.Keys.{lock_key, owner_key}
-use Rattle.nfs_opens.proofs.LockedLemmas.{locker_key}
-use Rattle.nfs_opens.proofs.KeyLemmas.{found_by, none_by}
+use Rattle.nfs_opens.specs.{Table.table, Locking.is_locker, Keys.{lock_key, owner_key}}
+use Rattle.nfs_opens.proofs.{LockedLemmas.locker_key, KeyLemmas.{found_by, none_by}}
 use Rattle.nfs_opens.proofs.opens.Opens.locker.Goals as goal
 use Rattle.nfs_opens.proofs.opens.Opens.locker.Goals.{in_default-via-in-Some+else-is_lockers, in_default-via-in_default}
 

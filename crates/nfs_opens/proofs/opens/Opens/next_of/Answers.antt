@@ -1,7 +1,6 @@
 use Rattle.std.proofs.Common.{ap, ◌∙◌}
 use Rattle.std.specs.Prelude.{◌==◌, ◌&&◌, nat_lt, find}
-use Rattle.nfs_opens.specs.declared.records.OpenState.{OpenState}
-use Rattle.nfs_opens.specs.Table.{Kept}
+use Rattle.nfs_opens.specs.{declared.records.OpenState.OpenState, Table.Kept}
 use Rattle.nfs_opens.proofs.opens.Opens.next_of.Goals as goal
 
 pub returns-clause-found : goal.returns-clause-found

@@ -1,23 +1,10 @@
-use Rattle.std.proofs.Common.{◌≡◌, ℕ, Some, None, suc, ◌+◌, ◌++◌, ◌∷◌, [], List, sym, subst, ap, ◌∙◌, arith, refl, false}
-use Rattle.std.specs.List.{list_any}
-use Rattle.std.specs.Option.{option_copied}
-use Rattle.std.proofs.lemmas.Grind.{common_steps}
-use Rattle.std.specs.Prelude.{◌==◌, ◌≢◌, is_none}
+use Rattle.std.proofs.{Common.{◌≡◌, ℕ, Some, None, suc, ◌+◌, ◌++◌, ◌∷◌, [], List, sym, subst, ap, ◌∙◌, arith, refl, false}, lemmas.Grind.common_steps}
 use Rattle.std.proofs.lemmas.Bool.{false≢true, eq-eqb}
-use Rattle.nfs_opens.specs.StateId.{last_number}
+use Rattle.std.specs.{List.list_any, Option.option_copied, Prelude.{◌==◌, ◌≢◌, is_none}}
+use Rattle.nfs_opens.specs.{StateId.last_number, contracts.opens.Opens.the_view, declared.records.OpenState.OpenState, Holding.held_by}
+use Rattle.nfs_opens.specs.{Table.{Kept, table, clashes_with}, TableInvariants.IsTable, Opening.{own_open, new_open}, Calls.{asked, open_fault}}
 use Rattle.nfs_xdr.proofs.Tables.{in_bounds}
-use Rattle.nfs_opens.specs.contracts.opens.Opens.{the_view}
-use Rattle.nfs_opens.specs.declared.records.OpenState.{OpenState}
-use Rattle.nfs_opens.specs.Holding.{held_by}
-use Rattle.nfs_opens.specs.Table.{Kept, table, clashes_with}
-use Rattle.nfs_opens.specs.TableInvariants.{IsTable}
-use Rattle.nfs_opens.specs.Opening.{own_open, new_open}
-use Rattle.nfs_opens.specs.Calls.{asked, open_fault}
-use Rattle.nfs_opens.proofs.CountLemmas.{rising_few}
-use Rattle.nfs_opens.proofs.LockLemmas.{same_table}
-use Rattle.nfs_opens.proofs.TableLemmas.{table_opened}
-use Rattle.nfs_opens.proofs.StepLemmas.{table_join}
-use Rattle.nfs_opens.proofs.StepLemmas.{no_clash_asked, number_left}
+use Rattle.nfs_opens.proofs.{CountLemmas.rising_few, LockLemmas.same_table, TableLemmas.table_opened, StepLemmas.{table_join, no_clash_asked, number_left}}
 use Rattle.nfs_opens.proofs.SingleLemmas.{none_owned}
 use Rattle.nfs_opens.proofs.opens.Opens.open.Goals as goal
 

@@ -1,6 +1,5 @@
 use Rattle.std.proofs.Common.{◌≡◌, suc, length, ap, ◌∙◌, arith}
-use Rattle.nfs_opens.specs.Table.{Kept, table}
-use Rattle.nfs_opens.specs.declared.records.OpenState.{OpenState}
+use Rattle.nfs_opens.specs.{Table.{Kept, table}, declared.records.OpenState.OpenState}
 use Rattle.nfs_opens.proofs.CountLemmas.{rising_few}
 use Rattle.nfs_opens.proofs.opens.Opens.open_count.Goals as goal
 

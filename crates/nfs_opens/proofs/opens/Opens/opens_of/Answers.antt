@@ -1,8 +1,6 @@
 use Rattle.std.proofs.Common.{length, ap, ◌∙◌}
 use Rattle.std.specs.Prelude.{◌==◌, filter}
-use Rattle.nfs_opens.specs.declared.counts.Count.{Count}
-use Rattle.nfs_opens.specs.declared.records.OpenState.{OpenState}
-use Rattle.nfs_opens.specs.Table.{Kept}
+use Rattle.nfs_opens.specs.{declared.counts.Count.Count, declared.records.OpenState.OpenState, Table.Kept}
 use Rattle.nfs_opens.proofs.opens.Opens.opens_of.Goals as goal
 
 pub returns : goal.returns

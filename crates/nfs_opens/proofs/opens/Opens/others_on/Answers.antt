@@ -1,12 +1,7 @@
 use Rattle.std.proofs.Common.{◌≡◌, sym, subst, ap, ◌∙◌}
-use Rattle.std.specs.Prelude.{◌==◌}
-use Rattle.std.specs.Option.{option_copied}
-use Rattle.nfs_opens.specs.declared.records.OpenState.{OpenState}
-use Rattle.nfs_opens.specs.declared.counts.Reservation.{Reservation}
-use Rattle.nfs_opens.specs.Counts.{count_of, without_one}
-use Rattle.nfs_opens.specs.TableInvariants.{HasOneEach}
-use Rattle.nfs_opens.specs.Table.{Kept, table}
-use Rattle.nfs_opens.specs.Calls.{asked}
+use Rattle.std.specs.{Prelude.{◌==◌}, Option.option_copied}
+use Rattle.nfs_opens.specs.{declared.records.OpenState.OpenState, declared.counts.Reservation.Reservation, Counts.{count_of, without_one}}
+use Rattle.nfs_opens.specs.{TableInvariants.HasOneEach, Table.{Kept, table}, Calls.asked}
 use Rattle.nfs_opens.proofs.ClashLemmas.{others_all, others_less}
 use Rattle.nfs_opens.proofs.opens.Opens.others_on.Goals as goal
 use Rattle.nfs_opens.proofs.opens.Opens.others_on.Goals.{After-count_on-all}

@@ -1,13 +1,8 @@
-use Rattle.std.proofs.Common.{◌≡◌, ℕ, true, sym, ◌∙◌, ap}
-use Rattle.std.specs.Prelude.{◌==◌}
-use Rattle.std.specs.Option.{option_copied}
-use Rattle.std.proofs.lemmas.Bool.{false≢true}
+use Rattle.std.proofs.{Common.{◌≡◌, ℕ, true, sym, ◌∙◌, ap}, lemmas.Bool.{false≢true}}
+use Rattle.std.specs.{Prelude.{◌==◌}, Option.option_copied}
 use Rattle.nfs_xdr.proofs.Lists.{find_in}
-use Rattle.nfs_opens.specs.Table.{table, is_own}
-use Rattle.nfs_opens.specs.Calls.{asked}
-use Rattle.nfs_opens.specs.Keys.{open_key, key_of}
-use Rattle.nfs_opens.proofs.IndexedLemmas.{own_key}
-use Rattle.nfs_opens.proofs.KeyLemmas.{found_by, none_by}
+use Rattle.nfs_opens.specs.{Table.{table, is_own}, Calls.asked, Keys.{open_key, key_of}}
+use Rattle.nfs_opens.proofs.{IndexedLemmas.own_key, KeyLemmas.{found_by, none_by}}
 use Rattle.nfs_opens.proofs.opens.Opens.own_open.Goals as goal
 use Rattle.nfs_opens.proofs.opens.Opens.own_open.Goals.{in_default-via-in-Some+else-is_own, in_default-via-in_default}
 

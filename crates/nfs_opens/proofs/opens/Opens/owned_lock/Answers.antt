@@ -1,8 +1,6 @@
 use Rattle.std.proofs.Common.{ap, ◌∙◌}
 use Rattle.std.specs.Prelude.{◌==◌, find}
-use Rattle.nfs_opens.specs.declared.records.LockState.{LockState}
-use Rattle.nfs_opens.specs.Keys.{lock_key, key_of}
-use Rattle.nfs_opens.specs.Table.{Kept}
+use Rattle.nfs_opens.specs.{declared.records.LockState.LockState, Keys.{lock_key, key_of}, Table.Kept}
 use Rattle.nfs_opens.proofs.opens.Opens.owned_lock.Goals as goal
 
 pub returns : goal.returns

@@ -1,13 +1,7 @@
 use Rattle.std.proofs.Common.{◌≡◌, sym, subst, ap, ◌∙◌}
 use Rattle.std.specs.Prelude.{◌==◌, IfSome}
-use Rattle.nfs_opens.specs.contracts.opens.Opens.{the_view}
-use Rattle.nfs_opens.specs.Holding.{held_by}
-use Rattle.nfs_opens.specs.Table.{Kept, table, open_at}
-use Rattle.nfs_opens.specs.TableInvariants.{IsTable}
-use Rattle.nfs_opens.specs.Closing.{without_open}
-use Rattle.nfs_opens.proofs.TableLemmas.{table_closed}
-use Rattle.nfs_opens.proofs.LockLemmas.{left_holders, left_held, same_table}
-use Rattle.nfs_opens.proofs.LockedLemmas.{listed_left, under_file}
+use Rattle.nfs_opens.specs.{contracts.opens.Opens.the_view, Holding.held_by, Table.{Kept, table, open_at}, TableInvariants.IsTable, Closing.without_open}
+use Rattle.nfs_opens.proofs.{TableLemmas.table_closed, LockLemmas.{left_holders, left_held, same_table}, LockedLemmas.{listed_left, under_file}}
 use Rattle.nfs_opens.proofs.opens.Opens.remove_open.Goals as goal
 
 pub forget_unlocked-requires : goal.forget_unlocked-requires

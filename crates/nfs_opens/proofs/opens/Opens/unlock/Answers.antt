@@ -1,22 +1,11 @@
 use Rattle.std.proofs.Common.{◌≡◌, Some, None, ℕ, sym, subst, ap, ◌∙◌, refl}
-use Rattle.std.specs.Prelude.{Ok, Err, ok_or}
-use Rattle.std.specs.Option.{option_copied}
-use Rattle.nfs_opens.specs.contracts.opens.Opens.{the_view}
-use Rattle.nfs_opens.specs.declared.locking.OpenFault.TheVariants.{Refused}
+use Rattle.std.specs.{Prelude.{Ok, Err, ok_or}, Option.option_copied}
+use Rattle.nfs_opens.specs.{contracts.opens.Opens.the_view, declared.locking.OpenFault.TheVariants.Refused, Holding.{held_by, on_file}}
+use Rattle.nfs_opens.specs.{Table.{Kept, table, answer_of, table_after, lock_at, with_lock}, TableInvariants.IsTable, Judging.judge}
+use Rattle.nfs_opens.specs.{declared.judging.Sort.TheVariants.LockOnly, StateId.next_seqid, Steps.map_err, Locking.{unlock, raised}}
 use Rattle.nfs_xdr.specs.declared.status.Status.TheVariants.{BadStateId}
-use Rattle.nfs_opens.specs.Holding.{held_by, on_file}
-use Rattle.nfs_opens.specs.Table.{Kept, table, answer_of, table_after, lock_at, with_lock}
-use Rattle.nfs_opens.specs.TableInvariants.{IsTable}
-use Rattle.nfs_opens.specs.Judging.{judge}
-use Rattle.nfs_opens.specs.declared.judging.Sort.TheVariants.{LockOnly}
 use Rattle.nfs_ranges.specs.Holders.{cleared}
-use Rattle.nfs_opens.specs.StateId.{next_seqid}
-use Rattle.nfs_opens.specs.Steps.{map_err}
-use Rattle.nfs_opens.specs.Locking.{unlock, raised}
-use Rattle.nfs_opens.proofs.CallLaws.{goes_on, stops}
-use Rattle.nfs_opens.proofs.LockLemmas.{same_table}
-use Rattle.nfs_opens.proofs.StepLemmas.{table_unlocked}
-use Rattle.nfs_opens.proofs.LockedLemmas.{listed_raised}
+use Rattle.nfs_opens.proofs.{CallLaws.{goes_on, stops}, LockLemmas.same_table, StepLemmas.table_unlocked, LockedLemmas.listed_raised}
 use Rattle.nfs_opens.proofs.opens.Opens.unlock.Goals as goal
 
 pub clear_bytes-requires-clause-within : goal.clear_bytes-requires-clause-within

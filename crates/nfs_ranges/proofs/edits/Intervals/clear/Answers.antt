@@ -1,7 +1,5 @@
-use Rattle.std.proofs.Common.{ap, sym, ◌∙◌}
-use Rattle.std.proofs.lemmas.Result.{on_ok_weaker, on_err_weaker}
-use Rattle.nfs_ranges.specs.Intervals.{without}
-use Rattle.nfs_ranges.specs.Blocks.{flat, spliced}
+use Rattle.std.proofs.{Common.{ap, sym, ◌∙◌}, lemmas.Result.{on_ok_weaker, on_err_weaker}}
+use Rattle.nfs_ranges.specs.{Intervals.without, Blocks.{flat, spliced}}
 use Rattle.nfs_ranges.proofs.BlockLemmas.{blocks_are}
 use Rattle.nfs_ranges.proofs.edits.Intervals.clear.Goals as goal
 

@@ -1,6 +1,5 @@
 use Rattle.std.proofs.Common.{ap, ◌∙◌}
-use Rattle.nfs_ranges.specs.Owners.{is_empty}
-use Rattle.nfs_ranges.specs.Blocks.{flat}
+use Rattle.nfs_ranges.specs.{Owners.is_empty, Blocks.flat}
 use Rattle.nfs_ranges.proofs.edits.Intervals.is_empty.Goals as goal
 
 pub is_none-requires : goal.is_none-requires

@@ -1,8 +1,5 @@
-use Rattle.std.proofs.Common.{◌≡◌, sym, subst, false}
-use Rattle.std.proofs.lemmas.Bool.{OnFalse_at}
-use Rattle.nfs_ranges.specs.Clashes.{has_write}
-use Rattle.nfs_ranges.specs.Owners.{IsSpan, IsSpanOf}
-use Rattle.nfs_ranges.specs.Blocks.{flat}
+use Rattle.std.proofs.{Common.{◌≡◌, sym, subst, false}, lemmas.Bool.OnFalse_at}
+use Rattle.nfs_ranges.specs.{Clashes.has_write, Owners.{IsSpan, IsSpanOf}, Blocks.flat}
 use Rattle.nfs_ranges.proofs.BlockLemmas.{blocks_are}
 use Rattle.nfs_ranges.proofs.edits.Intervals.span.Goals as goal
 

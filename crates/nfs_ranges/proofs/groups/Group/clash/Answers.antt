@@ -1,8 +1,6 @@
-use Rattle.std.proofs.Common.{◌≡◌, None, get_or, subst}
+use Rattle.std.proofs.{Common.{◌≡◌, None, get_or, subst}, lemmas.Bool.OnTrue_at}
 use Rattle.std.specs.Prelude.{All, find}
-use Rattle.std.proofs.lemmas.Bool.{OnTrue_at}
-use Rattle.nfs_ranges.specs.Holders.{Owned}
-use Rattle.nfs_ranges.specs.Clashes.{hits}
+use Rattle.nfs_ranges.specs.{Holders.Owned, Clashes.hits}
 use Rattle.nfs_ranges.proofs.ClashLemmas.{passed}
 use Rattle.nfs_ranges.proofs.groups.Group.clash.Goals as goal
 

@@ -1,9 +1,6 @@
-use Rattle.std.proofs.Common.{◌≡◌, subst, sym, false}
-use Rattle.std.proofs.lemmas.Bool.{OnFalse_from}
-use Rattle.nfs_ranges.specs.Intervals.{IsCanonical, without}
-use Rattle.nfs_ranges.specs.Clashes.{has_write}
-use Rattle.nfs_ranges.proofs.EditLemmas.{without-canonical}
-use Rattle.nfs_ranges.proofs.SpanLemmas.{without_reads}
+use Rattle.std.proofs.{Common.{◌≡◌, subst, sym, false}, lemmas.Bool.OnFalse_from}
+use Rattle.nfs_ranges.specs.{Intervals.{IsCanonical, without}, Clashes.has_write}
+use Rattle.nfs_ranges.proofs.{EditLemmas.without-canonical, SpanLemmas.without_reads}
 use Rattle.nfs_ranges.proofs.owners.Owner.clear.Goals as goal
 
 pub span-self-inside-requires-clause-canonical : goal.span-self-inside-requires-clause-canonical

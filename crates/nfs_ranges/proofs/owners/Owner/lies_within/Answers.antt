@@ -1,5 +1,4 @@
-use Rattle.std.proofs.Common.{◌≡◌, ap, sym, ◌∙◌, leb, []}
-use Rattle.std.proofs.lemmas.Bool.{OnTrue_from, leb-true}
+use Rattle.std.proofs.{Common.{◌≡◌, ap, sym, ◌∙◌, leb, []}, lemmas.Bool.{OnTrue_from, leb-true}}
 use Rattle.nfs_ranges.specs.Intervals.{without}
 use Rattle.nfs_ranges.proofs.SpanLemmas.{none_left}
 use Rattle.nfs_ranges.proofs.owners.Owner.lies_within.Goals as goal

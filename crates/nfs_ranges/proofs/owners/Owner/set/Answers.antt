@@ -1,11 +1,6 @@
-use Rattle.std.proofs.Common.{◌≡◌, ◌∙◌, subst, sym, false}
-use Rattle.std.proofs.lemmas.Bool.{OnFalse_from, or_parts}
-use Rattle.nfs_ranges.specs.declared.interval.Interval.{Interval}
-use Rattle.nfs_ranges.specs.Intervals.{IsCanonical, with_range}
-use Rattle.nfs_ranges.specs.Clashes.{has_write}
-use Rattle.nfs_ranges.specs.Told.{is_write}
-use Rattle.nfs_ranges.proofs.EditLemmas.{with_range-canonical}
-use Rattle.nfs_ranges.proofs.SpanLemmas.{range_reads}
+use Rattle.std.proofs.{Common.{◌≡◌, ◌∙◌, subst, sym, false}, lemmas.Bool.{OnFalse_from, or_parts}}
+use Rattle.nfs_ranges.specs.{declared.interval.Interval.Interval, Intervals.{IsCanonical, with_range}, Clashes.has_write, Told.is_write}
+use Rattle.nfs_ranges.proofs.{EditLemmas.with_range-canonical, SpanLemmas.range_reads}
 use Rattle.nfs_ranges.proofs.owners.Owner.set.Goals as goal
 
 pub span-self-inside-requires-clause-canonical : goal.span-self-inside-requires-clause-canonical

@@ -1,6 +1,5 @@
-use Rattle.std.proofs.Common.{◌≡◌, true, false, sym, ◌∙◌, inl, inr}
+use Rattle.std.proofs.{Common.{◌≡◌, true, false, sym, ◌∙◌, inl, inr}, lemmas.Bool.{OnTrue_from, cases_Bool, ltb-true}}
 use Rattle.std.specs.Prelude.{not}
-use Rattle.std.proofs.lemmas.Bool.{OnTrue_from, cases_Bool, ltb-true}
 use Rattle.nfs_ranges.proofs.SpanLemmas.{passes_before, passes_behind, passes_read}
 use Rattle.nfs_ranges.proofs.span.Span.lets_pass.Goals as goal
 use Rattle.nfs_ranges.proofs.span.Span.lets_pass.Goals.{then-last-self, else-last-self, then-self, else-self}

@@ -1,8 +1,6 @@
 use Rattle.std.proofs.Common.{◌≡◌, ℕ, ◌-◌, ◌∙◌, sym, ap, subst, length, take, List, Some, arith}
-use Rattle.nfs_xdr.specs.Combinators.{passed}
-use Rattle.nfs_xdr.specs.Chain.{chain}
-use Rattle.nfs_results.specs.Items.{entry}
-use Rattle.nfs_results.specs.Entries.{entries_in, AreEntries}
+use Rattle.nfs_xdr.specs.{Combinators.passed, Chain.chain}
+use Rattle.nfs_results.specs.{Items.entry, Entries.{entries_in, AreEntries}}
 use Rattle.nfs_results.proofs.EntryLaws.{are_lent}
 use Rattle.nfs_results.proofs.entries.Entries.read.Goals as goal
 

@@ -1,7 +1,5 @@
 use Rattle.std.proofs.Common.{◌∙◌, ap, arith, length, List, ℕ}
-use Rattle.nfs_xdr.specs.SheetState.{SheetState}
-use Rattle.nfs_xdr.specs.Spelling.{number}
-use Rattle.nfs_xdr.specs.Status.{status_number}
+use Rattle.nfs_xdr.specs.{SheetState.SheetState, Spelling.number, Status.status_number}
 use Rattle.nfs_results.proofs.Heads.{set_head, set_at, length_headed, length_set_at}
 use Rattle.nfs_results.proofs.head.OpenHead.close.Goals as goal
 

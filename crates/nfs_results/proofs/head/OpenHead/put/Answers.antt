@@ -1,5 +1,4 @@
-use Rattle.std.proofs.Common.{ap, arith, length}
-use Rattle.std.proofs.lemmas.List.{length-append}
+use Rattle.std.proofs.{Common.{ap, arith, length}, lemmas.List.length-append}
 use Rattle.nfs_xdr.specs.declared.status.Status.TheVariants.{Nfs4Ok}
 use Rattle.nfs_results.specs.Results.{spell_compound_head}
 use Rattle.nfs_results.proofs.Heads.{length_head}

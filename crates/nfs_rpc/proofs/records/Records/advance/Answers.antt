@@ -1,11 +1,7 @@
-use Rattle.std.proofs.Common.{◌≡◌, ℕ, List, [], ◌++◌, length, take, refl, sym, ap, subst, ◌∙◌, arith}
-use Rattle.std.proofs.lemmas.List.{length-take}
+use Rattle.std.proofs.{Common.{◌≡◌, ℕ, List, [], ◌++◌, length, take, refl, sym, ap, subst, ◌∙◌, arith}, lemmas.List.length-take}
 use Rattle.nfs_xdr.proofs.CodecLaws.{IsBytes-take}
-use Rattle.nfs_rpc.specs.RecordMarking.{Part}
-use Rattle.nfs_rpc.specs.Feeding.{Holds}
-use Rattle.nfs_rpc.proofs.Fragments.{IsBytes-append}
-use Rattle.nfs_rpc.proofs.Taking.{data_holds, mark_holds}
-use Rattle.nfs_rpc.proofs.Shares.{begun_fields, begun_held, mark_whole}
+use Rattle.nfs_rpc.specs.{RecordMarking.Part, Feeding.Holds}
+use Rattle.nfs_rpc.proofs.{Fragments.IsBytes-append, Taking.{data_holds, mark_holds}, Shares.{begun_fields, begun_held, mark_whole}}
 use Rattle.nfs_rpc.proofs.records.Records.advance.Goals as goal
 
 pub returns-in-Some-clause-stream : goal.returns-in-Some-clause-stream

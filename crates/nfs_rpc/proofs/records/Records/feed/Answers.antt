@@ -1,5 +1,4 @@
-use Rattle.std.proofs.Common.{◌+◌, ◌-◌, length, drop, sym, ◌∙◌, arith}
-use Rattle.std.proofs.lemmas.List.{length-take, length-drop}
+use Rattle.std.proofs.{Common.{◌+◌, ◌-◌, length, drop, sym, ◌∙◌, arith}, lemmas.List.{length-take, length-drop}}
 use Rattle.nfs_rpc.proofs.Feeding.{share_taken}
 use Rattle.nfs_rpc.proofs.records.Records.feed.Goals as goal
 

@@ -1,8 +1,7 @@
 use Rattle.std.proofs.Common.{◌≡◌, ◌-◌, ◌≤◌, ◌++◌, List, ℕ, length, take}
 use Rattle.nfs_xdr.specs.Text.{IsBytes}
 use Rattle.nfs_rpc.specs.declared.records.State.TheVariants as States
-use Rattle.nfs_rpc.specs.Feeding.{Holds}
-use Rattle.nfs_rpc.specs.Share.{state_of}
+use Rattle.nfs_rpc.specs.{Feeding.Holds, Share.state_of}
 use Rattle.nfs_rpc.proofs.records.Records.feed.Given as goal
 
 abbrev pub invariant-loop-used : goal.invariant-loop-used

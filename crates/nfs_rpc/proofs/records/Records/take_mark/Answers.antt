@@ -1,5 +1,4 @@
-use Rattle.std.proofs.Common.{◌≡◌, ◌+◌, [], length, take, refl, ap, ◌∙◌, arith}
-use Rattle.std.proofs.lemmas.List.{length-append, length-take}
+use Rattle.std.proofs.{Common.{◌≡◌, ◌+◌, [], length, take, refl, ap, ◌∙◌, arith}, lemmas.List.{length-append, length-take}}
 use Rattle.nfs_rpc.specs.RecordMarking.{Part}
 use Rattle.nfs_rpc.proofs.Shares.{begun_fields, mark_whole}
 use Rattle.nfs_rpc.proofs.records.Records.take_mark.Goals as goal

@@ -1,8 +1,5 @@
-use Rattle.std.proofs.Common.{◌≡◌, sym, ap, ◌∙◌, false}
-use Rattle.std.proofs.lemmas.List.{nil_from_length}
-use Rattle.std.proofs.lemmas.Bool.{eqb-true}
-use Rattle.nfs_rpc.specs.Feeding.{waits}
-use Rattle.nfs_rpc.specs.RecordMarking.{is_too_long}
+use Rattle.std.proofs.{Common.{◌≡◌, sym, ap, ◌∙◌, false}, lemmas.List.nil_from_length, lemmas.Bool.eqb-true}
+use Rattle.nfs_rpc.specs.{Feeding.waits, RecordMarking.is_too_long}
 use Rattle.nfs_serve.specs.Server.{state_of}
 use Rattle.nfs_serve.proofs.Pieces.{taking_start, taking_empty}
 use Rattle.nfs_serve.proofs.connection.Connection.feed.Goals as goal

@@ -1,9 +1,7 @@
 use Rattle.std.proofs.Common.{◌≡◌, ◌+◌, arith, sym, ap, subst, ◌∙◌, ◌++◌, append-nil, take, take_all, length, le_refl, [], false, refl}
 use Rattle.nfs_xdr.specs.Text.{IsBytes}
-use Rattle.nfs_rpc.specs.RecordMarking.{Complete, is_too_long}
-use Rattle.nfs_rpc.specs.Feeding.{waits, waiting, done_with, Holds}
-use Rattle.nfs_serve.specs.Server.{fresh}
-use Rattle.nfs_serve.specs.First.{TakesUp, RunsOver}
+use Rattle.nfs_rpc.specs.{RecordMarking.{Complete, is_too_long}, Feeding.{waits, waiting, done_with, Holds}}
+use Rattle.nfs_serve.specs.{Server.fresh, First.{TakesUp, RunsOver}}
 use Rattle.nfs_serve.proofs.Owing.{takes_none, takes_record, takes_long, front_bytes}
 use Rattle.nfs_serve.proofs.connection.Connection.take_one.Goals as goal
 

@@ -1,6 +1,5 @@
 use Rattle.std.proofs.Common.{◌≡◌, ◌≤◌, length, drop, ap, subst, ◌∙◌, arith}
-use Rattle.nfs_serve.specs.Ends.{Writes}
-use Rattle.nfs_serve.specs.Engine.{in_form}
+use Rattle.nfs_serve.specs.{Ends.Writes, Engine.in_form}
 use Rattle.nfs_serve.proofs.Framing.{drop-framed, long-framed, spelled_in_form}
 use Rattle.nfs_serve.proofs.engine.Engine.put_reply.Goals as goal
 

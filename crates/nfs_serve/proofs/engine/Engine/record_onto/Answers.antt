@@ -1,7 +1,6 @@
 use Rattle.std.proofs.Common.{sym, ap, ◌∙◌, refl}
 use Rattle.nfs_rpc.specs.CallHead.{call_of}
-use Rattle.nfs_exec.specs.Step.Expiry.{expired}
-use Rattle.nfs_exec.specs.Step.Machine.{machine_of}
+use Rattle.nfs_exec.specs.{Step.Expiry.expired, Step.Machine.machine_of}
 use Rattle.nfs_serve.specs.Server.{state_of}
 use Rattle.nfs_serve.proofs.Stepping.{step_of}
 use Rattle.nfs_serve.proofs.engine.Engine.record_onto.Goals as goal

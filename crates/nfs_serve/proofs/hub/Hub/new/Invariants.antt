@@ -1,7 +1,6 @@
 -- Each lane so far has no connection.
 use Rattle.std.proofs.Common.{◌≡◌, replicate}
-use Rattle.nfs_serve.specs.Desk.{closed}
-use Rattle.nfs_serve.specs.Lane.{desks_of}
+use Rattle.nfs_serve.specs.{Desk.closed, Lane.desks_of}
 use Rattle.nfs_serve.proofs.hub.Hub.new.Given as goal
 
 abbrev pub invariant-loop : goal.invariant-loop

@@ -1,7 +1,5 @@
-use Rattle.std.proofs.Common.{◌≡◌, ◌<◌, rules, arith, ap, sym, ◌∙◌, [], ◌∷◌, ◌++◌, length, inl, inr}
-use Rattle.std.proofs.lemmas.List.{nil_from_length}
-use Rattle.nfs_serve.specs.Desk.{Came, ReadBlocked, Ended, Failed, IsHungry}
-use Rattle.nfs_serve.specs.Lane.{desk_of}
+use Rattle.std.proofs.{Common.{◌≡◌, ◌<◌, rules, arith, ap, sym, ◌∙◌, [], ◌∷◌, ◌++◌, length, inl, inr}, lemmas.List.nil_from_length}
+use Rattle.nfs_serve.specs.{Desk.{Came, ReadBlocked, Ended, Failed, IsHungry}, Lane.desk_of}
 use Rattle.nfs_serve.proofs.Advancing.{goes_on, read_blocked, read_came, read_ended, read_failed, reads_blocked, reads_none, reads_last, reads_between}
 use Rattle.nfs_serve.proofs.Spending.{spends_on, spends_came, spends_blocked, spends_ended, spends_failed}
 use Rattle.nfs_serve.proofs.TurnEnds.{ends_stuck, ends_full, ends_answered, ends_behind}

@@ -1,7 +1,6 @@
 use Rattle.std.proofs.Common.{◌≡◌, ◌<◌, ◌-◌, rules, refl, sym, ap, inl, [], ◌∷◌, ◌++◌, take, length, take-append-drop, length-take-le}
 use Rattle.nfs_serve.specs.Desk.{Took, WriteBlocked, Failed, leaving}
-use Rattle.nfs_serve.proofs.Advancing.{quiet_on, quiet_act}
-use Rattle.nfs_serve.proofs.Spending.{spends_on, spends_took, spends_stuck, spends_failed}
+use Rattle.nfs_serve.proofs.{Advancing.{quiet_on, quiet_act}, Spending.{spends_on, spends_took, spends_stuck, spends_failed}}
 use Rattle.nfs_serve.proofs.lane.Lane.flush.Goals as goal
 
 pub loop-ports-preserved : goal.loop-ports-preserved

@@ -1,7 +1,6 @@
 -- What was taken so far were acts of this port; the rest is owed.
 use Rattle.std.proofs.Common.{◌≡◌, List, true, length}
-use Rattle.nfs_serve.specs.Desk.{Act}
-use Rattle.nfs_serve.specs.Lane.{desk_of, Quiet, Spends}
+use Rattle.nfs_serve.specs.{Desk.Act, Lane.{desk_of, Quiet, Spends}}
 use Rattle.nfs_serve.proofs.lane.Lane.flush.Given as goal
 
 abbrev pub invariant-loop-ports : goal.invariant-loop-ports

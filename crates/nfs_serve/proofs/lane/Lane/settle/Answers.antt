@@ -1,8 +1,6 @@
-use Rattle.std.proofs.Common.{◌≡◌, ◌<◌, rules, ap, ◌∙◌, [], ◌++◌, length, true, inl, inr, sym}
-use Rattle.std.proofs.lemmas.List.{nil_from_length}
+use Rattle.std.proofs.{Common.{◌≡◌, ◌<◌, rules, ap, ◌∙◌, [], ◌++◌, length, true, inl, inr, sym}, lemmas.List.nil_from_length}
 use Rattle.nfs_serve.specs.Lane.{desk_of}
-use Rattle.nfs_serve.proofs.Advancing.{goes_on, quiet_advances, stuck_behind, none_read}
-use Rattle.nfs_serve.proofs.Spending.{spends_on}
+use Rattle.nfs_serve.proofs.{Advancing.{goes_on, quiet_advances, stuck_behind, none_read}, Spending.spends_on}
 use Rattle.nfs_serve.proofs.lane.Lane.settle.Goals as goal
 
 pub returns-in-Stuck : goal.returns-in-Stuck

@@ -1,7 +1,6 @@
 -- What was done so far were acts of this port, and what they did is counted.
 use Rattle.std.proofs.Common.{◌≡◌, List, [], filter, true, length}
-use Rattle.nfs_serve.specs.Desk.{Act, is_of_read}
-use Rattle.nfs_serve.specs.Lane.{stand, Advances, Spends}
+use Rattle.nfs_serve.specs.{Desk.{Act, is_of_read}, Lane.{stand, Advances, Spends}}
 use Rattle.nfs_serve.proofs.lane.Lane.settle.Given as goal
 
 abbrev pub invariant-loop-self : goal.invariant-loop-self

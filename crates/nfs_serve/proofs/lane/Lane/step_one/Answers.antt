@@ -1,10 +1,7 @@
 use Rattle.std.proofs.Common.{◌≡◌, ◌<◌, ◌≤◌, refl, sym, subst, ◌∙◌, ◌++◌, ap, [], ◌∷◌, take, length, take-append-drop, take-take, arith, length-drop, length-take, length-take-le, min}
-use Rattle.std.specs.Prelude.{◌||◌, drop}
 use Rattle.std.proofs.lemmas.List.{drop_at}
-use Rattle.nfs_serve.specs.Told.{Moment, Late, Logs}
-use Rattle.nfs_serve.specs.Sequenced.{answers_sequence}
-use Rattle.nfs_serve.specs.Deeds.{counted}
-use Rattle.nfs_serve.specs.Lane.{is_first}
+use Rattle.std.specs.Prelude.{◌||◌, drop}
+use Rattle.nfs_serve.specs.{Told.{Moment, Late, Logs}, Sequenced.answers_sequence, Deeds.counted, Lane.is_first}
 use Rattle.nfs_serve.proofs.Advancing.{Logs-trans, heard_or}
 use Rattle.nfs_serve.proofs.lane.Lane.step_one.Goals as goal
 

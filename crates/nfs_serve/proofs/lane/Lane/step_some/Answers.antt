@@ -1,10 +1,6 @@
-use Rattle.std.proofs.Common.{◌≡◌, ◌++◌, [], ◌∷◌, refl, sym, ap, ◌∙◌, arith, rules, subst}
-use Rattle.std.proofs.lemmas.List.{nil_from_length}
-use Rattle.nfs_serve.specs.Server.{state_of}
-use Rattle.nfs_serve.specs.Desk.{Stepped}
-use Rattle.nfs_serve.specs.Lane.{stand, is_first, Advances}
-use Rattle.nfs_serve.proofs.Advancing.{stepped, goes_on, none_read}
-use Rattle.nfs_serve.proofs.Spending.{spends_on, spends_step}
+use Rattle.std.proofs.{Common.{◌≡◌, ◌++◌, [], ◌∷◌, refl, sym, ap, ◌∙◌, arith, rules, subst}, lemmas.List.nil_from_length}
+use Rattle.nfs_serve.specs.{Server.state_of, Desk.Stepped, Lane.{stand, is_first, Advances}}
+use Rattle.nfs_serve.proofs.{Advancing.{stepped, goes_on, none_read}, Spending.{spends_on, spends_step}}
 use Rattle.nfs_serve.proofs.lane.Lane.step_some.Goals as goal
 
 pub loop-self-init : goal.loop-self-init

@@ -1,8 +1,6 @@
 use Rattle.std.proofs.Common.{◌≡◌, rules, ap, [], ◌∷◌, ◌++◌, refl, false}
-use Rattle.nfs_serve.specs.Desk.{Closed}
-use Rattle.nfs_serve.specs.Lane.{desk_of, whole}
-use Rattle.nfs_serve.proofs.Advancing.{stays, goes_on, closes, reads_none, reads_closed}
-use Rattle.nfs_serve.proofs.Spending.{spends_on, spends_nothing, spends_closed}
+use Rattle.nfs_serve.specs.{Desk.Closed, Lane.{desk_of, whole}}
+use Rattle.nfs_serve.proofs.{Advancing.{stays, goes_on, closes, reads_none, reads_closed}, Spending.{spends_on, spends_nothing, spends_closed}}
 use Rattle.nfs_serve.proofs.TurnEnds.{ends_gone}
 use Rattle.nfs_serve.proofs.lane.Lane.turn.Goals as goal
 

@@ -1,9 +1,6 @@
 use Rattle.std.proofs.Common.{◌≡◌, [], ◌∷◌, true, false, subst, rules}
-use Rattle.nfs_serve.specs.Told.{Logs}
-use Rattle.nfs_serve.specs.Desk.{Unready}
-use Rattle.nfs_serve.specs.Shows.{readied}
-use Rattle.nfs_serve.proofs.Advancing.{passed_over, behind_nothing}
-use Rattle.nfs_serve.proofs.TurnEnds.{passes_over}
+use Rattle.nfs_serve.specs.{Told.Logs, Desk.Unready, Shows.readied}
+use Rattle.nfs_serve.proofs.{Advancing.{passed_over, behind_nothing}, TurnEnds.passes_over}
 use Rattle.nfs_serve.proofs.lane.Lane.visit.Goals as goal
 
 pub returns-then-not-has_turn : goal.returns-then-not-has_turn

@@ -1,9 +1,7 @@
-use Rattle.std.proofs.Common.{◌≡◌, ◌+◌, ◌++◌, length, take, drop, arith, ap, ◌∙◌, sym, length-append}
-use Rattle.std.proofs.lemmas.List.{drop-append-le}
+use Rattle.std.proofs.{Common.{◌≡◌, ◌+◌, ◌++◌, length, take, drop, arith, ap, ◌∙◌, sym, length-append}, lemmas.List.drop-append-le}
 use Rattle.nfs_xdr.specs.Spelling.{number}
 use Rattle.nfs_xdr.proofs.Putting.{length_number}
-use Rattle.nfs_serve.specs.declared.form.Form.TheVariants.{Plain}
-use Rattle.nfs_serve.specs.Run.{one_fragment, spell_answer}
+use Rattle.nfs_serve.specs.{declared.form.Form.TheVariants.Plain, Run.{one_fragment, spell_answer}}
 use Rattle.nfs_serve.proofs.Framing.{marked}
 use Rattle.nfs_serve.proofs.outbox.Outbox.answer.Goals as goal
 

@@ -1,5 +1,4 @@
-use Rattle.std.proofs.Common.{rules, sym, ◌∙◌}
-use Rattle.std.proofs.lemmas.List.Sorted.{answers_always}
+use Rattle.std.proofs.{Common.{rules, sym, ◌∙◌}, lemmas.List.Sorted.answers_always}
 use Rattle.nfs_sessions.proofs.Places.{the_counter, by_counter, placed, placed_other, placed_nowhere}
 use Rattle.nfs_sessions.proofs.sessions.Sessions.find.Goals as goal
 

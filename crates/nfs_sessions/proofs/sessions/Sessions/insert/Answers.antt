@@ -1,7 +1,5 @@
-use Rattle.std.proofs.Common.{◌≡◌, ◌+◌, sym, arith, subst}
-use Rattle.std.proofs.lemmas.Grind.{common_steps}
-use Rattle.nfs_sessions.specs.Sessions.{with_session}
-use Rattle.nfs_sessions.specs.SessionTables.{IsSessions}
+use Rattle.std.proofs.{Common.{◌≡◌, ◌+◌, sym, arith, subst}, lemmas.Grind.common_steps}
+use Rattle.nfs_sessions.specs.{Sessions.with_session, SessionTables.IsSessions}
 use Rattle.nfs_sessions.proofs.TableLemmas.{sessions_with}
 use Rattle.nfs_sessions.proofs.sessions.Sessions.insert.Goals as goal
 

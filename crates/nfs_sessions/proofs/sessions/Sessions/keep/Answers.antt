@@ -1,11 +1,8 @@
-use Rattle.std.proofs.Common.{◌++◌, sym, subst, ◌∙◌, ap}
+use Rattle.std.proofs.{Common.{◌++◌, sym, subst, ◌∙◌, ap}, lemmas.Option.{same_Some, none-some}}
 use Rattle.std.specs.Prelude.{option_map}
-use Rattle.std.proofs.lemmas.Option.{same_Some, none-some}
 use Rattle.nfs_xdr.proofs.Lists.{some_there}
-use Rattle.nfs_sessions.specs.SessionSlots.{GrantedSlots}
+use Rattle.nfs_sessions.specs.{SessionSlots.GrantedSlots, SessionTables.MayKeep, Sessions.{Session, session_at}}
 use Rattle.nfs_sessions.specs.SessionSlots as slots
-use Rattle.nfs_sessions.specs.SessionTables.{MayKeep}
-use Rattle.nfs_sessions.specs.Sessions.{Session, session_at}
 use Rattle.nfs_sessions.proofs.TableLemmas.{changed_there}
 use Rattle.nfs_sessions.proofs.sessions.Sessions.keep.Goals as goal
 

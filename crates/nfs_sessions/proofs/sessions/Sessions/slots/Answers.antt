@@ -1,7 +1,6 @@
 use Rattle.std.proofs.Common.{Some, ap, ◌∙◌}
 use Rattle.std.specs.Prelude.{option_map}
-use Rattle.nfs_sessions.specs.SessionSlots.{GrantedSlots}
-use Rattle.nfs_sessions.specs.Sessions.{Session}
+use Rattle.nfs_sessions.specs.{SessionSlots.GrantedSlots, Sessions.Session}
 use Rattle.nfs_sessions.proofs.Places.{session_there, no_session}
 use Rattle.nfs_sessions.proofs.sessions.Sessions.slots.Goals as goal
 

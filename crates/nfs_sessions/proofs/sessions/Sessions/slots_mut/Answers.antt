@@ -1,10 +1,7 @@
 use Rattle.std.proofs.Common.{Some, inl, inr, refl, ap, sym, ◌∙◌, subst}
 use Rattle.std.specs.Prelude.{option_map}
-use Rattle.nfs_sessions.specs.SessionSlots.{GrantedSlots}
-use Rattle.nfs_sessions.specs.SessionTables.{IsSessions}
-use Rattle.nfs_sessions.specs.Sessions.{Session, SessionTable, session_at}
-use Rattle.nfs_sessions.proofs.TableLemmas.{slots_changed, table_written}
-use Rattle.nfs_sessions.proofs.Places.{session_there, no_session}
+use Rattle.nfs_sessions.specs.{SessionSlots.GrantedSlots, SessionTables.IsSessions, Sessions.{Session, SessionTable, session_at}}
+use Rattle.nfs_sessions.proofs.{TableLemmas.{slots_changed, table_written}, Places.{session_there, no_session}}
 use Rattle.nfs_sessions.proofs.sessions.Sessions.slots_mut.Goals as goal
 
 pub returns-in_err-place : goal.returns-in_err-place

@@ -1,5 +1,4 @@
-use Rattle.std.proofs.Common.{ap, arith}
-use Rattle.std.proofs.lemmas.Grind.{common_steps}
+use Rattle.std.proofs.{Common.{ap, arith}, lemmas.Grind.common_steps}
 use Rattle.nfs_slots.specs.Slot.{SlotTable}
 use Rattle.nfs_slots.proofs.TableLemmas.{kept_in}
 use Rattle.nfs_slots.proofs.slots.Slots.keep.Goals as goal

@@ -1,6 +1,5 @@
 use Rattle.std.proofs.Common.{ap, ◌∙◌, ◌≤◌, length, subst, arith}
-use Rattle.nfs_slots.specs.Slot.{SlotTable, kept}
-use Rattle.nfs_slots.specs.SlotTables.{IsBounded}
+use Rattle.nfs_slots.specs.{Slot.{SlotTable, kept}, SlotTables.IsBounded}
 use Rattle.nfs_slots.proofs.TableLemmas.{bounded, none_kept}
 use Rattle.nfs_slots.proofs.slots.Slots.kept.Goals as goal
 

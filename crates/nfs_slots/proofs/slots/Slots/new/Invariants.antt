@@ -1,7 +1,6 @@
 use Rattle.std.proofs.Common.{◌≡◌, map}
 use Rattle.std.specs.Prelude.{All, replicate}
-use Rattle.nfs_slots.specs.Slot.{unused_slot}
-use Rattle.nfs_slots.specs.Buffers.{state_of, IsWithinRoom}
+use Rattle.nfs_slots.specs.{Slot.unused_slot, Buffers.{state_of, IsWithinRoom}}
 use Rattle.nfs_slots.proofs.slots.Slots.new.Given as goal
 
 abbrev pub invariant-loop : goal.invariant-loop

@@ -1,13 +1,8 @@
-use Rattle.std.proofs.Common.{◌≡◌, ◌∙◌, ap, sym, refl, subst, arith, List, [], ◌∷◌, ◌++◌}
-use Rattle.std.specs.Prelude.{ℕ, ◌≤◌, ◌+◌, nat_lt, if◌then◌else◌}
-use Rattle.std.specs.Ordering.{nat_cmp}
-use Rattle.std.proofs.lemmas.Bool.Decides.{nat_tests}
-use Rattle.std.specs.BTreeMap.{insert_entry}
+use Rattle.std.proofs.{Common.{◌≡◌, ◌∙◌, ap, sym, refl, subst, arith, List, [], ◌∷◌, ◌++◌}, lemmas.Bool.Decides.nat_tests}
+use Rattle.std.specs.{Prelude.{ℕ, ◌≤◌, ◌+◌, nat_lt, if◌then◌else◌}, Ordering.nat_cmp, BTreeMap.insert_entry}
 use Rattle.slab.specs.Slab.{Slab, get}
 use Rattle.nfs_xdr.specs.Tables.{IsRising}
-use Rattle.nfs_tree.specs.declared.row.Naming.{Naming}
-use Rattle.nfs_tree.specs.declared.row.Row.{Row}
-use Rattle.nfs_tree.specs.Indexed.{stored, placed, AreShelved}
+use Rattle.nfs_tree.specs.{declared.row.Naming.Naming, declared.row.Row.Row, Indexed.{stored, placed, AreShelved}}
 use Rattle.nfs_tree.proofs.Shelved.{shelved_same, shelved_new, view_same, Made}
 use Rattle.nfs_tree.proofs.by_cookie.ByCookie.push.Goals as goal
 

@@ -1,9 +1,6 @@
 use Rattle.std.proofs.Common.{◌≡◌, ℕ, ◌<◌, ◌≤◌, ◌^◌, List, length, Some, ◌∙◌, arith, subst}
-use Rattle.std.specs.Ordering.{nat_cmp}
-use Rattle.std.specs.Cmp.Lexicographic.{slice_cmp}
-use Rattle.std.specs.BTreeMap.{Updates, UpdatesBy}
-use Rattle.nfs_tree.specs.declared.by_name.ShortKey.{ShortKey}
-use Rattle.nfs_tree.specs.ByName.{key_of, short_cmp}
+use Rattle.std.specs.{Ordering.nat_cmp, Cmp.Lexicographic.slice_cmp, BTreeMap.{Updates, UpdatesBy}}
+use Rattle.nfs_tree.specs.{declared.by_name.ShortKey.ShortKey, ByName.{key_of, short_cmp}}
 use Rattle.nfs_tree.proofs.KeyLemmas.{short_after, long_after}
 use Rattle.nfs_tree.proofs.by_name.ByName.insert.Goals as goal
 

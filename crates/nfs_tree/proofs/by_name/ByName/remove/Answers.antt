@@ -1,9 +1,6 @@
 use Rattle.std.proofs.Common.{ℕ, ◌<◌, ◌≤◌, ◌^◌, List, length, None, ◌∙◌, arith, subst}
-use Rattle.std.specs.Ordering.{nat_cmp}
-use Rattle.std.specs.Cmp.Lexicographic.{slice_cmp}
-use Rattle.std.specs.BTreeMap.{UpdatesBy}
-use Rattle.nfs_tree.specs.declared.by_name.ShortKey.{ShortKey}
-use Rattle.nfs_tree.specs.ByName.{short_cmp}
+use Rattle.std.specs.{Ordering.nat_cmp, Cmp.Lexicographic.slice_cmp, BTreeMap.UpdatesBy}
+use Rattle.nfs_tree.specs.{declared.by_name.ShortKey.ShortKey, ByName.short_cmp}
 use Rattle.nfs_tree.proofs.KeyLemmas.{short_after, long_after}
 use Rattle.nfs_tree.proofs.by_name.ByName.remove.Goals as goal
 

@@ -2,8 +2,7 @@ use Rattle.std.proofs.Common.{Some, subst, ◌∙◌}
 use Rattle.nfs_xdr.specs.Tables.{In}
 use Rattle.nfs_xdr.proofs.Lists.{in_filter}
 use Rattle.nfs_tree.specs.Files.{root}
-use Rattle.nfs_tree.proofs.Shelved.{lookup_in}
-use Rattle.nfs_tree.proofs.IndexedLemmas.{object_led}
+use Rattle.nfs_tree.proofs.{Shelved.lookup_in, IndexedLemmas.object_led}
 use Rattle.nfs_tree.proofs.in_turn.InTurn.object.Goals as goal
 
 pub invariant_of-self-in-Some : goal.invariant_of-self-in-Some

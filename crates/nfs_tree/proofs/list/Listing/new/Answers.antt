@@ -1,6 +1,5 @@
 use Rattle.std.proofs.Common.{List, sym, subst}
-use Rattle.nfs_tree.specs.declared.row.Row.{Row}
-use Rattle.nfs_tree.specs.Left.{AreLeft}
+use Rattle.nfs_tree.specs.{declared.row.Row.Row, Left.AreLeft}
 use Rattle.nfs_tree.proofs.LeftLemmas.{left_starts}
 use Rattle.nfs_tree.proofs.list.Listing.new.Goals as goal
 

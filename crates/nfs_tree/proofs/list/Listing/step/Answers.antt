@@ -1,12 +1,8 @@
 use Rattle.std.proofs.Common.{◌≡◌, ℕ, List, ◌∷◌, Some, None, sym, ◌∙◌, ap, subst}
 use Rattle.nfs_xdr.specs.Tables.{record_at}
 use Rattle.nfs_xdr.proofs.Tables.{at_of_in}
-use Rattle.nfs_tree.specs.declared.row.Row.{Row}
-use Rattle.nfs_tree.specs.Files.{Listed, listing}
-use Rattle.nfs_tree.specs.Indexed.{placed}
-use Rattle.nfs_tree.specs.Left.{AreLeft}
-use Rattle.nfs_tree.proofs.MapLemmas.{cookie}
-use Rattle.nfs_tree.proofs.LeftLemmas.{none_left, others_left, behind_other, of_directory, behind_next, first_left, next_left}
+use Rattle.nfs_tree.specs.{declared.row.Row.Row, Files.{Listed, listing}, Indexed.placed, Left.AreLeft}
+use Rattle.nfs_tree.proofs.{MapLemmas.cookie, LeftLemmas.{none_left, others_left, behind_other, of_directory, behind_next, first_left, next_left}}
 use Rattle.nfs_tree.proofs.list.Listing.step.Goals as goal
 
 pub returns-in_default-clause-none : goal.returns-in_default-clause-none

@@ -1,10 +1,8 @@
 use Rattle.std.proofs.Common.{sym, ◌∙◌, ap, List}
-use Rattle.std.specs.Prelude.{option_map, option_copied}
-use Rattle.std.specs.Option.{option_and_then}
+use Rattle.std.specs.{Prelude.{option_map, option_copied}, Option.option_and_then}
 use Rattle.slab.specs.Slab.{get}
 use Rattle.nfs_xdr.specs.Tables.{record_at}
-use Rattle.nfs_tree.specs.declared.row.Row.{Row}
-use Rattle.nfs_tree.specs.Indexed.{placed}
+use Rattle.nfs_tree.specs.{declared.row.Row.Row, Indexed.placed}
 use Rattle.nfs_tree.proofs.Shelved.{find_same, row_of_pair}
 use Rattle.nfs_tree.proofs.rising.Rising.row.Goals.{in-Some, in-None+in-None-get, in-None+in-Some-get}
 use Rattle.nfs_tree.proofs.rising.Rising.row.Goals as goal

@@ -1,12 +1,8 @@
 use Rattle.std.proofs.Common.{◌≡◌, ◌-◌, cond, Some, None, sym, ◌∙◌, ap, subst}
 use Rattle.std.specs.BTreeMap.{is_at, get}
 use Rattle.nfs_xdr.specs.Tables.{without_record}
-use Rattle.nfs_tree.specs.Files.{entry, without_entry}
-use Rattle.nfs_tree.specs.ByName.{cookies}
-use Rattle.nfs_tree.specs.Counts.{further, CountsAnew}
-use Rattle.nfs_tree.specs.Maps.{pair_cmp}
-use Rattle.nfs_tree.proofs.MapLemmas.{cookie, some_found, short_name}
-use Rattle.nfs_tree.proofs.Mapped.{Done, done_gone}
+use Rattle.nfs_tree.specs.{Files.{entry, without_entry}, ByName.cookies, Counts.{further, CountsAnew}, Maps.pair_cmp}
+use Rattle.nfs_tree.proofs.{MapLemmas.{cookie, some_found, short_name}, Mapped.{Done, done_gone}}
 use Rattle.nfs_tree.proofs.rows.Rows.drop_entry.Goals as goal
 
 pub remove-requires : goal.remove-requires

@@ -2,12 +2,8 @@ use Rattle.std.proofs.Common.{◌≡◌, ℕ, ◌≤◌, true, Option, Some, Non
 use Rattle.std.specs.Prelude.{option_map}
 use Rattle.nfs_xdr.specs.Tables.{record_at}
 use Rattle.nfs_xdr.proofs.Tables.{at_of_in}
-use Rattle.nfs_tree.specs.declared.row.Naming.{Naming}
-use Rattle.nfs_tree.specs.declared.row.Row.{Row}
-use Rattle.nfs_tree.specs.Indexed.{placed}
-use Rattle.nfs_tree.specs.Maps.{has_pair}
-use Rattle.nfs_tree.proofs.PairLemmas.{pair_row, is_there, there_is, not_there}
-use Rattle.nfs_tree.proofs.MapLemmas.{cookie, find_first, find_nowhere}
+use Rattle.nfs_tree.specs.{declared.row.Naming.Naming, declared.row.Row.Row, Indexed.placed, Maps.has_pair}
+use Rattle.nfs_tree.proofs.{PairLemmas.{pair_row, is_there, there_is, not_there}, MapLemmas.{cookie, find_first, find_nowhere}}
 use Rattle.nfs_tree.proofs.rows.Rows.first_of.Goals as goal
 
 -- the directory of what is found so

@@ -1,6 +1,5 @@
 use Rattle.std.proofs.Common.{◌≡◌, true, false, List, sym, ◌∙◌, ap, arith}
-use Rattle.nfs_tree.specs.declared.row.Row.{Row}
-use Rattle.nfs_tree.specs.Files.{has_row}
+use Rattle.nfs_tree.specs.{declared.row.Row.Row, Files.has_row}
 use Rattle.nfs_tree.proofs.Counted.{some_links, no_links, links_few}
 use Rattle.nfs_tree.proofs.rows.Rows.links_in.Goals as goal
 

@@ -1,15 +1,8 @@
 use Rattle.std.proofs.Common.{◌≡◌, ◌∷◌, [], ◌++◌, ℕ, List, ◌-◌, ◌<◌, ◌^◌, cond, Some, None, sym, ◌∙◌, ap, arith, subst}
-use Rattle.std.specs.BTreeMap.{is_at, get}
-use Rattle.std.specs.Map.{lookup}
+use Rattle.std.specs.{BTreeMap.{is_at, get}, Map.lookup}
 use Rattle.nfs_xdr.specs.Tables.{IsRising, without_record}
-use Rattle.nfs_tree.specs.declared.row.Row.{Row}
-use Rattle.nfs_tree.specs.Files.{entry, has_row, without_entry}
-use Rattle.nfs_tree.specs.ByName.{cookies}
-use Rattle.nfs_tree.specs.Counts.{further, CountsAnew}
-use Rattle.nfs_tree.specs.Maps.{pair_cmp}
-use Rattle.nfs_tree.proofs.PairLemmas.{pair_new, is_none}
-use Rattle.nfs_tree.proofs.Counted.{links_few, counted_back}
-use Rattle.nfs_tree.proofs.MapLemmas.{cookie, some_found, none_found}
+use Rattle.nfs_tree.specs.{declared.row.Row.Row, Files.{entry, has_row, without_entry}, ByName.cookies, Counts.{further, CountsAnew}, Maps.pair_cmp}
+use Rattle.nfs_tree.proofs.{PairLemmas.{pair_new, is_none}, Counted.{links_few, counted_back}, MapLemmas.{cookie, some_found, none_found}}
 use Rattle.nfs_tree.proofs.Mapped.{Done, done_new, done_over, same_maps}
 use Rattle.nfs_tree.proofs.rows.Rows.put.Goals as goal
 

@@ -1,8 +1,6 @@
-use Rattle.std.proofs.Common.{sym, ◌∙◌, ap}
+use Rattle.std.proofs.{Common.{sym, ◌∙◌, ap}, lemmas.Result.on_ok_weaker}
 use Rattle.std.specs.Prelude.{option_map}
-use Rattle.std.proofs.lemmas.Result.{on_ok_weaker}
-use Rattle.nfs_tree.specs.Finding.{found_of}
-use Rattle.nfs_tree.specs.Names.{with_row}
+use Rattle.nfs_tree.specs.{Finding.found_of, Names.with_row}
 use Rattle.nfs_tree.proofs.MapLemmas.{none_gone}
 use Rattle.nfs_tree.proofs.rows.Rows.put_new.Goals as goal
 

@@ -1,9 +1,6 @@
 use Rattle.std.proofs.Common.{◌≡◌, ◌∙◌, Some, ap, sym, refl}
 use Rattle.slab.specs.Slab.{with_value}
-use Rattle.nfs_tree.specs.declared.stored.Stored.{Stored}
-use Rattle.nfs_tree.specs.Object.{changed}
-use Rattle.nfs_tree.specs.Files.{stored_in}
-use Rattle.nfs_tree.specs.Indexed.{numbered}
+use Rattle.nfs_tree.specs.{declared.stored.Stored.Stored, Object.changed, Files.stored_in, Indexed.numbered}
 use Rattle.nfs_tree.proofs.IndexedLemmas.{found_body, objects_put, put_none, never_vacant, can_of, Put}
 use Rattle.nfs_tree.proofs.stored.Objects.change_in.Goals as goal
 

@@ -1,7 +1,5 @@
 use Rattle.std.proofs.Common.{◌≡◌, None, sym}
-use Rattle.std.specs.Ordering.{nat_cmp}
-use Rattle.std.specs.BTreeMap.{is_at}
-use Rattle.std.specs.Map.{lookup}
+use Rattle.std.specs.{Ordering.nat_cmp, BTreeMap.is_at, Map.lookup}
 use Rattle.nfs_tree.proofs.IndexedLemmas.{objects_without, without_none}
 use Rattle.nfs_tree.proofs.stored.Objects.drop_object.Goals as goal
 

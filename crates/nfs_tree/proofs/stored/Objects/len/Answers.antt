@@ -1,7 +1,6 @@
 use Rattle.std.proofs.Common.{sym, ◌∙◌}
 use Rattle.slab.specs.Slab.{get}
-use Rattle.nfs_tree.specs.declared.stored.Stored.{Stored}
-use Rattle.nfs_tree.specs.Indexed.{numbered}
+use Rattle.nfs_tree.specs.{declared.stored.Stored.Stored, Indexed.numbered}
 use Rattle.nfs_tree.proofs.StoredLemmas.{length-stored}
 use Rattle.nfs_tree.proofs.stored.Objects.len.Goals as goal
 

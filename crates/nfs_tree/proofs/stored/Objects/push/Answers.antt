@@ -1,12 +1,8 @@
 use Rattle.std.proofs.Common.{◌≡◌, ◌∙◌, ap, sym, refl, subst, List, [], ◌∷◌, ◌++◌}
-use Rattle.std.specs.Ordering.{nat_cmp}
-use Rattle.std.specs.BTreeMap.{insert_entry}
+use Rattle.std.specs.{Ordering.nat_cmp, BTreeMap.insert_entry}
 use Rattle.slab.specs.Slab.{Slab, get}
 use Rattle.nfs_xdr.specs.Tables.{IsRising}
-use Rattle.nfs_tree.specs.declared.stored.Body.{Body}
-use Rattle.nfs_tree.specs.declared.stored.Stored.{Stored}
-use Rattle.nfs_tree.specs.Files.{root}
-use Rattle.nfs_tree.specs.Indexed.{stored, numbered, AreObjects}
+use Rattle.nfs_tree.specs.{declared.stored.Body.Body, declared.stored.Stored.Stored, Files.root, Indexed.{stored, numbered, AreObjects}}
 use Rattle.nfs_tree.proofs.IndexedLemmas.{objects_same, objects_new, view_same, Made}
 use Rattle.nfs_tree.proofs.stored.Objects.push.Goals as goal
 

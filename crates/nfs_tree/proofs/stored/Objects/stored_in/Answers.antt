@@ -1,6 +1,5 @@
 use Rattle.std.proofs.Common.{sym, ◌∙◌, ap}
-use Rattle.std.specs.Prelude.{option_map}
-use Rattle.std.specs.Option.{option_and_then}
+use Rattle.std.specs.{Prelude.option_map, Option.option_and_then}
 use Rattle.slab.specs.Slab.{get}
 use Rattle.nfs_tree.specs.Indexed.{numbered}
 use Rattle.nfs_tree.proofs.IndexedLemmas.{find_same}

@@ -1,10 +1,5 @@
-use Rattle.std.proofs.Common.{◌≡◌, ◌∙◌, Some, ap, sym, refl}
-use Rattle.std.proofs.lemmas.Result.{on_ok_weaker}
-use Rattle.nfs_tree.specs.declared.stored.Stored.{Stored}
-use Rattle.nfs_tree.specs.Object.{no_sets}
-use Rattle.nfs_tree.specs.Bytes.{with_bytes, written}
-use Rattle.nfs_tree.specs.Files.{stored_in}
-use Rattle.nfs_tree.specs.Indexed.{numbered}
+use Rattle.std.proofs.{Common.{◌≡◌, ◌∙◌, Some, ap, sym, refl}, lemmas.Result.on_ok_weaker}
+use Rattle.nfs_tree.specs.{declared.stored.Stored.Stored, Object.no_sets, Bytes.{with_bytes, written}, Files.stored_in, Indexed.numbered}
 use Rattle.nfs_tree.proofs.IndexedLemmas.{found_body, objects_put, put_none, never_vacant, can_of, objects_at}
 use Rattle.nfs_tree.proofs.stored.Objects.write_in.Goals as goal
 

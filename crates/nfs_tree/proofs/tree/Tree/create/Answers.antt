@@ -1,10 +1,6 @@
-use Rattle.std.proofs.Common.{◌≡◌, None, true, refl, sym, ◌∙◌, ◌+◌, ap}
+use Rattle.std.proofs.{Common.{◌≡◌, None, true, refl, sym, ◌∙◌, ◌+◌, ap}, lemmas.Result.err_from_is_err_and}
 use Rattle.std.specs.Prelude.{Ok, Err}
-use Rattle.std.proofs.lemmas.Result.{err_from_is_err_and}
-use Rattle.nfs_tree.specs.declared.done.Created.{Created}
-use Rattle.nfs_tree.specs.Calls.{does_unless, new_of, create_fault}
-use Rattle.nfs_tree.specs.Files.{raised}
-use Rattle.nfs_tree.specs.Create.{create_checks, with_new}
+use Rattle.nfs_tree.specs.{declared.done.Created.Created, Calls.{does_unless, new_of, create_fault}, Files.raised, Create.{create_checks, with_new}}
 use Rattle.nfs_tree.proofs.Refusals.{refused, judged_err, judged_ok}
 use Rattle.nfs_tree.proofs.tree.Tree.create.Goals as goal
 

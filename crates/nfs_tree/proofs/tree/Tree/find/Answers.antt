@@ -1,7 +1,6 @@
 use Rattle.std.proofs.Common.{◌∙◌, ap}
 use Rattle.std.specs.Prelude.{option_map}
-use Rattle.nfs_tree.specs.declared.row.Found.{Found}
-use Rattle.nfs_tree.specs.Files.{entry}
+use Rattle.nfs_tree.specs.{declared.row.Found.Found, Files.entry}
 use Rattle.nfs_tree.proofs.MapLemmas.{found_object}
 use Rattle.nfs_tree.proofs.tree.Tree.find.Goals as goal
 

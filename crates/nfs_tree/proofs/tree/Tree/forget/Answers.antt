@@ -1,7 +1,5 @@
-use Rattle.std.proofs.Common.{arith, subst}
-use Rattle.std.proofs.lemmas.Grind.{common_steps}
-use Rattle.nfs_tree.specs.Names.{forget}
-use Rattle.nfs_tree.specs.TreeInvariants.{IsTree}
+use Rattle.std.proofs.{Common.{arith, subst}, lemmas.Grind.common_steps}
+use Rattle.nfs_tree.specs.{Names.forget, TreeInvariants.IsTree}
 use Rattle.nfs_tree.proofs.Trees.{tree_forgets, tree_of}
 use Rattle.nfs_tree.proofs.tree.Tree.forget.Goals as goal
 

@@ -1,12 +1,6 @@
-use Rattle.std.proofs.Common.{◌≡◌, ◌+◌, ◌<◌, ap, sym, arith, subst}
-use Rattle.std.proofs.lemmas.Grind.{common_steps}
-use Rattle.nfs_tree.specs.Files.{Files, root}
-use Rattle.nfs_tree.specs.Calls.{CanChange, new_of}
-use Rattle.nfs_tree.specs.Create.{with_new}
-use Rattle.nfs_tree.specs.TreeInvariants.{IsTree}
-use Rattle.nfs_tree.proofs.Objects.{can_change_all, stored_within}
-use Rattle.nfs_tree.proofs.Trees.{tree_of}
-use Rattle.nfs_tree.proofs.Mapped.{short_of}
+use Rattle.std.proofs.{Common.{◌≡◌, ◌+◌, ◌<◌, ap, sym, arith, subst}, lemmas.Grind.common_steps}
+use Rattle.nfs_tree.specs.{Files.{Files, root}, Calls.{CanChange, new_of}, Create.with_new, TreeInvariants.IsTree}
+use Rattle.nfs_tree.proofs.{Objects.{can_change_all, stored_within}, Trees.tree_of, Mapped.short_of}
 use Rattle.nfs_tree.proofs.Put.{create_granted, directory_there, new_unnamed, tree_created}
 use Rattle.nfs_tree.proofs.tree.Tree.insert.Goals as goal
 

@@ -1,14 +1,6 @@
-use Rattle.std.proofs.Common.{◌≡◌, ◌+◌, ◌∙◌, ap, sym, arith, subst}
-use Rattle.std.proofs.lemmas.Bool.{false≢true}
-use Rattle.std.proofs.lemmas.Grind.{common_steps}
-use Rattle.nfs_tree.specs.Files.{Files, root, is_directory_at}
-use Rattle.nfs_tree.specs.Calls.{CanChange}
-use Rattle.nfs_tree.specs.Names.{with_link}
-use Rattle.nfs_tree.specs.TreeInvariants.{IsTree}
-use Rattle.nfs_tree.proofs.Objects.{can_change_all}
-use Rattle.nfs_tree.proofs.Trees.{tree_of}
-use Rattle.nfs_tree.proofs.Mapped.{short_of}
-use Rattle.nfs_tree.proofs.Put.{link_granted, tree_linked}
+use Rattle.std.proofs.{Common.{◌≡◌, ◌+◌, ◌∙◌, ap, sym, arith, subst}, lemmas.Bool.{false≢true}, lemmas.Grind.common_steps}
+use Rattle.nfs_tree.specs.{Files.{Files, root, is_directory_at}, Calls.CanChange, Names.with_link, TreeInvariants.IsTree}
+use Rattle.nfs_tree.proofs.{Objects.can_change_all, Trees.tree_of, Mapped.short_of, Put.{link_granted, tree_linked}}
 use Rattle.nfs_tree.proofs.tree.Tree.insert_link.Goals as goal
 
 pub put_new-requires : goal.put_new-requires

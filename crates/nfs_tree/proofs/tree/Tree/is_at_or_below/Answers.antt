@@ -1,7 +1,5 @@
-use Rattle.std.proofs.Common.{◌≡◌, ◌+◌, ◌-◌, ◌<◌, ◌∙◌, length, Some, refl, sym, ap, subst, arith}
-use Rattle.std.proofs.lemmas.Bool.{ne_eqb}
-use Rattle.nfs_tree.specs.Files.{Files, is_directory_at, parent_in, has_entries}
-use Rattle.nfs_tree.specs.Names.{is_at_or_below}
+use Rattle.std.proofs.{Common.{◌≡◌, ◌+◌, ◌-◌, ◌<◌, ◌∙◌, length, Some, refl, sym, ap, subst, arith}, lemmas.Bool.ne_eqb}
+use Rattle.nfs_tree.specs.{Files.{Files, is_directory_at, parent_in, has_entries}, Names.is_at_or_below}
 use Rattle.nfs_tree.proofs.Climb.{climb_step, climb_here, none_below, parent_by, some_row}
 use Rattle.nfs_tree.proofs.tree.Tree.is_at_or_below.Goals as goal
 

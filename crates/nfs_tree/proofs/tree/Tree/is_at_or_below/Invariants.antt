@@ -1,6 +1,5 @@
 use Rattle.std.proofs.Common.{◌≡◌, ◌-◌, true, length}
-use Rattle.nfs_tree.specs.Files.{is_directory_at}
-use Rattle.nfs_tree.specs.Names.{is_at_or_below}
+use Rattle.nfs_tree.specs.{Files.is_directory_at, Names.is_at_or_below}
 use Rattle.nfs_tree.proofs.tree.Tree.is_at_or_below.Given as goal
 
 -- the way up goes on from a directory

@@ -1,8 +1,6 @@
-use Rattle.std.proofs.Common.{true, refl, sym, ◌∙◌, ap}
+use Rattle.std.proofs.{Common.{true, refl, sym, ◌∙◌, ap}, lemmas.Result.err_from_is_err_and}
 use Rattle.std.specs.Prelude.{Err}
-use Rattle.std.proofs.lemmas.Result.{err_from_is_err_and}
-use Rattle.nfs_tree.specs.Files.{raised}
-use Rattle.nfs_tree.specs.Names.{link_checks, with_link}
+use Rattle.nfs_tree.specs.{Files.raised, Names.{link_checks, with_link}}
 use Rattle.nfs_tree.proofs.Refusals.{refused, judged_err}
 use Rattle.nfs_tree.proofs.tree.Tree.link.Goals as goal
 

@@ -1,13 +1,7 @@
-use Rattle.std.proofs.Common.{◌≡◌, ◌≢◌, ◌+◌, ◌<◌, ℕ, Option, ◌∙◌, ap, sym, arith, subst}
+use Rattle.std.proofs.{Common.{◌≡◌, ◌≢◌, ◌+◌, ◌<◌, ℕ, Option, ◌∙◌, ap, sym, arith, subst}, lemmas.Grind.common_steps}
 use Rattle.std.specs.Prelude.{unwrap_or}
-use Rattle.std.proofs.lemmas.Grind.{common_steps}
-use Rattle.nfs_tree.specs.Files.{Files, root, last_count}
-use Rattle.nfs_tree.specs.Calls.{CanChange, move_of}
-use Rattle.nfs_tree.specs.Names.{replaced_object, with_moved}
-use Rattle.nfs_tree.specs.TreeInvariants.{IsTree}
-use Rattle.nfs_tree.proofs.Objects.{can_change_all}
-use Rattle.nfs_tree.proofs.Trees.{tree_of}
-use Rattle.nfs_tree.proofs.Mapped.{short_of}
+use Rattle.nfs_tree.specs.{Files.{Files, root, last_count}, Calls.{CanChange, move_of}, Names.{replaced_object, with_moved}, TreeInvariants.IsTree}
+use Rattle.nfs_tree.proofs.{Objects.can_change_all, Trees.tree_of, Mapped.short_of}
 use Rattle.nfs_tree.proofs.Moved.{moved_apart, move_granted, replaced_source, replaced_target, replaced_can, tree_moved}
 use Rattle.nfs_tree.proofs.tree.Tree.move_row.Goals as goal
 

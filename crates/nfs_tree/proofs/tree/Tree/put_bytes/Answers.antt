@@ -1,15 +1,8 @@
-use Rattle.std.proofs.Common.{◌≡◌, ◌+◌, List, map, ap, sym, arith, subst}
+use Rattle.std.proofs.{Common.{◌≡◌, ◌+◌, List, map, ap, sym, arith, subst}, lemmas.Grind.common_steps}
 use Rattle.std.specs.Prelude.{◌==◌, if◌then◌else◌, OnOk, OnErr}
-use Rattle.std.proofs.lemmas.Grind.{common_steps}
-use Rattle.nfs_tree.specs.declared.stored.Stored.{Stored}
-use Rattle.nfs_tree.specs.Object.{no_sets}
-use Rattle.nfs_tree.specs.Files.{Files, root}
-use Rattle.nfs_tree.specs.Calls.{CanChange}
-use Rattle.nfs_tree.specs.Bytes.{with_bytes, written, with_written}
+use Rattle.nfs_tree.specs.{declared.stored.Stored.Stored, Object.no_sets, Files.{Files, root}, Calls.CanChange, Bytes.{with_bytes, written, with_written}}
 use Rattle.nfs_tree.specs.TreeInvariants.{IsTree}
-use Rattle.nfs_tree.proofs.Objects.{can_change_all}
-use Rattle.nfs_tree.proofs.Trees.{tree_of}
-use Rattle.nfs_tree.proofs.Sized.{write_granted, tree_written, by_result}
+use Rattle.nfs_tree.proofs.{Objects.can_change_all, Trees.tree_of, Sized.{write_granted, tree_written, by_result}}
 use Rattle.nfs_tree.proofs.tree.Tree.put_bytes.Goals as goal
 
 pub write_in-requires-clause-change : goal.write_in-requires-clause-change

@@ -1,6 +1,5 @@
-use Rattle.std.proofs.Common.{sym, ◌∙◌, ap}
+use Rattle.std.proofs.{Common.{sym, ◌∙◌, ap}, lemmas.Result.err_from_is_err_and}
 use Rattle.std.specs.Prelude.{Err}
-use Rattle.std.proofs.lemmas.Result.{err_from_is_err_and}
 use Rattle.nfs_tree.specs.Names.{move}
 use Rattle.nfs_tree.proofs.Renaming.{rename_refused, rename_goes}
 use Rattle.nfs_tree.proofs.tree.Tree.rename.Goals as goal

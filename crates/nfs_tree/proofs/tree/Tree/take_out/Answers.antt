@@ -1,11 +1,6 @@
-use Rattle.std.proofs.Common.{◌≡◌, ◌≢◌, ◌+◌, ap, sym, arith, subst}
-use Rattle.std.proofs.lemmas.Grind.{common_steps}
-use Rattle.nfs_tree.specs.Files.{Files, root, named}
-use Rattle.nfs_tree.specs.Calls.{CanChange}
-use Rattle.nfs_tree.specs.Names.{without_name}
-use Rattle.nfs_tree.specs.TreeInvariants.{IsTree}
-use Rattle.nfs_tree.proofs.Objects.{can_change_all}
-use Rattle.nfs_tree.proofs.Trees.{remove_granted, has_one, apart, tree_removed, tree_of}
+use Rattle.std.proofs.{Common.{◌≡◌, ◌≢◌, ◌+◌, ap, sym, arith, subst}, lemmas.Grind.common_steps}
+use Rattle.nfs_tree.specs.{Files.{Files, root, named}, Calls.CanChange, Names.without_name, TreeInvariants.IsTree}
+use Rattle.nfs_tree.proofs.{Objects.can_change_all, Trees.{remove_granted, has_one, apart, tree_removed, tree_of}}
 use Rattle.nfs_tree.proofs.tree.Tree.take_out.Goals as goal
 
 pub change_entry-requires : goal.change_entry-requires

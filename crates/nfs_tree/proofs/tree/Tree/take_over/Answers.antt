@@ -1,11 +1,7 @@
-use Rattle.std.proofs.Common.{◌≡◌, ◌<◌, ◌+◌, List, ap, sym, arith, subst}
+use Rattle.std.proofs.{Common.{◌≡◌, ◌<◌, ◌+◌, List, ap, sym, arith, subst}, lemmas.Grind.common_steps}
 use Rattle.std.specs.Prelude.{All}
-use Rattle.std.proofs.lemmas.Grind.{common_steps}
-use Rattle.nfs_tree.specs.declared.stored.Stored.{Stored}
-use Rattle.nfs_tree.specs.Files.{Files, root, last_count, with_changed}
-use Rattle.nfs_tree.specs.TreeInvariants.{IsTree}
-use Rattle.nfs_tree.proofs.Objects.{can_change_all}
-use Rattle.nfs_tree.proofs.Trees.{set_granted, tree_changed, tree_of}
+use Rattle.nfs_tree.specs.{declared.stored.Stored.Stored, Files.{Files, root, last_count, with_changed}, TreeInvariants.IsTree}
+use Rattle.nfs_tree.proofs.{Objects.can_change_all, Trees.{set_granted, tree_changed, tree_of}}
 use Rattle.nfs_tree.proofs.tree.Tree.take_over.Goals as goal
 
 pub change_in-requires : goal.change_in-requires

@@ -1,6 +1,5 @@
 use Rattle.nfs_xdr.specs.Codec as codec
-use Rattle.nfs_xdr.proofs.CodecLaws.{reads_from_gives}
-use Rattle.nfs_xdr.proofs.WordLaws.{is_signed}
+use Rattle.nfs_xdr.proofs.{CodecLaws.reads_from_gives, WordLaws.is_signed}
 use Rattle.nfs_xdr.proofs.cursor.Cursor.i64.Goals as goal
 
 pub returns-clause-spelled : goal.returns-clause-spelled
