@@ -19,6 +19,8 @@ from pathlib import Path
 
 rtlib = types.SimpleNamespace(crates_below=lambda folder: [])
 must_fail = in_lanes = None
+STORE = os.path.join(os.path.dirname(os.path.abspath(__file__)), "store")
+Kept = types.SimpleNamespace(of_edit=None)
 PROGRAM = """#!/bin/sh
 echo "ran $*"
 case "$*" in *sleep*) exec sleep 60 ;; *status=*) exit "${*##*status=}" ;; *input*) exec cat ;; esac
