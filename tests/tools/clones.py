@@ -1,6 +1,7 @@
 """Copies of the repository for tests of ./nfs41d and of what is installed, each with a stub of the toolchain's `rt`, so that nothing is proved."""
 import os
 import shutil
+import signal
 import subprocess
 from pathlib import Path
 
@@ -49,6 +50,12 @@ if __name__ == "__main__":
 '''
 
 
+def hears():
+    """What a child does before it becomes ./nfs41d: signals that this run ignores, as one behind `nohup` does, end it all the same."""
+    for number in (signal.SIGINT, signal.SIGHUP, signal.SIGTERM, signal.SIGQUIT):
+        signal.signal(number, signal.SIG_DFL)
+
+
 class Clone:
     """A copy of the repository as it stands here, in a folder of its own with a stub of the toolchain."""
 
@@ -77,7 +84,7 @@ class Clone:
     def begun(self, *words, script=None, cwd=None, **more):
         """./nfs41d with these words, as a process."""
         how = {"stdin": subprocess.PIPE, "stdout": subprocess.PIPE, "stderr": subprocess.PIPE, "text": True}
-        return subprocess.Popen([script or self.top / "nfs41d", *words], cwd=cwd or self.room, env=self.environment(**more), **how)
+        return subprocess.Popen([script or self.top / "nfs41d", *words], cwd=cwd or self.room, env=self.environment(**more), preexec_fn=hears, **how)
 
     def ran(self, *words, given="", **more):
         """How ./nfs41d with these words ended: its status and its two outputs."""
