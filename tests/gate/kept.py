@@ -1,12 +1,24 @@
-"""What the toolchain's script, which keeps what passed for later runs on this machine (`rt.Kept`), has to keep of the rounds in which
-tests/gate/rounds.py tries must-fail edits, and where."""
+"""What later runs on this machine have of a run: the proofs of crates, and what the rounds came to in which tests/gate/rounds.py tries must-fail
+edits. A toolchain's script may keep what passed itself (`rt.Kept`). It then keeps the rounds too, and has a place of their own. For a script that
+keeps nothing, `Store` does both."""
 
 import hashlib
+import json
 import os
+import shutil
 
 import edits as of_edits
 from edits import listed
 from rattle import text_of
+
+
+# what an edit came to, where a toolchain's script has no words of its own for it
+REFUSED, MISSED = "refused", "missed"
+
+
+def keeps(rt):
+    """Whether the toolchain's script keeps what passed for later runs on this machine."""
+    return hasattr(rt, "Kept")
 
 
 def rule():
@@ -21,7 +33,103 @@ def place(store):
     is_own = os.path.isdir(beside) and os.stat(beside).st_uid == os.geteuid()
     if is_own or not os.path.lexists(beside) and os.access(os.path.dirname(beside) or ".", os.W_OK):
         return beside
+    return in_cache()
+
+
+def in_cache():
     return os.path.join(os.environ.get("XDG_CACHE_HOME") or os.path.expanduser("~/.cache"), "gondzalif", "proved")
+
+
+def linked(source, to):
+    """The same file once more; it is a copy where the two places are on two file systems."""
+    try:
+        os.link(source, to)
+    except OSError:
+        shutil.copy2(source, to)
+
+
+class Store:
+    """What passed, by sums of all that it was read from, for a toolchain's script that keeps nothing itself."""
+
+    # how many proofs are kept of each crate: those that were used last
+    MOST = 3
+
+    def __init__(self, rt, folder, is_taken=True):
+        """Where it is not to be taken, what earlier runs kept is as if it were not there."""
+        self.rt, self.folder, self.is_taken, self.begun = rt, folder, is_taken, {}
+        self.toolchain = repr([text_of(f"{rt.KIT}/KIT-ID"), [os.stat(f"{rt.KIT}/bin/{it}")[6:9:2] for it in ("rattle", "rt", "rtlib.py")]])
+
+    def sum_of(self, crate):
+        """A sum of the crate, of those below it, of the handles that it may use, of the toolchain and of the rules of the gate."""
+        return hashlib.sha256(repr((crate.stamp(), text_of("HANDLES"), self.toolchain, rule())).encode()).hexdigest()
+
+    def key(self, crate):
+        """The sum of the crate as it was when the run first asked for it."""
+        return self.begun.setdefault(crate.name, self.sum_of(crate))
+
+    def is_untouched(self, crate):
+        """Whether the crate is still that of its key."""
+        return self.key(crate) == self.sum_of(crate)
+
+    def of_edit(self, edit, sum):
+        return hashlib.sha256(f"{sum} {text_of(edit)} {listed(edit)}".encode()).hexdigest()
+
+    def tried(self, name):
+        """What was kept under that name, a word and a text; or none."""
+        said = text_of(f"{self.folder}/tries/{name}") if self.is_taken else ""
+        return tuple(json.loads(said)) if said else None
+
+    def keep_tried(self, name, came, text):
+        os.makedirs(f"{self.folder}/tries", exist_ok=True)
+        with open(f"{self.folder}/tries/{name}-{os.getpid()}", "w", encoding="utf-8") as it:
+            json.dump([came, text], it)
+        os.rename(it.name, f"{self.folder}/tries/{name}")
+
+    def restored(self, crate):
+        """Puts the proof of the crate where its build would, and returns whether one was kept."""
+        kept = f"{self.folder}/proofs/{crate.name}/{self.key(crate)}"
+        if not self.is_taken or not os.path.isdir(kept):
+            return False
+        os.utime(kept)
+        shutil.copytree(kept, f"{crate.folder}/out", copy_function=linked, dirs_exist_ok=True)
+        return True
+
+    def keep_proof(self, crate):
+        """Keeps what the build of a proved crate made: its library, or its programs."""
+        if not self.is_untouched(crate):
+            return
+        of_crate = f"{self.folder}/proofs/{crate.name}"
+        made = f"{of_crate}/making-{os.getpid()}"
+        os.makedirs(made)
+        for name in os.listdir(f"{crate.folder}/out"):
+            path = f"{crate.folder}/out/{name}"
+            if name == "rlib":
+                shutil.copytree(path, f"{made}/{name}", copy_function=linked)
+            elif crate.is_program and name.startswith(crate.name) and os.path.isfile(path):
+                linked(path, f"{made}/{name}")
+        shutil.rmtree(f"{of_crate}/{self.key(crate)}", ignore_errors=True)
+        os.rename(made, f"{of_crate}/{self.key(crate)}")
+        all_kept = sorted((f"{of_crate}/{it}" for it in os.listdir(of_crate)), key=os.path.getmtime)
+        for old in all_kept[:-self.MOST]:
+            shutil.rmtree(old, ignore_errors=True)
+
+
+def with_rounds(rt, tries, store, in_lanes):
+    """Returns what runs the tasks of a script that has one task for all edits of a crate: they are tried in rounds, each a task of its own."""
+    def run(tasks):
+        crates = {it.name: it for it in rt.rtlib.crates_below(os.getcwd())}
+        came = {}
+        for name in [it[0] for it in tasks if it[1:] == ("edits",)]:
+            del tasks[name, "edits"]
+            good, bad = rt.edits_of(crates[name])
+            came[name] = bad, good, tries.add(tasks, crates[name], good, [], [], None, store)[0]
+        given = in_lanes(tasks)
+        for name, (bad, good, results) in came.items():
+            is_well = given[name, "proof"] and given[name, "tests"]
+            given[name, "edits"] = bad, good, [(kind == rt.REFUSED, text) for kind, text in results(given)] if is_well else []
+        return given
+
+    return run
 
 
 # what a turn counts for among the tasks of a run, whose order is by the lines behind each
@@ -35,6 +143,9 @@ class Tries:
     def __init__(self, rt, rounds, store=None):
         """`store` gets the script's own store under "kept"."""
         self.rt, self.rounds, self.store = rt, rounds, {} if store is None else store
+        if not keeps(rt):
+            rt.must_fail_all = rounds.all_of if rounds else None
+            return
         rt.STORE, rt.add_edits = place(rt.STORE), self.add
         of_edit, own = rt.Kept.of_edit, rule()
         rt.Kept.of_edit = lambda kept, edit, sum: hashlib.sha256(f"{of_edit(kept, edit, sum)} {own} {listed(edit)}".encode()).hexdigest()
@@ -46,7 +157,7 @@ class Tries:
         earlier, found = {}, {}
 
         def tried(some, jobs):
-            sum = kept.key(crate) if in_ci else self.rt.stamp_of(crate, {})
+            sum = kept.key(crate) if in_ci or not keeps(self.rt) else self.rt.stamp_of(crate, {})
             named = {at: kept.of_edit(edits[at], sum) for at in some}
             earlier.update((at, it) for at, it in ((at, kept.tried(named[at])) for at in some) if it)
             due = [at for at in some if at not in earlier]

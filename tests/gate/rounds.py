@@ -7,7 +7,7 @@
   holds its statements; the rounds of its edits are made from that.
 - Tests are run under the toolchain's run-time checks (`rt try --test`), which takes minutes where their proofs take an hour. Plain `rt ci` proves
   them too: what that adds is that the tests' own code is safe and returns.
-- tests/gate/kept.py has the toolchain's script keep what these rounds came to, as it keeps what else passed, for later runs on this machine.
+- tests/gate/kept.py keeps what was proved and what these rounds came to, for later runs on this machine.
 
 The closing lines tell how many minutes of processors the proofs, the tests and the edits of each crate took."""
 
@@ -72,7 +72,8 @@ class Rounds:
         label = f"must-fail {crate.name}/{os.path.basename(edit)}"
         functions, why = changed(self.rt, edit, crate.folder)
         came, text = ("bad", f"{label}: BAD EDIT: {why}") if why else self.must_fail(crate, edit, flags, kept)
-        is_well = came == self.rt.REFUSED
+        # (a kit's script says what came of it, or whether it was refused)
+        is_well = came in (True, self.rt.REFUSED)
         if is_well:
             is_well, text = self.judged(crate, edit, functions, functions, Said(self.last.output))
         print("tried", text[:200], flush=True)
@@ -204,19 +205,24 @@ def copied(kept):
         yield shutil.copytree(kept, f"{room}/kept", copy_function=os.link)
 
 
-def keep_all(rt, room):
+def keep_all(rt, room, own):
     """Has each proof of a library in a run keep all that it wrote, in new folders of the room; returns those folders by the crates' names. That of a
     program stays empty, since no check both keeps its work and makes what two compilers build: a round of its edits reads all anew, and is
-    mostly the only one."""
+    mostly the only one. Where the run has a store of its own, a proof that this has is put in place."""
     kept, ci = {}, rt.Crate.ci
 
     def ci_and_keep(crate, flags, tests):
         path = f"{room}/{crate.name}"
         shutil.rmtree(path, ignore_errors=True)
+        if own and own.restored(crate):
+            rt.say("proved in an earlier run on this machine, and nothing that it reads has changed", crate.out)
+            return 0
         os.mkdir(path)
         status = ci(crate, flags, tests) if crate.is_program else prove_once(rt, crate, flags, path)
         if not status and (crate.is_program or os.listdir(path)):
             kept[crate.name] = path
+        if not status and own:
+            own.keep_proof(crate)
         return status
 
     rt.Crate.ci = ci_and_keep
@@ -275,7 +281,8 @@ def tests_of(rt, crate, store):
         if not crate.has_tests():
             return True
         kept = store()
-        name = hashlib.sha256(f"tests of {crate.name} under run-time checks: {rt.stamp_of(crate, {})}".encode()).hexdigest()
+        sum = rt.stamp_of(crate, {}) if hasattr(rt, "stamp_of") else kept.key(crate)
+        name = hashlib.sha256(f"tests of {crate.name} under run-time checks: {sum}".encode()).hexdigest()
         if kept and kept.tried(name):
             rt.say(f"{crate.name}: its tests passed in an earlier run on this machine, and nothing that they read has changed")
             return True
@@ -358,6 +365,23 @@ class Minutes:
         return ["minutes of processors: proofs, tests, edits", *("  ".join([f"{name:14}", *(f"{it:6.1f}" for it in took)]) for name, took in lines)]
 
 
+def of_some(rt, words):
+    """Has a script that takes no names for `ci` run it of the crates that are named and of those below them; returns the words that it takes."""
+    names, crates_of = words[1:], rt.crates_of
+    if words[0] != "ci" or not names:
+        return words
+
+    def some_of(root, aside):
+        crates = crates_of(root, aside)
+        for name in sorted({*names} - {it.name for it in crates}):
+            rt.stop(f"there is no crate {name}")
+        wanted = {below.name for it in crates if it.name in names for below in [it, *it.below()]}
+        return [it for it in crates if it.name in wanted]
+
+    rt.crates_of = some_of
+    return ["ci"]
+
+
 def run(rt, words):
     """Runs the toolchain's command with these words, and returns its status. The word `program` in the place of `ci` has the program proved and
     built, and nothing beside it."""
@@ -365,16 +389,22 @@ def run(rt, words):
     is_program = words[0] == "program"
     minutes, in_lanes, store = Minutes(), rt.in_lanes, {}
     in_lanes = progress.program_alone(rt, in_lanes, minutes) if is_program else in_lanes
+    own = None
+    if not for_later.keeps(rt):
+        rt.REFUSED, rt.MISSED = for_later.REFUSED, for_later.MISSED
+        own = store["kept"] = for_later.Store(rt, for_later.in_cache(), "--anew" not in words)
+        words = of_some(rt, [it for it in words if it != "--anew"])
     tasks_of = lambda tasks: in_order(rt, tasks, lambda: store.get("kept"))
-    rt.in_lanes = lambda tasks: in_lanes({key: (*task[:3], minutes.timed(key, task[3])) for key, task in tasks_of(tasks).items()})
+    timed = lambda tasks: in_lanes({key: (*task[:3], minutes.timed(key, task[3])) for key, task in tasks_of(tasks).items()})
     build = Build(os.getcwd())
     sources, mark = build.sources(), build.mark()
     # (by this name the toolchain's script removes the folder of a run that was killed)
     with tempfile.TemporaryDirectory(prefix=f"rt-copy-{os.getpid()}-") as room:
         is_ci = words[0] != "must-fail"
-        kept = keep_all(rt, room) if is_ci else keep_own(rt, room, words[1:])
+        kept = keep_all(rt, room, own) if is_ci else keep_own(rt, room, words[1:])
         rounds = Rounds(rt, kept, is_ci, lambda crate: unpacked(rt, crate, f"{room}/{crate.name}"))
-        for_later.Tries(rt, rounds, store)
+        tries = for_later.Tries(rt, rounds, store)
+        rt.in_lanes = for_later.with_rounds(rt, tries, own, timed) if own else timed
         try:
             status = rt.main(["ci", *words[1:]] if is_program else words)
         except progress.Ended as ended:
