@@ -367,7 +367,7 @@ class Minutes:
 
 def of_some(rt, words):
     """Has a script that takes no names for `ci` run it of the crates that are named and of those below them; returns the words that it takes."""
-    names, crates_of = words[1:], rt.crates_of
+    names, crates_of, look = words[1:], rt.crates_of, rt.rtlib.stop_on_unread
     if words[0] != "ci" or not names:
         return words
 
@@ -375,6 +375,7 @@ def of_some(rt, words):
         crates = crates_of(root, aside)
         for name in sorted({*names} - {it.name for it in crates}):
             rt.stop(f"there is no crate {name}")
+        rt.rtlib.stop_on_unread = lambda path, _: look(path, crates)
         wanted = {below.name for it in crates if it.name in names for below in [it, *it.below()]}
         return [it for it in crates if it.name in wanted]
 
