@@ -60,8 +60,8 @@ class Store:
         self.toolchain = repr([text_of(f"{rt.KIT}/KIT-ID"), [os.stat(f"{rt.KIT}/bin/{it}")[6:9:2] for it in ("rattle", "rt", "rtlib.py")]])
 
     def sum_of(self, crate):
-        """A sum of the crate, of those below it, of the handles that it may use, of the toolchain and of the rules of the gate."""
-        return hashlib.sha256(repr((crate.stamp(), text_of("HANDLES"), self.toolchain, rule())).encode()).hexdigest()
+        """A sum of the crate, of those below it, of the handles that it may use, and of the toolchain."""
+        return hashlib.sha256(repr((crate.stamp(), text_of("HANDLES"), self.toolchain)).encode()).hexdigest()
 
     def key(self, crate):
         """The sum of the crate as it was when the run first asked for it."""
@@ -72,7 +72,7 @@ class Store:
         return self.key(crate) == self.sum_of(crate)
 
     def of_edit(self, edit, sum):
-        return hashlib.sha256(f"{sum} {text_of(edit)} {listed(edit)}".encode()).hexdigest()
+        return hashlib.sha256(f"{sum} {rule()} {text_of(edit)} {listed(edit)}".encode()).hexdigest()
 
     def tried(self, name):
         """What was kept under that name, a word and a text; or none."""
