@@ -12,13 +12,16 @@ from edits import listed
 from rattle import text_of
 
 
-# what an edit came to, where a toolchain's script has no words of its own for it
-REFUSED, MISSED = "refused", "missed"
-
-
 def keeps(rt):
     """Whether the toolchain's script keeps what passed for later runs on this machine."""
     return hasattr(rt, "Kept")
+
+
+def prepared(rt):
+    """The toolchain's script, with words for what an edit came to where it has none of its own."""
+    if not keeps(rt):
+        rt.REFUSED, rt.MISSED = "refused", "missed"
+    return rt
 
 
 def rule():
@@ -41,7 +44,9 @@ def in_cache():
 
 
 def linked(source, to):
-    """The same file once more; it is a copy where the two places are on two file systems."""
+    """The same file once more, in place of what was there; it is a copy where the two places are on two file systems."""
+    if os.path.lexists(to):
+        os.remove(to)
     try:
         os.link(source, to)
     except OSError:
@@ -55,9 +60,10 @@ class Store:
     MOST = 3
 
     def __init__(self, rt, folder, is_taken=True):
-        """Where it is not to be taken, what earlier runs kept is as if it were not there."""
-        self.rt, self.folder, self.is_taken, self.begun = rt, folder, is_taken, {}
-        self.toolchain = repr([text_of(f"{rt.KIT}/KIT-ID"), [os.stat(f"{rt.KIT}/bin/{it}")[6:9:2] for it in ("rattle", "rt", "rtlib.py")]])
+        """Without `is_taken`, what earlier runs kept is as if it were not there."""
+        self.folder, self.is_taken, self.begun = folder, is_taken, {}
+        made = [os.stat(f"{rt.KIT}/bin/{it}") for it in ("rattle", "rt", "rtlib.py")]
+        self.toolchain = repr([text_of(f"{rt.KIT}/KIT-ID"), *((it.st_size, it.st_mtime_ns) for it in made)])
 
     def sum_of(self, crate):
         """A sum of the crate, of those below it, of the handles that it may use, and of the toolchain."""
@@ -91,6 +97,7 @@ class Store:
         if not self.is_taken or not os.path.isdir(kept):
             return False
         os.utime(kept)
+        shutil.rmtree(os.path.dirname(crate.rlib), ignore_errors=True)
         shutil.copytree(kept, f"{crate.folder}/out", copy_function=linked, dirs_exist_ok=True)
         return True
 

@@ -392,7 +392,6 @@ def run(rt, words):
     in_lanes = progress.program_alone(rt, in_lanes, minutes) if is_program else in_lanes
     own = None
     if not for_later.keeps(rt):
-        rt.REFUSED, rt.MISSED = for_later.REFUSED, for_later.MISSED
         own = store["kept"] = for_later.Store(rt, for_later.in_cache(), "--anew" not in words)
         words = of_some(rt, [it for it in words if it != "--anew"])
     tasks_of = lambda tasks: in_order(rt, tasks, lambda: store.get("kept"))
