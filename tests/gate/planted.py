@@ -3,6 +3,7 @@
 
 import contextlib
 import io
+import os
 import subprocess
 import tempfile
 from pathlib import Path
@@ -183,7 +184,9 @@ class Repository:
 
     def ran(self, *words):
         how = {"stdin": subprocess.DEVNULL, "stdout": subprocess.PIPE, "stderr": subprocess.STDOUT, "text": True, "errors": "replace"}
-        return subprocess.run([str(TESTS / words[0]), *words[1:]], cwd=self.top, **how)
+        # (what it proves is kept for nobody)
+        with tempfile.TemporaryDirectory(prefix="rt-kept-") as cache:
+            return subprocess.run([str(TESTS / words[0]), *words[1:]], cwd=self.top, env={**os.environ, "XDG_CACHE_HOME": cache}, **how)
 
 
 def said(repository, *flags):

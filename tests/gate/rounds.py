@@ -215,7 +215,7 @@ def keep_all(rt, room, own):
         path = f"{room}/{crate.name}"
         shutil.rmtree(path, ignore_errors=True)
         if own and own.restored(crate):
-            rt.say("proved in an earlier run on this machine, and nothing that it reads has changed", crate.out)
+            rt.say(f"{crate.name} is kept: an earlier run on this machine proved it, and nothing that it reads has changed", crate.out)
             return 0
         os.mkdir(path)
         status = ci(crate, flags, tests) if crate.is_program else prove_once(rt, crate, flags, path)
