@@ -1,355 +1,338 @@
--- A pair that comes into a block of an index or goes, seen among all its pairs.
+-- What a search finds, adds, takes and changes in one block, seen among the items of all.
 use Rattle.std.proofs.Common.{◌≡◌, ◌≢◌, ◌⊎◌, inl, inr, ℕ, zero, suc, ◌-◌, ◌<◌, ◌≤◌, Bool, true, false, List, [], ◌∷◌, ◌++◌, set, length, get_or}
-use Rattle.std.proofs.{Common.{Option, Some, None, refl, sym, ◌∙◌, ap, subst, arith}, lemmas.Bool.{cases_lt, false≢true}, lemmas.List.append-nil}
-use Rattle.std.specs.{Prelude.slice_get, List.{insert, remove}, List.Sorted.{IsPartitionPoint, IsPartitionedBy}}
+use Rattle.std.proofs.{Common.{Option, Some, None, refl, sym, ◌∙◌, ap, subst, arith}, lemmas.Bool.{cases_Bool, false≢true}, lemmas.List.{append-nil, append_assoc}, lemmas.Option.slice_get-get_or}
+use Rattle.std.specs.{Prelude.{slice_get, IfSome}, List.{insert, remove}, List.Sorted.IsPartitionedBy}
 use Rattle.nfs_xdr.specs.Tables.{In}
-use Rattle.nfs_opens.specs.{declared.index.Pair.Pair, Index.{Precedes, IsAscending, pair_of, is_before, IsNext, HasPut, HasTaken}}
-use Rattle.nfs_opens.specs.{Flat.{flat, last_of, front_of, rest_of}, Blocks.{ends_before, AreOrdered, IsPlace}}
-use Rattle.nfs_opens.proofs.FlatLemmas.{in_front, in_rear, in_either, last_among, in_flat, block_in, around, set_around, added_around, removed_around, in_set, all_front, removed_set, rest_last, same_block, last_got}
-use Rattle.nfs_opens.proofs.IndexLemmas.{compared, never_itself, carried, before_is, behind_is, itself_is, stays_before, later, in_insert, removed_in}
+use Rattle.nfs_xdr.proofs.Lists.{in_at, in_push}
+use Rattle.nfs_ranges.specs.Edits.{lead}
+use Rattle.nfs_opens.specs.Flat.{flat, last_of, front_of, rest_of}
+use Rattle.nfs_opens.specs.Blocks.{IsParted, AreSome, found, onward, added, removed, changed, first_out, first_changed, passes}
+use Rattle.nfs_opens.proofs.FlatLemmas.{in_front, in_rear, in_flat, last_among, last_got, block_in, around, set_around, added_around, removed_around, in_set, in_insert, removed_in, removed_set, rest_last, flat_push}
 
-order_front : (xs ys : List Pair) → IsAscending (xs ++ ys) → IsAscending xs
-order_front [] ys order = tt
-order_front (x ∷ xs) ys order = ((λ q there. order.0 q (in_front xs ys q there)), order_front xs ys order.1)
+module _ {X : Type 0} (p : X → Bool) where
+  -- What passes stands before what does not.
 
-order_rear : (xs ys : List Pair) → IsAscending (xs ++ ys) → IsAscending ys
-order_rear [] ys order = order
-order_rear (x ∷ xs) ys order = order_rear xs ys order.1
+  pub parted_by : (xs : List X) → IsParted p xs → IsPartitionedBy p xs
+  parted_by [] parted i j d le within e = absurd (omega arith)
+  parted_by (x ∷ xs) parted zero zero d le within e = e
+  parted_by (x ∷ xs) parted zero (suc j) d le within e = parted.0 (get_or xs j d) (in_at xs j d (omega arith)) e
+  parted_by (x ∷ xs) parted (suc i) zero d le within e = absurd (omega arith)
+  parted_by (x ∷ xs) parted (suc i) (suc j) d le within e = parted_by xs parted.1 i j d (omega arith) (omega arith) e
 
-order_across : (xs ys : List Pair) → IsAscending (xs ++ ys) → (p q : Pair) → In p xs → In q ys → Precedes p q
-order_across [] ys order p q front rear = absurd front
-order_across (x ∷ xs) ys order p q (inl is) rear = subst (λ (r : Pair). Precedes r q) (sym is) (order.0 q (in_rear xs ys q rear))
-order_across (x ∷ xs) ys order p q (inr more) rear = order_across xs ys order.1 p q more rear
+  pub parted_front : (xs ys : List X) → IsParted p (xs ++ ys) → IsParted p xs
+  parted_front [] ys parted = tt
+  parted_front (x ∷ xs) ys parted = ((λ y there. parted.0 y (in_front xs ys y there)), parted_front xs ys parted.1)
 
-order_both : (xs ys : List Pair) → IsAscending xs → IsAscending ys → ((p q : Pair) → In p xs → In q ys → Precedes p q) → IsAscending (xs ++ ys)
-order_both [] ys front rear across = rear
-order_both (x ∷ xs) ys front rear across = (
-  (λ q there. elim (in_either xs ys q there) [ inl here ↦ front.0 q here | inr more ↦ across x q (inl refl) more ]),
-  order_both xs ys front.1 rear (λ p q a b. across p q (inr a) b),
-)
+  pub parted_rear : (xs ys : List X) → IsParted p (xs ++ ys) → IsParted p ys
+  parted_rear [] ys parted = parted
+  parted_rear (x ∷ xs) ys parted = parted_rear xs ys parted.1
 
--- One block among the others.
+  parted_across : (xs ys : List X) → IsParted p (xs ++ ys) → (x y : X) → In x xs → In y ys → p y ≡ true → p x ≡ true
+  parted_across [] ys parted x y front rear e = absurd front
+  parted_across (z ∷ xs) ys parted x y (inl is) rear e = ap p is ∙ parted.0 y (in_rear xs ys y rear) e
+  parted_across (z ∷ xs) ys parted x y (inr more) rear e = parted_across xs ys parted.1 x y more rear e
 
-module _ (front b rest c : List Pair) (x : Pair) (order : IsAscending (front ++ (b ++ rest))) where
-  inner : IsAscending (b ++ rest)
-  inner = order_rear front (b ++ rest) order
+  -- where the last passes, all do
+  all_pass : (x : X) (xs : List X) → IsParted p (x ∷ xs) → p (last_of x xs) ≡ true → (y : X) → In y (x ∷ xs) → p y ≡ true
+  all_pass x [] parted e y (inl is) = ap p is ∙ e
+  all_pass x [] parted e y (inr more) = absurd more
+  all_pass x (z ∷ zs) parted e y (inl is) = ap p is ∙ parted.0 (last_of z zs) (last_among z zs) e
+  all_pass x (z ∷ zs) parted e y (inr more) = all_pass z zs parted.1 e y more
 
-  pub put_over : HasPut b x c → ((p : Pair) → In p front → Precedes p x) → ((p : Pair) → In p rest → Precedes x p)
-      → HasPut (front ++ (b ++ rest)) x (front ++ (c ++ rest))
-  put_over put below above = record {
-    order = order_both front (c ++ rest) (order_front front (b ++ rest) order)
-        (order_both c rest put.order (order_rear b rest inner) (λ p q a d. elim (put.only p a) [
-          | inl is ↦ subst (λ (r : Pair). Precedes r q) (sym is) (above q d)
-          | inr old ↦ order_across b rest inner p q old d
-        ]))
-        (λ p q a d. elim (in_either c rest q d) [
-          | inl in_c ↦ elim (put.only q in_c) [
-            | inl is ↦ subst (λ (r : Pair). Precedes p r) (sym is) (below p a)
-            | inr old ↦ order_across front (b ++ rest) order p q a (in_front b rest q old)
-          ]
-          | inr in_rest ↦ order_across front (b ++ rest) order p q a (in_rear b rest q in_rest)
-        ]);
-    put = in_rear front (c ++ rest) x (in_front c rest x put.put);
-    kept = λ p there. elim (in_either front (b ++ rest) p there) [
-      | inl a ↦ in_front front (c ++ rest) p a
-      | inr more ↦ in_rear front (c ++ rest) p (elim (in_either b rest p more) [
-        | inl in_b ↦ in_front c rest p (put.kept p in_b)
-        | inr in_rest ↦ in_rear c rest p in_rest
-      ])
-    ];
-    only = λ p there. elim (in_either front (c ++ rest) p there) [
-      | inl a ↦ inr (in_front front (b ++ rest) p a)
-      | inr more ↦ elim (in_either c rest p more) [
-        | inl in_c ↦ elim (put.only p in_c) [ inl is ↦ inl is | inr old ↦ inr (in_rear front (b ++ rest) p (in_front b rest p old)) ]
-        | inr in_rest ↦ inr (in_rear front (b ++ rest) p (in_rear b rest p in_rest))
+  block_passes : (b : List X) → IsParted p b → passes p b ≡ true → (y : X) → In y b → p y ≡ true
+  block_passes [] parted e y there = absurd there
+  block_passes (x ∷ xs) parted e y there = all_pass x xs parted e y there
+
+  passes_so : (b : List X) (bs : List (List X)) → AreSome bs → IsParted p (b ++ flat bs) → (c : List X) → In c bs → passes p c ≡ true → passes p b ≡ true
+  passes_so [] bs some parted c there e = refl
+  passes_so (x ∷ xs) bs some parted [] there e = absurd (some [] there refl)
+  passes_so (x ∷ xs) bs some parted (y ∷ ys) there e =
+      parted_across (x ∷ xs) (flat bs) parted (last_of x xs) (last_of y ys) (last_among x xs) (in_flat bs (y ∷ ys) (last_of y ys) there (last_among y ys)) e
+
+  pub blocks_parted : (bs : List (List X)) → AreSome bs → IsParted p (flat bs) → IsParted (passes p) bs
+  blocks_parted [] some parted = tt
+  blocks_parted (b ∷ bs) some parted = (
+    passes_so b bs (λ c there. some c (inr there)) parted,
+    blocks_parted bs (λ c there. some c (inr there)) (parted_rear b (flat bs) parted),
+  )
+
+  pub block_parted : (bs : List (List X)) (i : ℕ) (b : List X) → IsParted p (flat bs) → i < length bs → b ≡ get_or bs i b → IsParted p b
+  block_parted [] i b parted less at = absurd (omega arith)
+  block_parted (c ∷ bs) zero b parted less at = subst (IsParted p) (sym at) (parted_front c (flat bs) parted)
+  block_parted (c ∷ bs) (suc i) b parted less at = block_parted bs i b (parted_rear c (flat bs) parted) (omega arith) at
+
+  pub ends_at : (xs : List X) (x : X) → Some x ≡ slice_get xs (length xs - 1) → p x ≡ passes p xs
+  ends_at [] x e = absurd cc
+  ends_at (y ∷ ys) x e =
+      let last : length (y ∷ ys) - 1 ≡ length ys = omega arith in
+      let same : Some x ≡ Some (last_of y ys) = e ∙ (ap (slice_get (y ∷ ys)) last ∙ last_got y ys) in
+      let is : x ≡ last_of y ys = cc in
+      ap p is
+
+  -- In one list.
+
+  pub added_behind_one : (new x : X) (xs : List X) → p x ≡ true → added p new (x ∷ xs) ≡ x ∷ added p new xs
+  added_behind_one new x xs on = rw on refl
+
+  pub added_first : (new x : X) (xs : List X) → p x ≡ false → added p new (x ∷ xs) ≡ new ∷ x ∷ xs
+  added_first new x xs off = rw off refl
+
+  pub added_is : (new : X) (xs : List X) → added p new xs ≡ insert xs (lead p xs) new
+  added_is new [] = refl
+  added_is new (x ∷ xs) = elim (cases_Bool (p x)) [ inl e ↦ rw e (ap (λ (ys : List X). x ∷ ys) (added_is new xs)) | inr e ↦ rw e refl ]
+
+  module _ (is : X → Bool) where
+    pub found_behind_one : (x : X) (xs : List X) → p x ≡ true → found p is (x ∷ xs) ≡ found p is xs
+    found_behind_one x xs on = rw on refl
+
+    pub found_first : (x : X) (xs : List X) → p x ≡ false → is x ≡ true → found p is (x ∷ xs) ≡ Some x
+    found_first x xs off here = rw (off, here) refl
+
+    pub found_not : (x : X) (xs : List X) → p x ≡ false → is x ≡ false → found p is (x ∷ xs) ≡ None
+    found_not x xs off other = rw (off, other) refl
+
+    pub removed_behind_one : (x : X) (xs : List X) → p x ≡ true → removed p is (x ∷ xs) ≡ x ∷ removed p is xs
+    removed_behind_one x xs on = rw on refl
+
+    pub removed_first : (x : X) (xs : List X) → p x ≡ false → is x ≡ true → removed p is (x ∷ xs) ≡ xs
+    removed_first x xs off here = rw (off, here) refl
+
+    pub removed_not : (x : X) (xs : List X) → p x ≡ false → is x ≡ false → removed p is (x ∷ xs) ≡ x ∷ xs
+    removed_not x xs off other = rw (off, other) refl
+
+    pub changed_behind_one : (f : X → X) (x : X) (xs : List X) → p x ≡ true → changed p is f (x ∷ xs) ≡ x ∷ changed p is f xs
+    changed_behind_one f x xs on = rw on refl
+
+    pub changed_first : (f : X → X) (x : X) (xs : List X) → p x ≡ false → is x ≡ true → changed p is f (x ∷ xs) ≡ f x ∷ xs
+    changed_first f x xs off here = rw (off, here) refl
+
+    pub changed_not : (f : X → X) (x : X) (xs : List X) → p x ≡ false → is x ≡ false → changed p is f (x ∷ xs) ≡ x ∷ xs
+    changed_not f x xs off other = rw (off, other) refl
+
+    pub found_here : (xs : List X) (x : X) → slice_get xs (lead p xs) ≡ Some x → is x ≡ true → found p is xs ≡ Some x
+    found_here [] x at here = absurd cc
+    found_here (y ∷ ys) x at here = elim (cases_Bool (p y)) [
+      | inl e ↦ rw e (found_here ys x (let more : slice_get ys (lead p ys) ≡ Some x = rw e at at in more) here)
+      | inr e ↦ (let same : y ≡ x = (let first : Some y ≡ Some x = rw e at at in cc) in rw (e, same, here) refl)
+    ]
+
+    pub found_other : (xs : List X) (x : X) → slice_get xs (lead p xs) ≡ Some x → is x ≡ false → found p is xs ≡ None
+    found_other [] x at other = refl
+    found_other (y ∷ ys) x at other = elim (cases_Bool (p y)) [
+      | inl e ↦ rw e (found_other ys x (let more : slice_get ys (lead p ys) ≡ Some x = rw e at at in more) other)
+      | inr e ↦ (let same : y ≡ x = (let first : Some y ≡ Some x = rw e at at in cc) in rw (e, same, other) refl)
+    ]
+
+    pub found_nowhere : (xs : List X) → slice_get xs (lead p xs) ≡ None → found p is xs ≡ None
+    found_nowhere [] at = refl
+    found_nowhere (y ∷ ys) at = elim (cases_Bool (p y)) [
+      | inl e ↦ rw e (found_nowhere ys (let more : slice_get ys (lead p ys) ≡ None = rw e at at in more))
+      | inr e ↦ absurd (let first : Some y ≡ None = rw e at at in cc)
+    ]
+
+    pub removed_at : (xs : List X) (x : X) → found p is xs ≡ Some x → removed p is xs ≡ remove xs (lead p xs)
+    removed_at [] x e = absurd cc
+    removed_at (y ∷ ys) x e = elim (cases_Bool (p y)) [
+      | inl on ↦ rw on (ap (λ (zs : List X). y ∷ zs) (removed_at ys x (let more : found p is ys ≡ Some x = rw on at e in more)))
+      | inr off ↦ elim (cases_Bool (is y)) [
+        | inl here ↦ rw (off, here) refl
+        | inr other ↦ absurd (let none : None ≡ Some x = rw (off, other) at e in cc)
       ]
+    ]
+
+    pub removed_none : (xs : List X) → found p is xs ≡ None → removed p is xs ≡ xs
+    removed_none [] e = refl
+    removed_none (y ∷ ys) e = elim (cases_Bool (p y)) [
+      | inl on ↦ rw on (ap (λ (zs : List X). y ∷ zs) (removed_none ys (let more : found p is ys ≡ None = rw on at e in more)))
+      | inr off ↦ elim (cases_Bool (is y)) [
+        | inl here ↦ absurd (let some : Some y ≡ None = rw (off, here) at e in cc)
+        | inr other ↦ rw (off, other) refl
+      ]
+    ]
+
+    pub changed_at : (f : X → X) (xs : List X) (x : X) → found p is xs ≡ Some x → changed p is f xs ≡ set xs (lead p xs) (f x)
+    changed_at f [] x e = absurd cc
+    changed_at f (y ∷ ys) x e = elim (cases_Bool (p y)) [
+      | inl on ↦ rw on (ap (λ (zs : List X). y ∷ zs) (changed_at f ys x (let more : found p is ys ≡ Some x = rw on at e in more)))
+      | inr off ↦ elim (cases_Bool (is y)) [
+        | inl here ↦ (let same : y ≡ x = (let some : Some y ≡ Some x = rw (off, here) at e in cc) in rw (off, here, same) refl)
+        | inr other ↦ absurd (let none : None ≡ Some x = rw (off, other) at e in cc)
+      ]
+    ]
+
+    pub changed_none : (f : X → X) (xs : List X) → found p is xs ≡ None → changed p is f xs ≡ xs
+    changed_none f [] e = refl
+    changed_none f (y ∷ ys) e = elim (cases_Bool (p y)) [
+      | inl on ↦ rw on (ap (λ (zs : List X). y ∷ zs) (changed_none f ys (let more : found p is ys ≡ None = rw on at e in more)))
+      | inr off ↦ elim (cases_Bool (is y)) [
+        | inl here ↦ absurd (let some : Some y ≡ None = rw (off, here) at e in cc)
+        | inr other ↦ rw (off, other) refl
+      ]
+    ]
+
+    pub removed_there : (xs : List X) (i : ℕ) → i ≡ lead p xs → i < length xs → found p is xs ≡ slice_get xs i → removed p is xs ≡ remove xs i
+    removed_there [] i place less e = absurd (omega arith)
+    removed_there (x ∷ xs) i place less e =
+        removed_at (x ∷ xs) (get_or (x ∷ xs) i x) (e ∙ slice_get-get_or (x ∷ xs) i x less) ∙ ap (remove (x ∷ xs)) (sym place)
+
+    pub changed_there : (f : X → X) (xs : List X) (i : ℕ) (x : X) → i ≡ lead p xs → i < length xs → found p is xs ≡ slice_get xs i → x ≡ get_or xs i x
+        → changed p is f xs ≡ set xs i (f x)
+    changed_there f xs i x place less e at =
+        changed_at f xs x (e ∙ (slice_get-get_or xs i x less ∙ ap (λ (y : X). Some y) (sym at))) ∙ ap (λ (k : ℕ). set xs k (f x)) (sym place)
+
+    -- Over all blocks.
+
+    found_behind : (b ys : List X) → ((x : X) → In x b → p x ≡ true) → found p is (b ++ ys) ≡ found p is ys
+    found_behind [] ys pass = refl
+    found_behind (x ∷ xs) ys pass = rw (pass x (inl refl)) (found_behind xs ys (λ y there. pass y (inr there)))
+
+    found_front : (x : X) (xs ys : List X) → p (last_of x xs) ≡ false → found p is (x ∷ xs ++ ys) ≡ found p is (x ∷ xs)
+    found_front x [] ys e = rw e refl
+    found_front x (z ∷ zs) ys e = elim (cases_Bool (p x)) [ inl on ↦ rw on (found_front z zs ys e) | inr off ↦ rw off refl ]
+
+    pub found_in : (bs : List (List X)) (b : List X) → AreSome bs → IsParted p (flat bs) → slice_get bs (lead (passes p) bs) ≡ Some b
+        → found p is b ≡ found p is (flat bs)
+    found_in [] b some parted at = absurd cc
+    found_in ([] ∷ bs) b some parted at = absurd (some [] (inl refl) refl)
+    found_in ((x ∷ xs) ∷ bs) b some parted at = elim (cases_Bool (p (last_of x xs))) [
+      | inl on ↦ found_in bs b (λ c there. some c (inr there)) (parted_rear (x ∷ xs) (flat bs) parted) (let more : slice_get bs (lead (passes p) bs) ≡ Some b = rw on at at in more)
+          ∙ sym (found_behind (x ∷ xs) (flat bs) (all_pass x xs (parted_front (x ∷ xs) (flat bs) parted) on))
+      | inr off ↦ (let same : x ∷ xs ≡ b = (let first : Some (x ∷ xs) ≡ Some b = rw off at at in cc) in ap (found p is) (sym same) ∙ sym (found_front x xs (flat bs) off))
+    ]
+
+    pub found_none : (bs : List (List X)) → AreSome bs → IsParted p (flat bs) → slice_get bs (lead (passes p) bs) ≡ None → found p is (flat bs) ≡ None
+    found_none [] some parted at = refl
+    found_none ([] ∷ bs) some parted at = absurd (some [] (inl refl) refl)
+    found_none ((x ∷ xs) ∷ bs) some parted at = elim (cases_Bool (p (last_of x xs))) [
+      | inl on ↦ found_behind (x ∷ xs) (flat bs) (all_pass x xs (parted_front (x ∷ xs) (flat bs) parted) on)
+          ∙ found_none bs (λ c there. some c (inr there)) (parted_rear (x ∷ xs) (flat bs) parted) (let more : slice_get bs (lead (passes p) bs) ≡ None = rw on at at in more)
+      | inr off ↦ absurd (let first : Some (x ∷ xs) ≡ None = rw off at at in cc)
+    ]
+
+  -- A change that looks at the first item alone.
+
+  module _ (change : List X → List X) where
+    onward_behind : (b ys : List X) → ((x : X) → In x b → p x ≡ true) → onward p change (b ++ ys) ≡ b ++ onward p change ys
+    onward_behind [] ys pass = refl
+    onward_behind (x ∷ xs) ys pass = rw (pass x (inl refl)) (ap (λ (zs : List X). x ∷ zs) (onward_behind xs ys (λ y there. pass y (inr there))))
+
+    -- all pass
+    pub onward_none : (bs : List (List X)) → IsParted p (flat bs) → length bs ≤ lead (passes p) bs → onward p change (flat bs) ≡ flat bs ++ change []
+    onward_none [] parted le = refl
+    onward_none (b ∷ bs) parted le = elim (cases_Bool (passes p b)) [
+      | inl on ↦ onward_behind b (flat bs) (block_passes b (parted_front b (flat bs) parted) on)
+          ∙ (ap (λ (zs : List X). b ++ zs) (onward_none bs (parted_rear b (flat bs) parted) (let more : suc (length bs) ≤ suc (lead (passes p) bs) = rw on at le in omega arith))
+          ∙ sym (append_assoc b (flat bs) (change [])))
+      | inr off ↦ absurd (let none : suc (length bs) ≤ zero = rw off at le in omega arith)
+    ]
+
+    module _ (first : (x : X) (xs ys : List X) → change (x ∷ (xs ++ ys)) ≡ change (x ∷ xs) ++ ys) where
+      onward_front : (x : X) (xs ys : List X) → p (last_of x xs) ≡ false → onward p change (x ∷ (xs ++ ys)) ≡ onward p change (x ∷ xs) ++ ys
+      onward_front x [] ys e = rw e (first x [] ys)
+      onward_front x (z ∷ zs) ys e = elim (cases_Bool (p x)) [
+        | inl on ↦ rw on (ap (λ (ws : List X). x ∷ ws) (onward_front z zs ys e))
+        | inr off ↦ rw off (first x (z ∷ zs) ys)
+      ]
+
+      pub onward_in : (bs : List (List X)) (i : ℕ) (b : List X) → AreSome bs → IsParted p (flat bs) → i ≡ lead (passes p) bs → i < length bs → b ≡ get_or bs i b
+          → onward p change (flat bs) ≡ front_of bs i ++ (onward p change b ++ rest_of bs i)
+      onward_in [] i b some parted is less at = absurd (omega arith)
+      onward_in ([] ∷ bs) i b some parted is less at = absurd (some [] (inl refl) refl)
+      onward_in ((x ∷ xs) ∷ bs) zero b some parted is less at = elim (cases_Bool (p (last_of x xs))) [
+        | inl on ↦ absurd (let bad : zero ≡ suc (lead (passes p) bs) = rw on at is in omega arith)
+        | inr off ↦ onward_front x xs (flat bs) off ∙ ap (λ (ys : List X). onward p change ys ++ flat bs) (sym at)
+      ]
+      onward_in ((x ∷ xs) ∷ bs) (suc i) b some parted is less at = elim (cases_Bool (p (last_of x xs))) [
+        | inl on ↦ onward_behind (x ∷ xs) (flat bs) (all_pass x xs (parted_front (x ∷ xs) (flat bs) parted) on)
+            ∙ (ap (λ (zs : List X). (x ∷ xs) ++ zs) (onward_in bs i b (λ c there. some c (inr there)) (parted_rear (x ∷ xs) (flat bs) parted)
+            (let more : suc i ≡ suc (lead (passes p) bs) = rw on at is in omega arith) (omega arith) at)
+            ∙ sym (append_assoc (x ∷ xs) (front_of bs i) (onward p change b ++ rest_of bs i)))
+        | inr off ↦ absurd (let bad : suc i ≡ zero = rw off at is in omega arith)
+      ]
+
+-- What the blocks are afterwards.
+
+module _ {X : Type 0} where
+  -- blocks that hold these
+  pub record Holds (bs : List (List X)) (xs : List X) : Type 0 where
+    pub items : flat bs ≡ xs
+    pub some : AreSome bs
+
+  set_some : (bs : List (List X)) (i : ℕ) (c : List X) → AreSome bs → c ≢ [] → AreSome (set bs i c)
+  set_some bs i c some is d there = elim (in_set bs i c d there) [ inl same ↦ (λ none. is (sym same ∙ none)) | inr old ↦ some d old ]
+
+  module _ (p : X → Bool) (change : List X → List X) (first : (x : X) (xs ys : List X) → change (x ∷ (xs ++ ys)) ≡ change (x ∷ xs) ++ ys)
+      (bs : List (List X)) (i : ℕ) (b : List X) (some : AreSome bs) (parted : IsParted p (flat bs)) (is : i ≡ lead (passes p) bs) (less : i < length bs)
+      (at : b ≡ get_or bs i b) where
+    here : onward p change (flat bs) ≡ front_of bs i ++ (onward p change b ++ rest_of bs i)
+    here = onward_in p change first bs i b some parted is less at
+
+    pub one_changed : (c : List X) → c ≡ onward p change b → c ≢ [] → Holds (set bs i c) (onward p change (flat bs))
+    one_changed c made full = record {
+      items = set_around bs i c less ∙ (ap (λ (ys : List X). front_of bs i ++ (ys ++ rest_of bs i)) made ∙ sym here);
+      some = set_some bs i c some full;
+    }
+
+    pub one_emptied : (c : List X) (cs : List (List X)) → c ≡ onward p change b → c ≡ [] → cs ≡ remove (set bs i c) i → Holds cs (onward p change (flat bs))
+    one_emptied c cs made none left =
+        let gone : cs ≡ remove bs i = left ∙ removed_set bs i c in
+        record {
+          items = ap flat gone ∙ (removed_around bs i less ∙ (ap (λ (ys : List X). front_of bs i ++ (ys ++ rest_of bs i)) (sym none ∙ made) ∙ sym here));
+          some = λ d there. some d (removed_in bs i d (subst (λ (ds : List (List X)). In d ds) gone there));
+        }
+
+    pub one_split : (c t : List X) (cs : List (List X)) → c ++ t ≡ onward p change b → c ≢ [] → t ≢ [] → cs ≡ insert (set bs i c) (suc i) t
+        → Holds cs (onward p change (flat bs))
+    one_split c t cs made full more added = record {
+      items = ap flat added ∙ (added_around bs i c t less ∙ (ap (λ (ys : List X). front_of bs i ++ (ys ++ rest_of bs i)) made ∙ sym here));
+      some = λ d there. elim (in_insert (set bs i c) (suc i) t d (subst (λ (ds : List (List X)). In d ds) added there)) [
+        | inl same ↦ (λ none. more (sym same ∙ none))
+        | inr old ↦ set_some bs i c some full d old
+      ];
+    }
+
+  pub block_some : (bs : List (List X)) (i : ℕ) (b : List X) → AreSome bs → i < length bs → b ≡ get_or bs i b → b ≢ []
+  block_some bs i b some less at = some b (subst (λ (d : List X). In d bs) (sym at) (block_in bs i b less))
+
+  pub spare_empty : (spare : Option (List X)) (b : List X) (n room : ℕ) → IfSome spare (λ s. (s ≡ []) × (n < room)) → spare ≡ Some b → b ≡ []
+  spare_empty None b n room is e = absurd cc
+  spare_empty (Some s) b n room is e = let same : s ≡ b = cc in sym same ∙ is.0
+
+  -- one more behind all, in the last block
+  pub pushed_last : (bs : List (List X)) (i : ℕ) (b c : List X) (new : X) → AreSome bs → length bs ≡ suc i → b ≡ get_or bs i b → c ≡ b ++ new ∷ []
+      → Holds (set bs i c) (flat bs ++ new ∷ [])
+  pushed_last bs i b c new some last at made =
+      let none = rest_last bs i (omega arith) in
+      let before : flat bs ≡ front_of bs i ++ b = around bs i b (omega arith) at
+      ∙ (ap (λ (ys : List X). front_of bs i ++ (b ++ ys)) none ∙ ap (λ (ys : List X). front_of bs i ++ ys) (append-nil b)) in
+      record {
+        items = set_around bs i c (omega arith)
+            ∙ (ap (λ (ys : List X). front_of bs i ++ (c ++ ys)) none
+            ∙ (ap (λ (ys : List X). front_of bs i ++ ys) (append-nil c ∙ made)
+            ∙ (sym (append_assoc (front_of bs i) b (new ∷ [])) ∙ ap (λ (ys : List X). ys ++ new ∷ []) (sym before))));
+        some = set_some bs i c some (λ none. pushed_some b (sym made ∙ none));
+      }
+    where
+      pushed_some : (b : List X) → b ++ new ∷ [] ≢ []
+      pushed_some [] e = absurd cc
+      pushed_some (x ∷ xs) e = absurd cc
+
+  -- and in one of its own
+  pub pushed_new : (bs cs : List (List X)) (b : List X) (new : X) → AreSome bs → b ≡ new ∷ [] → cs ≡ bs ++ b ∷ [] → Holds cs (flat bs ++ new ∷ [])
+  pushed_new bs cs b new some one made = record {
+    items = ap flat made ∙ (flat_push bs b ∙ ap (λ (ys : List X). flat bs ++ ys) one);
+    some = λ d there. elim (in_push bs b d (subst (λ (ds : List (List X)). In d ds) made there)) [
+      | inl same ↦ (λ none. full (sym one ∙ (sym same ∙ none)))
+      | inr old ↦ some d old
     ];
   }
+    where
+      full : new ∷ [] ≢ []
+      full e = absurd cc
 
-  pub take_over : HasTaken b x c → In x b → HasTaken (front ++ (b ++ rest)) x (front ++ (c ++ rest))
-  take_over taken there_x = record {
-    order = order_both front (c ++ rest) (order_front front (b ++ rest) order)
-        (order_both c rest taken.order (order_rear b rest inner) (λ p q a d. order_across b rest inner p q (taken.only p a).0 d))
-        (λ p q a d. order_across front (b ++ rest) order p q a (elim (in_either c rest q d) [
-          | inl in_c ↦ in_front b rest q (taken.only q in_c).0
-          | inr in_rest ↦ in_rear b rest q in_rest
-        ]));
-    kept = λ p there other. elim (in_either front (b ++ rest) p there) [
-      | inl a ↦ in_front front (c ++ rest) p a
-      | inr more ↦ in_rear front (c ++ rest) p (elim (in_either b rest p more) [
-        | inl in_b ↦ in_front c rest p (taken.kept p in_b other)
-        | inr in_rest ↦ in_rear c rest p in_rest
-      ])
-    ];
-    only = λ p there. elim (in_either front (c ++ rest) p there) [
-      | inl a ↦ (in_front front (b ++ rest) p a, never_itself p x (order_across front (b ++ rest) order p x a (in_front b rest x there_x)))
-      | inr more ↦ elim (in_either c rest p more) [
-        | inl in_c ↦ (in_rear front (b ++ rest) p (in_front b rest p (taken.only p in_c).0), (taken.only p in_c).1)
-        | inr in_rest ↦ (in_rear front (b ++ rest) p (in_rear b rest p in_rest), (λ e. never_itself x p (order_across b rest inner x p there_x in_rest) (sym e)))
-      ]
-    ];
-  }
+  -- what finds, takes and changes one item looks at the first alone
+  pub first_removed : (is : X → Bool) (x : X) (xs ys : List X) → first_out is (x ∷ (xs ++ ys)) ≡ first_out is (x ∷ xs) ++ ys
+  first_removed is x xs ys = elim (cases_Bool (is x)) [ inl e ↦ rw e refl | inr e ↦ rw e refl ]
 
--- The last pair of a block.
-
-pub ends_at : (of number : ℕ) (too : Bool) (ps : List Pair) (p : Pair) → Some p ≡ slice_get ps (length ps - 1)
-    → is_before of number too p ≡ ends_before of number too ps
-ends_at of number too [] p e = absurd cc
-ends_at of number too (q ∷ qs) p e =
-    let last : length (q ∷ qs) - 1 ≡ length qs = omega arith in
-    let same : Some p ≡ Some (last_of q qs) = e ∙ (ap (slice_get (q ∷ qs)) last ∙ last_got q qs) in
-    let is : p ≡ last_of q qs = cc in
-    ap (is_before of number too) is
-
-to_last : (p : Pair) (ps : List Pair) (q : Pair) → IsAscending (p ∷ ps) → In q (p ∷ ps) → (q ≡ last_of p ps) ⊎ Precedes q (last_of p ps)
-to_last p [] q order (inl is) = inl is
-to_last p [] q order (inr more) = absurd more
-to_last p (r ∷ rs) q order (inl is) = inr (subst (λ (s : Pair). Precedes s (last_of r rs)) (sym is) (order.0 (last_of r rs) (last_among r rs)))
-to_last p (r ∷ rs) q order (inr more) = to_last r rs q order.1 more
-
-all_before : (of number : ℕ) (too : Bool) (b : List Pair) (q : Pair) → IsAscending b → ends_before of number too b ≡ true → In q b → is_before of number too q ≡ true
-all_before of number too [] q order e there = absurd there
-all_before of number too (p ∷ ps) q order e there =
-    elim (to_last p ps q order there) [ inl is ↦ ap (is_before of number too) is ∙ e | inr less ↦ stays_before q (last_of p ps) (pair_of of number) too less e ]
-
-pub ordered_rest : (b : List Pair) (bs : List (List Pair)) → AreOrdered (b ∷ bs) → AreOrdered bs
-ordered_rest b bs is = (order_rear b (flat bs) is.0, (λ c there. is.1 c (inr there)))
-
-ends_so : (of number : ℕ) (too : Bool) (b : List Pair) (bs : List (List Pair)) (c : List Pair) → AreOrdered (b ∷ bs) → In c bs → ends_before of number too c ≡ true
-    → ends_before of number too b ≡ true
-ends_so of number too [] bs c is in_c e = refl
-ends_so of number too (p ∷ ps) bs [] is in_c e = absurd (is.1 [] (inr in_c) refl)
-ends_so of number too (p ∷ ps) bs (r ∷ rs) is in_c e =
-    stays_before (last_of p ps) (last_of r rs) (pair_of of number) too
-    (order_across (p ∷ ps) (flat bs) is.0 (last_of p ps) (last_of r rs) (last_among p ps) (in_flat bs (r ∷ rs) (last_of r rs) in_c (last_among r rs))) e
-
-pub blocks_parted : (bs : List (List Pair)) (of number : ℕ) (too : Bool) → AreOrdered bs → IsPartitionedBy (ends_before of number too) bs
-blocks_parted [] of number too is i j d le within e = absurd (omega arith)
-blocks_parted (b ∷ bs) of number too is zero zero d le within e = e
-blocks_parted (b ∷ bs) of number too is zero (suc j) d le within e = ends_so of number too b bs (get_or bs j d) is (block_in bs j d (omega arith)) e
-blocks_parted (b ∷ bs) of number too is (suc i) zero d le within e = absurd (omega arith)
-blocks_parted (b ∷ bs) of number too is (suc i) (suc j) d le within e = blocks_parted bs of number too (ordered_rest b bs is) i j d (omega arith) (omega arith) e
-
--- Where a pair belongs.
-
-abbrev pub BlocksAt : ℕ → ℕ → Bool → List (List Pair) → ℕ → Type 0
-BlocksAt of number too bs i = IsPartitionPoint (λ b. ends_before of number too b ≡ true) (λ b. ends_before of number too b ≡ false) bs i
-
-front_before : (of number : ℕ) (too : Bool) (bs : List (List Pair)) (i : ℕ) → IsAscending (flat bs)
-    → ((k : ℕ) (d : List Pair) → k < i → k < length bs → ends_before of number too (get_or bs k d) ≡ true)
-    → (q : Pair) → In q (front_of bs i) → is_before of number too q ≡ true
-front_before of number too [] i order all q there = absurd there
-front_before of number too (b ∷ bs) zero order all q there = absurd there
-front_before of number too (b ∷ bs) (suc i) order all q there =
-    elim (in_either b (front_of bs i) q there) [
-      | inl here ↦ all_before of number too b q (order_front b (flat bs) order) (all 0 b (omega arith) (omega arith)) here
-      | inr more ↦ front_before of number too bs i (order_rear b (flat bs) order) (λ k d less within. all (suc k) d (omega arith) (omega arith)) q more
-    ]
-
--- the next number is that of the block
-next_over : (of after : ℕ) (front b rest : List Pair) (next : Option ℕ) → IsAscending (b ++ rest) → ((q : Pair) → In q front → is_before of after true q ≡ true)
-    → ends_before of after true b ≡ false → IsNext b of after next → IsNext (front ++ (b ++ rest)) of after next
-next_over of after front b rest (Some n) order before ends is = (
-  in_rear front (b ++ rest) (pair_of of n) (in_front b rest (pair_of of n) is.0),
-  is.1,
-  (λ p there same up.
-      elim (in_either front (b ++ rest) p there) [
-        | inl a ↦ absurd (false≢true (sym (later of after p same up) ∙ before p a))
-        | inr more ↦ elim (in_either b rest p more) [
-          | inl in_b ↦ is.2 p in_b same up
-          | inr in_rest ↦ elim (order_across b rest order (pair_of of n) p is.0 in_rest) [
-            | inl low ↦ absurd (omega arith)
-            | inr less ↦ (let lt = less.1 in omega arith)
-          ]
-        ]
-      ]),
-)
-next_over of after front [] rest None order before ends is = absurd (false≢true (sym ends))
-next_over of after front (s ∷ ss) rest None order before ends is = λ p there same.
-    elim (cases_lt after p.number) [
-      | inr no_more ↦ no_more
-      | inl up ↦ absurd (elim (in_either front ((s ∷ ss) ++ rest) p there) [
-        | inl a ↦ false≢true (sym (later of after p same up) ∙ before p a)
-        | inr more ↦ elim (in_either (s ∷ ss) rest p more) [
-          | inl in_b ↦ (let le = is p in_b same in omega arith)
-          | inr in_rest ↦ past p same (order_across (s ∷ ss) rest order (last_of s ss) p (last_among s ss) in_rest)
-        ]
-      ])
-    ]
-  where
-    past : (p : Pair) → p.of ≡ of → Precedes (last_of s ss) p → ⊥
-    past p same less = elim (compared (last_of s ss) (pair_of of after)) [
-      | inl low ↦ false≢true (sym ends ∙ before_is (last_of s ss) (pair_of of after) true low)
-      | inr others ↦ elim others [
-        | inl equal ↦ false≢true (sym ends ∙ (ap (is_before of after true) equal ∙ itself_is (pair_of of after) true))
-        | inr high ↦ elim high [
-          | inl far ↦ elim less [ inl low ↦ omega arith | inr more ↦ (let o = more.0 in omega arith) ]
-          | inr near ↦ (let le = is (last_of s ss) (last_among s ss) (sym near.0) in let up = near.1 in omega arith)
-        ]
-      ]
-    ]
-
-pub next_there : (of after : ℕ) (bs : List (List Pair)) (i : ℕ) (b : List Pair) (next : Option ℕ) → AreOrdered bs → BlocksAt of after true bs i → i < length bs
-    → b ≡ get_or bs i b → IsNext b of after next → IsNext (flat bs) of after next
-next_there of after bs i b next is split less at found =
-    let round = around bs i b less at in
-    subst (λ (ps : List Pair). IsNext ps of after next) (sym round)
-    (next_over of after (front_of bs i) b (rest_of bs i) next
-    (order_rear (front_of bs i) (b ++ rest_of bs i) (subst IsAscending round is.0))
-    (front_before of after true bs i is.0 (λ k d lt within. split.0 k d (omega arith) lt))
-    (ap (ends_before of after true) at ∙ split.1 i b (omega arith) less) found)
-
-pub next_nowhere : (of after : ℕ) (bs : List (List Pair)) (i : ℕ) → AreOrdered bs → BlocksAt of after true bs i → length bs ≤ i → IsNext (flat bs) of after None
-next_nowhere of after bs i is split le p there same =
-    elim (cases_lt after p.number) [
-      | inr no_more ↦ no_more
-      | inl up ↦ absurd (false≢true (sym (later of after p same up)
-          ∙ front_before of after true bs i is.0 (λ k d lt within. split.0 k d (omega arith) lt) p (all_front bs i p le there)))
-    ]
-
--- a pair that is there stands in the first block that does not end before it
-pub stands_in : (x : Pair) (bs : List (List Pair)) (i : ℕ) → AreOrdered bs → BlocksAt x.of x.number false bs i → In x (flat bs)
-    → (i < length bs) × ((d : List Pair) → In x (get_or bs i d))
-stands_in x [] i is split there = absurd there
-stands_in x (b ∷ bs) zero is split there =
-    (omega arith, (λ d. elim (in_either b (flat bs) x there) [ inl here ↦ here | inr more ↦ absurd (not_behind b bs is (split.1 0 d (omega arith) (omega arith)) more) ]))
-  where
-    not_behind : (b : List Pair) (bs : List (List Pair)) → AreOrdered (b ∷ bs) → ends_before x.of x.number false b ≡ false → In x (flat bs) → ⊥
-    not_behind [] bs is ends more = false≢true (sym ends)
-    not_behind (p ∷ ps) bs is ends more =
-        false≢true (sym ends ∙ before_is (last_of p ps) x false (order_across (p ∷ ps) (flat bs) is.0 (last_of p ps) x (last_among p ps) more))
-stands_in x (b ∷ bs) (suc i) is split there =
-    elim (in_either b (flat bs) x there) [
-      | inl here ↦ absurd (false≢true (sym (itself_is x false)
-          ∙ all_before x.of x.number false b x (order_front b (flat bs) is.0) (split.0 0 b (omega arith) (omega arith)) here))
-      | inr more ↦ (let rest = stands_in x bs i (ordered_rest b bs is)
-          ((λ k d low lt. split.0 (suc k) d (omega arith) (omega arith)), (λ k d low lt. split.1 (suc k) d (omega arith) (omega arith))) more in
-          let lt = rest.0 in (omega arith, rest.1))
-    ]
-
--- a pair that is not there comes before what stands behind that block, and behind what stands before it
-below : (x : Pair) (bs : List (List Pair)) (i : ℕ) → IsAscending (flat bs)
-    → ((k : ℕ) (d : List Pair) → k < i → k < length bs → ends_before x.of x.number false (get_or bs k d) ≡ true) → (q : Pair) → In q (front_of bs i) → Precedes q x
-below x bs i order all q there =
-    let front = front_before x.of x.number false bs i order all q there in
-    elim (compared q x) [
-      | inl less ↦ less
-      | inr others ↦ elim others [
-        | inl same ↦ absurd (false≢true (sym (ap (is_before x.of x.number false) same ∙ itself_is x false) ∙ front))
-        | inr more ↦ absurd (false≢true (sym (behind_is q x false more) ∙ front))
-      ]
-    ]
-
-above : (x : Pair) (b rest : List Pair) → IsAscending (b ++ rest) → ((p : Pair) → In p b → p ≢ x) → ends_before x.of x.number false b ≡ false
-    → (q : Pair) → In q rest → Precedes x q
-above x [] rest order other ends q there = absurd (false≢true (sym ends))
-above x (p ∷ ps) rest order other ends q there =
-    let less = order_across (p ∷ ps) rest order (last_of p ps) q (last_among p ps) there in
-    elim (compared (last_of p ps) x) [
-      | inl low ↦ absurd (false≢true (sym ends ∙ before_is (last_of p ps) x false low))
-      | inr others ↦ elim others [
-        | inl same ↦ absurd (other (last_of p ps) (last_among p ps) same)
-        | inr high ↦ carried x (last_of p ps) q high less
-      ]
-    ]
-
-pub place_here : (x : Pair) (bs : List (List Pair)) (i : ℕ) → AreOrdered bs → BlocksAt x.of x.number false bs i → i < length bs
-    → ((p : Pair) → In p (flat bs) → p ≢ x) → IsPlace bs x i
-place_here x bs i is split less other = record {
-  below = below x bs i is.0 (λ k d lt within. split.0 k d (omega arith) lt);
-  above = go (get_or bs i []) refl;
-}
-  where
-    go : (b : List Pair) → b ≡ get_or bs i [] → (q : Pair) → In q (rest_of bs i) → Precedes x q
-    go b at =
-        let here : b ≡ get_or bs i b = at ∙ same_block bs i [] b less in
-        let round = around bs i b less here in
-        above x b (rest_of bs i) (order_rear (front_of bs i) (b ++ rest_of bs i) (subst IsAscending round is.0))
-        (λ p there. other p (subst (λ (ps : List Pair). In p ps) (sym round) (in_rear (front_of bs i) (b ++ rest_of bs i) p (in_front b (rest_of bs i) p there))))
-        (ap (ends_before x.of x.number false) at ∙ split.1 i [] (omega arith) less)
-
--- behind all, it belongs into the last
-pub place_last : (x : Pair) (bs : List (List Pair)) (i k : ℕ) → AreOrdered bs → BlocksAt x.of x.number false bs i → length bs ≤ i → length bs ≤ suc k → IsPlace bs x k
-place_last x bs i k is split le last = record {
-  below = below x bs k is.0 (λ j d lt within. split.0 j d (omega arith) (omega arith));
-  above = λ q there. absurd (subst (λ (ps : List Pair). In q ps) (rest_last bs k last) there);
-}
-
--- What each change leaves.
-
-pub put_all : (bs : List (List Pair)) (i : ℕ) (b c : List Pair) (x : Pair) → AreOrdered bs → i < length bs → b ≡ get_or bs i b → IsPlace bs x i → HasPut b x c
-    → HasPut (flat bs) x (front_of bs i ++ (c ++ rest_of bs i))
-put_all bs i b c x is less at place put =
-    let round = around bs i b less at in
-    subst (λ (ps : List Pair). HasPut ps x (front_of bs i ++ (c ++ rest_of bs i))) (sym round)
-    (put_over (front_of bs i) b (rest_of bs i) c x (subst IsAscending round is.0) put place.below place.above)
-
-pub take_all : (bs : List (List Pair)) (i : ℕ) (b c : List Pair) (x : Pair) → AreOrdered bs → i < length bs → b ≡ get_or bs i b → In x b → HasTaken b x c
-    → HasTaken (flat bs) x (front_of bs i ++ (c ++ rest_of bs i))
-take_all bs i b c x is less at there taken =
-    let round = around bs i b less at in
-    subst (λ (ps : List Pair). HasTaken ps x (front_of bs i ++ (c ++ rest_of bs i))) (sym round)
-    (take_over (front_of bs i) b (rest_of bs i) c x (subst IsAscending round is.0) taken there)
-
-pub record PutIn (bs cs : List (List Pair)) (x : Pair) : Type 0 where
-  pub has : HasPut (flat bs) x (flat cs)
-  pub ordered : AreOrdered cs
-
-pub put_plain : (bs : List (List Pair)) (i : ℕ) (b c : List Pair) (x : Pair) → AreOrdered bs → i < length bs → b ≡ get_or bs i b → IsPlace bs x i
-    → HasPut b x (c ++ []) → c ≢ [] → PutIn bs (set bs i c) x
-put_plain bs i b c x is less at place put some =
-    let has : HasPut (flat bs) x (flat (set bs i c)) = subst (HasPut (flat bs) x) (sym (set_around bs i c less))
-    (put_all bs i b c x is less at place (subst (HasPut b x) (append-nil c) put)) in
-    record {
-      has = has;
-      ordered = (has.order, (λ d there. elim (in_set bs i c d there) [ inl same ↦ (λ none. some (sym same ∙ none)) | inr old ↦ is.1 d old ]));
-    }
-
-pub put_split : (bs cs : List (List Pair)) (i : ℕ) (b c t : List Pair) (x : Pair) → AreOrdered bs → i < length bs → b ≡ get_or bs i b → IsPlace bs x i
-    → HasPut b x (c ++ t) → c ≢ [] → t ≢ [] → cs ≡ insert (set bs i c) (suc i) t → PutIn bs cs x
-put_split bs cs i b c t x is less at place put some tail made =
-    let has : HasPut (flat bs) x (flat cs) = subst (HasPut (flat bs) x) (sym (ap flat made ∙ added_around bs i c t less))
-    (put_all bs i b (c ++ t) x is less at place put) in
-    record {
-      has = has;
-      ordered = (
-        has.order,
-        (λ d there. elim (in_insert (set bs i c) (suc i) t d (subst (λ (ds : List (List Pair)). In d ds) made there)) [
-          | inl same ↦ (λ none. tail (sym same ∙ none))
-          | inr more ↦ elim (in_set bs i c d more) [ inl same ↦ (λ none. some (sym same ∙ none)) | inr old ↦ is.1 d old ]
-        ]),
-      );
-    }
-
-pub record TakenIn (bs cs : List (List Pair)) (x : Pair) : Type 0 where
-  pub has : HasTaken (flat bs) x (flat cs)
-  pub ordered : AreOrdered cs
-
-pub take_plain : (bs : List (List Pair)) (i : ℕ) (b c : List Pair) (x : Pair) → AreOrdered bs → i < length bs → b ≡ get_or bs i b → In x b
-    → HasTaken b x c → c ≢ [] → TakenIn bs (set bs i c) x
-take_plain bs i b c x is less at there taken some =
-    let has : HasTaken (flat bs) x (flat (set bs i c)) = subst (HasTaken (flat bs) x) (sym (set_around bs i c less)) (take_all bs i b c x is less at there taken) in
-    record {
-      has = has;
-      ordered = (has.order, (λ d in_d. elim (in_set bs i c d in_d) [ inl same ↦ (λ none. some (sym same ∙ none)) | inr old ↦ is.1 d old ]));
-    }
-
-pub take_empty : (bs cs : List (List Pair)) (i : ℕ) (b c : List Pair) (x : Pair) → AreOrdered bs → i < length bs → b ≡ get_or bs i b → In x b
-    → HasTaken b x c → c ≡ [] → cs ≡ remove (set bs i c) i → TakenIn bs cs x
-take_empty bs cs i b c x is less at there taken none made =
-    let gone : cs ≡ remove bs i = made ∙ removed_set bs i c in
-    let has : HasTaken (flat bs) x (flat cs) = subst (HasTaken (flat bs) x) (sym (ap flat gone ∙ removed_around bs i less))
-    (subst (λ (d : List Pair). HasTaken (flat bs) x (front_of bs i ++ (d ++ rest_of bs i))) none (take_all bs i b c x is less at there taken)) in
-    record {
-      has = has;
-      ordered = (has.order, (λ d in_d. is.1 d (removed_in bs i d (subst (λ (ds : List (List Pair)). In d ds) gone in_d))));
-    }
-
--- the order of a block
-pub block_order : (bs : List (List Pair)) (i : ℕ) (b : List Pair) → AreOrdered bs → i < length bs → b ≡ get_or bs i b → IsAscending b
-block_order bs i b is less at =
-    order_front b (rest_of bs i) (order_rear (front_of bs i) (b ++ rest_of bs i) (subst IsAscending (around bs i b less at) is.0))
-
-pub block_pairs : (bs : List (List Pair)) (i : ℕ) (b : List Pair) (q : Pair) → i < length bs → b ≡ get_or bs i b → In q b → In q (flat bs)
-block_pairs bs i b q less at there =
-    subst (λ (ps : List Pair). In q ps) (sym (around bs i b less at)) (in_rear (front_of bs i) (b ++ rest_of bs i) q (in_front b (rest_of bs i) q there))
+  pub first_made : (is : X → Bool) (f : X → X) (x : X) (xs ys : List X) → first_changed is f (x ∷ (xs ++ ys)) ≡ first_changed is f (x ∷ xs) ++ ys
+  first_made is f x xs ys = elim (cases_Bool (is x)) [ inl e ↦ rw e refl | inr e ↦ rw e refl ]

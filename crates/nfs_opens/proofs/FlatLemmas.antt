@@ -17,11 +17,6 @@ module _ {X : Type 0} where
   in_rear [] ys q there = there
   in_rear (x ∷ xs) ys q there = inr (in_rear xs ys q there)
 
-  pub in_either : (xs ys : List X) (q : X) → In q (xs ++ ys) → In q xs ⊎ In q ys
-  in_either [] ys q there = inr there
-  in_either (x ∷ xs) ys q (inl is) = inl (inl is)
-  in_either (x ∷ xs) ys q (inr more) = elim (in_either xs ys q more) [ inl front ↦ inl (inr front) | inr rear ↦ inr rear ]
-
   pub last_among : (p : X) (ps : List X) → In (last_of p ps) (p ∷ ps)
   last_among p [] = inl refl
   last_among p (q ∷ qs) = inr (last_among q qs)
@@ -80,15 +75,6 @@ module _ {X : Type 0} where
   in_set (c ∷ bs) (suc i) b d (inl is) = inr (inl is)
   in_set (c ∷ bs) (suc i) b d (inr more) = elim (in_set bs i b d more) [ inl is ↦ inl is | inr there ↦ inr (inr there) ]
 
-  pub all_front : (bs : List (List X)) (i : ℕ) (q : X) → length bs ≤ i → In q (flat bs) → In q (front_of bs i)
-  all_front [] i q le there = absurd there
-  all_front (b ∷ bs) zero q le there = absurd (omega arith)
-  all_front (b ∷ bs) (suc i) q le there =
-      elim (in_either b (flat bs) q there) [
-        | inl here ↦ in_front b (front_of bs i) q here
-        | inr more ↦ in_rear b (front_of bs i) q (all_front bs i q (omega arith) more)
-      ]
-
   -- The block at a place.
 
   pub front_none : (bs : List (List X)) → front_of bs 0 ≡ []
@@ -112,11 +98,6 @@ module _ {X : Type 0} where
   got_block (c ∷ bs) zero b e = let same : c ≡ b = cc in (omega arith, sym same)
   got_block (c ∷ bs) (suc i) b e = let rest = got_block bs i b e in let less = rest.0 in (omega arith, rest.1)
 
-  pub no_block : (bs : List (List X)) (i : ℕ) → slice_get bs i ≡ None → length bs ≤ i
-  no_block [] i e = omega arith
-  no_block (c ∷ bs) zero e = absurd (let bad : Some c ≡ None = e in cc)
-  no_block (c ∷ bs) (suc i) e = let le = no_block bs i e in omega arith
-
   pub removed_set : (bs : List (List X)) (i : ℕ) (b : List X) → remove (set bs i b) i ≡ remove bs i
   removed_set [] i b = refl
   removed_set (c ∷ bs) zero b = remove_first b bs ∙ sym (remove_first c bs)
@@ -128,11 +109,6 @@ module _ {X : Type 0} where
   rest_last (b ∷ c ∷ bs) zero le = absurd (omega arith)
   rest_last (b ∷ bs) (suc i) le = rest_last bs i (omega arith)
 
-  pub same_block : (bs : List (List X)) (i : ℕ) (d e : List X) → i < length bs → get_or bs i d ≡ get_or bs i e
-  same_block [] i d e less = absurd (omega arith)
-  same_block (c ∷ bs) zero d e less = refl
-  same_block (c ∷ bs) (suc i) d e less = same_block bs i d e (omega arith)
-
   pub flat_push : (bs : List (List X)) (b : List X) → flat (bs ++ b ∷ []) ≡ flat bs ++ b
   flat_push [] b = append-nil b
   flat_push (c ∷ bs) b = ap (λ (xs : List X). c ++ xs) (flat_push bs b) ∙ sym (append_assoc c (flat bs) b)
@@ -141,3 +117,20 @@ module _ {X : Type 0} where
   pub room_kept : (o : Option (List X)) (n m room more : ℕ) → IfSome o (λ s. (s ≡ []) × (n < room)) → m ≤ n → more ≡ room → IfSome o (λ s. (s ≡ []) × (m < more))
   room_kept None n m room more is le same = tt
   room_kept (Some s) n m room more is le same = let less = is.1 in (is.0, omega arith)
+
+  pub in_insert : (ps : List X) (i : ℕ) (x q : X) → In q (insert ps i x) → (q ≡ x) ⊎ In q ps
+  in_insert [] zero x q (inl is) = inl is
+  in_insert [] zero x q (inr more) = absurd more
+  in_insert [] (suc i) x q (inl is) = inl is
+  in_insert [] (suc i) x q (inr more) = absurd more
+  in_insert (p ∷ ps) zero x q (inl is) = inl is
+  in_insert (p ∷ ps) zero x q (inr more) = inr more
+  in_insert (p ∷ ps) (suc i) x q (inl is) = inr (inl is)
+  in_insert (p ∷ ps) (suc i) x q (inr more) = elim (in_insert ps i x q more) [ inl is ↦ inl is | inr there ↦ inr (inr there) ]
+
+  pub removed_in : (ps : List X) (i : ℕ) (q : X) → In q (remove ps i) → In q ps
+  removed_in [] zero q there = absurd there
+  removed_in [] (suc i) q there = absurd there
+  removed_in (p ∷ ps) zero q there = inr there
+  removed_in (p ∷ ps) (suc i) q (inl is) = inl is
+  removed_in (p ∷ ps) (suc i) q (inr more) = inr (removed_in ps i q more)

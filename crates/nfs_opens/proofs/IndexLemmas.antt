@@ -7,14 +7,15 @@ use Rattle.std.specs.List.Sorted.{IsPartitionPoint, IsPartitionedBy}
 use Rattle.nfs_xdr.specs.Tables.{IsRising, In}
 use Rattle.nfs_xdr.proofs.Lists.{in_at, in_filter, stays_in, in_map, map_in, in_push, push_in, last_in, find_in, find_none, none_in, in_any}
 use Rattle.nfs_xdr.proofs.Tables.{in_bounds, in_once, without_none}
-use Rattle.nfs_opens.specs.{declared.index.Pair.Pair, Index.{Precedes, IsAscending, pair_of, is_before, IsNext, HasPut, HasTaken, IsIndex}}
+use Rattle.nfs_opens.specs.{declared.index.Pair.Pair, Index.{Precedes, IsAscending, pair_of, is_before, IsNext, HasPut, HasTaken, IsIndex}, Blocks.{IsParted, found, added, removed}}
+use Rattle.nfs_opens.proofs.BlockLemmas.{added_behind_one, added_first, found_behind_one, found_first, found_not, removed_behind_one, removed_first}
 
 -- Of two pairs one precedes the other, or they are the same.
 
 same_pair : (p q : Pair) → p.of ≡ q.of → p.number ≡ q.number → p ≡ q
 same_pair p q o n = ap (λ (k : ℕ). pair_of k p.number) o ∙ ap (λ (k : ℕ). pair_of q.of k) n
 
-pub compared : (p x : Pair) → Precedes p x ⊎ ((p ≡ x) ⊎ Precedes x p)
+compared : (p x : Pair) → Precedes p x ⊎ ((p ≡ x) ⊎ Precedes x p)
 compared p x =
     elim (cases_lt p.of x.of) [
       | inl low ↦ inl (inl low)
@@ -30,11 +31,11 @@ compared p x =
       ]
     ]
 
-pub never_itself : (p q : Pair) → Precedes p q → p ≢ q
+never_itself : (p q : Pair) → Precedes p q → p ≢ q
 never_itself p q (inl low) e = let o : p.of ≡ q.of = ap (λ (r : Pair). r.of) e in absurd (omega arith)
 never_itself p q (inr less) e = let n : p.number ≡ q.number = ap (λ (r : Pair). r.number) e in let lt = less.1 in absurd (omega arith)
 
-pub carried : (p q r : Pair) → Precedes p q → Precedes q r → Precedes p r
+carried : (p q r : Pair) → Precedes p q → Precedes q r → Precedes p r
 carried p q r (inl a) (inl b) = inl (omega arith)
 carried p q r (inl a) (inr b) = let o = b.0 in inl (omega arith)
 carried p q r (inr a) (inl b) = let o = a.0 in inl (omega arith)
@@ -52,12 +53,12 @@ tested of number too p same =
     let here : (p.of == of) ≡ true = eq-eqb p.of of same in
     rw (not_low, here) refl
 
-pub before_is : (p x : Pair) (too : Bool) → Precedes p x → is_before x.of x.number too p ≡ true
+before_is : (p x : Pair) (too : Bool) → Precedes p x → is_before x.of x.number too p ≡ true
 before_is p x too (inl low) = let less : nat_lt p.of x.of ≡ true = lt-ltb p.of x.of low in rw less refl
 before_is p x too (inr less) =
     let lower : nat_lt p.number x.number ≡ true = lt-ltb p.number x.number less.1 in tested x.of x.number too p less.0 ∙ rw lower refl
 
-pub behind_is : (p x : Pair) (too : Bool) → Precedes x p → is_before x.of x.number too p ≡ false
+behind_is : (p x : Pair) (too : Bool) → Precedes x p → is_before x.of x.number too p ≡ false
 behind_is p x too (inl low) =
     let not_low : nat_lt p.of x.of ≡ false = le-ltb p.of x.of (omega arith) in
     let other : (p.of == x.of) ≡ false = ne_eqb p.of x.of (λ e. absurd (omega arith)) in
@@ -68,7 +69,7 @@ behind_is p x too (inr more) =
     let other : (p.number == x.number) ≡ false = ne_eqb p.number x.number (λ e. absurd (omega arith)) in
     tested x.of x.number too p (sym more.0) ∙ rw (not_lower, other) (neither_way too)
 
-pub itself_is : (x : Pair) (too : Bool) → is_before x.of x.number too x ≡ too
+itself_is : (x : Pair) (too : Bool) → is_before x.of x.number too x ≡ too
 itself_is x too =
     let not_lower : nat_lt x.number x.number ≡ false = le-ltb x.number x.number (omega arith) in
     let here : (x.number == x.number) ≡ true = eq-eqb x.number x.number refl in
@@ -78,7 +79,7 @@ itself_is x too =
     both true = refl
     both false = refl
 
-pub stays_before : (p q x : Pair) (too : Bool) → Precedes p q → is_before x.of x.number too q ≡ true → is_before x.of x.number too p ≡ true
+stays_before : (p q x : Pair) (too : Bool) → Precedes p q → is_before x.of x.number too q ≡ true → is_before x.of x.number too p ≡ true
 stays_before p q x too lt e =
     elim (compared q x) [
       | inl low ↦ before_is p x too (carried p q x lt low)
@@ -88,257 +89,158 @@ stays_before p q x too lt e =
       ]
     ]
 
-pub parted : (ps : List Pair) (of number : ℕ) (too : Bool) → IsAscending ps → IsPartitionedBy (is_before of number too) ps
-parted [] of number too order i j d le within e = absurd (omega arith)
-parted (p ∷ ps) of number too order zero zero d le within e = e
-parted (p ∷ ps) of number too order zero (suc j) d le within e =
-    stays_before p (get_or ps j d) (pair_of of number) too (order.0 (get_or ps j d) (in_at ps j d (omega arith))) e
-parted (p ∷ ps) of number too order (suc i) zero d le within e = absurd (omega arith)
-parted (p ∷ ps) of number too order (suc i) (suc j) d le within e = parted ps of number too order.1 i j d (omega arith) (omega arith) e
-
--- What stands before a place, and what from there on.
-
-abbrev pub SplitAt : ℕ → ℕ → Bool → List Pair → ℕ → Type 0
-SplitAt of number too ps i = IsPartitionPoint (λ p. is_before of number too p ≡ true) (λ p. is_before of number too p ≡ false) ps i
-
-module _ (P : Pair → Type 0) where
-  in_all : (ps : List Pair) → ((k : ℕ) (d : Pair) → k < length ps → P (get_or ps k d)) → (q : Pair) → In q ps → P q
-  in_all [] all q there = absurd there
-  in_all (p ∷ ps) all q (inl is) = subst P (sym is) (all 0 p (omega arith))
-  in_all (p ∷ ps) all q (inr more) = in_all ps (λ k d less. all (suc k) d (omega arith)) q more
-
-  in_front : (ps : List Pair) (i : ℕ) → ((k : ℕ) (d : Pair) → k < i → P (get_or ps k d)) → (q : Pair) → In q (take i ps) → P q
-  in_front [] zero all q there = absurd there
-  in_front [] (suc i) all q there = absurd there
-  in_front (p ∷ ps) zero all q there = absurd there
-  in_front (p ∷ ps) (suc i) all q (inl is) = subst P (sym is) (all 0 p (omega arith))
-  in_front (p ∷ ps) (suc i) all q (inr more) = in_front ps i (λ k d less. all (suc k) d (omega arith)) q more
-
-  in_back : (ps : List Pair) (i : ℕ) → ((k : ℕ) (d : Pair) → i ≤ k → k < length ps → P (get_or ps k d)) → (q : Pair) → In q (drop i ps) → P q
-  in_back [] zero all q there = absurd there
-  in_back [] (suc i) all q there = absurd there
-  in_back (p ∷ ps) zero all q there = in_all (p ∷ ps) (λ k d less. all k d (omega arith) less) q there
-  in_back (p ∷ ps) (suc i) all q there = in_back ps i (λ k d le less. all (suc k) d (omega arith) (omega arith)) q there
-
-fronts : (of number : ℕ) (too : Bool) (ps : List Pair) (i : ℕ) → SplitAt of number too ps i → (q : Pair) → In q (take i ps) → is_before of number too q ≡ true
-fronts of number too ps i split = in_front (λ p. is_before of number too p ≡ true) ps i (λ k d less. split.0 k d (omega arith) less)
-
-backs : (of number : ℕ) (too : Bool) (ps : List Pair) (i : ℕ) → SplitAt of number too ps i → (q : Pair) → In q (drop i ps) → is_before of number too q ≡ false
-backs of number too ps i split = in_back (λ p. is_before of number too p ≡ false) ps i split.1
-
-either_side : (ps : List Pair) (i : ℕ) (q : Pair) → In q ps → In q (take i ps) ⊎ In q (drop i ps)
-either_side [] i q there = absurd there
-either_side (p ∷ ps) zero q there = inr there
-either_side (p ∷ ps) (suc i) q (inl is) = inl (inl is)
-either_side (p ∷ ps) (suc i) q (inr more) = elim (either_side ps i q more) [ inl front ↦ inl (inr front) | inr back ↦ inr back ]
-
-of_back : (ps : List Pair) (i : ℕ) (q : Pair) → In q (drop i ps) → In q ps
-of_back [] zero q there = absurd there
-of_back [] (suc i) q there = absurd there
-of_back (p ∷ ps) zero q there = there
-of_back (p ∷ ps) (suc i) q there = inr (of_back ps i q there)
-
--- the pair at a place is the first from there on
-got_back : (ps : List Pair) (i : ℕ) (h : Pair) → slice_get ps i ≡ Some h → In h (drop i ps)
-got_back [] i h e = absurd cc
-got_back (p ∷ ps) zero h e = let same : p ≡ h = cc in inl (sym same)
-got_back (p ∷ ps) (suc i) h e = got_back ps i h e
-
-first_back : (ps : List Pair) (i : ℕ) (h q : Pair) → IsAscending ps → slice_get ps i ≡ Some h → In q (drop i ps) → (q ≡ h) ⊎ Precedes h q
-first_back [] i h q order e there = absurd cc
-first_back (p ∷ ps) zero h q order e (inl is) = let same : p ≡ h = cc in inl (is ∙ same)
-first_back (p ∷ ps) zero h q order e (inr more) = let same : p ≡ h = cc in inr (subst (λ (r : Pair). Precedes r q) same (order.0 q more))
-first_back (p ∷ ps) (suc i) h q order e there = first_back ps i h q order.1 e there
-
-none_back : (ps : List Pair) (i : ℕ) (q : Pair) → slice_get ps i ≡ None → In q (drop i ps) → ⊥
-none_back [] zero q e there = there
-none_back [] (suc i) q e there = there
-none_back (p ∷ ps) zero q e there = absurd (let bad : Some p ≡ None = e in cc)
-none_back (p ∷ ps) (suc i) q e there = none_back ps i q e there
-
--- a pair that precedes none of those before the place stands from there on
-behind_place : (ps : List Pair) (of number : ℕ) (too : Bool) (i : ℕ) (q : Pair) → SplitAt of number too ps i → is_before of number too q ≡ false → In q ps
-    → In q (drop i ps)
-behind_place ps of number too i q split e there =
-    elim (either_side ps i q there) [
-      | inl front ↦ absurd (false≢true (sym e ∙ fronts of number too ps i split q front))
-      | inr back ↦ back
-    ]
+pub parted : (of number : ℕ) (too : Bool) (ps : List Pair) → IsAscending ps → IsParted (is_before of number too) ps
+parted of number too [] order = tt
+parted of number too (p ∷ ps) order = ((λ q there e. stays_before p q (pair_of of number) too (order.0 q there) e), parted of number too ps order.1)
 
 -- The next number.
 
-pub later : (of after : ℕ) (p : Pair) → p.of ≡ of → after < p.number → is_before of after true p ≡ false
+later : (of after : ℕ) (p : Pair) → p.of ≡ of → after < p.number → is_before of after true p ≡ false
 later of after p same more = behind_is p (pair_of of after) true (inr (sym same, more))
 
-pub next_found : (ps : List Pair) (of after i : ℕ) (h : Pair) → IsAscending ps → SplitAt of after true ps i → slice_get ps i ≡ Some h → h.of ≡ of
-    → IsNext ps of after (Some h.number)
-next_found ps of after i h order split at here =
-    (subst (λ (k : ℕ). In (pair_of k h.number) ps) here (of_back ps i h (got_back ps i h at)), above, least)
-  where
-    above : after < h.number
-    above = elim (cases_lt after h.number) [
-      | inl more ↦ more
-      | inr not_more ↦ (let behind = backs of after true ps i split h (got_back ps i h at) in elim (compared h (pair_of of after)) [
-        | inl low ↦ absurd (false≢true (sym behind ∙ before_is h (pair_of of after) true low))
-        | inr rest ↦ elim rest [
-          | inl same ↦ absurd (false≢true (sym behind ∙ (ap (is_before of after true) same ∙ itself_is (pair_of of after) true)))
-          | inr high ↦ elim high [ inl low ↦ absurd (omega arith) | inr more ↦ more.1 ]
-        ]
-      ])
+beyond : (of after : ℕ) (p : Pair) → is_before of after true p ≡ false → Precedes (pair_of of after) p
+beyond of after p off =
+    elim (compared p (pair_of of after)) [
+      | inl low ↦ absurd (false≢true (sym off ∙ before_is p (pair_of of after) true low))
+      | inr rest ↦ elim rest [
+        | inl same ↦ absurd (false≢true (sym off ∙ (ap (is_before of after true) same ∙ itself_is (pair_of of after) true)))
+        | inr high ↦ high
+      ]
     ]
 
-    least : (p : Pair) → In p ps → p.of ≡ of → after < p.number → h.number ≤ p.number
-    least p there same more =
-        elim (first_back ps i h p order at (behind_place ps of after true i p split (later of after p same more) there)) [
-          | inl is ↦ (let n : p.number ≡ h.number = ap (λ (r : Pair). r.number) is in omega arith)
-          | inr lt ↦ elim lt [ inl low ↦ absurd (omega arith) | inr less ↦ (let up = less.1 in omega arith) ]
-        ]
-
-pub next_other : (ps : List Pair) (of after i : ℕ) (h : Pair) → IsAscending ps → SplitAt of after true ps i → slice_get ps i ≡ Some h → h.of ≢ of
-    → IsNext ps of after None
-next_other ps of after i h order split at other p there same =
-    elim (cases_lt after p.number) [
+-- one that stands before is not behind the number
+not_later : (of after : ℕ) (p q : Pair) → is_before of after true p ≡ true → q ≡ p → q.of ≡ of → q.number ≤ after
+not_later of after p q on is same =
+    elim (cases_lt after q.number) [
       | inr no_more ↦ no_more
-      | inl more ↦ (let behind = backs of after true ps i split h (got_back ps i h at) in
-          elim (first_back ps i h p order at (behind_place ps of after true i p split (later of after p same more) there)) [
-            | inl is ↦ absurd (other (sym (ap (λ (r : Pair). r.of) is) ∙ same))
-            | inr lt ↦ elim lt [
-              | inl low ↦ absurd (false≢true (sym behind ∙ before_is h (pair_of of after) true (inl (omega arith))))
-              | inr less ↦ absurd (other (less.0 ∙ same))
-            ]
-          ])
+      | inl more ↦ absurd (false≢true (sym (later of after q same more) ∙ (ap (is_before of after true) is ∙ on)))
     ]
 
-pub next_none : (ps : List Pair) (of after i : ℕ) → IsAscending ps → SplitAt of after true ps i → slice_get ps i ≡ None → IsNext ps of after None
-next_none ps of after i order split at p there same =
-    elim (cases_lt after p.number) [
-      | inr no_more ↦ no_more
-      | inl more ↦ absurd (none_back ps i p at (behind_place ps of after true i p split (later of after p same more) there))
-    ]
-
--- A pair that comes.
-
-pub in_insert : {X : Type 0} (ps : List X) (i : ℕ) (x q : X) → In q (insert ps i x) → (q ≡ x) ⊎ In q ps
-in_insert [] zero x q (inl is) = inl is
-in_insert [] zero x q (inr more) = absurd more
-in_insert [] (suc i) x q (inl is) = inl is
-in_insert [] (suc i) x q (inr more) = absurd more
-in_insert (p ∷ ps) zero x q (inl is) = inl is
-in_insert (p ∷ ps) zero x q (inr more) = inr more
-in_insert (p ∷ ps) (suc i) x q (inl is) = inr (inl is)
-in_insert (p ∷ ps) (suc i) x q (inr more) = elim (in_insert ps i x q more) [ inl is ↦ inl is | inr there ↦ inr (inr there) ]
-
-insert_in : (ps : List Pair) (i : ℕ) (x q : Pair) → In q ps → In q (insert ps i x)
-insert_in [] i x q there = absurd there
-insert_in (p ∷ ps) zero x q there = inr there
-insert_in (p ∷ ps) (suc i) x q (inl is) = inl is
-insert_in (p ∷ ps) (suc i) x q (inr more) = inr (insert_in ps i x q more)
-
-insert_new : (ps : List Pair) (i : ℕ) (x : Pair) → In x (insert ps i x)
-insert_new [] zero x = inl refl
-insert_new [] (suc i) x = inl refl
-insert_new (p ∷ ps) zero x = inl refl
-insert_new (p ∷ ps) (suc i) x = inr (insert_new ps i x)
-
-insert_order : (ps : List Pair) (i : ℕ) (x : Pair) → IsAscending ps → ((q : Pair) → In q (take i ps) → Precedes q x)
-    → ((q : Pair) → In q (drop i ps) → Precedes x q) → IsAscending (insert ps i x)
-insert_order [] zero x order low high = ((λ q there. absurd there), tt)
-insert_order [] (suc i) x order low high = ((λ q there. absurd there), tt)
-insert_order (p ∷ ps) zero x order low high = (high, order)
-insert_order (p ∷ ps) (suc i) x order low high = (
-  (λ q there. elim (in_insert ps i x q there) [ inl is ↦ subst (λ (r : Pair). Precedes p r) (sym is) (low p (inl refl)) | inr more ↦ order.0 q more ]),
-  insert_order ps i x order.1 (λ q there. low q (inr there)) high,
+next_here : (of after : ℕ) (p : Pair) (ps : List Pair) → IsAscending (p ∷ ps) → is_before of after true p ≡ false → p.of ≡ of → IsNext (p ∷ ps) of after (Some p.number)
+next_here of after p ps order off same = (
+  inl (ap (λ (k : ℕ). pair_of k p.number) (sym same)),
+  elim (beyond of after p off) [ inl low ↦ absurd (omega arith) | inr more ↦ more.1 ],
+  (λ q there of_q up. elim there [
+    | inl is ↦ (let n : q.number ≡ p.number = ap (λ (r : Pair). r.number) is in omega arith)
+    | inr rear ↦ elim (order.0 q rear) [ inl low ↦ absurd (omega arith) | inr less ↦ (let lt = less.1 in omega arith) ]
+  ]),
 )
 
-pub has_put : (ps qs : List Pair) (i : ℕ) (x : Pair) → IsAscending ps → SplitAt x.of x.number false ps i → ((p : Pair) → In p ps → p ≢ x)
-    → qs ≡ insert ps i x → HasPut ps x qs
-has_put ps qs i x order split other is = subst (HasPut ps x) (sym is) (record {
-  order = insert_order ps i x order low high;
-  put = insert_new ps i x;
-  kept = insert_in ps i x;
-  only = in_insert ps i x;
-})
-  where
-    low : (q : Pair) → In q (take i ps) → Precedes q x
-    low q there =
-        let front = fronts x.of x.number false ps i split q there in
-        elim (compared q x) [
-          | inl less ↦ less
-          | inr rest ↦ elim rest [
-            | inl same ↦ absurd (false≢true (sym (ap (is_before x.of x.number false) same ∙ itself_is x false) ∙ front))
-            | inr more ↦ absurd (false≢true (sym (behind_is q x false more) ∙ front))
-          ]
-        ]
-
-    high : (q : Pair) → In q (drop i ps) → Precedes x q
-    high q there =
-        let back = backs x.of x.number false ps i split q there in
-        elim (compared q x) [
-          | inl less ↦ absurd (false≢true (sym back ∙ before_is q x false less))
-          | inr rest ↦ elim rest [
-            | inl same ↦ absurd (other q (of_back ps i q there) same)
-            | inr more ↦ more
-          ]
-        ]
-
--- A pair that goes.
-
--- where a pair stands that is there
-pub stands_at : (ps : List Pair) (i : ℕ) (x : Pair) → IsAscending ps → SplitAt x.of x.number false ps i → In x ps → slice_get ps i ≡ Some x
-stands_at ps i x order split there = go (slice_get ps i) refl
-  where
-    back : In x (drop i ps)
-    back = behind_place ps x.of x.number false i x split (itself_is x false) there
-
-    go : (o : Option Pair) → slice_get ps i ≡ o → slice_get ps i ≡ Some x
-    go None e = absurd (none_back ps i x e back)
-    go (Some h) e = elim (first_back ps i h x order e back) [
-      | inl is ↦ e ∙ ap (λ (r : Pair). Some r) (sym is)
-      | inr less ↦ absurd (false≢true (sym (backs x.of x.number false ps i split h (got_back ps i h e)) ∙ before_is h x false less))
+pub next_some : (of after : ℕ) (ps : List Pair) (h : Pair) → IsAscending ps → found (is_before of after true) (λ p. p.of == of) ps ≡ Some h
+    → IsNext ps of after (Some h.number)
+next_some of after [] h order e = absurd cc
+next_some of after (p ∷ ps) h order e =
+    let before : Pair → Bool = is_before of after true in
+    let is : Pair → Bool = λ q. q.of == of in
+    elim (cases_Bool (is_before of after true p)) [
+      | inl on ↦ (let rest = next_some of after ps h order.1 (sym (found_behind_one before is p ps on) ∙ e) in (
+        inr rest.0,
+        rest.1,
+        (λ q there same up. elim there [
+          | inl here ↦ absurd (let le = not_later of after p q on here same in omega arith)
+          | inr rear ↦ rest.2 q rear same up
+        ]),
+      ))
+      | inr off ↦ elim (cases_Bool (p.of == of)) [
+        | inl here ↦ (let same : Some p ≡ Some h = sym (found_first before is p ps off here) ∙ e in
+            let at : p ≡ h = cc in
+            subst (λ (r : Pair). IsNext (p ∷ ps) of after (Some r.number)) at (next_here of after p ps order off (eqb-true p.of of here)))
+        | inr other ↦ absurd (let none : None ≡ Some h = sym (found_not before is p ps off other) ∙ e in cc)
+      ]
     ]
 
-pub got_within : (ps : List Pair) (i : ℕ) (x : Pair) → slice_get ps i ≡ Some x → i < length ps
-got_within [] i x e = absurd cc
-got_within (p ∷ ps) zero x e = omega arith
-got_within (p ∷ ps) (suc i) x e = let less = got_within ps i x e in omega arith
+pub next_none : (of after : ℕ) (ps : List Pair) → IsAscending ps → found (is_before of after true) (λ p. p.of == of) ps ≡ None → IsNext ps of after None
+next_none of after [] order e q there same = absurd there
+next_none of after (p ∷ ps) order e q there same =
+    let before : Pair → Bool = is_before of after true in
+    let is : Pair → Bool = λ r. r.of == of in
+    elim (cases_Bool (is_before of after true p)) [
+      | inl on ↦ elim there [
+        | inl here ↦ not_later of after p q on here same
+        | inr rear ↦ next_none of after ps order.1 (sym (found_behind_one before is p ps on) ∙ e) q rear same
+      ]
+      | inr off ↦ elim (cases_Bool (p.of == of)) [
+        | inl here ↦ absurd (let some : Some p ≡ None = sym (found_first before is p ps off here) ∙ e in cc)
+        | inr other ↦ absurd (past off (λ at. false≢true (sym other ∙ eq-eqb p.of of at)))
+      ]
+    ]
+  where
+    past : is_before of after true p ≡ false → p.of ≢ of → ⊥
+    past off other = elim (beyond of after p off) [
+      | inr near ↦ other (sym near.0)
+      | inl high ↦ elim there [
+        | inl here ↦ (let at : q.of ≡ p.of = ap (λ (r : Pair). r.of) here in omega arith)
+        | inr rear ↦ elim (order.0 q rear) [ inl low ↦ omega arith | inr less ↦ (let at = less.0 in omega arith) ]
+      ]
+    ]
 
-pub removed_in : {X : Type 0} (ps : List X) (i : ℕ) (q : X) → In q (remove ps i) → In q ps
-removed_in [] zero q there = absurd there
-removed_in [] (suc i) q there = absurd there
-removed_in (p ∷ ps) zero q there = inr there
-removed_in (p ∷ ps) (suc i) q (inl is) = inl is
-removed_in (p ∷ ps) (suc i) q (inr more) = inr (removed_in ps i q more)
+-- A pair that comes, and one that goes.
 
-in_removed : (ps : List Pair) (i : ℕ) (x q : Pair) → slice_get ps i ≡ Some x → In q ps → q ≢ x → In q (remove ps i)
-in_removed [] i x q e there other = absurd there
-in_removed (p ∷ ps) zero x q e (inl is) other = let same : p ≡ x = cc in absurd (other (is ∙ same))
-in_removed (p ∷ ps) zero x q e (inr more) other = more
-in_removed (p ∷ ps) (suc i) x q e (inl is) other = inl is
-in_removed (p ∷ ps) (suc i) x q e (inr more) other = inr (in_removed ps i x q e more other)
+pub has_put : (x : Pair) (ps : List Pair) → IsAscending ps → ((p : Pair) → In p ps → p ≢ x) → HasPut ps x (added (is_before x.of x.number false) x ps)
+has_put x [] order other = record {
+  order = ((λ q there. absurd there), tt);
+  put = inl refl;
+  kept = λ p there. absurd there;
+  only = λ p there. elim there [ inl is ↦ inl is | inr more ↦ absurd more ];
+}
+has_put x (p ∷ ps) order other =
+    let before : Pair → Bool = is_before x.of x.number false in
+    elim (compared p x) [
+      | inl low ↦ (let rest = has_put x ps order.1 (λ q there. other q (inr there)) in
+          subst (HasPut (p ∷ ps) x) (sym (added_behind_one before x p ps (before_is p x false low))) (record {
+            order = (
+              (λ q there. elim (rest.only q there) [ inl is ↦ subst (λ (r : Pair). Precedes p r) (sym is) low | inr old ↦ order.0 q old ]),
+              rest.order,
+            );
+            put = inr rest.put;
+            kept = λ q there. elim there [ inl is ↦ inl is | inr more ↦ inr (rest.kept q more) ];
+            only = λ q there. elim there [
+              | inl is ↦ inr (inl is)
+              | inr more ↦ elim (rest.only q more) [ inl new ↦ inl new | inr old ↦ inr (inr old) ]
+            ];
+          }))
+      | inr others ↦ elim others [
+        | inl same ↦ absurd (other p (inl refl) same)
+        | inr high ↦ subst (HasPut (p ∷ ps) x) (sym (added_first before x p ps (behind_is p x false high))) (record {
+          order = (
+            (λ q there. elim there [ inl is ↦ subst (λ (r : Pair). Precedes x r) (sym is) high | inr more ↦ carried x p q high (order.0 q more) ]),
+            order,
+          );
+          put = inl refl;
+          kept = λ q there. inr there;
+          only = λ q there. there;
+        })
+      ]
+    ]
 
-got_in : (ps : List Pair) (i : ℕ) (x : Pair) → slice_get ps i ≡ Some x → In x ps
-got_in ps i x e = of_back ps i x (got_back ps i x e)
-
-removed_apart : (ps : List Pair) (i : ℕ) (x q : Pair) → IsAscending ps → slice_get ps i ≡ Some x → In q (remove ps i) → q ≢ x
-removed_apart [] i x q order e there same = absurd cc
-removed_apart (p ∷ ps) zero x q order e there same = let is : p ≡ x = cc in never_itself p q (order.0 q there) (is ∙ sym same)
-removed_apart (p ∷ ps) (suc i) x q order e (inl is) same = never_itself p x (order.0 x (got_in ps i x e)) (sym is ∙ same)
-removed_apart (p ∷ ps) (suc i) x q order e (inr more) same = removed_apart ps i x q order.1 e more same
-
-removed_order : (ps : List Pair) (i : ℕ) → IsAscending ps → IsAscending (remove ps i)
-removed_order [] zero order = tt
-removed_order [] (suc i) order = tt
-removed_order (p ∷ ps) zero order = order.1
-removed_order (p ∷ ps) (suc i) order = ((λ q there. order.0 q (removed_in ps i q there)), removed_order ps i order.1)
-
-pub has_taken : (ps qs : List Pair) (i : ℕ) (x : Pair) → IsAscending ps → SplitAt x.of x.number false ps i → In x ps → qs ≡ remove ps i → HasTaken ps x qs
-has_taken ps qs i x order split there is =
-    let at = stands_at ps i x order split there in
-    subst (HasTaken ps x) (sym is) (record {
-      order = removed_order ps i order;
-      kept = λ p in_p other. in_removed ps i x p at in_p other;
-      only = λ p in_p. (removed_in ps i p in_p, removed_apart ps i x p order at in_p);
-    })
+pub has_taken : (x : Pair) (ps : List Pair) → IsAscending ps → In x ps → HasTaken ps x (removed (is_before x.of x.number false) (λ p. p.of == x.of) ps)
+has_taken x [] order there = absurd there
+has_taken x (p ∷ ps) order there =
+    let before : Pair → Bool = is_before x.of x.number false in
+    let is : Pair → Bool = λ q. q.of == x.of in
+    elim (compared p x) [
+      | inl low ↦ (let rest = has_taken x ps order.1 (elim there [ inl here ↦ absurd (never_itself p x low (sym here)) | inr rear ↦ rear ]) in
+          subst (HasTaken (p ∷ ps) x) (sym (removed_behind_one before is p ps (before_is p x false low))) (record {
+            order = ((λ q in_q. order.0 q (rest.only q in_q).0), rest.order);
+            kept = λ q in_q other. elim in_q [ inl here ↦ inl here | inr rear ↦ inr (rest.kept q rear other) ];
+            only = λ q in_q. elim in_q [
+              | inl here ↦ (inl here, (λ e. never_itself p x low (sym here ∙ e)))
+              | inr rear ↦ (inr (rest.only q rear).0, (rest.only q rear).1)
+            ];
+          }))
+      | inr others ↦ elim others [
+        | inl same ↦ subst (HasTaken (p ∷ ps) x)
+            (sym (removed_first before is p ps (ap (is_before x.of x.number false) same ∙ itself_is x false) (eq-eqb p.of x.of (ap (λ (r : Pair). r.of) same)))) (record {
+              order = order.1;
+              kept = λ q in_q other. elim in_q [ inl here ↦ absurd (other (here ∙ same)) | inr rear ↦ rear ];
+              only = λ q in_q. (inr in_q, (λ e. never_itself p q (order.0 q in_q) (same ∙ sym e)));
+            })
+        | inr high ↦ absurd (elim there [
+          | inl here ↦ never_itself x p high here
+          | inr rear ↦ never_itself x x (carried x p x high (order.0 x rear)) refl
+        ])
+      ]
+    ]
 
 pub any_found : {X : Type 0} (p : X → Bool) (xs : List X) → is_some (find p xs) ≡ list_any p xs
 any_found p [] = refl

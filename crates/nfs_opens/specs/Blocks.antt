@@ -1,31 +1,62 @@
--- How an index lies: in blocks, each with pairs that stand next to each other (RFC 8881 sections 8.3 and 9.7: states of one client and of one file).
-use Rattle.std.specs.Prelude.{◌≡◌, ◌≢◌, ℕ, ◌<◌, Bool, true, length, List, [], ◌∷◌, Option, Some, None, IfSome}
+-- A list that lies in blocks, none of them empty, and what a search for one of its items finds, adds, takes and changes there.
+use Rattle.std.specs.Prelude.{◌≡◌, ◌≢◌, ℕ, ◌<◌, Bool, true, if◌then◌else◌, length, List, [], ◌∷◌, Option, Some, None, IfSome}
 use Rattle.nfs_xdr.specs.Tables.{In}
-use Rattle.nfs_opens.specs.{declared.index.Pair.Pair, Index.{Precedes, IsAscending, is_before}, Flat.{flat, last_of, front_of, rest_of}}
+use Rattle.nfs_opens.specs.Flat.{last_of}
 
--- the pairs, and whether there is room for one more
-pub record Listed : Type 0 where
-  pub items : List Pair
+-- the items, and whether there is room for one more
+pub record Listed (X : Type 0) : Type 0 where
+  pub items : List X
   pub ready : Bool
 
-abbrev pub pairs_in : Option (List Pair) → List Pair
-pairs_in None = []
-pairs_in (Some b) = b
+module _ {X : Type 0} where
+  -- what passes stands before what does not
+  abbrev pub IsParted : (X → Bool) → List X → Type 0
+  IsParted p [] = Unit {0}
+  IsParted p (x ∷ xs) = ((y : X) → In y xs → p y ≡ true → p x ≡ true) × IsParted p xs
 
--- no pair of the block stands behind that of a number
-abbrev pub ends_before : ℕ → ℕ → Bool → List Pair → Bool
-ends_before of number too [] = true
-ends_before of number too (p ∷ ps) = is_before of number too (last_of p ps)
+  -- the first that does not pass, if it is the one sought
+  abbrev pub found : (X → Bool) → (X → Bool) → List X → Option X
+  found p is [] = None
+  found p is (x ∷ xs) = if p x then found p is xs else (if is x then Some x else None)
 
-abbrev pub AreOrdered : List (List Pair) → Type 0
-AreOrdered bs = IsAscending (flat bs) × ((b : List Pair) → In b bs → b ≢ [])
+  -- a list of which the items behind those that pass are changed
+  abbrev pub onward : (X → Bool) → (List X → List X) → List X → List X
+  onward p change [] = change []
+  onward p change (x ∷ xs) = if p x then x ∷ onward p change xs else change (x ∷ xs)
 
--- a pair belongs into the block at a place
-pub record IsPlace (bs : List (List Pair)) (x : Pair) (i : ℕ) : Type 0 where
-  pub below : (p : Pair) → In p (front_of bs i) → Precedes p x
-  pub above : (p : Pair) → In p (rest_of bs i) → Precedes x p
+  -- one more, before the first that does not pass
+  abbrev pub added : (X → Bool) → X → List X → List X
+  added p new xs = onward p (λ ys. new ∷ ys) xs
 
--- blocks in order, none of them empty, and room for the spare one; capacity is how many there is room for
-pub record AreBlocks (bs : List (List Pair)) (capacity : ℕ) (spare : Option (List Pair)) : Type 0 where
-  pub ordered : AreOrdered bs
-  pub room : IfSome spare (λ s. (s ≡ []) × (length bs < capacity))
+  abbrev pub first_out : (X → Bool) → List X → List X
+  first_out is [] = []
+  first_out is (x ∷ xs) = if is x then xs else x ∷ xs
+
+  -- the list without the one sought
+  abbrev pub removed : (X → Bool) → (X → Bool) → List X → List X
+  removed p is xs = onward p (first_out is) xs
+
+  abbrev pub first_changed : (X → Bool) → (X → X) → List X → List X
+  first_changed is change [] = []
+  first_changed is change (x ∷ xs) = if is x then change x ∷ xs else x ∷ xs
+
+  -- the list with the one sought changed
+  abbrev pub changed : (X → Bool) → (X → Bool) → (X → X) → List X → List X
+  changed p is change xs = onward p (first_changed is change) xs
+
+  -- all of a block pass where its last does
+  abbrev pub passes : (X → Bool) → List X → Bool
+  passes p [] = true
+  passes p (x ∷ xs) = p (last_of x xs)
+
+  abbrev pub items_in : Option (List X) → List X
+  items_in None = []
+  items_in (Some b) = b
+
+  abbrev pub AreSome : List (List X) → Type 0
+  AreSome bs = (b : List X) → In b bs → b ≢ []
+
+  -- blocks, none of them empty, and room for the spare one; capacity is how many there is room for
+  pub record AreBlocks (bs : List (List X)) (capacity : ℕ) (spare : Option (List X)) : Type 0 where
+    pub some : AreSome bs
+    pub room : IfSome spare (λ s. (s ≡ []) × (length bs < capacity))

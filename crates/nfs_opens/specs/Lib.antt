@@ -1,5 +1,4 @@
 pub mod Blocks
-pub mod ByNumber
 pub mod Closing
 pub mod Counts
 pub mod Flat

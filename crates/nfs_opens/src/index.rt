@@ -1,10 +1,12 @@
 //! Which states belong to a file, a client, an open or an owner, in an order in which they are found by halving.
 
-ghost use Rattle.std.specs.Prelude.{◌≡◌, ◌≢◌, ◌==◌, ◌+◌, ◌<◌, ◌≤◌, true, false, length, map, vec_capacity, slice_get};
-ghost use Rattle.std.specs.Option.{option_copied};
-ghost use Rattle.std.specs.List.Sorted.{IsPartitionPoint};
+ghost use Rattle.std.specs.Prelude.{◌≡◌, ◌≢◌, [], true, OnOk};
 ghost use Rattle.nfs_xdr.specs.Tables.{In};
-ghost use Rattle.nfs_opens.specs.Index.{IsAscending, IsNext, HasPut, HasTaken, pair_of, is_before};
+ghost use Rattle.nfs_opens.specs.Index.{IsNext, HasPut, HasTaken, pair_of};
+
+use crate::blocks::{Blocks, InBlocks, Search};
+use std::alloc::{AllocError, Global};
+use std::marker::Model;
 
 /// What a state belongs to, and the state's number.
 #[derive(Clone, Copy)]
@@ -14,21 +16,14 @@ pub(crate) struct Pair {
 }
 
 /// What stands in an index for a state. Contracts see what the state belongs to, as a number, and the state's number.
-pub(crate) trait Entry: Drop {
-    ghost use Rattle.std.specs.Prelude.{ℕ, ◌≡◌, ◌<◌};
+pub(crate) trait Entry: InBlocks {
+    ghost use Rattle.std.specs.Prelude.{◌≡◌};
     ghost use Rattle.nfs_opens.specs.declared.index.Pair.{Pair};
 
     ghost pair: { Self → Pair };
 
-    /// A block has fewer entries, and room for so many.
-    const MOST: usize;
-
-    ghost MOST: { ℕ };
-
     fn number(&self) -> u64
         ensures { result ≡ (pair self.now).number };
-
-    ghost several: { 1 < MOST };
 }
 
 /// What states belong to, by which their entries are sought.
@@ -47,20 +42,22 @@ pub(crate) trait Sought<T: Entry> {
         ensures { result ≡ ((T.pair entry.now).of == of self.now) };
 }
 
-impl Entry for Pair {
+impl InBlocks for Pair {
     ghost use Rattle.std.proofs.Common.{arith};
-
-    ghost pair = { λ p. p };
 
     const MOST: usize = 256;
 
     ghost MOST = { 256 };
 
+    ghost several = { Prim.omega arith };
+}
+
+impl Entry for Pair {
+    ghost pair = { λ p. p };
+
     fn number(&self) -> u64 {
         self.number
     }
-
-    ghost several = { Prim.omega arith };
 }
 
 /// A file, a client or an open.
@@ -77,55 +74,121 @@ impl Sought<Pair> for u64 {
     }
 }
 
-/// How many entries stand before that of a number, and with `too` that one as well.
-fn place_of<T: Entry, S: Sought<T>>(entries: &[T], of: &S, number: u64, too: bool) -> usize
-    requires { IsAscending (map T.pair entries.now) }
-    ensures bound { result ≤ length entries.now }
-    ensures split { IsPartitionPoint (λ p. is_before (S.of of.now) number too p ≡ true) (λ p. is_before (S.of of.now) number too p ≡ false) (map T.pair entries.now) result }
-{
-    entries.partition_point(|entry| of.is_behind(entry, number, too))
+/// Where the entry of a number stands among those of one index; with `too`, behind that entry.
+#[derive(Drop)]
+struct Place<'a, S> {
+    of: &'a S,
+    number: u64,
+    too: bool,
 }
 
-/// What stands at a place.
-pub(crate) fn item_at<T>(items: &[T], place: usize) -> Option<&T>
-    ensures { option_copied result ≡ slice_get items.now place }
-{
-    items.get(place)
-}
+impl<T: Entry, S: Sought<T>> Search<T> for Place<'_, S> {
+    ghost use Rattle.std.specs.Prelude.{◌==◌};
+    ghost use Rattle.nfs_opens.specs.Index.{is_before};
 
-/// The lowest number behind `after` of what belongs to what is sought.
-pub(crate) fn next_in<T: Entry, S: Sought<T>>(entries: &[T], of: &S, after: u64) -> Option<u64>
-    requires { IsAscending (map T.pair entries.now) }
-    ensures { IsNext (map T.pair entries.now) (S.of of.now) after result }
-{
-    match item_at(entries, place_of(entries, of, after, true)) {
-        Some(entry) if of.has(entry) => Some(entry.number()),
-        _ => None,
+    ghost before = { λ s x. is_before (S.of s.of.now) s.number s.too (T.pair x) };
+
+    ghost is = { λ s x. (T.pair x).of == S.of s.of.now };
+
+    fn skips(&self, item: &T) -> bool {
+        self.of.is_behind(item, self.number, self.too)
+    }
+
+    fn finds(&self, item: &T) -> bool {
+        self.of.has(item)
     }
 }
 
-/// An entry comes in, which belongs to `of`. It takes no memory.
-pub(crate) fn put<T: Entry, S: Sought<T>>(entries: &mut Vec<T>, of: &S, new: T)
-    requires of { S.of of.now ≡ (T.pair new).of }
-    requires order { IsAscending (map T.pair entries.old.items) }
-    requires room { length entries.old.items < vec_capacity entries.old }
-    requires other { (p : Pair) → In p (map T.pair entries.old.items) → p ≢ T.pair new }
-    ensures put { HasPut (map T.pair entries.old.items) (T.pair new) (map T.pair entries.new.items) }
-    ensures more { length entries.new.items ≡ length entries.old.items + 1 }
-    ensures room { vec_capacity entries.new ≡ vec_capacity entries.old }
-{
-    let place = place_of(entries, of, new.number(), false);
-    entries.insert(place, new).unwrap();
+/// The entries of states, in their order. One more may come in while there is room.
+#[derive(Drop)]
+pub(crate) struct Index<T: Entry> {
+    entries: Blocks<T>,
 }
 
-/// An entry goes.
-pub(crate) fn take<T: Entry, S: Sought<T>>(entries: &mut Vec<T>, of: &S, number: u64)
-    requires order { IsAscending (map T.pair entries.old.items) }
-    requires there { In (pair_of (S.of of.now) number) (map T.pair entries.old.items) }
-    ensures taken { HasTaken (map T.pair entries.old.items) (pair_of (S.of of.now) number) (map T.pair entries.new.items) }
-    ensures room { vec_capacity entries.new ≡ vec_capacity entries.old }
-    ensures fewer { length entries.new.items ≤ length entries.old.items }
-{
-    let place = place_of(entries, of, number, false);
-    let _ = entries.remove(place);
+impl<T: Entry> Model for Index<T> {
+    ghost use Rattle.std.specs.Prelude.{map};
+    ghost use Rattle.nfs_opens.specs.Blocks.{Listed};
+    ghost use Rattle.nfs_opens.specs.Index.{IsAscending};
+    ghost use Rattle.nfs_opens.specs.declared.index.Pair.{Pair};
+
+    ghost Value = { Listed Pair };
+
+    ghost view = { λ x. record { items = map T.pair x.entries.items; ready = x.entries.ready } };
+
+    ghost invariant = { λ x. IsAscending (map T.pair x.entries.items) };
+}
+
+impl<T: Entry> Index<T> {
+    /// No entries.
+    pub(crate) fn new(alloc: Global) -> Self
+        ensures { result.items ≡ [] }
+    {
+        Index {
+            entries: Blocks::new(alloc),
+        }
+    }
+
+    /// The lowest number behind `after` of what belongs to what is sought.
+    pub(crate) fn next<S: Sought<T>>(&self, of: &S, after: u64) -> Option<u64>
+        ensures { IsNext self.now.items (S.of of.now) after result }
+    {
+        let place = Place {
+            of,
+            number: after,
+            too: true,
+        };
+        match self.entries.find(&place) {
+            Some(entry) => Some(entry.number()),
+            None => None,
+        }
+    }
+
+    /// Room for one more entry.
+    pub(crate) fn reserve(&mut self, alloc: Global) -> Result<(), AllocError>
+        ensures items { self.new.items ≡ self.old.items }
+        ensures ok { OnOk result (self.new.ready ≡ true) }
+        ensures kept { self.old.ready ≡ true → self.new.ready ≡ true }
+    {
+        self.entries.reserve(alloc)
+    }
+
+    /// An entry comes in, which belongs to `of`. It takes no memory.
+    pub(crate) fn put<S: Sought<T>>(&mut self, of: &S, new: T)
+        requires of { S.of of.now ≡ (T.pair new).of }
+        requires ready { self.old.ready ≡ true }
+        requires other { (p : Pair) → In p self.old.items → p ≢ T.pair new }
+        ensures { HasPut self.old.items (T.pair new) self.new.items }
+    {
+        let place = Place {
+            of,
+            number: new.number(),
+            too: false,
+        };
+        self.entries.add(&place, new);
+    }
+
+    /// An entry goes.
+    pub(crate) fn take<S: Sought<T>>(&mut self, of: &S, number: u64)
+        requires { In (pair_of (S.of of.now) number) self.old.items }
+        ensures taken { HasTaken self.old.items (pair_of (S.of of.now) number) self.new.items }
+        ensures ready { self.new.ready ≡ self.old.ready }
+    {
+        let place = Place {
+            of,
+            number,
+            too: false,
+        };
+        self.entries.remove(&place);
+    }
+}
+
+impl Index<Pair> {
+    /// A pair comes in. It takes no memory.
+    pub(crate) fn put_pair(&mut self, of: u64, number: u64)
+        requires ready { self.old.ready ≡ true }
+        requires other { (p : Pair) → In p self.old.items → p ≢ pair_of of number }
+        ensures { HasPut self.old.items (pair_of of number) self.new.items }
+    {
+        self.put(&of, Pair { of, number });
+    }
 }

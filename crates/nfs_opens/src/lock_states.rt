@@ -9,9 +9,8 @@ ghost use Rattle.nfs_opens.specs.TableInvariants.{Rises};
 ghost use Rattle.nfs_opens.specs.Locking.{raised};
 ghost use Rattle.nfs_opens.specs.StateId.{last_number};
 
-use crate::blocks::Index;
 use crate::by_number::ByNumber;
-use crate::index::Pair;
+use crate::index::{Index, Pair};
 use crate::key::Key;
 use crate::owned::Owned;
 use crate::owner::Owner;
@@ -33,11 +32,11 @@ pub(crate) struct LockStates {
 
 impl Model for LockStates {
     ghost use Rattle.std.specs.Prelude.{◌&&◌};
-    ghost use Rattle.nfs_opens.specs.ByNumber.{Numbered};
+    ghost use Rattle.nfs_opens.specs.Blocks.{Listed};
     ghost use Rattle.nfs_opens.specs.TableInvariants.{AreLocks};
     ghost use Rattle.nfs_opens.specs.declared.records.LockState.{LockState};
 
-    ghost Value = { Numbered LockState };
+    ghost Value = { Listed LockState };
 
     ghost view = { λ s. record { items = s.states.items; ready = s.states.ready && (s.by_file.ready && (s.by_open.ready && s.by_owner.ready)) } };
 

@@ -8,10 +8,9 @@ ghost use Rattle.nfs_opens.specs.Keys.{open_key, key_of};
 ghost use Rattle.nfs_opens.specs.Counts.{AreCounted, count_of, has_room};
 ghost use Rattle.nfs_opens.specs.StateId.{last_number};
 
-use crate::blocks::Index;
 use crate::by_number::ByNumber;
 use crate::counts::{Count, Counts};
-use crate::index::Pair;
+use crate::index::{Index, Pair};
 use crate::key::Key;
 use crate::owned::Owned;
 use crate::owner::Owner;
@@ -35,12 +34,12 @@ pub(crate) struct OpenStates {
 
 impl Model for OpenStates {
     ghost use Rattle.std.specs.Prelude.{◌&&◌};
-    ghost use Rattle.nfs_opens.specs.ByNumber.{Numbered};
+    ghost use Rattle.nfs_opens.specs.Blocks.{Listed};
     ghost use Rattle.nfs_opens.specs.TableInvariants.{AreOpens};
     ghost use Rattle.nfs_opens.specs.Counts.{has_room};
     ghost use Rattle.nfs_opens.specs.declared.records.OpenState.{OpenState};
 
-    ghost Value = { Numbered OpenState };
+    ghost Value = { Listed OpenState };
 
     ghost view = { λ s. record { items = s.states.items; ready = s.states.ready && (s.by_file.ready && (s.by_client.ready && (s.by_owner.ready && has_room s.counts))) } };
 

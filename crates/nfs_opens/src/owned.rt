@@ -3,6 +3,7 @@
 ghost use Rattle.std.specs.Prelude.{◌≡◌};
 ghost use Rattle.nfs_opens.specs.Keys.{key_of, owner_key};
 
+use crate::blocks::InBlocks;
 use crate::index::{Entry, Sought};
 use crate::key::Key;
 use crate::owner::Owner;
@@ -29,21 +30,24 @@ impl Owned {
     }
 }
 
-impl Entry for Owned {
-    ghost use Rattle.nfs_opens.specs.Keys.{owner_key};
+impl InBlocks for Owned {
     ghost use Rattle.std.proofs.Common.{arith};
-
-    ghost pair = { λ o. record { of = owner_key o.file o.client o.owner; number = o.number } };
 
     const MOST: usize = 64;
 
     ghost MOST = { 64 };
 
+    ghost several = { Prim.omega arith };
+}
+
+impl Entry for Owned {
+    ghost use Rattle.nfs_opens.specs.Keys.{owner_key};
+
+    ghost pair = { λ o. record { of = owner_key o.file o.client o.owner; number = o.number } };
+
     fn number(&self) -> u64 {
         self.number
     }
-
-    ghost several = { Prim.omega arith };
 }
 
 impl Sought<Owned> for Key<'_> {

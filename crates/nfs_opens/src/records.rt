@@ -9,6 +9,7 @@ ghost use Rattle.nfs_opens.specs.Locking.{is_locker};
 ghost use Rattle.nfs_opens.specs.Keys.{open_key, lock_key, owner_key, key_of};
 ghost use Rattle.nfs_opens.specs.Counts.{reserved};
 
+use crate::blocks::{Change, InBlocks};
 use crate::counts::Reservation;
 use crate::key::Key;
 use crate::opening::Ask;
@@ -53,7 +54,7 @@ pub struct LockState {
 }
 
 /// An open or a lock state.
-pub(crate) trait State: Drop {
+pub(crate) trait State: InBlocks {
     ghost use Rattle.std.specs.Prelude.{ℕ, ◌≡◌};
 
     ghost number: { Self → ℕ };
@@ -63,12 +64,32 @@ pub(crate) trait State: Drop {
         ensures { result ≡ number self.now };
 }
 
+impl InBlocks for OpenState {
+    ghost use Rattle.std.proofs.Common.{arith};
+
+    const MOST: usize = 64;
+
+    ghost MOST = { 64 };
+
+    ghost several = { Prim.omega arith };
+}
+
 impl State for OpenState {
     ghost number = { λ o. o.number };
 
     fn number(&self) -> u64 {
         self.number
     }
+}
+
+impl InBlocks for LockState {
+    ghost use Rattle.std.proofs.Common.{arith};
+
+    const MOST: usize = 64;
+
+    ghost MOST = { 64 };
+
+    ghost several = { Prim.omega arith };
 }
 
 impl State for LockState {
@@ -80,19 +101,14 @@ impl State for LockState {
 }
 
 /// A change of a state, which keeps its number.
-pub(crate) trait Change<T: State> {
+pub(crate) trait StateChange<T: State>: Change<T> {
     ghost use Rattle.std.specs.Prelude.{◌≡◌};
 
-    ghost changed: { Self → T → T };
-
-    fn make(&self, state: &mut T)
-        ensures { state.new ≡ changed self.now state.old };
-
-    ghost keeps: { (c : Self) (x : T) → T.number (changed c x) ≡ T.number x };
+    ghost keeps: { (c : Self) (x : T) → T.number (Self.changed c x) ≡ T.number x };
 }
 
 /// A change of an open, which stays its owner's on its file.
-pub(crate) trait OpenChange: Change<OpenState> {
+pub(crate) trait OpenChange: StateChange<OpenState> {
     ghost use Rattle.std.specs.Prelude.{◌≡◌};
     ghost use Rattle.nfs_opens.specs.declared.records.OpenState.{OpenState};
     ghost use Rattle.nfs_opens.specs.Counts.{reserved};
@@ -107,17 +123,20 @@ pub(crate) trait OpenChange: Change<OpenState> {
 
 /// What is asked joins.
 impl Change<OpenState> for Ask<'_> {
-    ghost use Rattle.std.specs.Prelude.{refl};
     ghost use Rattle.nfs_opens.specs.Calls.{asked};
     ghost use Rattle.nfs_opens.specs.Opening.{joins};
 
     ghost changed = { λ a o. joins (asked a) o };
 
-    fn make(&self, state: &mut OpenState) {
-        state.seqid = next_seqid(state.seqid);
-        state.access = state.access.joined(self.access);
-        state.deny = state.deny.joined(self.deny);
+    fn make(&self, item: &mut OpenState) {
+        item.seqid = next_seqid(item.seqid);
+        item.access = item.access.joined(self.access);
+        item.deny = item.deny.joined(self.deny);
     }
+}
+
+impl StateChange<OpenState> for Ask<'_> {
+    ghost use Rattle.std.specs.Prelude.{refl};
 
     ghost keeps = { λ c x. refl };
 }
@@ -137,16 +156,19 @@ impl OpenChange for Ask<'_> {
 
 /// The open has this access and denies this from now on.
 impl Change<OpenState> for Reservation {
-    ghost use Rattle.std.specs.Prelude.{refl};
     ghost use Rattle.nfs_opens.specs.Opening.{narrows};
 
     ghost changed = { λ r o. narrows r.access r.deny o };
 
-    fn make(&self, state: &mut OpenState) {
-        state.seqid = next_seqid(state.seqid);
-        state.access = self.access;
-        state.deny = self.deny;
+    fn make(&self, item: &mut OpenState) {
+        item.seqid = next_seqid(item.seqid);
+        item.access = self.access;
+        item.deny = self.deny;
     }
+}
+
+impl StateChange<OpenState> for Reservation {
+    ghost use Rattle.std.specs.Prelude.{refl};
 
     ghost keeps = { λ c x. refl };
 }
@@ -165,14 +187,17 @@ impl OpenChange for Reservation {
 pub(crate) struct Raise;
 
 impl Change<LockState> for Raise {
-    ghost use Rattle.std.specs.Prelude.{refl};
     ghost use Rattle.nfs_opens.specs.Locking.{raised};
 
     ghost changed = { λ c l. raised l };
 
-    fn make(&self, state: &mut LockState) {
-        state.seqid = next_seqid(state.seqid);
+    fn make(&self, item: &mut LockState) {
+        item.seqid = next_seqid(item.seqid);
     }
+}
+
+impl StateChange<LockState> for Raise {
+    ghost use Rattle.std.specs.Prelude.{refl};
 
     ghost keeps = { λ c x. refl };
 }

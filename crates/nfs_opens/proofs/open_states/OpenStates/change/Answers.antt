@@ -6,7 +6,7 @@ use Rattle.nfs_opens.proofs.open_states.OpenStates.change.Goals as goal
 pub invariant_of-self : goal.invariant_of-self
 invariant_of-self g c =
     let change = g.C.Change.changed c.args.change.now in
-    let number = g.met.C.Change.keeps c.args.change.now in
+    let number = g.met.C.StateChange.keeps c.args.change.now in
     let stays = g.met.C.OpenChange.stays c.args.change.now in
     let n = c.args.number in
     let opens = c.self.inside.states.items in
