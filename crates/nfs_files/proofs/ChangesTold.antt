@@ -26,15 +26,20 @@ use Rattle.nfs_names.specs.{Outcome.{Outcome, checked, is_ok}, Remove.remove, Re
 use Rattle.nfs_names.specs.State as store
 use Rattle.nfs_names.proofs.{Found.{came, ok_is, checked_ok, current_is}, NameLaws.{current_refuses, by_create, by_link, by_remove, by_rename}, Ones.by_delay}
 use Rattle.nfs_names.proofs.Refusing.{refuses_checked}
-use Rattle.nfs_files.specs.{declared.opening.Found.Found, declared.opening.Found.TheVariants.{There, Absent}, Bytes.writable, Operation.grows, StateIds.wire_id}
+use Rattle.nfs_files.specs.{declared.opening.Found.Found, declared.opening.Found.TheVariants.{There, Absent}, Operation.grows, StateIds.wire_id, Parts.writable}
 use Rattle.nfs_files.specs.FileImage.{claimed, is_number, asks_empty}
+use Rattle.nfs_files.specs.OpenParts as open_parts
 use Rattle.nfs_files.specs.Open as of_open
+use Rattle.nfs_files.specs.SetAttrParts as set_parts
 use Rattle.nfs_files.specs.SetAttr as of_set
+use Rattle.nfs_files.specs.Parts as parts
 use Rattle.nfs_files.specs.Write as of_write
 use Rattle.nfs_files.proofs.{OpenAnswers.{open_refuses, asked_regular}, Outcomes.one_or_delay, Seats.writable_refuses, SetAnswers.asked_refuses}
 use Rattle.nfs_files.proofs.WrittenOps.{current_number, writable_at}
 use Rattle.nfs_files.proofs.ChangesAt.{At, at_now, change_is, at_here, bytes_here, bytes_other, unused_at, new_at, link_at, without_at, source_at, target_at}
 use Rattle.nfs_files.proofs.FileOps.{by_granted, Is, open_is, setting_is}
+use Rattle.nfs_files.proofs.InSteps.{write_is, set_attr_is}
+use Rattle.nfs_files.proofs.InSteps as in_steps
 
 -- What was reported of two trees.
 
@@ -245,7 +250,7 @@ cut_info t place g now true there other = record {
       (bytes_other place g now no_sets (λ s. resized s.bytes 0) t.objects (change_of t place) (other refl) (at_now t place there)));
 }
 
-opened_info : (s : store.State) (x : Context) (now : Time) (a : Open) (f : Found) (n : ℕ) → of_open.asked_for s x a ≡ Ok f → Is s x a f → x.current ≡ Some n
+opened_info : (s : store.State) (x : Context) (now : Time) (a : Open) (f : Found) (n : ℕ) → open_parts.asked_for s x a ≡ Ok f → Is s x a f → x.current ≡ Some n
     → Theirs n s.tree (of_open.tree_of s.tree x now a f) (of_open.info_of s.tree f)
 opened_info s x now a (There place g cut) n e is at =
     same_info place n s.tree (of_open.tree_of s.tree x now a (There place g cut)) (change_info (stays s.tree place)) (some_same x.current place n is.place at)
@@ -260,16 +265,15 @@ opened_info s x now a (Absent m) n e is at =
 
 pub open_tells : (n : ℕ) (refused : Bool) (s : store.State) (x : Context) (now : Time) (a : Open) → x.current ≡ Some n
     → Done (OpenTells n s.tree) (one_or_delay refused s x now (Op.Open a))
-unfolding of_open.open_file
 open_tells n refused s x now a at =
     by_delay (Done (OpenTells n s.tree)) (grows s x (Op.Open a) && refused) s x Num.Open (of_open.open_file s x now a) (λ ok. absurd (false≢true ok))
-    (by_granted (Done (OpenTells n s.tree)) s x Num.Open (checked (of_open.asked_for s x a) (of_open.last_checks s x a)) (of_open.opened s x now a)
+    (rw (in_steps.open_is s x now a) (by_granted (Done (OpenTells n s.tree)) s x Num.Open (checked (open_parts.asked_for s x a) (of_open.last_checks s x a)) (of_open.opened s x now a)
     (open_refuses s x a) (λ status refuses ok. absurd (false≢true (sym refuses.done ∙ ok)))
-    (λ f granted ok. (let e = (checked_ok (of_open.asked_for s x a) (of_open.last_checks s x a) f granted).0 in (
+    (λ f granted ok. (let e = (checked_ok (open_parts.asked_for s x a) (of_open.last_checks s x a) f granted).0 in (
       record { stateid = wire_id (opens s.opens (of_open.asking x a (of_open.file_of s.tree f))).id; cinfo = of_open.info_of s.tree f; attrset = of_open.set_of a f },
       refl,
       opened_info s x now a f n e (open_is s x a f e) at,
-    ))))
+    )))))
 
 -- What raises a change.
 
@@ -288,14 +292,13 @@ written_raises n s now w d same there some =
 
 pub write_raises : (n : ℕ) (refused : Bool) (s : store.State) (x : Context) (now : Time) (w : Write) → x.current ≡ Some n → is_there s.tree n ≡ true → has_bytes w.bytes ≡ true
     → Done (λ o. Raises n s.tree o.state.tree) (one_or_delay refused s x now (Op.Write w))
-unfolding of_write.write
 write_raises n refused s x now w at there some =
     by_delay (Done (λ o. Raises n s.tree o.state.tree)) (grows s x (Op.Write w) && refused) s x Num.Write (of_write.write s x now w) (λ ok. absurd (false≢true ok))
-    (by_granted (Done (λ o. Raises n s.tree o.state.tree)) s x Num.Write (checked (writable s x w.stateid (current s x)) (of_write.last_checks s w)) (of_write.was_written s x now w)
+    (rw (write_is s x now w) (by_granted (Done (λ o. Raises n s.tree o.state.tree)) s x Num.Write (checked (writable s x w.stateid (current s x)) (of_write.last_checks s w)) (parts.was_written s x now w)
     (refuses_checked (writable s x w.stateid (current s x)) (of_write.last_checks s w) (writable_refuses s x w.stateid (current s x) (current_refuses s x)) (λ d. refl))
     (λ status refuses ok. absurd (false≢true (sym refuses.done ∙ ok)))
     (λ d granted ok. (let here = writable_at s x w.stateid d (checked_ok (writable s x w.stateid (current s x)) (of_write.last_checks s w) d granted).0 in
-    written_raises n s now w d (some_same x.current d.number n (current_number s x d here) at) there some)))
+    written_raises n s now w d (some_same x.current d.number n (current_number s x d here) at) there some))))
 
 -- SETATTR
 set_raises : (n : ℕ) (t : Files) (now : Time) (wanted : Wanted) (size : Option ℕ) → is_there t n ≡ true → of_set.gives_some wanted ≡ true
@@ -312,16 +315,16 @@ ok_same v a b e f = (let same : Ok a ≡ Ok b = sym e ∙ f in cc)
 
 pub set_attr_raises : (n : ℕ) (s : store.State) (x : Context) (now : Time) (a : SetAttr) (wanted : Wanted) → x.current ≡ Some n → is_there s.tree n ≡ true
     → attributes_in a.obj_attributes ≡ Ok wanted → of_set.gives_some wanted ≡ true → Done (λ o. Raises n s.tree o.state.tree) (of_set.set_attr s x now a)
-unfolding of_set.set_attr
 set_attr_raises n s x now a wanted at there reads some =
-    by_granted (Done (λ o. Raises n s.tree o.state.tree)) s x Num.SetAttr (checked (of_set.asked_for s x a) (of_set.last_checks s)) (of_set.was_set s x now a)
-    (refuses_checked (of_set.asked_for s x a) (of_set.last_checks s) (asked_refuses s x a) (λ m. refl))
+    rw (set_attr_is s x now a)
+    (by_granted (Done (λ o. Raises n s.tree o.state.tree)) s x Num.SetAttr (checked (set_parts.asked_for s x a) (set_parts.last_checks s)) (set_parts.was_set s x now a)
+    (refuses_checked (set_parts.asked_for s x a) (set_parts.last_checks s) (asked_refuses s x a) (λ m. refl))
     (λ status refuses ok. absurd (false≢true (sym refuses.done ∙ ok)))
-    (λ m granted ok. (let is = setting_is s x a m (checked_ok (of_set.asked_for s x a) (of_set.last_checks s) m granted).0 in
+    (λ m granted ok. (let is = setting_is s x a m (checked_ok (set_parts.asked_for s x a) (set_parts.last_checks s) m granted).0 in
     let same : m.node.number ≡ n = some_same x.current m.node.number n is.at at in
     let wants : wanted ≡ m.wanted = ok_same (attributes_in a.obj_attributes) wanted m.wanted reads is.reads in
     subst (λ (k : ℕ). Raises n s.tree (of_set.with_set s.tree k now m.wanted m.wanted.size)) (sym same)
-    (set_raises n s.tree now m.wanted m.wanted.size there (subst (λ (w : Wanted). of_set.gives_some w ≡ true) wants some))))
+    (set_raises n s.tree now m.wanted m.wanted.size there (subst (λ (w : Wanted). of_set.gives_some w ≡ true) wants some)))))
 
 -- OPEN
 opened_raises : (n : ℕ) (s : store.State) (x : Context) (now : Time) (a : Open) (f : Found) → Is s x a f → is_there s.tree n ≡ true
@@ -336,9 +339,8 @@ opened_raises n s x now a (Absent m) is there empties =
 
 pub open_raises : (n : ℕ) (refused : Bool) (s : store.State) (x : Context) (now : Time) (a : Open) → is_there s.tree n ≡ true
     → is_number n (claimed s.tree x.current a.claim) && asks_empty a ≡ true → Done (λ o. Raises n s.tree o.state.tree) (one_or_delay refused s x now (Op.Open a))
-unfolding of_open.open_file
 open_raises n refused s x now a there empties =
     by_delay (Done (λ o. Raises n s.tree o.state.tree)) (grows s x (Op.Open a) && refused) s x Num.Open (of_open.open_file s x now a) (λ ok. absurd (false≢true ok))
-    (by_granted (Done (λ o. Raises n s.tree o.state.tree)) s x Num.Open (checked (of_open.asked_for s x a) (of_open.last_checks s x a)) (of_open.opened s x now a)
+    (rw (in_steps.open_is s x now a) (by_granted (Done (λ o. Raises n s.tree o.state.tree)) s x Num.Open (checked (open_parts.asked_for s x a) (of_open.last_checks s x a)) (of_open.opened s x now a)
     (open_refuses s x a) (λ status refuses ok. absurd (false≢true (sym refuses.done ∙ ok)))
-    (λ f granted ok. opened_raises n s x now a f (open_is s x a f (checked_ok (of_open.asked_for s x a) (of_open.last_checks s x a) f granted).0) there empties))
+    (λ f granted ok. opened_raises n s x now a f (open_is s x a f (checked_ok (open_parts.asked_for s x a) (of_open.last_checks s x a) f granted).0) there empties)))

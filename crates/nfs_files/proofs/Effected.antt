@@ -21,19 +21,23 @@ use Rattle.nfs_names.specs.{declared.context.Context.Context, declared.node.Node
 use Rattle.nfs_names.specs.{Outcome.{Outcome, checked, done, is_ok}, Checks.current}
 use Rattle.nfs_names.proofs.{Found.checked_ok, Ones.by_delay, Effects.Makes, Rows.none_mapped}
 use Rattle.nfs_files.specs.{declared.opening.Found.Found, declared.opening.Found.TheVariants.{There, Absent}, declared.ranges.Wished.Wished}
-use Rattle.nfs_files.specs.{declared.setting.Setting.Setting, Bytes.{file_checks, readable, writable}, Operation.grows, Close.close}
+use Rattle.nfs_files.specs.{declared.setting.Setting.Setting, Bytes.file_checks, Operation.grows, Close.close, Parts.{readable, writable}}
 use Rattle.nfs_files.specs.{Commit.{write_verifier, commit}, FreeStateid.free_stateid, LockT.{tested, lock_t}, LockU.lock_u, OpenParts.tree_fault}
 use Rattle.nfs_files.specs.{OpenDowngrade.{bits, open_downgrade}, Read.{was_read, read}, TestStateid.test_stateid}
+use Rattle.nfs_files.specs.Parts as parts
 use Rattle.nfs_files.specs.Lock as of_lock
+use Rattle.nfs_files.specs.OpenParts as open_parts
 use Rattle.nfs_files.specs.Open as of_open
-use Rattle.nfs_files.specs.SetAttr as of_set
 use Rattle.nfs_files.specs.SetAttrParts as set_parts
+use Rattle.nfs_files.specs.SetAttr as of_set
 use Rattle.nfs_files.specs.Write as of_write
 use Rattle.nfs_files.proofs.{WriteRows.write_found, SetRows.set_found, OpenAnswers.file_regular_behind, Granted.tree_free, Opened.shared_free}
 use Rattle.nfs_files.proofs.{OthersTables.{OpensAreOf, LocksAreOf, lock_is_of}, Outcomes.{one, one_or_delay, comes_to}}
 use Rattle.nfs_files.proofs.OpensMoved.{answered, by_close, by_free, by_downgrade, by_lock, by_unlock}
 use Rattle.nfs_files.proofs.Wishes.{IsWish, wish_is, wish_range, lock_wish, unlock_wish}
 use Rattle.nfs_files.proofs.Effects.{Effect, Names, Writes, Resizes, Changes, Opens, Narrows, Closes, Locks, Begins, Unlocks, Frees, Fits, Cause, Caused, Did, OpensAs, behind, table_behind, opens_behind, kept}
+use Rattle.nfs_files.proofs.InSteps.{write_is, set_attr_is, commit_is, test_is, read_is}
+use Rattle.nfs_files.proofs.InSteps as in_steps
 
 -- Whose an open or a lock state is that was found under its number.
 locks_of : (t : Table) (n client : ℕ) (l : LockState) → IsTable t → lock_at t n ≡ Some l → l.client ≡ client → LocksAreOf t n client
@@ -59,7 +63,7 @@ module _ (s : State) (x : Context) where
       record { effects = e ∷ []; caused = (record { fits = fits; cause = cause; ok = ok }, tt); state = state; client = client }
 
   -- LOCK
-  locked_did : (a : Lock) (k : Wished) (did : StateId × Table) → of_lock.locking s x a ≡ Ok k → of_lock.locks_as s.opens a.locker k.id k.wish ≡ Ok did
+  locked_did : (a : Lock) (k : Wished) (did : StateId × Table) → parts.locking s x a ≡ Ok k → of_lock.locks_as s.opens a.locker k.id k.wish ≡ Ok did
       → IsLocked s.opens k.wish did → Did s x (Op.Lock a) (of_lock.locked s x (Ok did))
   locked_did a k did judged granted (inl more) =
       let wish = lock_wish s x a k judged in
@@ -143,7 +147,7 @@ module _ (s : State) (x : Context) where
       }) (a, refl) refl refl refl)
 
   -- OPEN
-  opened_did : (now : Time) (a : Open) (f : Found) → of_open.asked_for s x a ≡ Ok f → tree_fault s.tree a f ≡ None
+  opened_did : (now : Time) (a : Open) (f : Found) → open_parts.asked_for s x a ≡ Ok f → tree_fault s.tree a f ≡ None
       → (IsTable s.opens → Fits (with_tree s (of_open.tree_of s.tree x now a f)) x.client (Opens (of_open.asking x a (of_open.file_of s.tree f))))
       → Did s x (Op.Open a) (of_open.opened s x now a f)
   opened_did now a (There place f true) is none fits =
@@ -176,18 +180,19 @@ module _ (s : State) (x : Context) where
       }
 
   open_did : (now : Time) (a : Open) → Did s x (Op.Open a) (of_open.open_file s x now a)
-  unfolding of_open.open_file
-  open_did now a = answered (Did s x (Op.Open a)) s x Num.Open (checked (of_open.asked_for s x a) (of_open.last_checks s x a)) (of_open.opened s x now a)
+  open_did now a =
+      rw (in_steps.open_is s x now a)
+      (answered (Did s x (Op.Open a)) s x Num.Open (checked (open_parts.asked_for s x a) (of_open.last_checks s x a)) (of_open.opened s x now a)
       (λ status. nothing _ _) (λ f granted.
-      (let p = checked_ok (of_open.asked_for s x a) (of_open.last_checks s x a) f granted in
+      (let p = checked_ok (open_parts.asked_for s x a) (of_open.last_checks s x a) f granted in
       opened_did now a f p.0 (tree_free s x a f p.0 p.1)
-      (λ table. record { mine = refl; regular = file_regular_behind s x now a f p.0; free = shared_free s x a f p.1; table = table })))
+      (λ table. record { mine = refl; regular = file_regular_behind s x now a f p.0; free = shared_free s x a f p.1; table = table }))))
 
   -- WRITE
   written_did : (now : Time) (w : Write) (d : Node) → writable s x w.stateid (current s x) ≡ Ok d → first_fault (of_write.last_checks s w d) ≡ None
-      → write_fault s.tree d.number w.offset w.bytes ≡ None → Did s x (Op.Write w) (of_write.was_written s x now w d)
+      → write_fault s.tree d.number w.offset w.bytes ≡ None → Did s x (Op.Write w) (parts.was_written s x now w d)
   written_did now w d found checks none = elim (cases_Bool (has_bytes w.bytes)) [
-    | inl some ↦ had (Op.Write w) (of_write.was_written s x now w d) (Writes d.number w.offset w.bytes now) (λ table. (none, some)) (record {
+    | inl some ↦ had (Op.Write w) (parts.was_written s x now w d) (Writes d.number w.offset w.bytes now) (λ table. (none, some)) (record {
       asked = w;
       is = refl;
       from = refl;
@@ -203,17 +208,17 @@ module _ (s : State) (x : Context) where
   ]
 
   write_did : (now : Time) (w : Write) → Did s x (Op.Write w) (of_write.write s x now w)
-  unfolding of_write.write
   write_did now w =
-      answered (Did s x (Op.Write w)) s x Num.Write (checked (writable s x w.stateid (current s x)) (of_write.last_checks s w)) (of_write.was_written s x now w)
+      rw (write_is s x now w)
+      (answered (Did s x (Op.Write w)) s x Num.Write (checked (writable s x w.stateid (current s x)) (of_write.last_checks s w)) (parts.was_written s x now w)
       (λ status. nothing _ _) (λ d granted.
       (let p = checked_ok (writable s x w.stateid (current s x)) (of_write.last_checks s w) d granted in
-      written_did now w d p.0 p.1 (none_mapped status_of (write_fault s.tree d.number w.offset w.bytes) (write_found s x w d p.0 ∙ p.1))))
+      written_did now w d p.0 p.1 (none_mapped status_of (write_fault s.tree d.number w.offset w.bytes) (write_found s x w d p.0 ∙ p.1)))))
 
   -- SETATTR
-  set_did : (now : Time) (a : SetAttr) (m : Setting) (size : Option ℕ) → m.wanted.size ≡ size → of_set.asked_for s x a ≡ Ok m
+  set_did : (now : Time) (a : SetAttr) (m : Setting) (size : Option ℕ) → m.wanted.size ≡ size → set_parts.asked_for s x a ≡ Ok m
       → set_parts.tree_fault s.tree m.node.number m.wanted size ≡ None
-      → Did s x (Op.SetAttr a) (record (of_set.was_set s x now a m) { state = with_tree s (of_set.with_set s.tree m.node.number now m.wanted size) })
+      → Did s x (Op.SetAttr a) (record (set_parts.was_set s x now a m) { state = with_tree s (of_set.with_set s.tree m.node.number now m.wanted size) })
   set_did now a m (Some size) is found none = had (Op.SetAttr a) _ (Resizes m.node.number size (of_set.sets_of now m.wanted) now) (λ table. none)
       (inl (record { asked = a; is = refl; setting = m; found = found; number = refl; sets = is; words = _; answers = refl })) refl refl refl
   set_did now a m None is found none = elim (cases_Bool (of_set.gives_some m.wanted)) [
@@ -223,13 +228,13 @@ module _ (s : State) (x : Context) where
   ]
 
   set_attr_did : (now : Time) (a : SetAttr) → Did s x (Op.SetAttr a) (of_set.set_attr s x now a)
-  unfolding of_set.set_attr
   set_attr_did now a =
-      answered (Did s x (Op.SetAttr a)) s x Num.SetAttr (checked (of_set.asked_for s x a) (of_set.last_checks s)) (of_set.was_set s x now a)
+      rw (set_attr_is s x now a)
+      (answered (Did s x (Op.SetAttr a)) s x Num.SetAttr (checked (set_parts.asked_for s x a) (set_parts.last_checks s)) (set_parts.was_set s x now a)
       (λ status. nothing _ _) (λ m granted.
-      (let p = checked_ok (of_set.asked_for s x a) (of_set.last_checks s) m granted in
+      (let p = checked_ok (set_parts.asked_for s x a) (set_parts.last_checks s) m granted in
       set_did now a m m.wanted.size refl p.0
-      (none_mapped status_of (set_parts.tree_fault s.tree m.node.number m.wanted m.wanted.size) (set_found s x a m p.0 ∙ p.1))))
+      (none_mapped status_of (set_parts.tree_fault s.tree m.node.number m.wanted m.wanted.size) (set_found s x a m p.0 ∙ p.1)))))
 
   tested_did : (op : Op) (o : Option Held) → Did s x op (tested s x o)
   tested_did op None = nothing op _
@@ -237,22 +242,24 @@ module _ (s : State) (x : Context) where
 
   -- By the operation.
   did_one : (now : Time) (op : Op) → Did s x op (one s x now op)
-  unfolding commit lock_t read test_stateid
+  unfolding test_stateid
   did_one now (Op.Close a) = close_did a
   did_one now (Op.Commit a) =
-      answered {A = Node} (Did s x (Op.Commit a)) s x Num.Commit (checked (current s x) file_checks) (λ d. done s x (Res.Commit (write_verifier s)))
-      (λ status. nothing _ _) (λ d e. nothing _ _)
+      rw (commit_is s x)
+      (answered {A = Node} (Did s x (Op.Commit a)) s x Num.Commit (checked (current s x) file_checks) (λ d. done s x (Res.Commit (write_verifier s)))
+      (λ status. nothing _ _) (λ d e. nothing _ _))
   did_one now (Op.FreeStateid given) = free_did given
   did_one now (Op.Lock a) =
       by_lock (Did s x (Op.Lock a)) s x a (λ status. nothing _ _) (λ h. nothing _ _) (λ k did judged granted law. locked_did a k did judged granted law)
-  did_one now (Op.LockT a) = answered (Did s x (Op.LockT a)) s x Num.LockT _ _ (λ status. nothing _ _)
-      (λ w e. tested_did (Op.LockT a) (locking.test_lock s.opens a.owner.owner w))
+  did_one now (Op.LockT a) = rw (test_is s x a) (answered (Did s x (Op.LockT a)) s x Num.LockT _ _ (λ status. nothing _ _)
+      (λ w e. tested_did (Op.LockT a) (locking.test_lock s.opens a.owner.owner w)))
   did_one now (Op.LockU a) = unlock_did a
   did_one now (Op.Open a) = open_did now a
   did_one now (Op.OpenDowngrade a) = downgrade_did a
   did_one now (Op.Read a) =
-      answered {A = Node} (Did s x (Op.Read a)) s x Num.Read (readable s x a.stateid (current s x)) (λ d. done s x (Res.Read (was_read s a d)))
-      (λ status. nothing _ _) (λ d e. nothing _ _)
+      rw (read_is s x a)
+      (answered {A = Node} (Did s x (Op.Read a)) s x Num.Read (readable s x a.stateid (current s x)) (λ d. done s x (Res.Read (was_read s a d)))
+      (λ status. nothing _ _) (λ d e. nothing _ _))
   did_one now (Op.SetAttr a) = set_attr_did now a
   did_one now (Op.TestStateid given) = nothing (Op.TestStateid given) _
   did_one now (Op.Write a) = write_did now a

@@ -17,8 +17,10 @@ use Rattle.nfs_names.specs.{declared.context.Context.Context, declared.node.Node
 use Rattle.nfs_names.specs.State.{State, with_tree, without_unused}
 use Rattle.nfs_names.proofs.Effects as names
 use Rattle.nfs_names.proofs.Untouched.{unused_opens, opens_kept}
-use Rattle.nfs_files.specs.{Bytes.writable, declared.opening.Found.Found, declared.opening.Found.TheVariants.There, declared.setting.Setting.Setting}
+use Rattle.nfs_files.specs.{declared.opening.Found.Found, declared.opening.Found.TheVariants.There, declared.setting.Setting.Setting, Parts.writable}
+use Rattle.nfs_files.specs.OpenParts as open_parts
 use Rattle.nfs_files.specs.Open as of_open
+use Rattle.nfs_files.specs.SetAttrParts as set_parts
 use Rattle.nfs_files.specs.SetAttr as of_set
 use Rattle.nfs_files.specs.Write as of_write
 use Rattle.nfs_files.proofs.Inside as inside
@@ -157,7 +159,7 @@ pub record SetsOf (s : State) (x : Context) (op : Op) (r : Res) (n : ℕ) (size 
   pub asked : SetAttr
   pub is : op ≡ Op.SetAttr asked
   pub setting : Setting
-  pub found : of_set.asked_for s x asked ≡ Ok setting
+  pub found : set_parts.asked_for s x asked ≡ Ok setting
   pub number : setting.node.number ≡ n
   pub sets : setting.wanted.size ≡ size
   pub words : List ℕ
@@ -167,7 +169,7 @@ pub record SetsOf (s : State) (x : Context) (op : Op) (r : Res) (n : ℕ) (size 
 pub record OpensAs (s : State) (x : Context) (op : Op) (r : Res) (f : Found) : Type 0 where
   pub asked : Open
   pub is : op ≡ Op.Open asked
-  pub found : of_open.asked_for s x asked ≡ Ok f
+  pub found : open_parts.asked_for s x asked ≡ Ok f
   pub ok : OpenOk
   pub sets : ok.attrset ≡ of_open.set_of asked f
   pub answers : r ≡ Res.Open ok

@@ -29,18 +29,24 @@ use Rattle.nfs_names.specs.Operation as names
 use Rattle.nfs_names.proofs.{Found.{came, ok_is, checked_ok, current_is}, NameLaws.current_refuses, Ones.{by_delay, each_of}}
 use Rattle.nfs_names.proofs.{Refusing.{IsRefusal, Refuses, refuses_checked}, Effected.kept_item}
 use Rattle.nfs_names.proofs.Effects as names_effects
-use Rattle.nfs_files.specs.{declared.opening.Found.Found, declared.opening.Found.TheVariants.{There, Absent}, declared.setting.Setting.Setting, Bytes.writable}
+use Rattle.nfs_files.specs.{declared.opening.Found.Found, declared.opening.Found.TheVariants.{There, Absent}, declared.setting.Setting.Setting, Parts.writable}
 use Rattle.nfs_files.specs.{Operation.grows, Close.close, Commit.commit, FreeStateid.free_stateid, LockT.{tested, lock_t}, LockU.lock_u}
-use Rattle.nfs_files.specs.{Open.{makes, access_of, place_checks, there_checks, absent_checks, cuts, by_handle}, OpenDowngrade.open_downgrade, Read.read}
+use Rattle.nfs_files.specs.{Open.{makes, access_of, place_checks, there_checks, absent_checks, cuts}, OpenDowngrade.open_downgrade, Read.read}
+use Rattle.nfs_files.specs.OpenParts.{by_handle}
 use Rattle.nfs_files.specs.TestStateid.{test_stateid}
 use Rattle.nfs_files.specs.FileImage.{Image, unwritten, written_over, cut_to, size_in, new_size, old_size, asks_empty, claimed, is_number, left_of}
+use Rattle.nfs_files.specs.Parts as parts
 use Rattle.nfs_files.specs.Lock as of_lock
+use Rattle.nfs_files.specs.OpenParts as open_parts
 use Rattle.nfs_files.specs.Open as of_open
+use Rattle.nfs_files.specs.SetAttrParts as set_parts
 use Rattle.nfs_files.specs.SetAttr as of_set
 use Rattle.nfs_files.specs.Write as of_write
 use Rattle.nfs_files.proofs.{Outcomes.{one, comes_to, one_or_delay}, OpenAnswers.open_refuses, OpensMoved.{by_close, by_free, by_downgrade, by_lock, by_unlock}}
 use Rattle.nfs_files.proofs.{Passing.{if_passed_ok, mapped_came}, Seats.writable_refuses, SetAnswers.asked_refuses, WrittenOps.{current_number, writable_at}}
 use Rattle.nfs_files.proofs.FileImages.{IsOf, Has, unwritten_is, has_new, has_changed, has_written, has_resized, has_unused, has_effect}
+use Rattle.nfs_files.proofs.InSteps.{write_is, set_attr_is, commit_is, test_is, read_is}
+use Rattle.nfs_files.proofs.InSteps as in_steps
 
 -- what is left behind an outcome of this status
 abbrev pub Left : ℕ → Image → State → Context → Item → (ok : Bool) → State → Type 0
@@ -84,27 +90,27 @@ written_left n img s x now w d at is =
     ])
 
 write_left : (n : ℕ) (img : Image) (s : State) (x : Context) (now : Time) (w : Write) → Has n img s.tree → LeftBy n img s x (Operation (Op.Write w)) (of_write.write s x now w)
-unfolding of_write.write
 write_left n img s x now w is =
-    by_granted (LeftBy n img s x (Operation (Op.Write w))) s x Num.Write (checked (writable s x w.stateid (current s x)) (of_write.last_checks s w)) (of_write.was_written s x now w)
+    rw (write_is s x now w)
+    (by_granted (LeftBy n img s x (Operation (Op.Write w))) s x Num.Write (checked (writable s x w.stateid (current s x)) (of_write.last_checks s w)) (parts.was_written s x now w)
     (refuses_checked (writable s x w.stateid (current s x)) (of_write.last_checks s w) (writable_refuses s x w.stateid (current s x) (current_refuses s x)) (λ d. refl))
     (λ status refuses. refused_left n img s x (Operation (Op.Write w)) Num.Write status refuses.done is)
     (λ d granted. written_left n img s x now w d
-    (writable_at s x w.stateid d (checked_ok (writable s x w.stateid (current s x)) (of_write.last_checks s w) d granted).0) is)
+    (writable_at s x w.stateid d (checked_ok (writable s x w.stateid (current s x)) (of_write.last_checks s w) d granted).0) is))
 
 -- SETATTR
 pub record IsSetting (s : State) (x : Context) (a : SetAttr) (m : Setting) : Type 0 where
   pub at : x.current ≡ Some m.node.number
   pub reads : attributes_in a.obj_attributes ≡ Ok m.wanted
 
-pub setting_is : (s : State) (x : Context) (a : SetAttr) (m : Setting) → of_set.asked_for s x a ≡ Ok m → IsSetting s x a m
-unfolding of_set.asked_for
+pub setting_is : (s : State) (x : Context) (a : SetAttr) (m : Setting) → set_parts.asked_for s x a ≡ Ok m → IsSetting s x a m
+unfolding set_parts.asked_for
 setting_is s x a m e =
-    let p = if_passed_ok (of_set.setting s x a) (of_set.sized s x a.stateid) m e in
+    let p = if_passed_ok (set_parts.setting s x a) (set_parts.sized s x a.stateid) m e in
     let d = came (current s x) _ m p.0 in
     let w = came (attributes_in a.obj_attributes) _ m d.then in
     let k : Setting = record { node = d.found; wanted = w.found } in
-    let same : k ≡ m = ok_is refl (checked_ok (Ok k) (of_set.owner_checks x) m w.then).0 in
+    let same : k ≡ m = ok_is refl (checked_ok (Ok k) (set_parts.owner_checks x) m w.then).0 in
     record {
       at = current_number s x d.found d.is ∙ ap (λ (m : Setting). Some m.node.number) same;
       reads = w.is ∙ ap (λ (m : Setting). Ok m.wanted) same;
@@ -129,12 +135,12 @@ set_left n img s x now a m is has =
 
 set_attr_left : (n : ℕ) (img : Image) (s : State) (x : Context) (now : Time) (a : SetAttr) → Has n img s.tree
     → LeftBy n img s x (Operation (Op.SetAttr a)) (of_set.set_attr s x now a)
-unfolding of_set.set_attr
 set_attr_left n img s x now a is =
-    by_granted (LeftBy n img s x (Operation (Op.SetAttr a))) s x Num.SetAttr (checked (of_set.asked_for s x a) (of_set.last_checks s)) (of_set.was_set s x now a)
-    (refuses_checked (of_set.asked_for s x a) (of_set.last_checks s) (asked_refuses s x a) (λ m. refl))
+    rw (set_attr_is s x now a)
+    (by_granted (LeftBy n img s x (Operation (Op.SetAttr a))) s x Num.SetAttr (checked (set_parts.asked_for s x a) (set_parts.last_checks s)) (set_parts.was_set s x now a)
+    (refuses_checked (set_parts.asked_for s x a) (set_parts.last_checks s) (asked_refuses s x a) (λ m. refl))
     (λ status refuses. refused_left n img s x (Operation (Op.SetAttr a)) Num.SetAttr status refuses.done is)
-    (λ m granted. set_left n img s x now a m (setting_is s x a m (checked_ok (of_set.asked_for s x a) (of_set.last_checks s) m granted).0) is)
+    (λ m granted. set_left n img s x now a m (setting_is s x a m (checked_ok (set_parts.asked_for s x a) (set_parts.last_checks s) m granted).0) is))
 
 -- OPEN: what it comes upon, by what its claim names
 
@@ -157,7 +163,7 @@ number_by n d None e = absurd cc
 number_by n d (Some o) e = let same : record { number = n; object = o } ≡ d = cc in ap (λ (h : Node). Some h.number) same
 
 found_there : (s : State) (x : Context) (o : Open) (m : Making) (k : Option ℕ) (place : ℕ) (f : Node) (cut : Bool)
-    → of_open.found_by s x o m k ≡ Ok (There place f cut) → (k ≡ Some f.number) × (cuts o m.wanted ≡ cut) × (m.place.number ≡ place)
+    → open_parts.found_by s x o m k ≡ Ok (There place f cut) → (k ≡ Some f.number) × (cuts o m.wanted ≡ cut) × (m.place.number ≡ place)
 found_there s x o m None place f cut e =
     let c = mapped_came Absent (checked (Ok m) (absent_checks x o)) (There place f cut) e in
     let bad : Absent c.found ≡ There place f cut = c.same in
@@ -170,7 +176,7 @@ found_there s x o m (Some k) place f cut e =
     (number_by k c.found (object_at s.tree k) (checked_ok (node_at s (Some k)) (there_checks x o) c.found c.is).0 ∙ ap (λ (d : Node). Some d.number) node, cut, cc)
 
 found_absent : (s : State) (x : Context) (o : Open) (m : Making) (k : Option ℕ) (made : Making)
-    → of_open.found_by s x o m k ≡ Ok (Absent made) → (k ≡ None) × (m ≡ made)
+    → open_parts.found_by s x o m k ≡ Ok (Absent made) → (k ≡ None) × (m ≡ made)
 found_absent s x o m None made e =
     let c = mapped_came Absent (checked (Ok m) (absent_checks x o)) (Absent made) e in
     let same : Absent c.found ≡ Absent made = c.same in
@@ -205,7 +211,7 @@ claim_at s x o claim d at is =
     ap (λ (k : Option ℕ). claimed s.tree k o.claim) (current_number s x d at) ∙ ap (λ (c : OpenClaim). claimed s.tree (Some d.number) c) is
 
 named_is : (s : State) (x : Context) (o : Open) (name : List ℕ) (d : Node) (f : Found) → current s x ≡ Ok d → o.claim ≡ Null name
-    → of_open.by_name s x o name d ≡ Ok f → Is s x o f
+    → open_parts.by_name s x o name d ≡ Ok f → Is s x o f
 named_is s x o name d f at is e =
     let p = came (checked (Ok d) (place_checks x name)) _ f e in
     let w = came (attributes_in (makes o.openhow).attributes) _ f p.then in
@@ -221,7 +227,7 @@ named_is s x o name d f at is e =
   where
     go : (place : Node) (wanted : Wanted) (f : Found) → x.current ≡ Some place.number → is_there s.tree place.number ≡ true → is_directory_at s.tree place.number ≡ true → claimed s.tree x.current o.claim ≡ lookup s.tree place.number name
         → attributes_in (makes o.openhow).attributes ≡ Ok wanted
-        → of_open.found_by s x o (record { place = place; wanted = wanted }) (lookup s.tree place.number name) ≡ Ok f → Is s x o f
+        → open_parts.found_by s x o (record { place = place; wanted = wanted }) (lookup s.tree place.number name) ≡ Ok f → Is s x o f
     go place wanted (There k g cut) at_place there directory names reads e =
         let it = found_there s x o (record { place = place; wanted = wanted }) (lookup s.tree place.number name) k g cut e in
         let asks : asks_empty o ≡ cut = cuts_are o.openhow (access_of o).writes wanted reads ∙ it.1 in
@@ -262,7 +268,7 @@ handle_is s x o false d (Absent m) at is e =
     absurd cc
 
 claim_is : (s : State) (x : Context) (o : Open) (claim : OpenClaim) (d : Node) (f : Found) → current s x ≡ Ok d → o.claim ≡ claim
-    → of_open.by_claim s x o claim d ≡ Ok f → Is s x o f
+    → open_parts.by_claim s x o claim d ≡ Ok f → Is s x o f
 claim_is s x o (Null name) d f at is e = named_is s x o name d f at is e
 claim_is s x o Fh d f at is e = handle_is s x o (makes o.openhow).creates d f at is e
 claim_is s x o (Previous type) d f at is e = absurd cc
@@ -271,10 +277,10 @@ claim_is s x o (DelegatePrev file) d f at is e = absurd cc
 claim_is s x o (DelegCurFh id) d f at is e = absurd cc
 claim_is s x o DelegPrevFh d f at is e = absurd cc
 
-pub open_is : (s : State) (x : Context) (o : Open) (f : Found) → of_open.asked_for s x o ≡ Ok f → Is s x o f
-unfolding of_open.asked_for
+pub open_is : (s : State) (x : Context) (o : Open) (f : Found) → open_parts.asked_for s x o ≡ Ok f → Is s x o f
+unfolding open_parts.asked_for
 open_is s x o f e =
-    let c = came (checked (current s x) (of_open.argument_checks o)) (of_open.by_claim s x o o.claim) f e in
+    let c = came (checked (current s x) (of_open.argument_checks o)) (open_parts.by_claim s x o o.claim) f e in
     claim_is s x o o.claim c.found f (checked_ok (current s x) (of_open.argument_checks o) c.found c.is).0 refl c.then
 
 -- what it leaves
@@ -295,12 +301,12 @@ opened_left n img s x now o (Absent m) it is =
     (has_new n img s.tree m.place.number (of_open.name_of o.claim) (of_open.new_of o m.wanted) (of_open.sets_of x now o m.wanted) now is)
 
 open_left : (n : ℕ) (img : Image) (s : State) (x : Context) (now : Time) (o : Open) → Has n img s.tree → LeftBy n img s x (Operation (Op.Open o)) (of_open.open_file s x now o)
-unfolding of_open.open_file
 open_left n img s x now o is =
-    by_granted (LeftBy n img s x (Operation (Op.Open o))) s x Num.Open (checked (of_open.asked_for s x o) (of_open.last_checks s x o)) (of_open.opened s x now o)
+    rw (in_steps.open_is s x now o)
+    (by_granted (LeftBy n img s x (Operation (Op.Open o))) s x Num.Open (checked (open_parts.asked_for s x o) (of_open.last_checks s x o)) (of_open.opened s x now o)
     (open_refuses s x o)
     (λ status refuses. refused_left n img s x (Operation (Op.Open o)) Num.Open status refuses.done is)
-    (λ f granted. opened_left n img s x now o f (open_is s x o f (checked_ok (of_open.asked_for s x o) (of_open.last_checks s x o) f granted).0) is)
+    (λ f granted. opened_left n img s x now o f (open_is s x o f (checked_ok (open_parts.asked_for s x o) (of_open.last_checks s x o) f granted).0) is))
 
 -- those that leave the bytes
 close_left : (n : ℕ) (img : Image) (s : State) (x : Context) (a : Close) → Has n img s.tree → Has n img (close s x a).state.tree
@@ -324,19 +330,19 @@ tested_left n img s x None is = is
 tested_left n img s x (Some h) is = is
 
 one_left : (n : ℕ) (img : Image) (s : State) (x : Context) (now : Time) (op : Op) → Has n img s.tree → LeftBy n img s x (Operation op) (one s x now op)
-unfolding commit lock_t read test_stateid
+unfolding test_stateid
 one_left n img s x now (Op.Close a) is = same_if n img _ (is_ok (status_of_result (one s x now (Op.Close a)).result)) (close_left n img s x a is)
 one_left n img s x now (Op.Commit a) is =
-    same_if n img _ (is_ok (status_of_result (one s x now (Op.Commit a)).result)) (found (λ s. Has n img s.tree) s x Num.Commit _ _ is (λ d e. is))
+    same_if n img _ (is_ok (status_of_result (one s x now (Op.Commit a)).result)) (rw (commit_is s x) (found (λ s. Has n img s.tree) s x Num.Commit _ _ is (λ d e. is)))
 one_left n img s x now (Op.FreeStateid given) is = same_if n img _ (is_ok (status_of_result (one s x now (Op.FreeStateid given)).result)) (free_left n img s x given is)
 one_left n img s x now (Op.Lock a) is = same_if n img _ (is_ok (status_of_result (one s x now (Op.Lock a)).result)) (lock_left n img s x a is)
 one_left n img s x now (Op.LockT a) is = same_if n img _ (is_ok (status_of_result (one s x now (Op.LockT a)).result))
-    (found (λ s. Has n img s.tree) s x Num.LockT _ _ is (λ w e. tested_left n img s x (locking.test_lock s.opens a.owner.owner w) is))
+    (rw (test_is s x a) (found (λ s. Has n img s.tree) s x Num.LockT _ _ is (λ w e. tested_left n img s x (locking.test_lock s.opens a.owner.owner w) is)))
 one_left n img s x now (Op.LockU a) is = same_if n img _ (is_ok (status_of_result (one s x now (Op.LockU a)).result)) (unlock_left n img s x a is)
 one_left n img s x now (Op.Open a) is = open_left n img s x now a is
 one_left n img s x now (Op.OpenDowngrade a) is = same_if n img _ (is_ok (status_of_result (one s x now (Op.OpenDowngrade a)).result)) (downgrade_left n img s x a is)
 one_left n img s x now (Op.Read a) is =
-    same_if n img _ (is_ok (status_of_result (one s x now (Op.Read a)).result)) (found (λ s. Has n img s.tree) s x Num.Read _ _ is (λ d e. is))
+    same_if n img _ (is_ok (status_of_result (one s x now (Op.Read a)).result)) (rw (read_is s x a) (found (λ s. Has n img s.tree) s x Num.Read _ _ is (λ d e. is)))
 one_left n img s x now (Op.SetAttr a) is = set_attr_left n img s x now a is
 one_left n img s x now (Op.TestStateid given) is = is
 one_left n img s x now (Op.Write a) is = write_left n img s x now a is
@@ -406,10 +412,9 @@ opened_made n s x now o (Absent m) it free there =
     (new_there n s.tree m.place.number (of_open.name_of o.claim) (unwrap_or m.wanted.size 0) (makes o.openhow).verifier (of_open.sets_of x now o m.wanted) now free there)
 
 pub open_made : (n : ℕ) (refused : Bool) (s : State) (x : Context) (now : Time) (o : Open) → MadeBy n s o (one_or_delay refused s x now (Op.Open o))
-unfolding of_open.open_file
 open_made n refused s x now o =
     by_delay (MadeBy n s o) (grows s x (Op.Open o) && refused) s x Num.Open (of_open.open_file s x now o)
     (λ free there. absurd (false≢true (sym free ∙ there)))
-    (by_granted (MadeBy n s o) s x Num.Open (checked (of_open.asked_for s x o) (of_open.last_checks s x o)) (of_open.opened s x now o)
+    (rw (in_steps.open_is s x now o) (by_granted (MadeBy n s o) s x Num.Open (checked (open_parts.asked_for s x o) (of_open.last_checks s x o)) (of_open.opened s x now o)
     (open_refuses s x o) (λ status refuses free there. absurd (false≢true (sym free ∙ there)))
-    (λ f granted. opened_made n s x now o f (open_is s x o f (checked_ok (of_open.asked_for s x o) (of_open.last_checks s x o) f granted).0)))
+    (λ f granted. opened_made n s x now o f (open_is s x o f (checked_ok (open_parts.asked_for s x o) (of_open.last_checks s x o) f granted).0))))

@@ -15,8 +15,9 @@ use Rattle.nfs_names.specs.{Checks.{node_at, current}, Create.attributes_in, Fau
 use Rattle.nfs_names.proofs.{Rows.fault_map, Found.{IsHeld, current_is, checked_ok, came, ok_is, short_name, or_fault, first_append}}
 use Rattle.nfs_opens.specs.StateId.{last_number}
 use Rattle.nfs_files.specs.{declared.opening.Found.Found, declared.opening.Found.TheVariants.{There, Absent}}
-use Rattle.nfs_files.specs.Open.{makes, name_of, argument_checks, place_checks, absent_checks, there_checks, cuts, found_by}
-use Rattle.nfs_files.specs.{Open.{by_name, by_handle, by_claim, asked_for, tree_checks, last_checks}, OpenParts.{tree_fault, room_checks, can_enter}}
+use Rattle.nfs_files.specs.{Open.{makes, name_of, argument_checks, place_checks, absent_checks, there_checks, cuts}, OpenParts.found_by}
+use Rattle.nfs_files.specs.{Open.{tree_checks, last_checks}, OpenParts.{tree_fault, room_checks, can_enter}}
+use Rattle.nfs_files.specs.OpenParts.{by_name, by_handle, by_claim, asked_for}
 use Rattle.nfs_files.specs.OpenParts as part
 use Rattle.nfs_files.proofs.{Opened.{shared_same, rooms_free}, Passing.mapped_came, OpenAnswers.asked_regular}
 

@@ -9,7 +9,7 @@ use Rattle.nfs_opens.specs.{declared.locking.Wish.Wish, TableInvariants.IsTable,
 use Rattle.nfs_opens.specs.Closing as opens
 use Rattle.nfs_results.specs.Results.{status_of_result}
 use Rattle.nfs_names.specs.{declared.context.Context.Context, State.State, Outcome.is_ok}
-use Rattle.nfs_files.specs.{Target.target, Lock.{locking, locks_as}, LockU.unlocking, LockTold.{LockTold, IsBeside, IsAlike, Stands, Clashes}}
+use Rattle.nfs_files.specs.{Lock.locks_as, LockTold.{LockTold, IsBeside, IsAlike, Stands, Clashes}, Parts.{target, locking, unlocking}}
 use Rattle.nfs_files.proofs.Outcomes.{one_or_delay, comes_to}
 
 -- a LOCK that is granted: lock state n holds the bytes of the wish from now on

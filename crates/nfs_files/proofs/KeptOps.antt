@@ -10,12 +10,14 @@ use Rattle.nfs_opens.specs.{declared.records.OpenState.OpenState, Table.{Table, 
 use Rattle.nfs_opens.specs.Opening as opening
 use Rattle.nfs_results.specs.{declared.res.Res.Res, Results.status_of_result}
 use Rattle.nfs_names.specs.{declared.context.Context.Context, State.State, Outcome.{answers, is_ok}}
+use Rattle.nfs_files.specs.Parts as parts
 use Rattle.nfs_files.specs.Lock as of_lock
 use Rattle.nfs_files.specs.LockTold.{LockTold, Stands}
 use Rattle.nfs_files.proofs.{Outcomes.{one, comes_to}, OpensMoved.lock_is, Wishes.{wish_range, lock_wish}}
 use Rattle.nfs_files.proofs.Inside.{Spares, SparedLocksStay, ClashesAreNotGranted}
 use Rattle.nfs_files.proofs.KeptLocks.{stands_by, stands_closed, stands_freed, stands_raised, stands_first, held_alike, outside, cleared_other, refused}
 use Rattle.nfs_files.proofs.{Effects.{Effect, Opens, Narrows, Closes, Locks, Begins, Unlocks, Frees, Caused, table_behind}, Effected.caused_opens}
+use Rattle.nfs_files.proofs.InSteps as in_steps
 
 -- OPEN moves no lock state
 opened_stands : (k : LockTold) (t : Table) (a : Asked) (o : Option OpenState) → Stands k t → Stands k (opening.opens_by t a o).after
@@ -42,11 +44,12 @@ spared k s x now refused i table some spares is = caused_opens (Stands k) refuse
     effect_stands k s x op (comes_to refused s x now i).result t e table some (spares caused.ok op same) caused stands) is
 
 -- what is granted answers NFS4_OK
-pub lock_ok : (s : State) (x : Context) (now : Time) (a : args.Lock) (m : _) (did : _) → of_lock.locking s x a ≡ Ok m
+pub lock_ok : (s : State) (x : Context) (now : Time) (a : args.Lock) (m : _) (did : _) → parts.locking s x a ≡ Ok m
     → of_lock.locks_as s.opens a.locker m.id m.wish ≡ Ok did → is_ok (status_of_result (one s x now (Op.Lock a)).result) ≡ true
-unfolding of_lock.lock
-lock_ok s x now a m did judged granted = ap (λ v. is_ok (status_of_result (answers s x Num.Lock v (of_lock.locks s x a.locker)).result)) judged
-    ∙ ap (λ v. is_ok (status_of_result (of_lock.locked s x v).result)) granted
+lock_ok s x now a m did judged granted =
+    rw (in_steps.lock_is s x a)
+    (ap (λ v. is_ok (status_of_result (answers s x Num.Lock v (parts.locks s x a.locker)).result)) judged
+    ∙ ap (λ v. is_ok (status_of_result (of_lock.locked s x v).result)) granted)
 
 -- its range has bytes that there are, since the lock's are
 pub clashing : ClashesAreNotGranted

@@ -24,6 +24,7 @@ pub mod Granted
 pub mod OthersTables
 pub mod Wishes
 pub mod Inside
+pub mod InSteps
 pub mod KeptLocks
 pub mod Effects
 pub mod Effected

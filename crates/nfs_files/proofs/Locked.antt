@@ -9,9 +9,9 @@ use Rattle.nfs_ranges.specs.declared.Held.{Held}
 use Rattle.nfs_opens.specs.{declared.stateid.StateId.StateId, declared.locking.OpenFault.OpenFault, Table.Table, Calls.LocksOrWants}
 use Rattle.nfs_opens.specs.declared.locking.OpenFault.TheVariants as F
 use Rattle.nfs_opens.proofs.CallLaws.{refused_is}
-use Rattle.nfs_names.specs.{declared.context.Context.Context, State.State, Comes.Comes, Outcome.{Outcome, or_delay, is_delay}, Ending.with_opens}
+use Rattle.nfs_names.specs.{declared.context.Context.Context, State.State, Comes.Comes, Outcome.{Outcome, refuses, or_delay, is_delay}, Ending.with_opens}
 use Rattle.nfs_files.specs.{Denied.denied, Lock.locked}
-use Rattle.nfs_files.proofs.Refused.{told_with, refused_outcome, lock_tells, ok_locked}
+use Rattle.nfs_files.proofs.Refused.{told_with, refused_outcome, lock_tells, ok_locked, own_refusal}
 
 comes : (s : State) (x : Context) (o : Outcome) (answer : Status) (r : Res) (old new : SheetState) (after : Table)
     → told_with s x r after ≡ o → Puts old new (spell_result r) → answer ≡ status_of_result r → Comes o old new answer (with_opens s after) x
@@ -46,3 +46,10 @@ denied_comes s x did held answer old new after v found known put is =
     subst (λ a. Comes (or_delay (is_delay a) s x Num.Lock o) old new a (with_opens s after) x) (sym is)
     (comes s x o S.Denied (Res.LockDenied (denied after held)) old new after
     (ap (λ t. told_with s x (Res.LockDenied (denied t held)) t) (tells.1 ∙ no.1) ∙ sym (ap (locked s x) no.0)) put refl)
+
+-- and where its own checks did
+pub not_locked : (s : State) (x : Context) (o : Outcome) (status answer : Status) (old new : SheetState) → o ≡ refuses s x Num.Lock status
+    → Puts old new (spell_result (Res.Refused 12 status)) → answer ≡ status → Comes (or_delay (is_delay answer) s x Num.Lock o) old new answer s x
+not_locked s x o status answer old new same put is =
+    rw (is, same) (subst (λ (o : Outcome). Comes o old new status s x) (sym (own_refusal true s x Num.Lock status (refuses s x Num.Lock status) refl))
+    (record { put = put; status = refl; state = refl; context = refl }))

@@ -21,9 +21,11 @@ use Rattle.nfs_names.proofs.StoreInvariants.{regular_same}
 use Rattle.nfs_names.proofs.Refusing.{Refuses, refusal_by, all_refuse, refuses_checked, refuses_mapped, refuses_then, err_refuses, ok_refuses, answers_with}
 use Rattle.nfs_names.proofs.Masks.{few_words}
 use Rattle.nfs_files.specs.{declared.opening.Found.Found, declared.opening.Found.TheVariants.{There, Absent}, StateIds.wire_id, Bytes.file_checks}
-use Rattle.nfs_files.specs.Open.{makes, argument_checks, place_checks, absent_checks, there_checks, cuts, found_by}
-use Rattle.nfs_files.specs.Open.{by_name, by_handle, by_claim, asked_for, file_of, asking, last_checks, new_of, sets_of, tree_of, set_of, open_file}
+use Rattle.nfs_files.specs.{Open.{makes, argument_checks, place_checks, absent_checks, there_checks, cuts}, OpenParts.found_by}
+use Rattle.nfs_files.specs.Open.{file_of, asking, last_checks, new_of, sets_of, tree_of, set_of, open_file}
+use Rattle.nfs_files.specs.OpenParts.{by_name, by_handle, by_claim, asked_for}
 use Rattle.nfs_files.proofs.{Passing.mapped_came, Seats.by_bool, SetRows.file_regular, Keeping.kind_bytes}
+use Rattle.nfs_files.proofs.InSteps as in_steps
 
 -- refusals
 found_by_refuses : (s : State) (x : Context) (o : Open) (m : Making) (n : Option ℕ) → Refuses (found_by s x o m n)
@@ -81,12 +83,12 @@ wire_length : (id : StateId) → length (wire_id id).other ≡ 12
 wire_length id = omega (arith, length-append (number id.instance) (hyper id.number), length_number id.instance, length_hyper id.number)
 
 pub may_open : (s : State) (x : Context) (now : Time) (o : Open) → IsAnswer (Operation (Op.Open o)) (open_file s x now o).result
-unfolding open_file
 may_open s x now o =
-    answers_with (IsAnswer (Operation (Op.Open o))) s x Num.Open _ _
+    rw (in_steps.open_is s x now o)
+    (answers_with (IsAnswer (Operation (Op.Open o))) s x Num.Open _ _
     (open_refuses s x o)
     (λ status h. record { may = (refl, rw (h.done, h.legal) refl, tt); arrays = tt })
-    (λ found. record { may = (refl, tt, set_few o found); arrays = wire_length (opens s.opens (asking x o (file_of s.tree found))).id })
+    (λ found. record { may = (refl, tt, set_few o found); arrays = wire_length (opens s.opens (asking x o (file_of s.tree found))).id }))
 
 -- what is there is a file
 there_regular : (s : State) (x : Context) (o : Open) (f : Node) → IsHeld s.tree f

@@ -9,6 +9,7 @@ use Rattle.nfs_names.specs.{declared.context.Context.Context, declared.node.Node
 use Rattle.nfs_names.specs.{Create.attributes_in, Outcome.checked}
 use Rattle.nfs_names.proofs.Found.{came, ok_is, checked_ok}
 use Rattle.nfs_files.specs.{declared.opening.Found.Found, declared.opening.Found.TheVariants.{There, Absent}}
+use Rattle.nfs_files.specs.OpenParts as open_parts
 use Rattle.nfs_files.specs.Open as of_open
 use Rattle.nfs_files.proofs.{Passing.mapped_came, WrittenOps.current_number}
 
@@ -21,7 +22,7 @@ record IsAbsent (x : Context) (o : Open) (m : Making) : Type 0 where
   pub claim : o.claim ≡ Null name
   pub at : x.current ≡ Some m.place.number
 
-made_absent : (s : State) (x : Context) (o : Open) (m k : Making) (n : Option ℕ) → of_open.found_by s x o m n ≡ Ok (Absent k) → m ≡ k
+made_absent : (s : State) (x : Context) (o : Open) (m k : Making) (n : Option ℕ) → open_parts.found_by s x o m n ≡ Ok (Absent k) → m ≡ k
 made_absent s x o m k None e =
     let c = mapped_came Absent (checked (Ok m) (of_open.absent_checks x o)) (Absent k) e in
     let same : c.found ≡ k = cc in
@@ -32,7 +33,7 @@ made_absent s x o m k (Some n) e =
     absurd cc
 
 named_absent : (s : State) (x : Context) (o : Open) (name : List ℕ) (d : Node) (m : Making) → current s x ≡ Ok d → o.claim ≡ Null name
-    → of_open.by_name s x o name d ≡ Ok (Absent m) → IsAbsent x o m
+    → open_parts.by_name s x o name d ≡ Ok (Absent m) → IsAbsent x o m
 named_absent s x o name d m at is e =
     let p = came (checked (Ok d) (of_open.place_checks x name)) _ (Absent m) e in
     let w = came (attributes_in (of_open.makes o.openhow).attributes) _ (Absent m) p.then in
@@ -44,7 +45,7 @@ named_absent s x o name d m at is e =
       at = current_number s x d at ∙ (ap (λ (d : Node). Some d.number) same ∙ ap (λ (m : Making). Some m.place.number) made);
     }
 
-handle_absent : (s : State) (x : Context) (o : Open) (b : Bool) (d : Node) (m : Making) → cond b (Err Inval) (of_open.by_handle x o d) ≡ Ok (Absent m) → ⊥
+handle_absent : (s : State) (x : Context) (o : Open) (b : Bool) (d : Node) (m : Making) → cond b (Err Inval) (open_parts.by_handle x o d) ≡ Ok (Absent m) → ⊥
 handle_absent s x o true d m e = absurd cc
 handle_absent s x o false d m e =
     let c = mapped_came (λ f. There f.number f false) (checked (Ok d) (of_open.there_checks x o)) (Absent m) e in
@@ -52,7 +53,7 @@ handle_absent s x o false d m e =
     absurd cc
 
 claimed_absent : (s : State) (x : Context) (o : Open) (claim : OpenClaim) (d : Node) (m : Making) → current s x ≡ Ok d → o.claim ≡ claim
-    → of_open.by_claim s x o claim d ≡ Ok (Absent m) → IsAbsent x o m
+    → open_parts.by_claim s x o claim d ≡ Ok (Absent m) → IsAbsent x o m
 claimed_absent s x o (Null name) d m at is e = named_absent s x o name d m at is e
 claimed_absent s x o Fh d m at is e = absurd (handle_absent s x o (of_open.makes o.openhow).creates d m e)
 claimed_absent s x o (Previous type) d m at is e = absurd cc
@@ -61,13 +62,13 @@ claimed_absent s x o (DelegatePrev file) d m at is e = absurd cc
 claimed_absent s x o (DelegCurFh id) d m at is e = absurd cc
 claimed_absent s x o DelegPrevFh d m at is e = absurd cc
 
-asked_absent : (s : State) (x : Context) (o : Open) (m : Making) → of_open.asked_for s x o ≡ Ok (Absent m) → IsAbsent x o m
-unfolding of_open.asked_for
+asked_absent : (s : State) (x : Context) (o : Open) (m : Making) → open_parts.asked_for s x o ≡ Ok (Absent m) → IsAbsent x o m
+unfolding open_parts.asked_for
 asked_absent s x o m e =
-    let c = came (checked (current s x) (of_open.argument_checks o)) (of_open.by_claim s x o o.claim) (Absent m) e in
+    let c = came (checked (current s x) (of_open.argument_checks o)) (open_parts.by_claim s x o o.claim) (Absent m) e in
     claimed_absent s x o o.claim c.found m (checked_ok (current s x) (of_open.argument_checks o) c.found c.is).0 refl c.then
 
-pub opened_rows : (s : State) (x : Context) (now : Time) (o : Open) (f : Found) → of_open.asked_for s x o ≡ Ok f
+pub opened_rows : (s : State) (x : Context) (now : Time) (o : Open) (f : Found) → open_parts.asked_for s x o ≡ Ok f
     → OpensRows s x o (of_open.tree_of s.tree x now o f).rows
 opened_rows s x now o (There place f true) e = Kept refl
 opened_rows s x now o (There place f false) e = Kept refl

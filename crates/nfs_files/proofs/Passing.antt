@@ -4,7 +4,7 @@ use Rattle.std.specs.Prelude.{Result, Ok, Err}
 use Rattle.nfs_xdr.specs.declared.status.Status.{Status}
 use Rattle.nfs_names.specs.Outcome.{mapped}
 use Rattle.nfs_names.proofs.{Found.ok_is, Refusing.{Refuses, err_refuses, refuses_mapped}}
-use Rattle.nfs_files.specs.Bytes.{if_passed}
+use Rattle.nfs_files.specs.Parts.{if_passed}
 
 mapped_ok : {A B : Type 0} (c a : A) (w : Result B Status) → mapped (λ b. c) w ≡ Ok a → (c ≡ a) × ((b : B) × (w ≡ Ok b))
 mapped_ok c a (Err status) e = absurd cc

@@ -19,16 +19,20 @@ use Rattle.nfs_opens.specs.Opening as opening
 use Rattle.nfs_opens.specs.Locking as locking
 use Rattle.nfs_names.specs.{declared.context.Context.Context, State.State, Outcome.{checked, is_delay}, Checks.current}
 use Rattle.nfs_names.proofs.{Faulted.status_of_refusal, NameLaws.current_refuses, Refusing.refuses_checked}
-use Rattle.nfs_files.specs.{Bytes.{seat, writable, file_checks}, StateIds.meant, Target.target, Ranges.wished, Denied.status_of, Close.{closes, close}}
-use Rattle.nfs_files.specs.{Commit.commit, FreeStateid.{frees, free_stateid}, LockT.{tested, lock_t}, LockU.{unlocking, unlocks, lock_u}}
-use Rattle.nfs_files.specs.{OpenDowngrade.{bits, narrowing, narrows, open_downgrade}, Read.read, SetAttr.set_attr, TestStateid.test_stateid}
+use Rattle.nfs_files.specs.{Bytes.{seat, file_checks}, StateIds.meant, Ranges.wished, Denied.status_of, Close.close, Parts.{writable, target, closes}}
+use Rattle.nfs_files.specs.{Commit.commit, FreeStateid.free_stateid, LockT.{tested, lock_t}, LockU.lock_u, Parts.{frees, unlocking, unlocks}}
+use Rattle.nfs_files.specs.{OpenDowngrade.{bits, open_downgrade}, Read.read, SetAttr.set_attr, TestStateid.test_stateid, Parts.{narrowing, narrows}}
 use Rattle.nfs_files.specs.Write.{last_checks, write}
 use Rattle.nfs_files.proofs.{Outcomes.one, Prompt.{IsPrompt, err_prompt, ok_prompt, own_prompt, answered_prompt}, OpenAnswers.open_refuses}
 use Rattle.nfs_files.proofs.{Seats.{meant_refuses, judge_refuses, readable_refuses, writable_refuses}, SetAnswers.{asked_refuses as set_refuses}}
 use Rattle.nfs_files.proofs.StateAnswers.{target_refuses, close_refuses, free_refuses, downgrade_refuses, narrowing_refuses, wished_refuses, wished_by_refuses, unlock_refuses}
+use Rattle.nfs_files.specs.Parts as parts
 use Rattle.nfs_files.specs.Lock as of_lock
 use Rattle.nfs_files.specs.Open as of_open
+use Rattle.nfs_files.specs.SetAttrParts as set_parts
 use Rattle.nfs_files.specs.SetAttr as of_set
+use Rattle.nfs_files.proofs.InSteps.{close_is, free_is, unlock_is, downgrade_is, commit_is, test_is, read_is, set_attr_is, write_is}
+use Rattle.nfs_files.proofs.InSteps as in_steps
 
 -- Locks.
 
@@ -98,61 +102,62 @@ tested_prompt s x (Some h) = refl
 -- By the operation.
 
 close_prompt : (s : State) (x : Context) (a : Close) → is_delay (status_of_result (close s x a).result) ≡ false
-unfolding close
 close_prompt s x a =
-    answered_prompt s x Num.Close (target s x Own a.open_stateid) (closes s x) (own_prompt _ (target_refuses s x Own a.open_stateid)) (λ t.
-    answered_prompt s x Num.Close (closing.close s.opens t.id x.client t.file) _ (own_prompt _ (close_refuses s.opens t.id x.client t.file)) (λ did. refl))
+    rw (close_is s x a)
+    (answered_prompt s x Num.Close (target s x Own a.open_stateid) (closes s x) (own_prompt _ (target_refuses s x Own a.open_stateid)) (λ t.
+    answered_prompt s x Num.Close (closing.close s.opens t.id x.client t.file) _ (own_prompt _ (close_refuses s.opens t.id x.client t.file)) (λ did. refl)))
 
 freed_prompt : (s : State) (x : Context) (given : Stateid) → is_delay (status_of_result (free_stateid s x given).result) ≡ false
-unfolding free_stateid
 freed_prompt s x given =
-    answered_prompt s x Num.FreeStateid (meant x Any given) (frees s x) (own_prompt _ (meant_refuses x Any given)) (λ id.
-    answered_prompt s x Num.FreeStateid (closing.free s.opens id x.client) _ (own_prompt _ (free_refuses s.opens id x.client)) (λ did. refl))
+    rw (free_is s x given)
+    (answered_prompt s x Num.FreeStateid (meant x Any given) (frees s x) (own_prompt _ (meant_refuses x Any given)) (λ id.
+    answered_prompt s x Num.FreeStateid (closing.free s.opens id x.client) _ (own_prompt _ (free_refuses s.opens id x.client)) (λ did. refl)))
 
 lock_prompt : (s : State) (x : Context) (a : Lock) → is_delay (status_of_result (of_lock.lock s x a).result) ≡ false
-unfolding of_lock.lock
 lock_prompt s x a =
-    let w = wished s x a.locktype a.offset a.length in
-    let reclaims = refuses_checked w (of_lock.reclaim_checks a) (wished_refuses s x a.locktype a.offset a.length) (λ w. refl) in
-    answered_prompt s x Num.Lock (of_lock.locking s x a) (of_lock.locks s x a.locker)
-    (own_prompt _ (wished_by_refuses x (of_lock.stateid_in a.locker) (checked w (of_lock.reclaim_checks a)) reclaims))
-    (λ k. locked_prompt s x (of_lock.locks_as s.opens a.locker k.id k.wish) (locks_prompt s.opens a.locker k.id k.wish))
+    rw (in_steps.lock_is s x a)
+    (let w = wished s x a.locktype a.offset a.length in
+    let reclaims = refuses_checked w (parts.reclaim_checks a) (wished_refuses s x a.locktype a.offset a.length) (λ w. refl) in
+    answered_prompt s x Num.Lock (parts.locking s x a) (parts.locks s x a.locker)
+    (own_prompt _ (wished_by_refuses x (of_lock.stateid_in a.locker) (checked w (parts.reclaim_checks a)) reclaims))
+    (λ k. locked_prompt s x (of_lock.locks_as s.opens a.locker k.id k.wish) (locks_prompt s.opens a.locker k.id k.wish)))
 
 lock_u_prompt : (s : State) (x : Context) (a : LockU) → is_delay (status_of_result (lock_u s x a).result) ≡ false
-unfolding lock_u
 lock_u_prompt s x a =
-    let wish = wished s x a.locktype a.offset a.length in
+    rw (unlock_is s x a)
+    (let wish = wished s x a.locktype a.offset a.length in
     answered_prompt s x Num.LockU (unlocking s x a) (unlocks s x)
     (own_prompt _ (wished_by_refuses x a.lock_stateid wish (wished_refuses s x a.locktype a.offset a.length))) (λ k.
     (let w = k.wish in
     answered_prompt s x Num.LockU (map_err status_of (locking.unlock s.opens k.id w.client w.file w.first w.last)) _
-    (own_prompt _ (unlock_refuses s.opens k.id w.client w.file w.first w.last)) (λ did. refl)))
+    (own_prompt _ (unlock_refuses s.opens k.id w.client w.file w.first w.last)) (λ did. refl))))
 
 narrows_prompt : (s : State) (x : Context) (a : OpenDowngrade) → is_delay (status_of_result (open_downgrade s x a).result) ≡ false
-unfolding open_downgrade
 narrows_prompt s x a =
-    answered_prompt s x Num.OpenDowngrade (narrowing s x a) (narrows s x a) (own_prompt _ (narrowing_refuses s x a)) (λ t.
+    rw (downgrade_is s x a)
+    (answered_prompt s x Num.OpenDowngrade (narrowing s x a) (narrows s x a) (own_prompt _ (narrowing_refuses s x a)) (λ t.
     answered_prompt s x Num.OpenDowngrade (opening.downgrade s.opens t.id x.client t.file (bits a.share_access) (bits a.share_deny)) _
-    (own_prompt _ (downgrade_refuses s.opens t.id x.client t.file (bits a.share_access) (bits a.share_deny))) (λ did. refl))
+    (own_prompt _ (downgrade_refuses s.opens t.id x.client t.file (bits a.share_access) (bits a.share_deny))) (λ did. refl)))
 
 pub files_prompt : (s : State) (x : Context) (now : Time) (op : Op) → is_delay (status_of_result (one s x now op).result) ≡ false
-unfolding commit lock_t of_open.open_file read set_attr test_stateid write
+unfolding test_stateid
 files_prompt s x now (Op.Close a) = close_prompt s x a
 files_prompt s x now (Op.Commit a) =
-    answered_prompt s x Num.Commit _ _ (own_prompt _ (refuses_checked (current s x) file_checks (current_refuses s x) (λ d. refl))) (λ d. refl)
+    rw (commit_is s x) (answered_prompt s x Num.Commit _ _ (own_prompt _ (refuses_checked (current s x) file_checks (current_refuses s x) (λ d. refl))) (λ d. refl))
 files_prompt s x now (Op.FreeStateid given) = freed_prompt s x given
 files_prompt s x now (Op.Lock a) = lock_prompt s x a
 files_prompt s x now (Op.LockT a) =
-    answered_prompt s x Num.LockT _ _ (own_prompt _ (wished_refuses s x a.locktype a.offset a.length)) (λ w. tested_prompt s x _)
+    rw (test_is s x a) (answered_prompt s x Num.LockT _ _ (own_prompt _ (wished_refuses s x a.locktype a.offset a.length)) (λ w. tested_prompt s x _))
 files_prompt s x now (Op.LockU a) = lock_u_prompt s x a
-files_prompt s x now (Op.Open a) = answered_prompt s x Num.Open _ _ (own_prompt _ (open_refuses s x a)) (λ f. refl)
+files_prompt s x now (Op.Open a) = rw (in_steps.open_is s x now a) (answered_prompt s x Num.Open _ _ (own_prompt _ (open_refuses s x a)) (λ f. refl))
 files_prompt s x now (Op.OpenDowngrade a) = narrows_prompt s x a
 files_prompt s x now (Op.Read a) =
-    answered_prompt s x Num.Read _ _ (own_prompt _ (readable_refuses s x a.stateid (current s x) (current_refuses s x))) (λ d. refl)
-files_prompt s x now (Op.SetAttr a) = answered_prompt s x Num.SetAttr _ _
-    (own_prompt _ (refuses_checked (of_set.asked_for s x a) (of_set.last_checks s) (set_refuses s x a) (λ m. refl))) (λ m. refl)
+    rw (read_is s x a) (answered_prompt s x Num.Read _ _ (own_prompt _ (readable_refuses s x a.stateid (current s x) (current_refuses s x))) (λ d. refl))
+files_prompt s x now (Op.SetAttr a) = rw (set_attr_is s x now a) (answered_prompt s x Num.SetAttr _ _
+    (own_prompt _ (refuses_checked (set_parts.asked_for s x a) (set_parts.last_checks s) (set_refuses s x a) (λ m. refl))) (λ m. refl))
 files_prompt s x now (Op.TestStateid given) = refl
 files_prompt s x now (Op.Write a) =
     let found = writable_refuses s x a.stateid (current s x) (current_refuses s x) in
-    answered_prompt s x Num.Write _ _ (own_prompt _ (refuses_checked (writable s x a.stateid (current s x)) (last_checks s a) found (λ d. refl))) (λ d. refl)
+    rw (write_is s x now a)
+    (answered_prompt s x Num.Write _ _ (own_prompt _ (refuses_checked (writable s x a.stateid (current s x)) (last_checks s a) found (λ d. refl))) (λ d. refl))
 files_prompt s x now op = ap is_delay (status_of_refusal (op_number (arguments op).op) NotSupp)

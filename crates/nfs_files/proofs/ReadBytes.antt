@@ -12,7 +12,7 @@ use Rattle.nfs_tree.specs.{declared.object.Object.Object, declared.stored.Stored
 use Rattle.nfs_xdr.proofs.Lists.{find_in}
 use Rattle.nfs_names.specs.{declared.context.Context.Context, declared.node.Node.Node, State.State, Outcome.checked, Checks.current}
 use Rattle.nfs_names.proofs.Found.{current_is, checked_ok}
-use Rattle.nfs_files.specs.{Bytes.{file_checks, reading, may_use, readable}, Read.{bytes_of, was_read}}
+use Rattle.nfs_files.specs.{Bytes.{file_checks, reading, may_use}, Read.{bytes_of, was_read}, Parts.readable}
 use Rattle.nfs_files.proofs.Passing.{if_passed_ok}
 
 -- what is reported of an object's size is the number of its bytes

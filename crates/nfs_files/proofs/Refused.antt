@@ -11,7 +11,7 @@ use Rattle.nfs_opens.proofs.CallLaws.{did_is, refused_is}
 use Rattle.nfs_compound.specs.declared.op_num.OpNum.TheVariants as Num
 use Rattle.nfs_opens.specs.Calls as calls
 use Rattle.nfs_names.specs.{declared.context.Context.Context, State.State, Outcome.{Outcome, refuses, answers, or_delay, is_ok, is_delay}, Ending.with_opens}
-use Rattle.nfs_files.specs.{Denied.status_of, Lock.locked, LockU.unlocked}
+use Rattle.nfs_files.specs.{Denied.status_of, Lock.locked, Parts.unlocked}
 
 -- the outcome of a refusal that the code made
 abbrev pub told_with : State → Context → Res → Table → Outcome
@@ -47,6 +47,15 @@ own_refusal w s x op status o e =
 status_of_refusal : (n : ℕ) (status : Status) → status_of_result (refusal n status) ≡ status
 status_of_refusal n status =
     elim (eqb n 34) as (λ b. status_of_result (cond b (Res.SetAttr status []) (Res.Refused n status)) ≡ status) [ true ↦ refl | false ↦ refl ]
+
+-- a refusal of an operation's own checks, as its code makes it
+pub told_refusal : (w : Bool) (s : State) (x : Context) (op : OpNum) (o : Outcome) (status : Status) (r : Res) → o ≡ refuses s x op status
+    → r ≡ refusal (op_number op) status → told_with s x r s.opens ≡ or_delay (w && is_delay (status_of_result r)) s x op o
+told_refusal w s x op o status r same is =
+    let told : status_of_result r ≡ status = ap status_of_result is ∙ status_of_refusal (op_number op) status in
+    let status_is : status_of_result o.result ≡ status = ap (λ (o : Outcome). status_of_result o.result) same ∙ status_of_refusal (op_number op) status in
+    ap (λ r. told_with s x r s.opens) is
+    ∙ sym (ap (λ k. or_delay (w && is_delay k) s x op o) told ∙ own_refusal w s x op status o status_is ∙ same)
 
 -- what a refused call of the table reports: want of memory where it would have been done, or a refusal of its own
 abbrev pub Wanted : Table → Bool → Result (StateId × Table) OpenFault → Table → OpenFault → Type 0
@@ -106,3 +115,12 @@ pub granted_outcome : (grows : Bool) (s : State) (x : Context) (did : Result (St
 granted_outcome grows s x did id after e left =
     let same : unlocked s x id after ≡ unlocked_by s x did = ap (unlocked s x id) left ∙ sym (ap (unlocked_by s x) (did_is s.opens did id (sym e))) in
     same ∙ sym (own_refusal grows s x Num.LockU S.Nfs4Ok (unlocked_by s x did) (ap (λ (o : Outcome). status_of_result o.result) (sym same)))
+
+-- an OPEN for which there was no memory is refused with that alone, and nothing changed
+pub told_delay : (s left : State) (x context : Context) (op : OpNum) (o : Outcome) (status : Status) (r : Res) → is_ok (status_of_result o.result) ≡ true
+    → (status ≡ S.Delay) × (left ≡ s) × (context ≡ x) → r ≡ refusal (op_number op) status
+    → record { result = r; state = left; context = context } ≡ or_delay (is_delay (status_of_result r)) s x op o
+told_delay s left x context op o status r done is same =
+    let told : r ≡ refusal (op_number op) S.Delay = same ∙ ap (refusal (op_number op)) is.0 in
+    let delayed : is_delay (status_of_result r) ≡ true = ap (λ r. is_delay (status_of_result r)) told ∙ ap is_delay (status_of_refusal (op_number op) S.Delay) in
+    rw (delayed, done, told, is.1, is.2) refl

@@ -11,8 +11,9 @@ use Rattle.nfs_opens.specs.{StateId.{is_current, with_seqid, is_anonymous, is_by
 use Rattle.nfs_opens.specs.Judging.{judge_checks, seated, judge_named, special, judge, named}
 use Rattle.nfs_names.specs.{declared.context.Context.Context, declared.node.Node.Node, State.State, Outcome.{passed, checked}}
 use Rattle.nfs_names.proofs.Refusing.{Refuses, refusal_by, all_refuse, err_refuses, ok_refuses, refuses_checked, refuses_then}
-use Rattle.nfs_files.specs.{StateIds.{state_id, meant}, Bytes.{file_checks, seat, reading, writing, seat_checks, may_use, readable, writable}}
+use Rattle.nfs_files.specs.{StateIds.{state_id, meant}, Bytes.{file_checks, seat, reading, writing, seat_checks, may_use}, Parts.{readable, writable}}
 use Rattle.nfs_files.proofs.Passing.{if_passed_refuses}
+use Rattle.nfs_files.proofs.InSteps.{may_use_is}
 
 pub bad : {A : Type 0} → Refuses {A = A} (Err S.BadStateId)
 bad = err_refuses S.BadStateId (refusal_by S.BadStateId refl)
@@ -52,8 +53,9 @@ unfolding seat
 seat_refuses s x given d = refuses_then (meant x Any given) _ (meant_refuses x Any given) (λ id. judge_refuses s.opens id x.client (Some d.number) Either)
 
 pub may_use_refuses : (s : State) (x : Context) (wanted : Share) (given : Stateid) (d : Node) → Refuses (may_use s x wanted given d)
-unfolding may_use
-may_use_refuses s x wanted given d = refuses_checked (seat s x given d) (seat_checks s x wanted d) (seat_refuses s x given d) each
+may_use_refuses s x wanted given d =
+    rw (may_use_is s x wanted given d)
+    (refuses_checked (seat s x given d) (seat_checks s x wanted d) (seat_refuses s x given d) each)
   where
     each : (k : Seat) → all_refuse (seat_checks s x wanted d k) ≡ true
     each Anonymous = refl

@@ -9,8 +9,9 @@ use Rattle.nfs_attrs.specs.Mask.{mask_of}
 use Rattle.nfs_names.specs.{declared.context.Context.Context, declared.node.Node.Node, State.State, Checks.current, Create.attributes_in}
 use Rattle.nfs_names.proofs.{Bounds.IsAnswer, NameLaws.{current_refuses, wanted_refuses}}
 use Rattle.nfs_names.proofs.{Refusing.{Refuses, refuses_checked, refuses_then, ok_refuses, answers_with}, Masks.few_words}
-use Rattle.nfs_files.specs.{declared.setting.Setting.Setting, SetAttr.{setting, owner_checks, sized_by, sized, asked_for, last_checks, set_attr}}
+use Rattle.nfs_files.specs.{declared.setting.Setting.Setting, SetAttr.set_attr, SetAttrParts.{setting, owner_checks, sized_by, sized, asked_for, last_checks}}
 use Rattle.nfs_files.proofs.{Passing.if_passed_refuses, Seats.writable_refuses}
+use Rattle.nfs_files.proofs.InSteps.{set_attr_is}
 
 sized_refuses : (s : State) (x : Context) (given : Stateid) (d : Node) (o : Option ℕ) → Refuses (sized_by s x given d o)
 sized_refuses s x given d None = ok_refuses d
@@ -26,8 +27,8 @@ asked_refuses s x a =
     (λ m. sized_refuses s x a.stateid m.node m.wanted.size)
 
 pub may_set_attr : (s : State) (x : Context) (now : Time) (a : SetAttr) → IsAnswer (Operation (Op.SetAttr a)) (set_attr s x now a).result
-unfolding set_attr
 may_set_attr s x now a =
-    answers_with (IsAnswer (Operation (Op.SetAttr a))) s x Num.SetAttr _ _ (refuses_checked (asked_for s x a) (last_checks s) (asked_refuses s x a) (λ m. refl))
+    rw (set_attr_is s x now a)
+    (answers_with (IsAnswer (Operation (Op.SetAttr a))) s x Num.SetAttr _ _ (refuses_checked (asked_for s x a) (last_checks s) (asked_refuses s x a) (λ m. refl))
     (λ status h. record { may = (refl, rw h.legal refl, omega arith); arrays = tt })
-    (λ m. record { may = (refl, refl, few_words (mask_of a.obj_attributes.attrmask).words); arrays = tt })
+    (λ m. record { may = (refl, refl, few_words (mask_of a.obj_attributes.attrmask).words); arrays = tt }))

@@ -14,10 +14,12 @@ use Rattle.nfs_attrs.specs.declared.wanted.Wanted.{Wanted}
 use Rattle.nfs_names.specs.{declared.context.Context.Context, declared.node.Node.Node, State.State, Faults.status_of, Outcome.{refuses, checked}}
 use Rattle.nfs_names.specs.{Checks.current, Create.{wanted_of, attributes_in}, Lookup.is_link}
 use Rattle.nfs_names.proofs.{Found.{IsHeld, current_is, checked_ok, came, ok_is}, Rows.fault_map, Faulted.{by_last, by_refusal}}
-use Rattle.nfs_files.specs.{declared.setting.Setting.Setting, Bytes.{file_checks, writing, may_use, writable}}
-use Rattle.nfs_files.specs.{SetAttr.{setting, owner_checks, sized, sized_by, asked_for, gives_some, last_checks, was_set, set_attr}, SetAttrParts.tree_fault}
+use Rattle.nfs_files.specs.{declared.setting.Setting.Setting, Bytes.{file_checks, writing, may_use}, Parts.writable}
+use Rattle.nfs_files.specs.{SetAttr.{gives_some, set_attr}}
+use Rattle.nfs_files.specs.SetAttrParts.{tree_fault, setting, owner_checks, sized, sized_by, asked_for, last_checks, was_set}
 use Rattle.nfs_files.specs.SetAttr as of_set
 use Rattle.nfs_files.proofs.Passing.{if_passed_ok}
+use Rattle.nfs_files.proofs.InSteps.{set_attr_is}
 
 kind_regular : (k : FileType) → is_directory k ≡ false → is_link k ≡ false → is_regular k ≡ true
 kind_regular Kind.Regular e h = refl
@@ -107,14 +109,14 @@ set_found s x a m v =
 
 pub set_goes : (s : State) (x : Context) (now : Time) (a : SetAttr) (m : Setting) → asked_for s x a ≡ Ok m
     → tree_fault s.tree m.node.number m.wanted m.wanted.size ≡ None → set_attr s x now a ≡ was_set s x now a m
-unfolding set_attr
 set_goes s x now a m v none =
-    by_last s x Num.SetAttr (asked_for s x a) (last_checks s) (was_set s x now a) m v (sym (set_found s x a m v) ∙ ap (option_map status_of) none)
+    rw (set_attr_is s x now a)
+    (by_last s x Num.SetAttr (asked_for s x a) (last_checks s) (was_set s x now a) m v (sym (set_found s x a m v) ∙ ap (option_map status_of) none))
 
 pub set_stops : (s : State) (x : Context) (now : Time) (a : SetAttr) (m : Setting) (f : TreeFault)
     → asked_for s x a ≡ Ok m → tree_fault s.tree m.node.number m.wanted m.wanted.size ≡ Some f
     → set_attr s x now a ≡ refuses s x Num.SetAttr (status_of f)
-unfolding set_attr
 set_stops s x now a m f v some =
-    by_refusal s x Num.SetAttr (asked_for s x a) (last_checks s) (was_set s x now a) m
-    (status_of f) v (sym (set_found s x a m v) ∙ ap (option_map status_of) some)
+    rw (set_attr_is s x now a)
+    (by_refusal s x Num.SetAttr (asked_for s x a) (last_checks s) (was_set s x now a) m
+    (status_of f) v (sym (set_found s x a m v) ∙ ap (option_map status_of) some))

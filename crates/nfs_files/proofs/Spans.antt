@@ -7,7 +7,8 @@ use Rattle.nfs_compound.specs.{declared.stateid.Stateid.Stateid, declared.lock_a
 use Rattle.nfs_opens.specs.{declared.locking.Wish.Wish, declared.stateid.StateId.StateId, declared.stateid.CurrentSeqid.TheVariants.Any, Calls.is_whole}
 use Rattle.nfs_names.specs.{declared.context.Context.Context, declared.node.Node.Node, State.State, Outcome.{passed, mapped}}
 use Rattle.nfs_names.proofs.Found.{came}
-use Rattle.nfs_files.specs.{declared.ranges.Wished.Wished, StateIds.meant, Target.the_file, Ranges.{all_ones, last_of, range, wish, wished, wished_by}}
+use Rattle.nfs_files.specs.{declared.ranges.Wished.Wished, StateIds.meant, Target.the_file, Ranges.{all_ones, last_of, range, wished}, Parts.{wish, wished_by}}
+use Rattle.nfs_files.proofs.InSteps.{range_is, wished_is}
 
 -- what a range that passes its two checks is
 record Passed (empty over : Bool) (last l : ℕ) : Type 0 where
@@ -28,9 +29,8 @@ last_whole offset size false e some fits =
     ne_eqb (offset + size - 1) all_ones (λ same. eqb-false size 0 some (omega arith))
 
 pub range_whole : (offset size last : ℕ) → range offset size ≡ Ok last → eqb last all_ones ≡ eqb size all_ones
-unfolding range
 range_whole offset size last e =
-    let p = passed_both (size == 0) (not (size == all_ones) && nat_lt all_ones (offset + size)) (last_of offset size) last e in
+    let p = passed_both (size == 0) (not (size == all_ones) && nat_lt all_ones (offset + size)) (last_of offset size) last (sym (range_is offset size) ∙ e) in
     subst (λ l. eqb l all_ones ≡ eqb size all_ones) p.end (last_whole offset size (eqb size all_ones) refl p.some p.fits)
 
 -- the wish of a LOCKU is of a whole file where its arguments are
@@ -54,8 +54,7 @@ wished_parts x given (Ok w) k e = ap Ok (with_id w (meant x Any given) k e)
 
 pub wished_whole : (s : State) (x : Context) (how : LockType) (offset size : ℕ) (given : Stateid) (k : Wished)
     → wished_by x given (wished s x how offset size) ≡ Ok k → is_whole k.wish.first k.wish.last ≡ (offset == 0 && size == all_ones)
-unfolding wished
 wished_whole s x how offset size given k e =
-    let d = came (the_file s x) _ k.wish (wished_parts x given (wished s x how offset size) k e) in
+    let d = came (the_file s x) _ k.wish (sym (wished_is s x how offset size) ∙ wished_parts x given (wished s x how offset size) k e) in
     let w = wish_is x how offset size d.found (range offset size) k.wish refl d.then in
     ap (λ n. n == 0 && k.wish.last == all_ones) w.first ∙ ap (λ b. offset == 0 && b) (range_whole offset size k.wish.last w.last)

@@ -17,9 +17,9 @@ use Rattle.nfs_opens.specs.{Table.{Table, open_at, lock_at}, Judging.judge}
 use Rattle.nfs_opens.specs.declared.judging.Seat.TheVariants as Seats
 use Rattle.nfs_opens.specs.declared.locking.OpenFault.TheVariants as F
 use Rattle.nfs_files.specs.{declared.ranges.Wished.Wished, Denied.status_of, declared.target.Target.Target, StateIds.{meant, wire_id}, Bytes.file_checks}
-use Rattle.nfs_files.specs.{Target.{the_file, target}, Ranges.{range_checks, last_of, range, wish, wished, wished_by}, Close.{closed, closes, close}}
-use Rattle.nfs_files.specs.{FreeStateid.{frees, free_stateid}, LockU.{unlocking, unlocked, unlocks, lock_u}}
-use Rattle.nfs_files.specs.OpenDowngrade.{bit_checks, bits, narrowing, narrowed, narrows, open_downgrade}
+use Rattle.nfs_files.specs.{Target.the_file, Ranges.{range_checks, last_of, range, wished}, Close.close, Parts.{target, wish, wished_by, closed, closes}}
+use Rattle.nfs_files.specs.{FreeStateid.free_stateid, LockU.lock_u, Parts.{frees, unlocking, unlocked, unlocks}}
+use Rattle.nfs_files.specs.{OpenDowngrade.{bits, open_downgrade}, Parts.{bit_checks, narrowing, narrowed, narrows}}
 use Rattle.nfs_opens.specs.Closing as closing
 use Rattle.nfs_opens.specs.Opening as opening
 use Rattle.nfs_opens.specs.Locking as locking
@@ -27,11 +27,13 @@ use Rattle.nfs_names.specs.{declared.context.Context.Context, State.State, Outco
 use Rattle.nfs_names.proofs.{Bounds.IsAnswer, NameLaws.current_refuses}
 use Rattle.nfs_names.proofs.Refusing.{Refuses, refusal_by, refuses_checked, refuses_mapped, refuses_then, there_refuses, held_refuses, answers_with, err_refuses, ok_refuses}
 use Rattle.nfs_files.proofs.{Passing.if_passed_refuses, Seats.{bad, meant_refuses, judge_refuses}}
+use Rattle.nfs_files.proofs.InSteps.{file_is, close_is, free_is, downgrade_is, range_is, wished_is, unlock_is}
 
 -- the file and the stateid
 pub the_file_refuses : (s : State) (x : Context) → Refuses (the_file s x)
-unfolding the_file
-the_file_refuses s x = refuses_checked (current s x) file_checks (current_refuses s x) (λ d. refl)
+the_file_refuses s x =
+    rw (file_is s x)
+    (refuses_checked (current s x) file_checks (current_refuses s x) (λ d. refl))
 
 pub target_refuses : (s : State) (x : Context) (form : CurrentSeqid) (given : Stateid) → Refuses (target s x form given)
 unfolding target
@@ -77,11 +79,11 @@ closes_may s x a t =
     (λ did. record { may = (refl, tt, tt); arrays = refl })
 
 pub may_close : (s : State) (x : Context) (a : Close) → IsAnswer (Operation (Op.Close a)) (close s x a).result
-unfolding close
 may_close s x a =
-    answers_with (IsAnswer (Operation (Op.Close a))) s x Num.Close (target s x Own a.open_stateid) (closes s x) (target_refuses s x Own a.open_stateid)
+    rw (close_is s x a)
+    (answers_with (IsAnswer (Operation (Op.Close a))) s x Num.Close (target s x Own a.open_stateid) (closes s x) (target_refuses s x Own a.open_stateid)
     (λ status h. record { may = (refl, rw (h.done, h.legal) refl, tt); arrays = tt })
-    (λ t. closes_may s x a t)
+    (λ t. closes_may s x a t))
 
 -- FREE_STATEID
 frees_may : (s : State) (x : Context) (given : Stateid) (id : StateId) → IsAnswer (Operation (Op.FreeStateid given)) (frees s x id).result
@@ -92,11 +94,11 @@ frees_may s x given id =
     (λ did. record { may = (refl, tt, tt); arrays = tt })
 
 pub may_free : (s : State) (x : Context) (given : Stateid) → IsAnswer (Operation (Op.FreeStateid given)) (free_stateid s x given).result
-unfolding free_stateid
 may_free s x given =
-    answers_with (IsAnswer (Operation (Op.FreeStateid given))) s x Num.FreeStateid (meant x Any given) (frees s x) (meant_refuses x Any given)
+    rw (free_is s x given)
+    (answers_with (IsAnswer (Operation (Op.FreeStateid given))) s x Num.FreeStateid (meant x Any given) (frees s x) (meant_refuses x Any given)
     (λ status h. record { may = (refl, rw (h.done, h.legal) refl, tt); arrays = tt })
-    (λ id. frees_may s x given id)
+    (λ id. frees_may s x given id))
 
 -- OPEN_DOWNGRADE
 narrows_may : (s : State) (x : Context) (a : OpenDowngrade) (t : Target) → IsAnswer (Operation (Op.OpenDowngrade a)) (narrows s x a t).result
@@ -113,22 +115,24 @@ narrowing_refuses s x a = if_passed_refuses (target s x Own a.open_stateid) (λ 
     (judge_refuses s.opens t.id x.client (Some t.file) OpenOnly) (λ seat. refl))
 
 pub may_downgrade : (s : State) (x : Context) (a : OpenDowngrade) → IsAnswer (Operation (Op.OpenDowngrade a)) (open_downgrade s x a).result
-unfolding open_downgrade
 may_downgrade s x a =
-    answers_with (IsAnswer (Operation (Op.OpenDowngrade a))) s x Num.OpenDowngrade (narrowing s x a) (narrows s x a)
+    rw (downgrade_is s x a)
+    (answers_with (IsAnswer (Operation (Op.OpenDowngrade a))) s x Num.OpenDowngrade (narrowing s x a) (narrows s x a)
     (narrowing_refuses s x a)
     (λ status h. record { may = (refl, rw (h.done, h.legal) refl, tt); arrays = tt })
-    (λ t. narrows_may s x a t)
+    (λ t. narrows_may s x a t))
 
 -- LOCKU
 range_refuses : (offset size : ℕ) → Refuses (range offset size)
-unfolding range
-range_refuses offset size = refuses_checked (Ok (last_of offset size)) (λ last. range_checks offset size) (ok_refuses (last_of offset size)) (λ last. refl)
+range_refuses offset size =
+    rw (range_is offset size)
+    (refuses_checked (Ok (last_of offset size)) (λ last. range_checks offset size) (ok_refuses (last_of offset size)) (λ last. refl))
 
 pub wished_refuses : (s : State) (x : Context) (how : LockType) (offset size : ℕ) → Refuses (wished s x how offset size)
-unfolding wished
-wished_refuses s x how offset size = refuses_then (the_file s x) _ (the_file_refuses s x) (λ d.
-    refuses_mapped (λ last. wish x how offset last d.number) (range offset size) (range_refuses offset size))
+wished_refuses s x how offset size =
+    rw (wished_is s x how offset size)
+    (refuses_then (the_file s x) _ (the_file_refuses s x) (λ d.
+    refuses_mapped (λ last. wish x how offset last d.number) (range offset size) (range_refuses offset size)))
 
 pub wished_by_refuses : (x : Context) (given : Stateid) (v : Result Wish Status) → Refuses v → Refuses (wished_by x given v)
 wished_by_refuses x given v h = refuses_then v _ h (λ w.
@@ -163,9 +167,9 @@ unlocks_may s x a k =
     (λ did. record { may = (refl, tt, tt); arrays = length_id did.0 })
 
 pub may_lock_u : (s : State) (x : Context) (a : LockU) → IsAnswer (Operation (Op.LockU a)) (lock_u s x a).result
-unfolding lock_u
 may_lock_u s x a =
-    answers_with (IsAnswer (Operation (Op.LockU a))) s x Num.LockU (unlocking s x a) (unlocks s x)
+    rw (unlock_is s x a)
+    (answers_with (IsAnswer (Operation (Op.LockU a))) s x Num.LockU (unlocking s x a) (unlocks s x)
     (wished_by_refuses x a.lock_stateid (wished s x a.locktype a.offset a.length) (wished_refuses s x a.locktype a.offset a.length))
     (λ status h. record { may = (refl, rw (h.done, h.legal) refl, tt); arrays = tt })
-    (unlocks_may s x a)
+    (unlocks_may s x a))

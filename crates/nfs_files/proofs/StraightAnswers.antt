@@ -14,6 +14,7 @@ use Rattle.nfs_opens.specs.Locking.{test_lock}
 use Rattle.nfs_names.specs.{declared.context.Context.Context, State.State, Outcome.{Outcome, refuses, answers, or_delay, is_ok}}
 use Rattle.nfs_files.specs.{Ranges.wished, Lock.lock, LockT.{tested, lock_t}, TestStateid.{code, test_stateid}}
 use Rattle.nfs_files.proofs.{Fitting.few_denied, StateAnswers.length_id, OpensMoved.by_lock}
+use Rattle.nfs_files.proofs.InSteps.{test_is}
 
 -- a result of the operation, of the sizes that this server's have
 pub record IsShort (op : Op) (r : Res) : Type 0 where
@@ -55,11 +56,11 @@ tested_short s x a None = record { number = refl; sizes = tt; arrays = tt }
 tested_short s x a (Some h) = record { number = refl; sizes = few_denied s.opens h; arrays = tt }
 
 pub short_lock_t : (s : State) (x : Context) (a : LockT) → IsShort (Op.LockT a) (lock_t s x a).result
-unfolding lock_t
 short_lock_t s x a =
-    answers_any (IsShort (Op.LockT a)) s x Num.LockT (wished s x a.locktype a.offset a.length) (λ w. tested s x (test_lock s.opens a.owner.owner w))
+    rw (test_is s x a)
+    (answers_any (IsShort (Op.LockT a)) s x Num.LockT (wished s x a.locktype a.offset a.length) (λ w. tested s x (test_lock s.opens a.owner.owner w))
     (λ status. record { number = refl; sizes = tt; arrays = tt })
-    (λ w. tested_short s x a (test_lock s.opens a.owner.owner w))
+    (λ w. tested_short s x a (test_lock s.opens a.owner.owner w)))
 
 -- TEST_STATEID
 pub short_test : (s : State) (x : Context) (given : List Stateid) → IsShort (Op.TestStateid given) (test_stateid s x given).result

@@ -24,10 +24,12 @@ use Rattle.nfs_files.proofs.{OpensMoved.lock_is, Refused.unlocked_by, Wishes.{wi
 use Rattle.nfs_files.proofs.{Inside.{Locks, Unlocks, Closes}, KeptOps.{lock_ok, clashing}, ToldLocks.{granted_held, left_by}, Steady.Few}
 use Rattle.nfs_names.specs.{declared.context.Context.Context, State.State, Outcome.{Outcome, answers, mapped, is_ok, or_delay}}
 use Rattle.nfs_names.proofs.Found.{came, ok_is}
-use Rattle.nfs_files.specs.{declared.ranges.Wished.Wished, declared.target.Target.Target, StateIds.{wire_id, meant}, Target.{target, the_file}}
-use Rattle.nfs_files.specs.{Ranges.{wish, wished}, Operation.grows, Close.{spent, closes, close, closed}, LockU.{unlocking, unlocks, lock_u}}
+use Rattle.nfs_files.specs.{declared.ranges.Wished.Wished, declared.target.Target.Target, StateIds.{wire_id, meant}, Target.the_file, Parts.target}
+use Rattle.nfs_files.specs.{Ranges.wished, Operation.grows, Close.{spent, close}, LockU.lock_u, Parts.{wish, closes, closed, unlocking, unlocks}}
 use Rattle.nfs_files.specs.{LockTold.{Names, LockTold}, Laws.{ClashesAreRefused, ToldLocksAreHeld}}
+use Rattle.nfs_files.specs.Parts as parts
 use Rattle.nfs_files.specs.Lock as of_lock
+use Rattle.nfs_files.proofs.InSteps as in_steps
 
 -- The spelling of a stateid behind NFS4_OK.
 
@@ -146,11 +148,12 @@ lock_clients t who id w did table few granted = locked_clients t w did table few
 
 -- LOCK
 
-lock_result : (s : State) (x : Context) (now : Time) (a : Lock) (m : Wished) (did : StateId × Table) → of_lock.locking s x a ≡ Ok m
+lock_result : (s : State) (x : Context) (now : Time) (a : Lock) (m : Wished) (did : StateId × Table) → parts.locking s x a ≡ Ok m
     → of_lock.locks_as s.opens a.locker m.id m.wish ≡ Ok did → (one s x now (Op.Lock a)).result ≡ Res.Lock (wire_id did.0)
-unfolding of_lock.lock
-lock_result s x now a m did judged granted = ap (λ v. (answers s x Num.Lock v (of_lock.locks s x a.locker)).result) judged
-    ∙ ap (λ v. (of_lock.locked s x v).result) granted
+lock_result s x now a m did judged granted =
+    rw (in_steps.lock_is s x a)
+    (ap (λ v. (answers s x Num.Lock v (parts.locks s x a.locker)).result) judged
+    ∙ ap (λ v. (of_lock.locked s x v).result) granted)
 
 pub record IsTold (op : OpNum) (s : State) (x : Context) (how : LockType) (offset size : ℕ) (text : List ℕ) (n : ℕ) (w : Wish) : Type 0 where
   pub wish : wished s x how offset size ≡ Ok w
@@ -164,7 +167,7 @@ lock_tells s x now refused a n w table few locks ok =
     let op : Op.Lock a ≡ Op.Lock locks.asked = locks.is in
     let same : a ≡ locks.asked = cc in
     let m : Wished = record { wish = w; id = locks.id } in
-    let judged : of_lock.locking s x a ≡ Ok m = subst (λ a. of_lock.locking s x a ≡ Ok m) (sym same) locks.judged in
+    let judged : parts.locking s x a ≡ Ok m = subst (λ a. parts.locking s x a ≡ Ok m) (sym same) locks.judged in
     let granted : of_lock.locks_as s.opens a.locker m.id m.wish ≡ Ok locks.did =
     subst (λ (a : Lock). of_lock.locks_as s.opens a.locker m.id m.wish ≡ Ok locks.did) (sym same) locks.granted in
     let small = (lock_clients s.opens a.locker locks.id w locks.did table few granted).small in
@@ -180,12 +183,12 @@ lock_tells s x now refused a n w table few locks ok =
 pub lock_grants_told : (s : State) (x : Context) (now : Time) (refused : Bool) (a : Lock) (n : ℕ) (w : Wish) → IsTable s.opens → Few s.opens
     → wished s x a.locktype a.offset a.length ≡ Ok w → Names Num.Lock (spell_result (one_or_delay refused s x now (Op.Lock a)).result) n
     → Locks s x (Op.Lock a) n w
-unfolding of_lock.lock
 lock_grants_told s x now refused a n w table few wish names =
-    by_judged (of_lock.locking s x a) refl
-    (undelayed Num.Lock (grows s x (Op.Lock a) && refused) s x (one s x now (Op.Lock a)) n (lock_refused Delay n) names)
+    by_judged (parts.locking s x a) refl
+    (subst (λ (o : Outcome). Names Num.Lock (spell_result o.result) n) (in_steps.lock_is s x a)
+    (undelayed Num.Lock (grows s x (Op.Lock a) && refused) s x (one s x now (Op.Lock a)) n (lock_refused Delay n) names))
   where
-    by_answer : (m : Wished) → of_lock.locking s x a ≡ Ok m → (v : Result (StateId × Table) OpenFault) → of_lock.locks_as s.opens a.locker m.id m.wish ≡ v
+    by_answer : (m : Wished) → parts.locking s x a ≡ Ok m → (v : Result (StateId × Table) OpenFault) → of_lock.locks_as s.opens a.locker m.id m.wish ≡ v
         → Names Num.Lock (spell_result (of_lock.locked s x v).result) n → Locks s x (Op.Lock a) n w
     by_answer m judged (Ok did) granted told =
         let same : m.wish ≡ w = ok_is (lock_wish s x a m judged) wish in
@@ -203,8 +206,8 @@ lock_grants_told s x now refused a n w table few wish names =
     by_answer m judged (Err (F.Denied h)) granted told = absurd (denied_names _ n told)
     by_answer m judged (Err F.Memory) granted told = absurd (lock_refused Delay n told)
 
-    by_judged : (v : Result Wished Status) → of_lock.locking s x a ≡ v
-        → Names Num.Lock (spell_result (answers s x Num.Lock v (of_lock.locks s x a.locker)).result) n → Locks s x (Op.Lock a) n w
+    by_judged : (v : Result Wished Status) → parts.locking s x a ≡ v
+        → Names Num.Lock (spell_result (answers s x Num.Lock v (parts.locks s x a.locker)).result) n → Locks s x (Op.Lock a) n w
     by_judged (Err status) judged told = absurd (lock_refused status n told)
     by_judged (Ok m) judged told = by_answer m judged (of_lock.locks_as s.opens a.locker m.id m.wish) refl told
 
@@ -221,9 +224,10 @@ unlocked_id t id client file first last did table few its =
 
 unlock_result : (s : State) (x : Context) (now : Time) (a : LockU) (m : Wished) (did : StateId × Table) → unlocking s x a ≡ Ok m
     → locking.unlock s.opens m.id m.wish.client m.wish.file m.wish.first m.wish.last ≡ Ok did → (one s x now (Op.LockU a)).result ≡ Res.LockU (wire_id did.0)
-unfolding lock_u
-unlock_result s x now a m did judged granted = ap (λ v. (answers s x Num.LockU v (unlocks s x)).result) judged
-    ∙ ap (λ v. (unlocked_by s x v).result) granted
+unlock_result s x now a m did judged granted =
+    rw (in_steps.unlock_is s x a)
+    (ap (λ v. (answers s x Num.LockU v (unlocks s x)).result) judged
+    ∙ ap (λ v. (unlocked_by s x v).result) granted)
 
 pub unlock_tells : (s : State) (x : Context) (now : Time) (refused : Bool) (a : LockU) (n : ℕ) (w : Wish) → IsTable s.opens → Few s.opens
     → Unlocks s x (Op.LockU a) n w → is_ok (status_of_result (one_or_delay refused s x now (Op.LockU a)).result) ≡ true
@@ -249,9 +253,10 @@ unlock_tells s x now refused a n w table few unlocks ok =
 
 close_result : (s : State) (x : Context) (now : Time) (a : Close) (t : Target) (did : _) → target s x Own a.open_stateid ≡ Ok t
     → closing.close s.opens t.id x.client t.file ≡ Ok did → (one s x now (Op.Close a)).result ≡ Res.Close spent
-unfolding close
-close_result s x now a t did judged granted = ap (λ v. (answers s x Num.Close v (closes s x)).result) judged
-    ∙ ap (λ v. (answers s x Num.Close v (λ did. closed s x t.file did.1)).result) granted
+close_result s x now a t did judged granted =
+    rw (in_steps.close_is s x a)
+    (ap (λ v. (answers s x Num.Close v (closes s x)).result) judged
+    ∙ ap (λ v. (answers s x Num.Close v (λ did. closed s x t.file did.1)).result) granted)
 
 target_parts : (file : ℕ) (t : Target) (v : Result StateId Status) → mapped (λ id. record { file = file; id = id }) v ≡ Ok t → v ≡ Ok t.id
 target_parts file t (Err status) e = absurd cc
@@ -315,7 +320,7 @@ told_done s x now refused a n w table few wish names =
     let op : Op.Lock a ≡ Op.Lock locks.asked = locks.is in
     let same : a ≡ locks.asked = cc in
     let m : Wished = record { wish = w; id = locks.id } in
-    let judged : of_lock.locking s x a ≡ Ok m = subst (λ a. of_lock.locking s x a ≡ Ok m) (sym same) locks.judged in
+    let judged : parts.locking s x a ≡ Ok m = subst (λ a. parts.locking s x a ≡ Ok m) (sym same) locks.judged in
     let granted : of_lock.locks_as s.opens a.locker locks.id w ≡ Ok locks.did =
     subst (λ (a : Lock). of_lock.locks_as s.opens a.locker locks.id w ≡ Ok locks.did) (sym same) locks.granted in
     let ok = ap (λ (r : Res). is_ok (status_of_result r)) (told_ok s x now refused a n names) ∙ lock_ok s x now a m locks.did judged granted in

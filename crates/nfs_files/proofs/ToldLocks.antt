@@ -15,8 +15,10 @@ use Rattle.nfs_results.specs.Results.{status_of_result}
 use Rattle.nfs_names.specs.{declared.context.Context.Context, State.State, Outcome.{is_ok, or_delay, answers}}
 use Rattle.nfs_files.specs.{Operation.grows, LockTold.{LockTold, IsHeld}}
 use Rattle.nfs_files.proofs.{Outcomes.{one, one_or_delay}, Inside.ToldLocksStand, OpensMoved.lock_is, KeptOps.lock_ok}
+use Rattle.nfs_files.specs.Parts as parts
 use Rattle.nfs_files.specs.Lock as of_lock
 use Rattle.nfs_opens.proofs.CallLaws.{IsLocked}
+use Rattle.nfs_files.proofs.InSteps as in_steps
 
 -- what a lock state has just locked it holds
 held_now : (held : FileHolders) (file n : ℕ) (kind : Kind) (first last f s b : ℕ) → f ≡ file → n ≡ s → is_within first last b ≡ true
@@ -36,14 +38,15 @@ granted_held k t w did (inr first) number file kind from to b lo hi =
     (within_is w.first w.last b (omega arith) (omega arith))
     ∙ ap Some (sym kind)
 
-lock_left : (s : State) (x : Context) (now : Time) (a : args.Lock) (m : _) (did : _) → of_lock.locking s x a ≡ Ok m
+lock_left : (s : State) (x : Context) (now : Time) (a : args.Lock) (m : _) (did : _) → parts.locking s x a ≡ Ok m
     → of_lock.locks_as s.opens a.locker m.id m.wish ≡ Ok did → (one s x now (Op.Lock a)).state.opens ≡ did.1
-unfolding of_lock.lock
-lock_left s x now a m did judged granted = ap (λ v. (answers s x Num.Lock v (of_lock.locks s x a.locker)).state.opens) judged
-    ∙ ap (λ v. (of_lock.locked s x v).state.opens) granted
+lock_left s x now a m did judged granted =
+    rw (in_steps.lock_is s x a)
+    (ap (λ v. (answers s x Num.Lock v (parts.locks s x a.locker)).state.opens) judged
+    ∙ ap (λ v. (of_lock.locked s x v).state.opens) granted)
 
 -- a LOCK that is granted and not delayed leaves what it does to the opens
-pub left_by : (s : State) (x : Context) (now : Time) (refused : Bool) (a : args.Lock) (m : _) (did : _) → of_lock.locking s x a ≡ Ok m
+pub left_by : (s : State) (x : Context) (now : Time) (refused : Bool) (a : args.Lock) (m : _) (did : _) → parts.locking s x a ≡ Ok m
     → of_lock.locks_as s.opens a.locker m.id m.wish ≡ Ok did → is_ok (status_of_result (one_or_delay refused s x now (Op.Lock a)).result) ≡ true
     → (one_or_delay refused s x now (Op.Lock a)).state.opens ≡ did.1
 left_by s x now refused a m did judged granted ok = go (grows s x (Op.Lock a) && refused) ok

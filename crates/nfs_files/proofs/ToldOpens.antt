@@ -26,14 +26,16 @@ use Rattle.nfs_names.specs.{declared.context.Context.Context, declared.node.Node
 use Rattle.nfs_names.specs.{Checks.{node_as, node_at, current}, Create.attributes_in, Outcome.{Outcome, refuses, checked, mapped, or_delay, is_ok}}
 use Rattle.nfs_names.proofs.Found.{came, checked_ok, ok_is}
 use Rattle.nfs_files.specs.{declared.target.Target.Target, declared.opening.Found.Found, declared.opening.Found.TheVariants.{There, Absent}, StateIds.wire_id}
-use Rattle.nfs_files.specs.{Open.{access_of, deny_of}, OpenDowngrade.{bits, narrowed, open_downgrade}}
+use Rattle.nfs_files.specs.{Open.{access_of, deny_of}, OpenDowngrade.{bits, open_downgrade}, Parts.narrowed}
 use Rattle.nfs_files.specs.OpenTold.{names_open, OpenTold, Bits, bits_with, bits_had, bits_behind, IsOpenWith, named_in, claimed, forbids}
 use Rattle.nfs_files.specs.OpenLaws.{IsToldOpen, ToldOpensStand, ForbiddenOpensAreRefused}
 use Rattle.nfs_files.proofs.{Outcomes.{one_or_delay, comes_to}, Inside.Closes, OpensMoved.{answered, by_downgrade}, Effects.{Effect, Caused, table_behind}}
 use Rattle.nfs_files.proofs.{Effected.caused_opens, Opened.shared_free, Steady.Few}
+use Rattle.nfs_files.specs.OpenParts as open_parts
 use Rattle.nfs_files.specs.Open as of_open
 use Rattle.nfs_opens.proofs.CallLaws.{IsNarrowed}
 use Rattle.nfs_files.proofs.Effects as effects
+use Rattle.nfs_files.proofs.InSteps as in_steps
 
 -- What moves no bits.
 
@@ -297,12 +299,12 @@ opened_left k b s x now a f table few free is =
 
 open_left : (k : OpenTold) (b : Bits) (s : State) (x : Context) (now : Time) (a : Open) → IsTable s.opens → Few s.opens → IsOpenWith k b s.opens
     → LeftBy k b (Operation (Op.Open a)) (of_open.open_file s x now a)
-unfolding of_open.open_file
 open_left k b s x now a table few is =
-    answered (LeftBy k b (Operation (Op.Open a))) s x Num.Open (checked (of_open.asked_for s x a) (of_open.last_checks s x a)) (of_open.opened s x now a)
+    rw (in_steps.open_is s x now a)
+    (answered (LeftBy k b (Operation (Op.Open a))) s x Num.Open (checked (open_parts.asked_for s x a) (of_open.last_checks s x a)) (of_open.opened s x now a)
     (open_refused k b s x a is) (λ f granted.
-    (let p = checked_ok (of_open.asked_for s x a) (of_open.last_checks s x a) f granted in
-    opened_left k b s x now a f table few (free_of s.opens (asking s x a f) (shared_free s x a f p.1)) is))
+    (let p = checked_ok (open_parts.asked_for s x a) (of_open.last_checks s x a) f granted in
+    opened_left k b s x now a f table few (free_of s.opens (asking s x a f) (shared_free s x a f p.1)) is)))
 
 delayed_left : (k : OpenTold) (b : Bits) (v : Bool) (s : State) (x : Context) (a : Open) (o : Outcome) → IsOpenWith k b s.opens → LeftBy k b (Operation (Op.Open a)) o
     → LeftBy k b (Operation (Op.Open a)) (or_delay v s x Num.Open o)
@@ -323,7 +325,7 @@ told_open_left k b refused s x now i table few spares is = unmoved_left k b refu
 
 pub record IsOpened (s : State) (x : Context) (now : Time) (a : Open) (n : ℕ) (o : Outcome) : Type 0 where
   pub found : Found
-  pub judged : of_open.asked_for s x a ≡ Ok found
+  pub judged : open_parts.asked_for s x a ≡ Ok found
   pub free : IsFree s.opens (asking s x a found)
   pub number : (opening.opens s.opens (asking s x a found)).id.number ≡ n
   pub state : o.state ≡ (of_open.opened s x now a found).state
@@ -336,11 +338,10 @@ DidIf s x now a n o = names_open Num.Open (spell_result o.result) n ≡ true →
 
 pub did_open : (refused : Bool) (s : State) (x : Context) (now : Time) (a : Open) (n : ℕ) → IsTable s.opens → Few s.opens
     → names_open Num.Open (spell_result (one_or_delay refused s x now (Op.Open a)).result) n ≡ true → IsOpened s x now a n (one_or_delay refused s x now (Op.Open a))
-unfolding of_open.open_file
-did_open refused s x now a n table few = by_delayed (of_open.open_file s x now a) (answered (DidIf s x now a n) s x Num.Open
-    (checked (of_open.asked_for s x a) (of_open.last_checks s x a)) (of_open.opened s x now a)
+did_open refused s x now a n table few = by_delayed (of_open.open_file s x now a) (rw (in_steps.open_is s x now a) (answered (DidIf s x now a n) s x Num.Open
+    (checked (open_parts.asked_for s x a) (of_open.last_checks s x a)) (of_open.opened s x now a)
     (λ status named. absurd (never_named Num.Open (op_number Num.Open) status n named)) (λ f granted named.
-    (let p = checked_ok (of_open.asked_for s x a) (of_open.last_checks s x a) f granted in
+    (let p = checked_ok (open_parts.asked_for s x a) (of_open.last_checks s x a) f granted in
     let asked = asking s x a f in
     let free = free_of s.opens asked (shared_free s x a f p.1) in
     let did = opening.opens s.opens asked in
@@ -351,7 +352,7 @@ did_open refused s x now a n table few = by_delayed (of_open.open_file s x now a
       free = free;
       number = eqb-true _ _ (sym (names_of_open did.id (of_open.info_of s.tree f) (of_open.set_of a f) n small) ∙ named);
       state = refl;
-    })))
+    }))))
   where
     by_delayed : (o : Outcome) → DidIf s x now a n o → DidIf s x now a n (or_delay refused s x Num.Open o)
     by_delayed o did = elim (cases_Bool (refused && is_ok (status_of_result o.result))) [
@@ -403,7 +404,7 @@ abbrev Leads : State → Context → Time → Open → ℕ → List ℕ → Foun
 Leads s x now a d name f = lookup (of_open.tree_of s.tree x now a f) d name ≡ Some (of_open.file_of s.tree f)
 
 name_leads : (s : State) (x : Context) (now : Time) (a : Open) (name : List ℕ) (m : Making) (o : Option ℕ) (f : Found) → of_open.name_of a.claim ≡ name
-    → lookup s.tree m.place.number name ≡ o → of_open.found_by s x a m o ≡ Ok f → Leads s x now a m.place.number name f
+    → lookup s.tree m.place.number name ≡ o → open_parts.found_by s x a m o ≡ Ok f → Leads s x now a m.place.number name f
 name_leads s x now a name m None f called none e =
     let made = mapped_ok Absent (checked (Ok m) (of_open.absent_checks x a)) f e in
     let one : m ≡ made.from = ok_is refl (checked_ok (Ok m) (of_open.absent_checks x a) made.from made.is).0 in
@@ -416,7 +417,7 @@ name_leads s x now a name m (Some n) f called at e =
     (there_found s.tree x now a m.place.number name m.place.number is.from (of_open.cuts a m.wanted) ∙ (at ∙ node_number s (Some n) is.from node))
 
 claim_leads : (s : State) (x : Context) (now : Time) (a : Open) (claim : OpenClaim) (d : Node) (f : Found) → a.claim ≡ claim → x.current ≡ Some d.number
-    → of_open.by_claim s x a claim d ≡ Ok f → claimed (of_open.tree_of s.tree x now a f) x claim ≡ Some (of_open.file_of s.tree f)
+    → open_parts.by_claim s x a claim d ≡ Ok f → claimed (of_open.tree_of s.tree x now a f) x claim ≡ Some (of_open.file_of s.tree f)
 claim_leads s x now a (Null name) d f same at e =
     let place = came (checked (Ok d) (of_open.place_checks x name)) _ f e in
     let wanted = came (attributes_in (of_open.makes a.openhow).attributes) _ f place.then in
@@ -426,7 +427,7 @@ claim_leads s x now a (Null name) d f same at e =
     ap (named_in (of_open.tree_of s.tree x now a f) name) (at ∙ ap (λ (d : Node). Some d.number) one) ∙ leads
 claim_leads s x now a Fh d f same at e = by_creates (of_open.makes a.openhow).creates e
   where
-    by_creates : (b : Bool) → cond b (Err Inval) (of_open.by_handle x a d) ≡ Ok f → x.current ≡ Some (of_open.file_of s.tree f)
+    by_creates : (b : Bool) → cond b (Err Inval) (open_parts.by_handle x a d) ≡ Ok f → x.current ≡ Some (of_open.file_of s.tree f)
     by_creates true e = absurd cc
     by_creates false e =
         (let is = mapped_ok (λ g. There g.number g false) (checked (Ok d) (of_open.there_checks x a)) f e in
@@ -434,9 +435,9 @@ claim_leads s x now a Fh d f same at e = by_creates (of_open.makes a.openhow).cr
         at ∙ (ap (λ (d : Node). Some d.number) one ∙ ap (λ (f : Found). Some (of_open.file_of s.tree f)) is.to))
 claim_leads s x now a claim d f same at e = absurd cc
 
-pub asked_leads : (s : State) (x : Context) (now : Time) (a : Open) (f : Found) → of_open.asked_for s x a ≡ Ok f
+pub asked_leads : (s : State) (x : Context) (now : Time) (a : Open) (f : Found) → open_parts.asked_for s x a ≡ Ok f
     → claimed (of_open.tree_of s.tree x now a f) x a.claim ≡ Some (of_open.file_of s.tree f)
-unfolding of_open.asked_for
+unfolding open_parts.asked_for
 asked_leads s x now a f e =
     let d = came (checked (current s x) (of_open.argument_checks a)) _ f e in
     let node = (checked_ok (current s x) (of_open.argument_checks a) d.found d.is).0 in

@@ -8,8 +8,10 @@ use Rattle.nfs_compound.specs.declared.stateid.Stateid.{Stateid}
 use Rattle.nfs_opens.specs.{declared.locking.Wish.Wish, declared.stateid.CurrentSeqid.TheVariants.Any, declared.stateid.StateId.StateId}
 use Rattle.nfs_names.specs.{declared.context.Context.Context, Outcome.{checked, mapped, passed}, State.State}
 use Rattle.nfs_names.proofs.Found.{came, checked_ok}
-use Rattle.nfs_files.specs.{declared.ranges.Wished.Wished, StateIds.meant, Target.the_file, Ranges.{all_ones, range, wish, wished, wished_by}}
-use Rattle.nfs_files.specs.{Lock.{reclaim_checks, stateid_in, locking}, LockU.unlocking}
+use Rattle.nfs_files.specs.{declared.ranges.Wished.Wished, StateIds.meant, Target.the_file, Ranges.{all_ones, range, wished}, Parts.{wish, wished_by}}
+use Rattle.nfs_files.specs.{Lock.stateid_in, Parts.{reclaim_checks, locking, unlocking}}
+use Rattle.nfs_files.proofs.InSteps.{wished_is}
+use Rattle.nfs_files.proofs.InSteps as in_steps
 
 -- what was asked for as a wish
 pub record IsWish (x : Context) (offset size : ℕ) (w : Wish) : Type 0 where
@@ -29,8 +31,7 @@ wish_by x how offset size file (Ok last) w is e =
     }
 
 pub wish_is : (s : State) (x : Context) (how : LockType) (offset size : ℕ) (w : Wish) → wished s x how offset size ≡ Ok w → IsWish x offset size w
-unfolding wished
-wish_is s x how offset size w e = let d = came (the_file s x) _ w e in wish_by x how offset size d.found.number (range offset size) w refl d.then
+wish_is s x how offset size w e = let d = came (the_file s x) _ w (sym (wished_is s x how offset size) ∙ e) in wish_by x how offset size d.found.number (range offset size) w refl d.then
 
 -- which wish it is, beside the stateid
 with_id : (w : Wish) (v : Result StateId Status) (k : Wished) → ◌≡◌ {A = Result Wished Status} (mapped (λ id. record { wish = w; id = id }) v) (Ok k) → w ≡ k.wish
@@ -55,8 +56,7 @@ from_start : (offset : ℕ) → IsRange offset all_ones
 from_start offset = elim (cases_lt offset (2 ^ 64)) [ inl here ↦ inl (omega arith, omega arith) | inr past ↦ inr (omega arith, past) ]
 
 pub range_is : (offset size last : ℕ) → range offset size ≡ Ok last → IsRange offset last
-unfolding range
-range_is offset size last e = by_size (size == all_ones) (size == 0) refl e
+range_is offset size last e = by_size (size == all_ones) (size == 0) refl (sym (in_steps.range_is offset size) ∙ e)
   where
     by_size : (all empty : Bool) → (size == 0) ≡ empty
         → passed (cond all all_ones (offset + size - 1)) (first_fault ((empty, Inval) ∷ (not all && nat_lt all_ones (offset + size), Inval) ∷ [])) ≡ Ok last

@@ -10,8 +10,9 @@ use Rattle.nfs_tree.specs.Files.{most_bytes, is_there, is_directory_at, can_chan
 use Rattle.nfs_tree.specs.declared.fault.TreeFault.TheVariants as F
 use Rattle.nfs_names.specs.{declared.context.Context.Context, declared.node.Node.Node, State.State, Faults.status_of, Outcome.refuses, Checks.current}
 use Rattle.nfs_names.proofs.{Found.{IsHeld, current_is}, Rows.fault_map, Faulted.{by_last, by_refusal}}
-use Rattle.nfs_files.specs.{Bytes.{file_checks, writable}, Write.{last_checks, was_written, write}}
+use Rattle.nfs_files.specs.{Bytes.file_checks, Write.{last_checks, write}, Parts.{writable, was_written}}
 use Rattle.nfs_files.proofs.SetRows.{file_regular, writable_ok}
+use Rattle.nfs_files.proofs.InSteps.{write_is}
 
 write_rows : (s : State) (w : Write) (d : Node) → IsHeld s.tree d → first_fault (file_checks d) ≡ None
     → option_map status_of (write_fault s.tree d.number w.offset w.bytes) ≡ first_fault (last_checks s w d)
@@ -33,15 +34,15 @@ write_found s x w d v = let found = writable_ok s x w.stateid (current s x) d v 
 
 pub write_goes : (s : State) (x : Context) (now : Time) (w : Write) (d : Node) → writable s x w.stateid (current s x) ≡ Ok d
     → write_fault s.tree d.number w.offset w.bytes ≡ None → write s x now w ≡ was_written s x now w d
-unfolding write
 write_goes s x now w d v none =
-    by_last s x Num.Write (writable s x w.stateid (current s x)) (last_checks s w)
-    (was_written s x now w) d v (sym (write_found s x w d v) ∙ ap (option_map status_of) none)
+    rw (write_is s x now w)
+    (by_last s x Num.Write (writable s x w.stateid (current s x)) (last_checks s w)
+    (was_written s x now w) d v (sym (write_found s x w d v) ∙ ap (option_map status_of) none))
 
 pub write_stops : (s : State) (x : Context) (now : Time) (w : Write) (d : Node) (f : TreeFault)
     → writable s x w.stateid (current s x) ≡ Ok d → write_fault s.tree d.number w.offset w.bytes ≡ Some f
     → write s x now w ≡ refuses s x Num.Write (status_of f)
-unfolding write
 write_stops s x now w d f v some =
-    by_refusal s x Num.Write (writable s x w.stateid (current s x)) (last_checks s w)
-    (was_written s x now w) d (status_of f) v (sym (write_found s x w d v) ∙ ap (option_map status_of) some)
+    rw (write_is s x now w)
+    (by_refusal s x Num.Write (writable s x w.stateid (current s x)) (last_checks s w)
+    (was_written s x now w) d (status_of f) v (sym (write_found s x w d v) ∙ ap (option_map status_of) some))

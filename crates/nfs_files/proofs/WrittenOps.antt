@@ -24,12 +24,15 @@ use Rattle.nfs_names.proofs.{Found.{came, ok_is, checked_ok}, Ones.each_of, Effe
 use Rattle.nfs_names.specs.Operation as names
 use Rattle.nfs_names.proofs.Effects as names_effects
 use Rattle.nfs_files.specs.{declared.opening.Found.TheVariants.{There, Absent}, declared.setting.Setting.Setting}
-use Rattle.nfs_files.specs.Bytes.{file_checks, writing, may_use, writable}
-use Rattle.nfs_files.specs.{Open.{makes, access_of, place_checks, there_checks, absent_checks, cuts, by_handle}, Written.{Byte, Lasts, Spares, NamesLeaveBytes}}
+use Rattle.nfs_files.specs.{Bytes.{file_checks, writing, may_use}, Parts.writable}
+use Rattle.nfs_files.specs.{Open.{makes, access_of, place_checks, there_checks, absent_checks, cuts}, Written.{Byte, Lasts, Spares, NamesLeaveBytes}}
+use Rattle.nfs_files.specs.OpenParts.{by_handle}
 use Rattle.nfs_files.proofs.{Outcomes.comes_to, Effects.{Effect, Names, Writes, Resizes, Changes, Closes, SetsOf, OpensEmpty, Caused, behind}}
 use Rattle.nfs_files.proofs.{Effected.caused_item, Passing.{if_passed_ok, mapped_came}}
 use Rattle.nfs_files.proofs.WrittenTrees.{lasts_new, lasts_link, lasts_without, lasts_moved, lasts_rest, lasts_forget, lasts_changed, lasts_written, lasts_resized}
+use Rattle.nfs_files.specs.OpenParts as open_parts
 use Rattle.nfs_files.specs.Open as of_open
+use Rattle.nfs_files.specs.SetAttrParts as set_parts
 use Rattle.nfs_files.specs.SetAttr as of_set
 use Rattle.nfs_files.specs.Write as of_write
 
@@ -110,14 +113,14 @@ record IsSetting (s : State) (x : Context) (a : SetAttr) (m : Setting) : Type 0 
   pub at : x.current ≡ Some m.node.number
   pub reads : attributes_in a.obj_attributes ≡ Ok m.wanted
 
-setting_is : (s : State) (x : Context) (a : SetAttr) (m : Setting) → of_set.asked_for s x a ≡ Ok m → IsSetting s x a m
-unfolding of_set.asked_for
+setting_is : (s : State) (x : Context) (a : SetAttr) (m : Setting) → set_parts.asked_for s x a ≡ Ok m → IsSetting s x a m
+unfolding set_parts.asked_for
 setting_is s x a m e =
-    let p = if_passed_ok (of_set.setting s x a) (of_set.sized s x a.stateid) m e in
+    let p = if_passed_ok (set_parts.setting s x a) (set_parts.sized s x a.stateid) m e in
     let d = came (current s x) _ m p.0 in
     let w = came (attributes_in a.obj_attributes) _ m d.then in
     let k : Setting = record { node = d.found; wanted = w.found } in
-    let same : k ≡ m = ok_is refl (checked_ok (Ok k) (of_set.owner_checks x) m w.then).0 in
+    let same : k ≡ m = ok_is refl (checked_ok (Ok k) (set_parts.owner_checks x) m w.then).0 in
     record {
       at = current_number s x d.found d.is ∙ ap (λ (m : Setting). Some m.node.number) same;
       reads = w.is ∙ ap (λ (m : Setting). Ok m.wanted) same;
@@ -135,7 +138,7 @@ record IsCut (s : State) (x : Context) (o : Open) (f : Node) : Type 0 where
   pub cuts : cuts o wanted ≡ true
 
 found_cut : (s : State) (x : Context) (o : Open) (m : Making) (n : Option ℕ) (place : ℕ) (f : Node)
-    → of_open.found_by s x o m n ≡ Ok (There place f true) → (n ≡ Some f.number) × (cuts o m.wanted ≡ true)
+    → open_parts.found_by s x o m n ≡ Ok (There place f true) → (n ≡ Some f.number) × (cuts o m.wanted ≡ true)
 found_cut s x o m None place f e =
     let c = mapped_came Absent (checked (Ok m) (absent_checks x o)) (There place f true) e in
     let bad : Absent c.found ≡ There place f true = c.same in
@@ -148,7 +151,7 @@ found_cut s x o m (Some n) place f e =
     (node_number s c.found (Some n) (checked_ok (node_at s (Some n)) (there_checks x o) c.found c.is).0 ∙ ap (λ (d : Node). Some d.number) node, cut)
 
 named_cut : (s : State) (x : Context) (o : Open) (name : List ℕ) (d : Node) (place : ℕ) (f : Node) → current s x ≡ Ok d → o.claim ≡ Null name
-    → of_open.by_name s x o name d ≡ Ok (There place f true) → IsCut s x o f
+    → open_parts.by_name s x o name d ≡ Ok (There place f true) → IsCut s x o f
 named_cut s x o name d place f at is e =
     let p = came (checked (Ok d) (place_checks x name)) _ (There place f true) e in
     let w = came (attributes_in (makes o.openhow).attributes) _ (There place f true) p.then in
@@ -173,7 +176,7 @@ handle_cut s x o false d place f e =
     absurd cc
 
 claimed_cut : (s : State) (x : Context) (o : Open) (claim : OpenClaim) (d : Node) (place : ℕ) (f : Node) → current s x ≡ Ok d → o.claim ≡ claim
-    → of_open.by_claim s x o claim d ≡ Ok (There place f true) → IsCut s x o f
+    → open_parts.by_claim s x o claim d ≡ Ok (There place f true) → IsCut s x o f
 claimed_cut s x o (Null name) d place f at is e = named_cut s x o name d place f at is e
 claimed_cut s x o Fh d place f at is e = absurd (handle_cut s x o (makes o.openhow).creates d place f e)
 claimed_cut s x o (Previous type) d place f at is e = absurd cc
@@ -182,10 +185,10 @@ claimed_cut s x o (DelegatePrev file) d place f at is e = absurd cc
 claimed_cut s x o (DelegCurFh id) d place f at is e = absurd cc
 claimed_cut s x o DelegPrevFh d place f at is e = absurd cc
 
-asked_cut : (s : State) (x : Context) (o : Open) (place : ℕ) (f : Node) → of_open.asked_for s x o ≡ Ok (There place f true) → IsCut s x o f
-unfolding of_open.asked_for
+asked_cut : (s : State) (x : Context) (o : Open) (place : ℕ) (f : Node) → open_parts.asked_for s x o ≡ Ok (There place f true) → IsCut s x o f
+unfolding open_parts.asked_for
 asked_cut s x o place f e =
-    let c = came (checked (current s x) (of_open.argument_checks o)) (of_open.by_claim s x o o.claim) (There place f true) e in
+    let c = came (checked (current s x) (of_open.argument_checks o)) (open_parts.by_claim s x o o.claim) (There place f true) e in
     claimed_cut s x o o.claim c.found place f (checked_ok (current s x) (of_open.argument_checks o) c.found c.is).0 refl c.then
 
 -- how it asks for that

@@ -16,11 +16,14 @@ use Rattle.nfs_tree.specs.{Files.{root, is_there, data_at}, TreeInvariants.IsTre
 use Rattle.nfs_tree.proofs.Objects.{stored_within}
 use Rattle.nfs_names.specs.{declared.context.Context.Context, declared.node.Node.Node, State.State, Outcome.{Outcome, checked}, Checks.current}
 use Rattle.nfs_names.proofs.{Found.{checked_ok, current_is}, Ones.by_delay}
-use Rattle.nfs_files.specs.{Bytes.{file_checks, reading, may_use, readable, writable}, Written.{Byte, StandsIn, Lasts, Writes, bytes_in, Reads, GivesIt}}
+use Rattle.nfs_files.specs.{Bytes.{file_checks, reading, may_use}, Written.{Byte, StandsIn, Lasts, Writes, bytes_in, Reads, GivesIt}}
+use Rattle.nfs_files.specs.Parts.{readable, writable}
 use Rattle.nfs_files.proofs.{Outcomes.{one_or_delay, comes_to}, Passing.if_passed_ok, ReadBytes.few_given, WrittenTrees.lasts_over}
 use Rattle.nfs_files.proofs.WrittenOps.{by_found, current_number, writable_at, number_back, write_spelled, few_written}
 use Rattle.nfs_files.specs.Read as of_read
+use Rattle.nfs_files.specs.Parts as parts
 use Rattle.nfs_files.specs.Write as of_write
+use Rattle.nfs_files.proofs.InSteps.{write_is, read_is}
 
 some_same : (o : Option ℕ) (m n : ℕ) → o ≡ Some m → o ≡ Some n → m ≡ n
 some_same o m n e f = (let same : Some m ≡ Some n = sym e ∙ f in cc)
@@ -79,7 +82,7 @@ written_lasts b s now w d same given some from below value =
 
 write_told : (b : Byte) (s : State) (x : Context) (now : Time) (w : Write) (d : Node) (count more : List ℕ) → IsTree s.tree
     → writable s x w.stateid (current s x) ≡ Ok d → first_fault (of_write.last_checks s w d) ≡ None
-    → LeavesTold b x w count more (of_write.was_written s x now w d)
+    → LeavesTold b x w count more (parts.was_written s x now w d)
 write_told b s x now w d count more tree e none told =
     let at = writable_at s x w.stateid d e in
     let same : d.number ≡ b.file = some_same x.current d.number b.file (current_number s x d at) told.at in
@@ -90,14 +93,13 @@ write_told b s x now w d count more tree e none told =
 
 write_leaves : (b : Byte) (refused : Bool) (s : State) (x : Context) (now : Time) (w : Write) (count more : List ℕ) → IsTree s.tree
     → LeavesTold b x w count more (one_or_delay refused s x now (Op.Write w))
-unfolding of_write.write
 write_leaves b refused s x now w count more tree =
     by_delay (LeavesTold b x w count more) (has_bytes w.bytes && refused) s x Num.Write (of_write.write s x now w)
     (λ told. absurd (short Num.Write Delay count more told.long told.answers))
-    (by_found (LeavesTold b x w count more) s x Num.Write (checked (writable s x w.stateid (current s x)) (of_write.last_checks s w)) (of_write.was_written s x now w)
+    (rw (write_is s x now w) (by_found (LeavesTold b x w count more) s x Num.Write (checked (writable s x w.stateid (current s x)) (of_write.last_checks s w)) (parts.was_written s x now w)
     (λ status told. absurd (short Num.Write status count more told.long told.answers))
     (λ d granted. (let p = checked_ok (writable s x w.stateid (current s x)) (of_write.last_checks s w) d granted in
-    write_told b s x now w d count more tree p.0 p.1)))
+    write_told b s x now w d count more tree p.0 p.1))))
 
 pub writes_leave_bytes : (b : Byte) (refused : Bool) (s : State) (x : Context) (now : Time) (i : Item) → IsTree s.tree
     → (let o = comes_to refused s x now i in Writes b x i (spell_result o.result) → Lasts b o.state.tree)
@@ -190,11 +192,11 @@ read_told b s x r d eof text lasts e told =
 
 read_gives : (b : Byte) (refused : Bool) (s : State) (x : Context) (now : Time) (r : Read) (eof text : List ℕ) → Lasts b s.tree
     → GivesTold b x r eof text (one_or_delay refused s x now (Op.Read r))
-unfolding of_read.read
 read_gives b refused s x now r eof text lasts =
-    by_found (GivesTold b x r eof text) s x Num.Read (readable s x r.stateid (current s x)) _
+    rw (read_is s x r)
+    (by_found (GivesTold b x r eof text) s x Num.Read (readable s x r.stateid (current s x)) _
     (λ status told. absurd (short Num.Read status eof text told.long told.answers))
-    (λ d granted told. read_told b s x r d eof text lasts (readable_at s x r d granted) told)
+    (λ d granted told. read_told b s x r d eof text lasts (readable_at s x r d granted) told))
 
 pub reads_give_bytes : (b : Byte) (refused : Bool) (s : State) (x : Context) (now : Time) (i : Item) → Lasts b s.tree
     → (let o = comes_to refused s x now i in (r : Reads b.file b.place x i (spell_result o.result)) → GivesIt b x i (spell_result o.result) r)

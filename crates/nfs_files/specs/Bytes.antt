@@ -1,13 +1,13 @@
 -- Whether bytes of a file may be read or changed by a stateid (RFC 8881 sections 8.2.3, 9.1.2 and 9.7).
-use Rattle.std.specs.{Prelude.{◌==◌, ◌&&◌, Bool, true, false, not, List, [], ◌∷◌, Some, Result, Ok, Err}, List.list_any}
+use Rattle.std.specs.{Prelude.{◌==◌, ◌&&◌, Bool, true, false, not, List, [], ◌∷◌, Some, Result, Ok}, List.list_any}
 use Rattle.nfs_xdr.specs.{declared.status.Status.Status, declared.status.Status.TheVariants.{IsDir, Symlink, Locked, OpenMode}}
 use Rattle.nfs_compound.specs.declared.stateid.Stateid.{Stateid}
 use Rattle.nfs_tree.specs.Object.{is_directory}
 use Rattle.nfs_opens.specs.{declared.stateid.CurrentSeqid.TheVariants.Any, declared.judging.Seat.Seat}
 use Rattle.nfs_opens.specs.{declared.judging.Seat.TheVariants.{Anonymous, ReadBypass, Open, Lock}, declared.judging.Sort.TheVariants.Either}
-use Rattle.nfs_opens.specs.{declared.share.Share.Share, Share.{meets, is_part}, Judging.judge, Steps.{◌>>=◌}}
+use Rattle.nfs_opens.specs.{declared.share.Share.Share, Share.{meets, is_part}, Judging.judge, Steps.{in_order, ◌>>=◌, ◌>>◌}}
 use Rattle.nfs_attrs.specs.declared.permission.Want.{Want}
-use Rattle.nfs_names.specs.{declared.context.Context.Context, declared.node.Node.Node, State.State, Outcome.{checked, mapped}, Checks.denied, Lookup.is_link}
+use Rattle.nfs_names.specs.{declared.context.Context.Context, declared.node.Node.Node, State.State, Checks.denied, Lookup.is_link}
 use Rattle.nfs_files.specs.StateIds.{meant}
 
 -- a file alone has bytes
@@ -44,17 +44,9 @@ seat_checks s x wanted d ReadBypass = (wanted.writes && (denials s d).writes, Lo
 seat_checks s x wanted d (Open number access) = (not (is_part wanted access), OpenMode) ∷ []
 seat_checks s x wanted d (Lock number access) = (not (is_part wanted access), OpenMode) ∷ []
 
+-- the state by which the bytes may be read or changed
 unfoldable pub may_use : State → Context → Share → Stateid → Node → Result Seat Status
-may_use s x wanted given d = checked (seat s x given d) (seat_checks s x wanted d)
-
--- what was found, if what is looked at next passes too
-abbrev pub if_passed : {A B : Type 0} → Result A Status → (A → Result B Status) → Result A Status
-if_passed (Err status) next = Err status
-if_passed (Ok a) next = mapped (λ b. a) (next a)
-
--- the file, where its bytes may be read or changed
-unfoldable pub readable : State → Context → Stateid → Result Node Status → Result Node Status
-readable s x given found = if_passed (checked found file_checks) (may_use s x reading given)
-
-unfoldable pub writable : State → Context → Stateid → Result Node Status → Result Node Status
-writable s x given found = if_passed (checked found file_checks) (may_use s x writing given)
+may_use s x wanted given d = do
+  k ← seat s x given d
+  in_order (seat_checks s x wanted d k)
+  Ok k

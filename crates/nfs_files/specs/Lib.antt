@@ -8,6 +8,7 @@ pub mod SetAttr
 pub mod SetAttrParts
 pub mod Write
 pub mod Target
+pub mod Parts
 pub mod Ranges
 pub mod Denied
 pub mod Close

@@ -1,11 +1,11 @@
 -- LOCKT (RFC 8881 section 18.11): whether a lock is in the way of one that a lock owner would set. No open is needed.
-use Rattle.std.specs.Prelude.{Option, Some, None}
+use Rattle.std.specs.Prelude.{Option, Some, None, Ok}
 use Rattle.nfs_compound.specs.declared.op_num.OpNum.TheVariants as Num
 use Rattle.nfs_compound.specs.declared.lock_args.LockT as args
 use Rattle.nfs_results.specs.declared.res.Res.TheVariants as Res
 use Rattle.nfs_ranges.specs.declared.Held.{Held}
-use Rattle.nfs_opens.specs.Locking.{test_lock}
-use Rattle.nfs_names.specs.{declared.context.Context.Context, State.State, Outcome.{Outcome, done, answers}}
+use Rattle.nfs_opens.specs.{Locking.test_lock, Steps.◌>>=◌}
+use Rattle.nfs_names.specs.{declared.context.Context.Context, State.State, Outcome.{Outcome, done, or_refusal}}
 use Rattle.nfs_files.specs.{Ranges.wished, Denied.denied}
 
 abbrev pub tested : State → Context → Option Held → Outcome
@@ -13,4 +13,6 @@ tested s x None = done s x Res.LockT
 tested s x (Some h) = done s x (Res.LockTDenied (denied s.opens h))
 
 unfoldable pub lock_t : State → Context → args.LockT → Outcome
-lock_t s x a = answers s x Num.LockT (wished s x a.locktype a.offset a.length) (λ w. tested s x (test_lock s.opens a.owner.owner w))
+lock_t s x a = or_refusal s x Num.LockT (do
+  w ← wished s x a.locktype a.offset a.length
+  Ok (tested s x (test_lock s.opens a.owner.owner w)))

@@ -1,26 +1,18 @@
 -- LOCKU (RFC 8881 section 18.12): a lock owner holds none of these bytes from now on, whether it held them or not.
-use Rattle.std.specs.Prelude.{◌==◌, Bool, not, ◌&&◌, Result}
-use Rattle.nfs_xdr.specs.declared.status.Status.{Status}
+use Rattle.std.specs.Prelude.{◌==◌, Bool, not, ◌&&◌, Ok}
 use Rattle.nfs_compound.specs.declared.lock_args.LockU.{LockU}
 use Rattle.nfs_compound.specs.declared.op_num.OpNum.TheVariants as Num
 use Rattle.nfs_results.specs.declared.res.Res.TheVariants as Res
-use Rattle.nfs_opens.specs.{declared.stateid.StateId.StateId, Table.Table, Locking.unlock, Steps.map_err}
-use Rattle.nfs_names.specs.{declared.context.Context.Context, State.State, Outcome.{Outcome, answers}, Ending.with_opens}
-use Rattle.nfs_files.specs.{declared.ranges.Wished.Wished, StateIds.wire_id, Target.with_stateid, Ranges.{all_ones, wished, wished_by}, Denied.status_of}
-
-abbrev pub unlocking : State → Context → LockU → Result Wished Status
-unlocking s x a = wished_by x a.lock_stateid (wished s x a.locktype a.offset a.length)
-
-abbrev pub unlocked : State → Context → StateId → Table → Outcome
-unlocked s x id after = record { result = Res.LockU (wire_id id); state = with_opens s after; context = with_stateid x (wire_id id) }
-
-abbrev pub unlocks : State → Context → Wished → Outcome
-unlocks s x k =
-    let w = k.wish in
-    answers s x Num.LockU (map_err status_of (unlock s.opens k.id w.client w.file w.first w.last)) (λ did. unlocked s x did.0 did.1)
+use Rattle.nfs_opens.specs.{declared.stateid.CurrentSeqid.TheVariants.Any, Locking.unlock, Steps.{map_err, ◌>>=◌}}
+use Rattle.nfs_names.specs.{declared.context.Context.Context, State.State, Outcome.{Outcome, or_refusal}, Ending.with_opens}
+use Rattle.nfs_files.specs.{StateIds.{meant, wire_id}, Target.with_stateid, Ranges.{all_ones, wished}, Denied.status_of}
 
 unfoldable pub lock_u : State → Context → LockU → Outcome
-lock_u s x a = answers s x Num.LockU (unlocking s x a) (unlocks s x)
+lock_u s x a = or_refusal s x Num.LockU (do
+  w ← wished s x a.locktype a.offset a.length
+  id ← meant x Any a.lock_stateid
+  did ← map_err status_of (unlock s.opens id w.client w.file w.first w.last)
+  Ok (record { result = Res.LockU (wire_id did.0); state = with_opens s did.1; context = with_stateid x (wire_id did.0) }))
 
 -- the bytes of a whole file are given up without memory
 abbrev pub wants_memory : LockU → Bool

@@ -14,9 +14,9 @@ use Rattle.nfs_tree.specs.{declared.sets.Sets.Sets, Object.no_sets, declared.fau
 use Rattle.nfs_tree.specs.{Files.{Files, lookup, can_change, raised, stays}, Create.{New, File, create_checks, with_new}, Bytes.with_resized}
 use Rattle.nfs_attrs.specs.{declared.wanted.Wanted.Wanted, Mask.{mask_of, trimmed_words}, Setting.make_checks, Permissions.{execute, write}}
 use Rattle.nfs_opens.specs.{declared.share.Share.Share, Share.{neither, share_of}, StateId.last_number, Table.{Asked, clashes_with}, Opening.{own_open, opens}}
-use Rattle.nfs_opens.specs.Steps.{◌>>=◌}
+use Rattle.nfs_opens.specs.Steps.{require, in_order, ◌>>=◌, ◌>>◌}
 use Rattle.nfs_names.specs.{declared.context.Context.Context, declared.node.Node.Node, declared.making.Making.Making, State.State}
-use Rattle.nfs_names.specs.{Outcome.{Outcome, checked, mapped, answers}, Checks.{node_at, current, no_directory, denied, name_checks}}
+use Rattle.nfs_names.specs.{Outcome.{Outcome, or_refusal}, Checks.{node_at, current, no_directory, denied, name_checks}}
 use Rattle.nfs_names.specs.{Create.{attributes_in, change_info}, Faults.by_tree}
 use Rattle.nfs_names.specs.Create as create
 use Rattle.nfs_files.specs.{declared.opening.Found.Found, declared.opening.Found.TheVariants.{There, Absent}, StateIds.wire_id, Bytes.{file_checks, want_of}}
@@ -88,27 +88,26 @@ cuts o wanted = (makes o.openhow).cuts && (option_map_or (λ n. n == 0) wanted.s
 
 -- what is to be opened: a file that is there, and the object of which the change is reported; or one that is to be made
 abbrev pub found_by : State → Context → Open → Making → Option ℕ → Result Found Status
-found_by s x o m None = mapped Absent (checked (Ok m) (absent_checks x o))
-found_by s x o m (Some n) = mapped (λ f. There m.place.number f (cuts o m.wanted)) (checked (node_at s (Some n)) (there_checks x o))
-
-abbrev pub by_name : State → Context → Open → List ℕ → Node → Result Found Status
-by_name s x o name d = do
-  place ← checked (Ok d) (place_checks x name)
-  wanted ← attributes_in (makes o.openhow).attributes
-  found_by s x o (record { place = place; wanted = wanted }) (lookup s.tree place.number name)
-
-abbrev pub by_handle : Context → Open → Node → Result Found Status
-by_handle x o d = mapped (λ f. There f.number f false) (checked (Ok d) (there_checks x o))
+found_by s x o m None = do
+  in_order (absent_checks x o m)
+  Ok (Absent m)
+found_by s x o m (Some n) = do
+  f ← node_at s (Some n)
+  in_order (there_checks x o f)
+  Ok (There m.place.number f (cuts o m.wanted))
 
 -- The claims (open_claim4): the file of a filehandle is not made, nothing is there to be reclaimed, and nothing is delegated.
 abbrev pub by_claim : State → Context → Open → OpenClaim → Node → Result Found Status
-by_claim s x o (Null name) d = by_name s x o name d
-by_claim s x o Fh d = if (makes o.openhow).creates then Err Inval else by_handle x o d
+by_claim s x o (Null name) d = do
+  in_order (place_checks x name d)
+  wanted ← attributes_in (makes o.openhow).attributes
+  found_by s x o (record { place = d; wanted = wanted }) (lookup s.tree d.number name)
+by_claim s x o Fh d = do
+  require (not (makes o.openhow).creates) Inval
+  in_order (there_checks x o d)
+  Ok (There d.number d false)
 by_claim s x o (Previous type) d = Err NoGrace
 by_claim s x o claim d = Err NotSupp
-
-unfoldable pub asked_for : State → Context → Open → Result Found Status
-asked_for s x o = checked (current s x) (argument_checks o) >>= by_claim s x o o.claim
 
 -- the number of the file: the next one, if it is to be made
 abbrev pub file_of : Files → Found → ℕ
@@ -161,4 +160,9 @@ opened s x now o found =
     }
 
 unfoldable pub open_file : State → Context → Time → Open → Outcome
-open_file s x now o = answers s x Num.Open (checked (asked_for s x o) (last_checks s x o)) (opened s x now o)
+open_file s x now o = or_refusal s x Num.Open (do
+  d ← current s x
+  in_order (argument_checks o d)
+  found ← by_claim s x o o.claim d
+  in_order (last_checks s x o found)
+  Ok (opened s x now o found))

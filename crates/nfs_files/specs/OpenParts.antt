@@ -1,17 +1,42 @@
--- OPEN in the parts that its code takes, which only contracts inside the crate cite: the tree's part of it, and what is left
--- where memory is refused.
-use Rattle.std.specs.Prelude.{◌≡◌, ◌==◌, ◌&&◌, ℕ, Bool, true, not, List, [], ◌∷◌, ◌++◌, Option, None, is_none, unwrap_or, length, nat_lt, nat_le, Result, Ok, Err, if◌then◌else◌}
+-- OPEN in the parts that its code takes, which only contracts inside the crate cite: what is looked at first, the tree's part of it, and
+-- what is left where memory is refused.
+use Rattle.std.specs.Prelude.{◌≡◌, ◌==◌, ◌&&◌, ℕ, Bool, true, false, not, List, [], ◌∷◌, ◌++◌, Option, Some, None, is_none, unwrap_or, length, nat_lt, nat_le, Result, Ok, Err, if◌then◌else◌}
 use Rattle.std.specs.List.{list_any}
 use Rattle.nfs_xdr.specs.{declared.time.Time.Time, declared.status.Status.Status}
-use Rattle.nfs_xdr.specs.declared.status.Status.TheVariants.{Delay, FBig, NoSpc, ShareDenied, ServerFault}
-use Rattle.nfs_compound.specs.declared.open_args.Open.{Open}
+use Rattle.nfs_xdr.specs.declared.status.Status.TheVariants.{Delay, FBig, Inval, NoGrace, NoSpc, NotSupp, ShareDenied, ServerFault}
+use Rattle.nfs_compound.specs.{declared.open_args.Open.Open, declared.open_args.OpenClaim.OpenClaim, declared.open_args.OpenClaim.TheVariants.{Null, Previous, Fh}}
 use Rattle.nfs_results.specs.declared.res.OpenOk.{OpenOk}
 use Rattle.nfs_results.specs.declared.res.Res.TheVariants as Res
-use Rattle.nfs_tree.specs.{Files.{Files, most_bytes, most_objects, last_count, can_change}, declared.fault.TreeFault.TreeFault}
+use Rattle.nfs_tree.specs.{Files.{Files, most_bytes, most_objects, last_count, can_change, lookup}, declared.fault.TreeFault.TreeFault}
 use Rattle.nfs_tree.specs.Calls.{resize_fault, create_fault, Did, does_unless}
-use Rattle.nfs_opens.specs.{StateId.last_number, Table.clashes_with, Opening.own_open}
-use Rattle.nfs_names.specs.{declared.context.Context.Context, State.State, Outcome.Outcome}
+use Rattle.nfs_opens.specs.{StateId.last_number, Table.clashes_with, Opening.own_open, Steps.◌>>=◌}
+use Rattle.nfs_names.specs.{declared.context.Context.Context, declared.node.Node.Node, declared.making.Making.Making, State.State}
+use Rattle.nfs_names.specs.{Outcome.{Outcome, checked, mapped}, Checks.{node_at, current}, Create.attributes_in}
 use Rattle.nfs_files.specs.{declared.opening.Found.Found, declared.opening.Found.TheVariants.{There, Absent}, Open.{asking, file_of, tree_of, name_of, new_of}}
+use Rattle.nfs_files.specs.Open.{makes, argument_checks, place_checks, absent_checks, there_checks, cuts}
+
+-- what is to be opened
+abbrev pub found_by : State → Context → Open → Making → Option ℕ → Result Found Status
+found_by s x o m None = mapped Absent (checked (Ok m) (absent_checks x o))
+found_by s x o m (Some n) = mapped (λ f. There m.place.number f (cuts o m.wanted)) (checked (node_at s (Some n)) (there_checks x o))
+
+abbrev pub by_name : State → Context → Open → List ℕ → Node → Result Found Status
+by_name s x o name d = do
+  place ← checked (Ok d) (place_checks x name)
+  wanted ← attributes_in (makes o.openhow).attributes
+  found_by s x o (record { place = place; wanted = wanted }) (lookup s.tree place.number name)
+
+abbrev pub by_handle : Context → Open → Node → Result Found Status
+by_handle x o d = mapped (λ f. There f.number f false) (checked (Ok d) (there_checks x o))
+
+abbrev pub by_claim : State → Context → Open → OpenClaim → Node → Result Found Status
+by_claim s x o (Null name) d = by_name s x o name d
+by_claim s x o Fh d = if (makes o.openhow).creates then Err Inval else by_handle x o d
+by_claim s x o (Previous type) d = Err NoGrace
+by_claim s x o claim d = Err NotSupp
+
+unfoldable pub asked_for : State → Context → Open → Result Found Status
+asked_for s x o = checked (current s x) (argument_checks o) >>= by_claim s x o o.claim
 
 -- what the tree itself refuses
 abbrev pub tree_fault : Files → Open → Found → Option TreeFault

@@ -1,13 +1,13 @@
 -- The bytes that LOCK, LOCKT and LOCKU are for, and how they are to be locked (RFC 8881 sections 18.10.3, 18.11.3 and 18.12.3).
-use Rattle.std.specs.Prelude.{ℕ, ◌+◌, ◌-◌, ◌==◌, Bool, not, ◌&&◌, List, [], ◌∷◌, nat_lt, Result, if◌then◌else◌}
-use Rattle.nfs_xdr.specs.{Checks.first_fault, declared.status.Status.Status, declared.status.Status.TheVariants.Inval}
-use Rattle.nfs_compound.specs.{declared.stateid.Stateid.Stateid, declared.lock_args.LockType.LockType}
+use Rattle.std.specs.Prelude.{ℕ, ◌+◌, ◌-◌, ◌==◌, Bool, not, ◌&&◌, List, [], ◌∷◌, nat_lt, Result, Ok, if◌then◌else◌}
+use Rattle.nfs_xdr.specs.{declared.status.Status.Status, declared.status.Status.TheVariants.Inval}
+use Rattle.nfs_compound.specs.declared.lock_args.LockType.{LockType}
 use Rattle.nfs_compound.specs.declared.lock_args.LockType.TheVariants as LockTypes
 use Rattle.nfs_ranges.specs.declared.Kind.{Kind}
 use Rattle.nfs_ranges.specs.declared.Kind.TheVariants as Kinds
-use Rattle.nfs_opens.specs.{declared.locking.Wish.Wish, declared.stateid.CurrentSeqid.TheVariants.Any, Steps.{◌>>=◌}}
-use Rattle.nfs_names.specs.{declared.context.Context.Context, State.State, Outcome.{passed, mapped}}
-use Rattle.nfs_files.specs.{declared.ranges.Wished.Wished, StateIds.meant, Target.the_file}
+use Rattle.nfs_opens.specs.{declared.locking.Wish.Wish, Steps.{in_order, ◌>>=◌, ◌>>◌}}
+use Rattle.nfs_names.specs.{declared.context.Context.Context, State.State}
+use Rattle.nfs_files.specs.Target.{the_file}
 
 -- the last byte that there can be; as a length, up to that byte
 abbrev pub all_ones : ℕ
@@ -21,7 +21,9 @@ last_of offset size = if size == all_ones then all_ones else offset + size - 1
 
 -- the last byte of a range
 unfoldable pub range : ℕ → ℕ → Result ℕ Status
-range offset size = passed (last_of offset size) (first_fault (range_checks offset size))
+range offset size = do
+  in_order (range_checks offset size)
+  Ok (last_of offset size)
 
 -- a client that would wait is answered at once like one that would not
 abbrev pub kind_of : LockType → Kind
@@ -30,13 +32,9 @@ kind_of LockTypes.Write = Kinds.Write
 kind_of LockTypes.ReadW = Kinds.Read
 kind_of LockTypes.WriteW = Kinds.Write
 
-abbrev pub wish : Context → LockType → ℕ → ℕ → ℕ → Wish
-wish x how first last file = record { client = x.client; file = file; kind = kind_of how; first = first; last = last }
-
 -- the file is looked at before the range
 unfoldable pub wished : State → Context → LockType → (offset size : ℕ) → Result Wish Status
-wished s x how offset size = the_file s x >>= λ d. mapped (λ last. wish x how offset last d.number) (range offset size)
-
--- the stateid is looked at behind both
-abbrev pub wished_by : Context → Stateid → Result Wish Status → Result Wished Status
-wished_by x given found = found >>= λ w. mapped (λ id. record { wish = w; id = id }) (meant x Any given)
+wished s x how offset size = do
+  d ← the_file s x
+  last ← range offset size
+  Ok (record { client = x.client; file = d.number; kind = kind_of how; first = offset; last = last })

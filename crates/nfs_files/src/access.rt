@@ -3,6 +3,7 @@
 ghost use Rattle.std.specs.Prelude.{◌≡◌, Ok};
 ghost use Rattle.nfs_names.specs.State.{state_of};
 ghost use Rattle.nfs_names.specs.Outcome.{checked};
+ghost use Rattle.nfs_files.specs.Parts as parts;
 ghost use Rattle.nfs_files.specs.Bytes as of_bytes;
 
 use crate::stateids::meant;
@@ -101,14 +102,14 @@ fn may_use(
 }
 
 /// The object, where it is a file whose bytes may be read by the stateid.
-#[tactic(auto, unfolding(crate::specs::Bytes::readable))]
+#[tactic(auto, unfolding(crate::specs::Parts::readable))]
 pub(crate) fn readable(
     store: &Store,
     context: &Context<'_>,
     given: &Stateid,
     node: Node,
 ) -> Result<Node, Status>
-    ensures { result ≡ of_bytes.readable (state_of store.now) context.now given.now (Ok node) }
+    ensures { result ≡ parts.readable (state_of store.now) context.now given.now (Ok node) }
 {
     let node = judge_file(node)?;
     may_use(store, context, READING, given, &node)?;
@@ -116,14 +117,14 @@ pub(crate) fn readable(
 }
 
 /// The object, where it is a file whose bytes may be changed by the stateid.
-#[tactic(auto, unfolding(crate::specs::Bytes::writable))]
+#[tactic(auto, unfolding(crate::specs::Parts::writable))]
 pub(crate) fn writable(
     store: &Store,
     context: &Context<'_>,
     given: &Stateid,
     node: Node,
 ) -> Result<Node, Status>
-    ensures { result ≡ of_bytes.writable (state_of store.now) context.now given.now (Ok node) }
+    ensures { result ≡ parts.writable (state_of store.now) context.now given.now (Ok node) }
 {
     let node = judge_file(node)?;
     may_use(store, context, WRITING, given, &node)?;

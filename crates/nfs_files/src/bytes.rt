@@ -14,6 +14,7 @@ ghost use Rattle.nfs_names.specs.Comes.{Comes};
 ghost use Rattle.nfs_names.specs.Outcome.{checked, is_delay, or_delay};
 ghost use Rattle.nfs_names.specs.View.{outcome_of};
 ghost use Rattle.nfs_names.specs.Checks as check;
+ghost use Rattle.nfs_files.specs.Parts as parts;
 ghost use Rattle.nfs_files.specs.Bytes as of_bytes;
 ghost use Rattle.nfs_files.specs.Commit as of_commit;
 ghost use Rattle.nfs_files.specs.Read as of_read;
@@ -44,7 +45,6 @@ fn judge_commit(store: &Store, context: &Context<'_>) -> Result<Node, Status>
 }
 
 /// COMMIT.
-#[tactic(auto, unfolding(crate::specs::Commit::commit))]
 pub(crate) fn commit(store: &Store, context: &Context<'_>) -> Res<'static>
     ensures { outcome_of result (state_of store.now) context.now ≡ of_commit.commit (state_of store.now) context.now }
 {
@@ -55,9 +55,9 @@ pub(crate) fn commit(store: &Store, context: &Context<'_>) -> Res<'static>
 }
 
 /// The file that is to be written.
-#[tactic(auto, unfolding(crate::specs::Bytes::writable))]
+#[tactic(auto, unfolding(crate::specs::Parts::writable))]
 fn to_write(store: &Store, context: &Context<'_>, asked: &Write<'_>) -> Result<Node, Status>
-    ensures { result ≡ of_bytes.writable (state_of store.now) context.now asked.now.stateid (check.current (state_of store.now) context.now) }
+    ensures { result ≡ parts.writable (state_of store.now) context.now asked.now.stateid (check.current (state_of store.now) context.now) }
 {
     let node = current(store, context)?;
     writable(store, context, &asked.stateid, node)
@@ -118,16 +118,15 @@ fn put_read(store: &Store, node: &Node, asked: &Read, out: &mut Sheet)
 }
 
 /// The file that is to be read.
-#[tactic(auto, unfolding(crate::specs::Bytes::readable))]
+#[tactic(auto, unfolding(crate::specs::Parts::readable))]
 fn to_read(store: &Store, context: &Context<'_>, asked: &Read) -> Result<Node, Status>
-    ensures { result ≡ of_bytes.readable (state_of store.now) context.now asked.now.stateid (check.current (state_of store.now) context.now) }
+    ensures { result ≡ parts.readable (state_of store.now) context.now asked.now.stateid (check.current (state_of store.now) context.now) }
 {
     let node = current(store, context)?;
     readable(store, context, &asked.stateid, node)
 }
 
 /// READ.
-#[tactic(auto, unfolding(crate::specs::Read::read))]
 pub(crate) fn read(store: &Store, context: &Context<'_>, asked: &Read, out: &mut Sheet) -> Status
     requires { length out.old.bytes + (16 + (given asked.now.count + padding (given asked.now.count))) ≤ out.old.room }
     ensures { Comes (of_read.read (state_of store.now) context.now asked.now) out.old out.new result (state_of store.now) context.now }

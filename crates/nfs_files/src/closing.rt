@@ -4,6 +4,7 @@ ghost use Rattle.std.specs.Prelude.{◌≡◌};
 ghost use Rattle.nfs_names.specs.State.{state_of};
 ghost use Rattle.nfs_names.specs.StoreInvariants.{IsRooted};
 ghost use Rattle.nfs_names.specs.View.{outcome_of};
+ghost use Rattle.nfs_files.specs.Parts as parts;
 ghost use Rattle.nfs_files.specs.Close as of_close;
 ghost use Rattle.nfs_files.specs.OpenDowngrade as of_downgrade;
 
@@ -24,7 +25,7 @@ const SPENT: Stateid = Stateid {
 /// An open goes, and with its last open a file that no row names.
 fn close_open(store: &mut Store, context: &mut Context<'_>, target: Target) -> Res<'static>
     requires { IsRooted store.old.tree }
-    ensures { outcome_of result (state_of store.new) context.new ≡ of_close.closes (state_of store.old) context.old target }
+    ensures { outcome_of result (state_of store.new) context.new ≡ parts.closes (state_of store.old) context.old target }
 {
     match store.opens.close(target.id, context.client, target.file) {
         Ok(()) => {
@@ -37,7 +38,6 @@ fn close_open(store: &mut Store, context: &mut Context<'_>, target: Target) -> R
 }
 
 /// CLOSE.
-#[tactic(auto, unfolding(crate::specs::Close::close))]
 pub(crate) fn close(store: &mut Store, context: &mut Context<'_>, asked: &Close) -> Res<'static>
     requires { IsRooted store.old.tree }
     ensures { outcome_of result (state_of store.new) context.new ≡ of_close.close (state_of store.old) context.old asked.now }
@@ -64,7 +64,7 @@ fn judge_downgrade(
     context: &Context<'_>,
     asked: &OpenDowngrade,
 ) -> Result<Target, Status>
-    ensures { result ≡ of_downgrade.narrowing (state_of store.now) context.now asked.now }
+    ensures { result ≡ parts.narrowing (state_of store.now) context.now asked.now }
 {
     let target = target_for(store, context, CurrentSeqid::Own, &asked.open_stateid)?;
     store.opens.judge(target.id, context.client, Some(target.file), Sort::OpenOnly)?;
@@ -84,7 +84,7 @@ fn narrow_open(
     asked: &OpenDowngrade,
     target: Target,
 ) -> Res<'static>
-    ensures { outcome_of result (state_of store.new) context.new ≡ of_downgrade.narrows (state_of store.old) context.old asked.now target }
+    ensures { outcome_of result (state_of store.new) context.new ≡ parts.narrows (state_of store.old) context.old asked.now target }
 {
     let access = bits(asked.share_access);
     let deny = bits(asked.share_deny);
@@ -102,7 +102,6 @@ fn narrow_open(
 }
 
 /// OPEN_DOWNGRADE.
-#[tactic(auto, unfolding(crate::specs::OpenDowngrade::open_downgrade))]
 pub(crate) fn open_downgrade(
     store: &mut Store,
     context: &mut Context<'_>,

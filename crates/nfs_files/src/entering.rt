@@ -119,7 +119,7 @@ fn judge_last(
 /// What is to be opened, if it may be.
 fn judge_whole(store: &Store, context: &Context<'_>, asked: &Open<'_>) -> Result<Found, Status>
     requires { IsStore (state_of store.now) }
-    ensures { result ≡ checked (of_open.asked_for (state_of store.now) context.now asked.now) (of_open.last_checks (state_of store.now) context.now asked.now) }
+    ensures { result ≡ checked (part.asked_for (state_of store.now) context.now asked.now) (of_open.last_checks (state_of store.now) context.now asked.now) }
 {
     store.tree.kept();
     let found = judge(store, context, asked)?;
@@ -224,7 +224,7 @@ fn open_found(
     found: &Found,
     now: Time,
 ) -> Result<OpenOk, Status>
-    requires granted { checked (of_open.asked_for (state_of store.old) context.old asked.now) (of_open.last_checks (state_of store.old) context.old asked.now) ≡ Ok found.now }
+    requires granted { checked (part.asked_for (state_of store.old) context.old asked.now) (of_open.last_checks (state_of store.old) context.old asked.now) ≡ Ok found.now }
     requires store { IsStore (state_of store.old) }
     ensures { part.OpensOr result (of_open.opened (state_of store.old) context.old now asked.now found.now) (state_of store.old) context.old (state_of store.new) context.new }
 {
@@ -248,7 +248,6 @@ fn open_found(
 }
 
 /// OPEN.
-#[tactic(auto, unfolding(crate::specs::Open::open_file))]
 pub(crate) fn open_file(
     alloc: Global,
     store: &mut Store,

@@ -15,6 +15,7 @@ ghost use Rattle.nfs_names.specs.Comes.{Comes};
 ghost use Rattle.nfs_names.specs.Outcome.{checked, or_delay, is_delay};
 ghost use Rattle.nfs_names.specs.View.{outcome_of};
 ghost use Rattle.nfs_files.specs.Denied as of_denied;
+ghost use Rattle.nfs_files.specs.Parts as parts;
 ghost use Rattle.nfs_files.specs.Lock as of_lock;
 ghost use Rattle.nfs_files.specs.LockT as of_lock_t;
 ghost use Rattle.nfs_files.specs.LockU as of_lock_u;
@@ -174,7 +175,7 @@ fn stateid_in(locker: &Locker<'_>) -> Stateid
 
 /// The bytes that are to be locked, and by which open or lock state.
 fn judge_lock(store: &Store, context: &Context<'_>, asked: &Lock<'_>) -> Result<Wished, Status>
-    ensures wish { result ≡ of_lock.locking (state_of store.now) context.now asked.now }
+    ensures wish { result ≡ parts.locking (state_of store.now) context.now asked.now }
     ensures order { IfOk result (λ k. k.wish.first ≤ k.wish.last) }
 {
     let wish = wish_for(store, context, asked.locktype, asked.offset, asked.length)?;
@@ -220,7 +221,7 @@ fn set_lock(
 ) -> Status
     requires order { wished.now.wish.first ≤ wished.now.wish.last }
     requires room { length out.old.bytes + of_denied.most_denied ≤ out.old.room }
-    ensures { Comes (or_delay (is_delay result) (state_of store.old) context.old Num.Lock (of_lock.locks (state_of store.old) context.old locker.now wished.now)) out.old out.new result (state_of store.new) context.new }
+    ensures { Comes (or_delay (is_delay result) (state_of store.old) context.old Num.Lock (parts.locks (state_of store.old) context.old locker.now wished.now)) out.old out.new result (state_of store.new) context.new }
 {
     match lock_bytes(alloc, &mut store.opens, locker, wished) {
         Ok(id) => {
@@ -235,7 +236,6 @@ fn set_lock(
 }
 
 /// LOCK.
-#[tactic(auto, unfolding(crate::specs::Lock::lock))]
 pub(crate) fn lock(
     alloc: Global,
     store: &mut Store,
@@ -254,7 +254,7 @@ pub(crate) fn lock(
 
 /// The bytes that are to be given up, and by which lock state.
 fn judge_unlock(store: &Store, context: &Context<'_>, asked: &LockU) -> Result<Wished, Status>
-    ensures wish { result ≡ of_lock_u.unlocking (state_of store.now) context.now asked.now }
+    ensures wish { result ≡ parts.unlocking (state_of store.now) context.now asked.now }
     ensures order { IfOk result (λ k. k.wish.first ≤ k.wish.last) }
 {
     let wish = wish_for(store, context, asked.locktype, asked.offset, asked.length)?;
@@ -270,7 +270,7 @@ fn give_up(
     wished: &Wished,
 ) -> Res<'static>
     requires order { wished.now.wish.first ≤ wished.now.wish.last }
-    ensures { outcome_of result (state_of store.new) context.new ≡ or_delay (not (is_whole wished.now.wish.first wished.now.wish.last) && is_delay (status_of_result result)) (state_of store.old) context.old Num.LockU (of_lock_u.unlocks (state_of store.old) context.old wished.now) }
+    ensures { outcome_of result (state_of store.new) context.new ≡ or_delay (not (is_whole wished.now.wish.first wished.now.wish.last) && is_delay (status_of_result result)) (state_of store.old) context.old Num.LockU (parts.unlocks (state_of store.old) context.old wished.now) }
 {
     let wish = &wished.wish;
     match store.opens.unlock(
@@ -291,7 +291,6 @@ fn give_up(
 }
 
 /// LOCKU.
-#[tactic(auto, unfolding(crate::specs::LockU::lock_u))]
 pub(crate) fn lock_u(
     alloc: Global,
     store: &mut Store,

@@ -3,6 +3,7 @@
 ghost use Rattle.std.specs.Prelude.{◌≡◌, Ok};
 ghost use Rattle.nfs_names.specs.State.{state_of};
 ghost use Rattle.nfs_names.specs.Outcome.{checked};
+ghost use Rattle.nfs_files.specs.OpenParts as part;
 ghost use Rattle.nfs_files.specs.Open as of_open;
 
 use crate::access::{judge_file, want_of};
@@ -208,7 +209,7 @@ fn found_by(
     making: Making,
     number: Option<u64>,
 ) -> Result<Found, Status>
-    ensures { result ≡ of_open.found_by (state_of store.now) context.now asked.now making number }
+    ensures { result ≡ part.found_by (state_of store.now) context.now asked.now making number }
 {
     match number {
         Some(number) => {
@@ -235,7 +236,7 @@ fn by_name(
     name: &[u8],
     node: Node,
 ) -> Result<Found, Status>
-    ensures { result ≡ of_open.by_name (state_of store.now) context.now asked.now name.now node }
+    ensures { result ≡ part.by_name (state_of store.now) context.now asked.now name.now node }
 {
     let place = judge_place(context, name, node)?;
     let wanted = match wanted_of(&attributes_in(&asked.openhow)) {
@@ -248,7 +249,7 @@ fn by_name(
 
 /// The current filehandle's file itself.
 fn by_handle(context: &Context<'_>, asked: &Open<'_>, node: Node) -> Result<Found, Status>
-    ensures { result ≡ of_open.by_handle context.now asked.now node }
+    ensures { result ≡ part.by_handle context.now asked.now node }
 {
     let file = judge_there(context, asked, node)?;
     Ok(Found::There {
@@ -266,7 +267,7 @@ fn by_claim(
     claim: &OpenClaim<'_>,
     node: Node,
 ) -> Result<Found, Status>
-    ensures { result ≡ of_open.by_claim (state_of store.now) context.now asked.now claim.now node }
+    ensures { result ≡ part.by_claim (state_of store.now) context.now asked.now claim.now node }
 {
     match claim {
         OpenClaim::Null { file } => by_name(store, context, asked, file.bytes(), node),
@@ -285,9 +286,9 @@ fn by_claim(
 }
 
 /// What is to be opened.
-#[tactic(auto, unfolding(crate::specs::Open::asked_for))]
+#[tactic(auto, unfolding(crate::specs::OpenParts::asked_for))]
 pub(crate) fn judge(store: &Store, context: &Context<'_>, asked: &Open<'_>) -> Result<Found, Status>
-    ensures { result ≡ of_open.asked_for (state_of store.now) context.now asked.now }
+    ensures { result ≡ part.asked_for (state_of store.now) context.now asked.now }
 {
     let node = current(store, context)?;
     let node = judge_arguments(asked, node)?;

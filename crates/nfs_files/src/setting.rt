@@ -29,7 +29,7 @@ fn judge_setting(
     context: &Context<'_>,
     asked: &SetAttr<'_>,
 ) -> Result<Setting, Status>
-    ensures { result ≡ of_set_attr.setting (state_of store.now) context.now asked.now }
+    ensures { result ≡ part.setting (state_of store.now) context.now asked.now }
 {
     let node = current(store, context)?;
     let wanted = match wanted_of(&asked.obj_attributes) {
@@ -47,7 +47,7 @@ fn judge_sized(
     given: &Stateid,
     setting: &Setting,
 ) -> Result<Node, Status>
-    ensures { result ≡ of_set_attr.sized (state_of store.now) context.now given.now setting.now }
+    ensures { result ≡ part.sized (state_of store.now) context.now given.now setting.now }
 {
     match setting.wanted.size {
         Some(_) => writable(store, context, given, setting.node),
@@ -55,9 +55,9 @@ fn judge_sized(
     }
 }
 
-#[tactic(auto, unfolding(crate::specs::SetAttr::asked_for))]
+#[tactic(auto, unfolding(crate::specs::SetAttrParts::asked_for))]
 fn judge(store: &Store, context: &Context<'_>, asked: &SetAttr<'_>) -> Result<Setting, Status>
-    ensures { result ≡ of_set_attr.asked_for (state_of store.now) context.now asked.now }
+    ensures { result ≡ part.asked_for (state_of store.now) context.now asked.now }
 {
     let setting = judge_setting(store, context, asked)?;
     judge_sized(store, context, &asked.stateid, &setting)?;

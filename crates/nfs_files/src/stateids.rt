@@ -8,6 +8,7 @@ ghost use Rattle.nfs_names.specs.State.{state_of};
 ghost use Rattle.nfs_names.specs.Comes.{Comes};
 ghost use Rattle.nfs_names.specs.View.{outcome_of};
 ghost use Rattle.nfs_files.specs.StateIds.{state_id, wire_id, meant};
+ghost use Rattle.nfs_files.specs.Parts as parts;
 ghost use Rattle.nfs_files.specs.FreeStateid as of_free;
 ghost use Rattle.nfs_files.specs.TestStateid as of_test;
 
@@ -57,7 +58,7 @@ pub(crate) fn meant(
 
 /// The stateid that is to be freed.
 fn free_id(store: &mut Store, context: &Context<'_>, id: StateId) -> Res<'static>
-    ensures { outcome_of result (state_of store.new) context.now ≡ of_free.frees (state_of store.old) context.now id }
+    ensures { outcome_of result (state_of store.new) context.now ≡ parts.frees (state_of store.old) context.now id }
 {
     match store.opens.free(id, context.client) {
         Ok(()) => Res::FreeStateid,
@@ -66,7 +67,6 @@ fn free_id(store: &mut Store, context: &Context<'_>, id: StateId) -> Res<'static
 }
 
 /// FREE_STATEID.
-#[tactic(auto, unfolding(crate::specs::FreeStateid::free_stateid))]
 pub(crate) fn free_stateid(
     store: &mut Store,
     context: &Context<'_>,

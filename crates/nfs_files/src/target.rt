@@ -2,7 +2,7 @@
 
 ghost use Rattle.std.specs.Prelude.{◌≡◌};
 ghost use Rattle.nfs_names.specs.State.{state_of};
-ghost use Rattle.nfs_files.specs.Target.{the_file, target};
+ghost use Rattle.nfs_files.specs.{Target.the_file, Parts.target};
 
 use crate::access::judge_file;
 use crate::stateids::meant;
@@ -30,7 +30,7 @@ pub(crate) fn the_file(store: &Store, context: &Context<'_>) -> Result<Node, Sta
 }
 
 /// The file, and then the stateid, that an operation is for.
-#[tactic(auto, unfolding(crate::specs::Target::target))]
+#[tactic(auto, unfolding(crate::specs::Parts::target))]
 pub(crate) fn target_for(
     store: &Store,
     context: &Context<'_>,

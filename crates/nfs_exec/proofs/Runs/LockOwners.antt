@@ -8,7 +8,7 @@ use Rattle.nfs_compound.specs.declared.op.Item.TheVariants.{Operation}
 use Rattle.nfs_compound.specs.declared.op.Op.TheVariants as Op
 use Rattle.nfs_opens.specs.{declared.locking.Wish.Wish, declared.records.LockState.LockState, Table.Table}
 use Rattle.nfs_names.specs.State.{moment}
-use Rattle.nfs_files.specs.Lock.{locking, locks_as}
+use Rattle.nfs_files.specs.{Lock.locks_as, Parts.locking}
 use Rattle.nfs_files.proofs.{LockOwners.under_owner, ToldLocks.left_by}
 use Rattle.nfs_exec.specs.{Runs.LockHeld.LocksFor, Runs.Ops.RanOp}
 use Rattle.nfs_exec.proofs.Runs.WhatWasDone.{by_ok, did_lock, IsRun}

@@ -11,7 +11,7 @@ use Rattle.nfs_names.specs.{declared.node.Node.Node, Checks.{node_as, node_at, c
 use Rattle.nfs_names.specs.{State.{with_tree, is_used, without_unused, moment}, Ending.{with_opens, table_staying, staying}, Rename.without_replaced}
 use Rattle.nfs_names.specs.Outcome.{checked}
 use Rattle.nfs_names.proofs.{Found.{ok_is, checked_ok}, Ones.each_of, Effects.{Makes, Links, Removes, Moves}}
-use Rattle.nfs_files.specs.Bytes.{file_checks, reading, may_use, readable}
+use Rattle.nfs_files.specs.{Bytes.{file_checks, reading, may_use}, Parts.readable}
 use Rattle.nfs_files.specs.Read as of_read
 use Rattle.nfs_files.proofs.{Passing.if_passed_ok, WrittenOps.by_found, WrittenTold.short, Effects.{Names, Writes, Resizes, Changes, Closes}}
 use Rattle.nfs_xdr.proofs.Lists.{find_in, find_past, find_out, find_push_other, filter_past}
@@ -38,6 +38,7 @@ use Rattle.nfs_serve.specs.{Step.new_state, Promises.Points.reached, Promises.Ch
 use Rattle.nfs_serve.proofs.Promises.Points.{IsSound, sound_all, sound_new}
 use Rattle.nfs_serve.proofs.Promises.SameRows.{SameRows, rows_are, rows_on, rows_push, rows_without, rows_moved}
 use Rattle.nfs_serve.proofs.Promises.LaterRecords.{op_done, first_there, later_keeps, later_done}
+use Rattle.nfs_files.proofs.InSteps as in_steps
 
 -- What is there under a number was there, and has a greater change, or is the same, and then this holds.
 
@@ -341,16 +342,15 @@ record Shape (text : List ℕ) : Type 0 where
 
 read_run : (d : RanOp) → IsRun d → (n offset count : ℕ) (st : Stored) → stored_in d.before.store.tree.objects n ≡ Some st → ReadsOf n offset count d
     → d.result ≡ read_text st offset count
-unfolding of_read.read
 read_run d run n offset count st there reads =
     let a = reads.asked in
     let s = d.before.store in
     let x = d.context in
     by_item (λ status text s. Shape text → text ≡ read_text st a.offset a.count) d run (Operation (Op.Read a)) reads.is
     (λ shape. absurd (short Num.Read RepTooBig shape.eof shape.behind shape.long shape.answers))
-    (by_found (λ o. Shape (spell_result o.result) → spell_result o.result ≡ read_text st a.offset a.count) s x Num.Read (readable s x a.stateid (current s x)) _
+    (rw (in_steps.read_is s x a) (by_found (λ o. Shape (spell_result o.result) → spell_result o.result ≡ read_text st a.offset a.count) s x Num.Read (readable s x a.stateid (current s x)) _
     (λ status shape. absurd (short Num.Read status shape.eof shape.behind shape.long shape.answers))
-    (λ d granted shape. read_is s x a n st d reads.at there (readable_at s x a d granted)))
+    (λ d granted shape. read_is s x a n st d reads.at there (readable_at s x a d granted))))
     (record { eof = reads.eof; long = reads.long; behind = reads.text; answers = reads.answers })
     ∙ (ap (λ (k : ℕ). read_text st k a.count) reads.from ∙ ap (read_text st offset) reads.many)
 

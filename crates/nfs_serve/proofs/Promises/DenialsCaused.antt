@@ -25,9 +25,11 @@ use Rattle.nfs_names.specs.State.{State}
 use Rattle.nfs_names.proofs.{Faulted.status_of_refusal, Ones.by_delay}
 use Rattle.nfs_tree.specs.{declared.object.Object.Object, Files.object_at}
 use Rattle.nfs_files.specs.{Bytes.file_checks, Denied.{denied, status_of}, LockT.{tested, lock_t}, Operation.grows}
-use Rattle.nfs_files.specs.{Ranges.{last_of, range, range_checks, wish, wished}, StateIds.{state_id, meant}, Target.the_file}
+use Rattle.nfs_files.specs.{Ranges.{last_of, range, range_checks, wished}, StateIds.{state_id, meant}, Target.the_file, Parts.wish}
+use Rattle.nfs_files.specs.Parts as parts
 use Rattle.nfs_files.specs.Lock as of_lock
 use Rattle.nfs_files.proofs.{Outcomes.one_or_delay, Prompt.{all_pass, first_passes, not_true}, Wishes.lock_wish}
+use Rattle.nfs_files.proofs.InSteps as in_steps
 
 -- What is checked first answers other statuses.
 
@@ -74,17 +76,18 @@ at_clear s None = err_clear S.NoFileHandle refl
 at_clear s (Some n) = node_clear n (object_at s.tree n)
 
 file_clear : (s : State) (x : Context) → IsClear (the_file s x)
-unfolding the_file current
-file_clear s x = checked_clear (node_at s x.current) file_checks (at_clear s x.current) (λ d. refl)
+unfolding current
+file_clear s x = rw (in_steps.file_is s x) (checked_clear (node_at s x.current) file_checks (at_clear s x.current) (λ d. refl))
 
 range_clear : (offset size : ℕ) → IsClear (range offset size)
-unfolding range
-range_clear offset size = passed_clear (last_of offset size) (first_fault (range_checks offset size)) (first_clear (range_checks offset size) refl)
+range_clear offset size =
+    rw (in_steps.range_is offset size)
+    (passed_clear (last_of offset size) (first_fault (range_checks offset size)) (first_clear (range_checks offset size) refl))
 
 wished_clear : (s : State) (x : Context) (how : LockType) (offset size : ℕ) → IsClear (wished s x how offset size)
-unfolding wished
 wished_clear s x how offset size =
-    next_clear (the_file s x) _ (file_clear s x) (λ d. mapped_clear (λ last. wish x how offset last d.number) (range offset size) (range_clear offset size))
+    rw (in_steps.wished_is s x how offset size)
+    (next_clear (the_file s x) _ (file_clear s x) (λ d. mapped_clear (λ last. wish x how offset last d.number) (range offset size) (range_clear offset size)))
 
 meant_clear : (x : Context) (form : CurrentSeqid) (given : Stateid) → IsClear (meant x form given)
 meant_clear x form given = go (is_current (state_id given)) (has_zeros (state_id x.stateid) || has_ones (state_id x.stateid))
@@ -94,10 +97,10 @@ meant_clear x form given = go (is_current (state_id given)) (has_zeros (state_id
     go true false = ok_clear _
     go false special = ok_clear _
 
-locking_clear : (s : State) (x : Context) (a : Lock) → IsClear (of_lock.locking s x a)
+locking_clear : (s : State) (x : Context) (a : Lock) → IsClear (parts.locking s x a)
 locking_clear s x a =
-    next_clear (checked (wished s x a.locktype a.offset a.length) (of_lock.reclaim_checks a)) _
-    (checked_clear (wished s x a.locktype a.offset a.length) (of_lock.reclaim_checks a) (wished_clear s x a.locktype a.offset a.length) (λ w. refl))
+    next_clear (checked (wished s x a.locktype a.offset a.length) (parts.reclaim_checks a)) _
+    (checked_clear (wished s x a.locktype a.offset a.length) (parts.reclaim_checks a) (wished_clear s x a.locktype a.offset a.length) (λ w. refl))
     (λ w. mapped_clear _ (meant x Any (of_lock.stateid_in a.locker)) (meant_clear x Any (of_lock.stateid_in a.locker)))
 
 special_clear : (sort : Sort) (seat : Seat) → IsClear (special sort seat)
@@ -217,9 +220,9 @@ mapped_at : {A B C : Type 0} (b : B) (part : B → C) (f : A → B) (v : Result 
 mapped_at b part f (Err status) e = absurd cc
 mapped_at b part f (Ok a) e = let same : f a ≡ b = cc in (a, refl, ap part same)
 
-locking_id : (s : State) (x : Context) (a : Lock) (m : _) → of_lock.locking s x a ≡ Ok m → meant x Any (of_lock.stateid_in a.locker) ≡ Ok m.id
+locking_id : (s : State) (x : Context) (a : Lock) (m : _) → parts.locking s x a ≡ Ok m → meant x Any (of_lock.stateid_in a.locker) ≡ Ok m.id
 locking_id s x a m e =
-    let f = came (checked (wished s x a.locktype a.offset a.length) (of_lock.reclaim_checks a)) _ m e in
+    let f = came (checked (wished s x a.locktype a.offset a.length) (parts.reclaim_checks a)) _ m e in
     let id = mapped_at m (λ k. k.id) _ (meant x Any (of_lock.stateid_in a.locker)) f.then in id.1 ∙ ap Ok id.2
 
 module _ (s : State) (x : Context) where
@@ -233,7 +236,7 @@ module _ (s : State) (x : Context) where
   abbrev IsDenied : Lock → Outcome → Type 0
   IsDenied a o = is_denied (status_of_result o.result) ≡ true → WasDenied s x a.locktype a.offset a.length o.result Res.LockDenied (IsLocker a)
 
-  by_fault : (a : Lock) (m : _) → of_lock.locking s x a ≡ Ok m → (v : Result (StateId × Table) OpenFault) → of_lock.locks_as s.opens a.locker m.id m.wish ≡ v
+  by_fault : (a : Lock) (m : _) → parts.locking s x a ≡ Ok m → (v : Result (StateId × Table) OpenFault) → of_lock.locks_as s.opens a.locker m.id m.wish ≡ v
       → IsDenied a (of_lock.locked s x v)
   by_fault a m judged (Ok did) e is = absurd (false≢true is)
   by_fault a m judged (Err (F.Refused status)) e is = absurd (
@@ -254,14 +257,13 @@ module _ (s : State) (x : Context) where
       }
   by_fault a m judged (Err F.Memory) e is = absurd (false≢true is)
 
-  by_wished : (a : Lock) (v : _) → of_lock.locking s x a ≡ v → IsDenied a (answers s x Num.Lock v (of_lock.locks s x a.locker))
-  by_wished a (Err status) e is = absurd (refused_not (of_lock.locking s x a) status (op_number Num.Lock) (locking_clear s x a) e is)
+  by_wished : (a : Lock) (v : _) → parts.locking s x a ≡ v → IsDenied a (answers s x Num.Lock v (parts.locks s x a.locker))
+  by_wished a (Err status) e is = absurd (refused_not (parts.locking s x a) status (op_number Num.Lock) (locking_clear s x a) e is)
   by_wished a (Ok m) e is = by_fault a m e (of_lock.locks_as s.opens a.locker m.id m.wish) refl is
 
   pub lock_denied : (now : Time) (refused : Bool) (a : Lock) → IsDenied a (one_or_delay refused s x now (Op.Lock a))
-  unfolding of_lock.lock
   lock_denied now refused a = by_delay (IsDenied a) (grows s x (Op.Lock a) && refused) s x Num.Lock (of_lock.lock s x a) (λ is. absurd (false≢true is))
-      (by_wished a (of_lock.locking s x a) refl)
+      (rw (in_steps.lock_is s x a) (by_wished a (parts.locking s x a) refl))
 
   abbrev IsTestDenied : LockT → Outcome → Type 0
   IsTestDenied a o = is_denied (status_of_result o.result) ≡ true → WasDenied s x a.locktype a.offset a.length o.result Res.LockTDenied (IsTester a)
@@ -279,6 +281,5 @@ module _ (s : State) (x : Context) where
       by_test a w (locking.number_of (locking.state_of s.opens w.client a.owner.owner w.file)) e refl (locking.test_lock s.opens a.owner.owner w) refl is
 
   pub test_denied : (now : Time) (refused : Bool) (a : LockT) → IsTestDenied a (one_or_delay refused s x now (Op.LockT a))
-  unfolding lock_t
   test_denied now refused a = by_delay (IsTestDenied a) (grows s x (Op.LockT a) && refused) s x Num.LockT (lock_t s x a) (λ is. absurd (false≢true is))
-      (by_wish a (wished s x a.locktype a.offset a.length) refl)
+      (rw (in_steps.test_is s x a) (by_wish a (wished s x a.locktype a.offset a.length) refl))

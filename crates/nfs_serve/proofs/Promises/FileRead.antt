@@ -14,7 +14,7 @@ use Rattle.nfs_names.specs.{declared.context.Context.Context, declared.node.Node
 use Rattle.nfs_names.specs.State as store
 use Rattle.nfs_names.specs.Operation as names
 use Rattle.nfs_names.proofs.{Found.{checked_ok, current_is}, NameLaws.current_refuses}
-use Rattle.nfs_files.specs.{Bytes.{file_checks, reading, may_use, readable}, FileImage.{Image, unwritten, new_size, bytes_read, read_answer}}
+use Rattle.nfs_files.specs.{Bytes.{file_checks, reading, may_use}, FileImage.{Image, unwritten, new_size, bytes_read, read_answer}, Parts.readable}
 use Rattle.nfs_files.specs.Operation as table
 use Rattle.nfs_files.specs.Read as of_read
 use Rattle.nfs_files.proofs.{Passing.if_passed_ok, ReadBytes.{readable_is, size_is}, Seats.readable_refuses, WrittenOps.current_number}
@@ -27,6 +27,7 @@ use Rattle.nfs_serve.specs.{Step.{State, new_state}, Promises.Endpoint.Arrival, 
 use Rattle.nfs_serve.specs.Promises.FileRead.{image_after, image_after_all, ReadsImage, SizeIsTold, ReadsWhole, ReadsThrough, MakesFile, ReadsAreWhole}
 use Rattle.nfs_serve.proofs.Promises.Chained.{through, chained_at, left_at}
 use Rattle.nfs_serve.proofs.Promises.Points.{left, for_asked, next_is, IsSound, whole_before, sound_next, sound_all, sound_new}
+use Rattle.nfs_files.proofs.InSteps as in_steps
 
 -- One operation.
 
@@ -99,12 +100,12 @@ read_is n img m x r d whole has at granted =
 
 read_left : (n : ℕ) (img : Image) (m : Machine) (x : Context) (a : Read) → Is m → Has n img m.store.tree → x.current ≡ Some n
     → (let o = of_read.read m.store x a in is_ok (status_of_result o.result) ≡ true → spell_result o.result ≡ read_answer img a.offset a.count)
-unfolding of_read.read
 read_left n img m x a whole is at =
-    by_granted (λ o. is_ok (status_of_result o.result) ≡ true → spell_result o.result ≡ read_answer img a.offset a.count) m.store x Num.Read
+    rw (in_steps.read_is m.store x a)
+    (by_granted (λ o. is_ok (status_of_result o.result) ≡ true → spell_result o.result ≡ read_answer img a.offset a.count) m.store x Num.Read
     (readable m.store x a.stateid (current m.store x)) _ (readable_refuses m.store x a.stateid (current m.store x) (current_refuses m.store x))
     (λ status refuses ok. absurd (false≢true (sym refuses.done ∙ ok)))
-    (λ d granted ok. read_is n img m x a d whole is at granted)
+    (λ d granted ok. read_is n img m x a d whole is at granted))
 
 reads_image : (n : ℕ) (img : Image) (d : RanOp) → IsRun d → Has n img d.before.store.tree → ReadsImage n img d
 reads_image n img d r is asked item at ok =

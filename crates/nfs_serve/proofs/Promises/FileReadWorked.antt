@@ -37,7 +37,7 @@ unfolding computing
 read_ops = three nothing (ops_of closed reads) refl
 
 again_ops : ops_of longer reads_hole ≡ take 2 (ops_of longer reads_hole) ++ again ∷ []
-unfolding computing set_attr_args of_set.asked_for of_set.set_attr
+unfolding computing set_attr_args of_set.set_attr
 again_ops = three nothing (ops_of longer reads_hole) refl
 
 file : MakesFile 2 0 opening
@@ -49,7 +49,7 @@ unfolding computing
 bytes = refl
 
 fewer : bytes_read as_longer 0 8 ≡ 0x73 ∷ 0x65 ∷ 0 ∷ 0 ∷ 0 ∷ 0 ∷ []
-unfolding computing set_attr_args of_set.asked_for of_set.set_attr
+unfolding computing set_attr_args of_set.set_attr
 fewer = refl
 
 told : read.result ≡ read_answer as_closed 0 8
@@ -57,7 +57,7 @@ unfolding computing
 told = refl
 
 after : again.result ≡ read_answer as_longer 0 8
-unfolding computing set_attr_args of_set.asked_for of_set.set_attr
+unfolding computing set_attr_args of_set.set_attr
 after = refl
 
 pub is_read_whole : IsReadWhole
@@ -94,7 +94,7 @@ unfolding computing
 gap d is = (let bad : ◌≡◌ {A = ℕ} 0x78 0 = ap (byte_of 20) (is asked refl refl refl) in absurd (omega arith))
 
 old : (d : RanOp) → ReadsImage 2 as_longer (answering (words (1 ∷ 6 ∷ 0x7365_656e ∷ 0 ∷ [])) (last_of d (ops_of longer reads_hole))) → ⊥
-unfolding computing set_attr_args of_set.asked_for of_set.set_attr
+unfolding computing set_attr_args of_set.set_attr
 old d is = (let bad : ◌≡◌ {A = ℕ} 0x65 0 = ap (byte_of 18) (is asked refl refl refl) in absurd (omega arith))
 
 goes_on : (d : RanOp) → ReadsImage 2 as_closed (answering (words (0 ∷ 8 ∷ 0x7365_656e ∷ 0x0000_6d6f ∷ [])) (last_of d (ops_of closed reads))) → ⊥

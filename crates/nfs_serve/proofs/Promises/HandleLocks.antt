@@ -7,7 +7,7 @@ use Rattle.nfs_opens.specs.declared.locking.Wish.{Wish}
 use Rattle.nfs_names.specs.{declared.context.Context.Context, Outcome.{mapped, checked}, GetFh.get_fh, Checks.current}
 use Rattle.nfs_names.specs.State as store
 use Rattle.nfs_names.proofs.Found.{came, checked_ok}
-use Rattle.nfs_files.specs.{LockTold.LockTold, Ranges.{wished, wish, range}, Bytes.file_checks, Target.the_file}
+use Rattle.nfs_files.specs.{LockTold.LockTold, Ranges.{wished, range}, Bytes.file_checks, Target.the_file, Parts.wish}
 use Rattle.nfs_files.proofs.WrittenOps.{current_number}
 use Rattle.nfs_exec.specs.{Runs.LockHeld.{LocksFor, AreSpared, Tells, the_lock}, Runs.Ops.RanOp}
 use Rattle.nfs_serve.specs.{Step.{State, new_state}, Promises.Endpoint.Arrival, Promises.HandleBytes.names_behind}
@@ -20,6 +20,7 @@ use Rattle.nfs_serve.proofs.{Promises.Computing.computing, Promises.HandleBytes.
 use Rattle.nfs_serve.proofs.Promises.HeldLock.{all_spared, are_in_time, up_to, nothing, locks_for}
 use Rattle.nfs_serve.proofs.{Promises.KnownHandles.{HoldsAt, AllHold, one_record, first_holds, same_number}, Promises.LockKept.only_one}
 use Rattle.nfs_serve.proofs.Promises.LockOwners.{end_of}
+use Rattle.nfs_files.proofs.InSteps as in_steps
 
 -- A wish is of the current file.
 
@@ -28,10 +29,9 @@ file_by x how offset file (Err status) w e = absurd cc
 file_by x how offset file (Ok last) w e = (let same : wish x how offset last file ≡ w = cc in ap (λ (w : Wish). w.file) (sym same))
 
 wished_on : (s : store.State) (x : Context) (how : LockType) (offset size : ℕ) (w : Wish) → wished s x how offset size ≡ Ok w → x.current ≡ Some w.file
-unfolding wished the_file
 wished_on s x how offset size w e =
-    let d = came (the_file s x) _ w e in
-    let found = (checked_ok (current s x) file_checks d.found d.is).0 in
+    let d = came (the_file s x) _ w (sym (in_steps.wished_is s x how offset size) ∙ e) in
+    let found = (checked_ok (current s x) file_checks d.found (sym (in_steps.file_is s x) ∙ d.is)).0 in
     current_number s x d.found found ∙ ap (λ n. Some n) (sym (file_by x how offset d.found.number (range offset size) w d.then))
 
 -- the file of a LOCK under a filehandle that is known is the one whose number it bears

@@ -19,8 +19,8 @@ use Rattle.nfs_opens.specs.Closing as closing
 use Rattle.nfs_opens.proofs.CallLaws.{IsUnlocked}
 use Rattle.nfs_names.specs.{declared.context.Context.Context, Ending.with_opens, Outcome.{Outcome, is_ok}, State.{State, moment}}
 use Rattle.nfs_names.proofs.{Ones.by_delay, Untouched.unused_opens}
-use Rattle.nfs_files.specs.{Close.close, LockTold.{Names, LockTold, IsBeside}, LockU.{unlocking, lock_u}, Operation.grows, Ranges.wished, StateIds.meant}
-use Rattle.nfs_files.specs.Target.{target}
+use Rattle.nfs_files.specs.{Close.close, LockTold.{Names, LockTold, IsBeside}, LockU.lock_u, Operation.grows, Ranges.wished, StateIds.meant, Parts.unlocking}
+use Rattle.nfs_files.specs.Parts.{target}
 use Rattle.nfs_files.proofs.{OpensMoved.{by_close, by_unlock}, Outcomes.one_or_delay, Steady.Few}
 use Rattle.nfs_files.proofs.ToldGrants.{lock_refused, told_held, unlock_tells, close_tells}
 use Rattle.nfs_exec.specs.{Runs.LockHeld.{LocksFor, UnlocksFor, ClosesOf, Spares}, Runs.Ops.RanOp}

@@ -22,8 +22,9 @@ use Rattle.nfs_lease.specs.Renewals.{has_run_out}
 use Rattle.nfs_names.specs.{declared.context.Context.Context, Ending.staying, Outcome.{Outcome, mapped, checked, is_ok}, State.moment}
 use Rattle.nfs_names.specs.State as store
 use Rattle.nfs_names.proofs.{Ones.by_delay, Untouched.leaves_each}
+use Rattle.nfs_files.specs.Parts as parts
 use Rattle.nfs_files.specs.Lock as of_lock
-use Rattle.nfs_files.specs.{Operation.grows, Ranges.{wished, wished_by}, StateIds.meant}
+use Rattle.nfs_files.specs.{Operation.grows, Ranges.wished, StateIds.meant, Parts.wished_by}
 use Rattle.nfs_files.proofs.{Effects.{Effect, Opens, Closes, Locks, Begins, Unlocks, Frees, Caused, table_behind}, Effected.caused_opens, OpensMoved.by_lock}
 use Rattle.nfs_files.proofs.ToldGrants.{IsTold, lock_tells}
 use Rattle.nfs_files.proofs.Inside as inside
@@ -130,7 +131,7 @@ record Grants (s : store.State) (x : Context) (a : Lock) (l : LockState) : Type 
   pub wish : Wish
   pub id : StateId
   pub did : StateId × Table
-  pub judged : of_lock.locking s x a ≡ Ok (record { wish = wish; id = id })
+  pub judged : parts.locking s x a ≡ Ok (record { wish = wish; id = id })
   pub granted : of_lock.locks_as s.opens a.locker id wish ≡ Ok did
   pub new : IsNewBy a.locker id did l
 
@@ -165,10 +166,10 @@ meant_found : (x : Context) (given : Stateid) (v : Result Wish Status) (w : Wish
 meant_found x given (Err status) w id e = absurd cc
 meant_found x given (Ok k) w id e = found_id _ _ (λ i. refl) (meant x Any given) id (ap (id_in (λ m. m.id)) e)
 
-meant_by : (s : store.State) (x : Context) (a : Lock) (w : Wish) (id : StateId) → of_lock.locking s x a ≡ Ok (record { wish = w; id = id })
+meant_by : (s : store.State) (x : Context) (a : Lock) (w : Wish) (id : StateId) → parts.locking s x a ≡ Ok (record { wish = w; id = id })
     → meant x Any (of_lock.stateid_in a.locker) ≡ Ok id
 meant_by s x a w id e =
-    meant_found x (of_lock.stateid_in a.locker) (checked (wished s x a.locktype a.offset a.length) (of_lock.reclaim_checks a)) w id e
+    meant_found x (of_lock.stateid_in a.locker) (checked (wished s x a.locktype a.offset a.length) (parts.reclaim_checks a)) w id e
 
 -- One operation that was run.
 

@@ -28,10 +28,13 @@ use Rattle.nfs_names.specs.{PutRootFh.put_root_fh, Rename.{without_replaced, mov
 use Rattle.nfs_names.specs.Operation as names
 use Rattle.nfs_names.proofs.{Found.{came, ok_is, checked_ok}, Ones.{if_delayed, each_of, by_delay}}
 use Rattle.nfs_names.proofs.NameLaws as law
-use Rattle.nfs_files.specs.{Operation.grows, Bytes.writable, Close.close, Commit.commit, FreeStateid.free_stateid, LockT.{tested, lock_t}, LockU.lock_u}
+use Rattle.nfs_files.specs.{Operation.grows, Close.close, Commit.commit, FreeStateid.free_stateid, LockT.{tested, lock_t}, LockU.lock_u, Parts.writable}
 use Rattle.nfs_files.specs.{OpenDowngrade.open_downgrade, Read.read, TestStateid.test_stateid}
+use Rattle.nfs_files.specs.Parts as parts
 use Rattle.nfs_files.specs.Lock as of_lock
+use Rattle.nfs_files.specs.OpenParts as open_parts
 use Rattle.nfs_files.specs.Open as of_open
+use Rattle.nfs_files.specs.SetAttrParts as set_parts
 use Rattle.nfs_files.specs.SetAttr as of_set
 use Rattle.nfs_files.specs.Write as of_write
 use Rattle.nfs_files.proofs.Outcomes as files
@@ -40,6 +43,7 @@ use Rattle.nfs_files.proofs.OpensMoved.{by_close, by_free, by_downgrade, by_lock
 use Rattle.nfs_exec.specs.{Step.Machine.Machine, Step.Behind.{Step, step, on_store, moves_opens, marked_if}, Step.Run.in_room, Runs.Ops.RanOp}
 use Rattle.nfs_exec.proofs.{Step.Behind.by_step, Runs.KeptByRuns.otherwise_store, Runs.WhatWasDone.{in_room_is, IsRun}}
 use Rattle.nfs_serve.specs.Promises.NameStays.{IsDone, Makes, ByCreate, ByOpen, ByLink, ByRename, Takes, TakesIt, Removed, MovedAway, MovedOver}
+use Rattle.nfs_files.proofs.InSteps as in_steps
 
 -- The rows are the same, or one more is there, or those of a name are gone, or an entry moved.
 pub data DidRows (t : Files) (rows : List Row) (x : Context) (i : Item) (result : List ℕ) : Type 0 where
@@ -139,11 +143,11 @@ did_opened s x o rows result is (Kept same) = Same same
 did_opened s x o rows result is (Put r more claim at) = Added r more (ByOpen o refl claim at is)
 
 did_open : (s : State) (x : Context) (now : Time) (o : Open) → Did s x (Operation (Op.Open o)) (of_open.open_file s x now o)
-unfolding of_open.open_file
 did_open s x now o =
-    by_found (Did s x (Operation (Op.Open o))) s x Num.Open (checked (of_open.asked_for s x o) (of_open.last_checks s x o)) (of_open.opened s x now o)
+    rw (in_steps.open_is s x now o)
+    (by_found (Did s x (Operation (Op.Open o))) s x Num.Open (checked (open_parts.asked_for s x o) (of_open.last_checks s x o)) (of_open.opened s x now o)
     (λ status. Same refl) (λ f granted.
-    did_opened s x o _ _ (_, refl) (opened_rows s x now o f (checked_ok (of_open.asked_for s x o) (of_open.last_checks s x o) f granted).0))
+    did_opened s x o _ _ (_, refl) (opened_rows s x now o f (checked_ok (open_parts.asked_for s x o) (of_open.last_checks s x o) f granted).0)))
 
 -- the others leave the rows
 abbrev Keeps : State → State → Type 0
@@ -169,32 +173,33 @@ kept_tested s x None = refl
 kept_tested s x (Some h) = refl
 
 kept_write : (s : State) (x : Context) (now : Time) (w : Write) → Keeps s (of_write.write s x now w).state
-unfolding of_write.write
 kept_write s x now w =
-    by_found (λ o. Keeps s o.state) s x Num.Write (checked (writable s x w.stateid (current s x)) (of_write.last_checks s w)) (of_write.was_written s x now w)
-    (λ status. refl) (λ d granted. elim (cases_Bool (has_bytes w.bytes)) [ inl some ↦ rw some refl | inr empty ↦ rw empty refl ])
+    rw (in_steps.write_is s x now w)
+    (by_found (λ o. Keeps s o.state) s x Num.Write (checked (writable s x w.stateid (current s x)) (of_write.last_checks s w)) (parts.was_written s x now w)
+    (λ status. refl) (λ d granted. elim (cases_Bool (has_bytes w.bytes)) [ inl some ↦ rw some refl | inr empty ↦ rw empty refl ]))
 
 kept_set : (s : State) (n : ℕ) (now : Time) (w : Wanted) (size : Option ℕ) → (of_set.with_set s.tree n now w size).rows ≡ s.tree.rows
 kept_set s n now w (Some size) = refl
 kept_set s n now w None = elim (cases_Bool (of_set.gives_some w)) [ inl some ↦ rw some refl | inr nothing ↦ rw nothing refl ]
 
 kept_set_attr : (s : State) (x : Context) (now : Time) (a : SetAttr) → Keeps s (of_set.set_attr s x now a).state
-unfolding of_set.set_attr
 kept_set_attr s x now a =
-    by_found (λ o. Keeps s o.state) s x Num.SetAttr (checked (of_set.asked_for s x a) (of_set.last_checks s)) (of_set.was_set s x now a)
-    (λ status. refl) (λ m granted. kept_set s m.node.number now m.wanted m.wanted.size)
+    rw (in_steps.set_attr_is s x now a)
+    (by_found (λ o. Keeps s o.state) s x Num.SetAttr (checked (set_parts.asked_for s x a) (set_parts.last_checks s)) (set_parts.was_set s x now a)
+    (λ status. refl) (λ m granted. kept_set s m.node.number now m.wanted m.wanted.size))
 
 did_file : (s : State) (x : Context) (now : Time) (op : Op) → Did s x (Operation op) (files.one s x now op)
-unfolding commit lock_t read test_stateid
+unfolding test_stateid
 did_file s x now (Op.Close a) = Same (kept_close s x a)
-did_file s x now (Op.Commit a) = Same (by_found (λ o. Keeps s o.state) s x Num.Commit _ _ (λ status. refl) (λ d e. refl))
+did_file s x now (Op.Commit a) = Same (rw (in_steps.commit_is s x) (by_found (λ o. Keeps s o.state) s x Num.Commit _ _ (λ status. refl) (λ d e. refl)))
 did_file s x now (Op.FreeStateid given) = Same (kept_free s x given)
 did_file s x now (Op.Lock a) = Same (kept_lock s x a)
-did_file s x now (Op.LockT a) = Same (by_found (λ o. Keeps s o.state) s x Num.LockT _ _ (λ status. refl) (λ w e. kept_tested s x (locking.test_lock s.opens a.owner.owner w)))
+did_file s x now (Op.LockT a) =
+    Same (rw (in_steps.test_is s x a) (by_found (λ o. Keeps s o.state) s x Num.LockT _ _ (λ status. refl) (λ w e. kept_tested s x (locking.test_lock s.opens a.owner.owner w))))
 did_file s x now (Op.LockU a) = Same (kept_unlock s x a)
 did_file s x now (Op.Open a) = did_open s x now a
 did_file s x now (Op.OpenDowngrade a) = Same (kept_downgrade s x a)
-did_file s x now (Op.Read a) = Same (by_found (λ o. Keeps s o.state) s x Num.Read _ _ (λ status. refl) (λ d e. refl))
+did_file s x now (Op.Read a) = Same (rw (in_steps.read_is s x a) (by_found (λ o. Keeps s o.state) s x Num.Read _ _ (λ status. refl) (λ d e. refl)))
 did_file s x now (Op.SetAttr a) = Same (kept_set_attr s x now a)
 did_file s x now (Op.TestStateid given) = Same refl
 did_file s x now (Op.Write a) = Same (kept_write s x now a)

@@ -25,6 +25,7 @@ use Rattle.nfs_names.specs.Operation as names
 use Rattle.nfs_names.proofs.{Found.checked_ok, Ones.by_delay}
 use Rattle.nfs_names.proofs.NameLaws as law
 use Rattle.nfs_opens.specs.Steps.{in_order, ◌>>=◌, ◌>>◌}
+use Rattle.nfs_files.specs.OpenParts as open_parts
 use Rattle.nfs_files.specs.Open as of_open
 use Rattle.nfs_files.specs.OpenTold.{names_open, named_in, claimed}
 use Rattle.nfs_files.proofs.{ToldOpens.{short_names_none, asked_leads}, WrittenOps.{by_found, current_number, number_back}}
@@ -32,6 +33,7 @@ use Rattle.nfs_exec.specs.{Step.Machine.Machine, Step.Behind.{Step, step}, Step.
 use Rattle.nfs_exec.proofs.{Runs.KeptByRuns.Is, Runs.WhatWasDone.in_room_is}
 use Rattle.nfs_serve.specs.Promises.NameStays.{Name, IsDone, finds_none, Denies, Removes, RenamesIt, Misses}
 use Rattle.nfs_serve.proofs.Promises.NameRows.{AreAt, both_at, unused_rows, replaced_rows}
+use Rattle.nfs_files.proofs.InSteps as in_steps
 
 -- The status in a result.
 
@@ -132,19 +134,18 @@ Opened k n o = names_open Num.Open (spell_result o.result) n ≡ true → o.cont
 pub open_leads : (k : Name) (limit sofar now : ℕ) (refused : Bool) (m : Machine) (x : Context) (a : Open) (n : ℕ) → a.claim ≡ Null k.name → x.current ≡ Some k.directory
     → (let s = in_room limit sofar now refused m x (Operation (Op.Open a)) in
     names_open Num.Open s.outcome.result n ≡ true → s.context.current ≡ Some k.object → Leads k s.outcome.machine.store.tree)
-unfolding of_open.open_file
 open_leads k limit sofar now refused m x a n claim at =
     in_room_is (λ s. names_open Num.Open s.outcome.result n ≡ true → s.context.current ≡ Some k.object → Leads k s.outcome.machine.store.tree)
     limit sofar now refused m x (Operation (Op.Open a)) (λ is there. absurd (true≢false (sym is ∙ short_names_none Num.Open 18 RepTooBig n)))
     (by_delay (Opened k n) refused m.store x Num.Open (of_open.open_file m.store x (moment now) a)
     (λ is there. absurd (true≢false (sym is ∙ short_names_none Num.Open 18 Delay n)))
-    (by_found (Opened k n) m.store x Num.Open (checked (of_open.asked_for m.store x a) (of_open.last_checks m.store x a)) (of_open.opened m.store x (moment now) a)
+    (rw (in_steps.open_is m.store x (moment now) a) (by_found (Opened k n) m.store x Num.Open (checked (open_parts.asked_for m.store x a) (of_open.last_checks m.store x a)) (of_open.opened m.store x (moment now) a)
     (λ f is there. absurd (true≢false (sym is ∙ short_names_none Num.Open 18 f n))) (λ f granted is there.
     (let t = of_open.tree_of m.store.tree x (moment now) a f in
-    let asked = (checked_ok (of_open.asked_for m.store x a) (of_open.last_checks m.store x a) f granted).0 in
+    let asked = (checked_ok (open_parts.asked_for m.store x a) (of_open.last_checks m.store x a) f granted).0 in
     let leads = asked_leads m.store x (moment now) a f asked in
     let by_name : claimed t x (Null k.name) ≡ Some (of_open.file_of m.store.tree f) = ap (claimed t x) (sym claim) ∙ leads in
-    sym (ap (λ o. named_in t k.name o) at) ∙ (by_name ∙ there)))))
+    sym (ap (λ o. named_in t k.name o) at) ∙ (by_name ∙ there))))))
 
 -- RENAME
 

@@ -12,11 +12,13 @@ use Rattle.nfs_opens.specs.{declared.judging.Seat.Seat, declared.judging.Seat.Th
 use Rattle.nfs_opens.specs.Steps.{map_err}
 use Rattle.nfs_names.specs.{declared.context.Context.Context, declared.node.Node.Node, Checks.current, Create.{wanted_of, attributes_in}, GetAttr.get_attr}
 use Rattle.nfs_names.specs.{Outcome.checked, State.State}
-use Rattle.nfs_files.specs.{Bytes.{file_checks, seat, reading, writing, seat_checks, may_use, readable, writable}, Read.read, SetAttr.set_attr}
+use Rattle.nfs_files.specs.{Bytes.{file_checks, seat, reading, writing, seat_checks, may_use}, Read.read, SetAttr.set_attr, Parts.{readable, writable}}
 use Rattle.nfs_files.specs.Write.{last_checks, write}
+use Rattle.nfs_files.specs.SetAttrParts as set_parts
 use Rattle.nfs_files.specs.SetAttr as of_set
 use Rattle.nfs_serve.proofs.Promises.Without.{IsWithout, AreGood, all_good, are_good, err_without, ok_without, then_without, checked_without, seat_without}
 use Rattle.nfs_serve.proofs.Promises.Without.{if_passed_without, Answers, answers_without, ends_then, ends_held, steps_answer}
+use Rattle.nfs_files.proofs.InSteps as in_steps
 
 abbrev pub is_stale : Status → Bool
 is_stale f = status_number f == status_number S.Stale
@@ -40,9 +42,9 @@ seat_good s x wanted d (Open number access) = good (seat_checks s x wanted d (Op
 seat_good s x wanted d (Lock number access) = good (seat_checks s x wanted d (Lock number access)) refl
 
 may_use_fresh : (s : State) (x : Context) (wanted : Share) (given : Stateid) (d : Node) → IsFresh (may_use s x wanted given d)
-unfolding may_use
 may_use_fresh s x wanted given d =
-    checked_without is_stale (seat s x given d) (seat_checks s x wanted d) (seat_fresh s x given d) (λ k e. seat_good s x wanted d k)
+    rw (in_steps.may_use_is s x wanted given d)
+    (checked_without is_stale (seat s x given d) (seat_checks s x wanted d) (seat_fresh s x given d) (λ k e. seat_good s x wanted d k))
 
 file_fresh : (v : Result Node Status) → IsFresh v → IsFresh (checked v file_checks)
 file_fresh v is = checked_without is_stale v file_checks is (λ d e. good (file_checks d) refl)
@@ -70,39 +72,39 @@ read_fresh (Ok a) = ok_without is_stale a
 wanted_fresh : (a : Attributes) → IsFresh (attributes_in a)
 wanted_fresh a = read_fresh (wanted_of a)
 
-sized_fresh : (s : State) (x : Context) (given : Stateid) (d : Node) (o : Option ℕ) → IsFresh (of_set.sized_by s x given d o)
+sized_fresh : (s : State) (x : Context) (given : Stateid) (d : Node) (o : Option ℕ) → IsFresh (set_parts.sized_by s x given d o)
 sized_fresh s x given d None = ok_without is_stale d
 sized_fresh s x given d (Some size) = writable_fresh s x given (Ok d) (ok_without is_stale d)
 
-setting_fresh : (s : State) (x : Context) (a : SetAttr) → IsFresh (current s x) → IsFresh (of_set.setting s x a)
+setting_fresh : (s : State) (x : Context) (a : SetAttr) → IsFresh (current s x) → IsFresh (set_parts.setting s x a)
 setting_fresh s x a is =
     then_without is_stale (current s x) _ is (λ d e. then_without is_stale (attributes_in a.obj_attributes) _ (wanted_fresh a.obj_attributes) (λ w f.
-    checked_without is_stale (Ok (record { node = d; wanted = w })) (of_set.owner_checks x) (ok_without is_stale (record { node = d; wanted = w })) (λ k g. good (of_set.owner_checks x k) refl)))
+    checked_without is_stale (Ok (record { node = d; wanted = w })) (set_parts.owner_checks x) (ok_without is_stale (record { node = d; wanted = w })) (λ k g. good (set_parts.owner_checks x k) refl)))
 
-set_fresh : (s : State) (x : Context) (a : SetAttr) → IsFresh (current s x) → IsFresh (of_set.asked_for s x a)
-unfolding of_set.asked_for
+set_fresh : (s : State) (x : Context) (a : SetAttr) → IsFresh (current s x) → IsFresh (set_parts.asked_for s x a)
+unfolding set_parts.asked_for
 set_fresh s x a is =
-    if_passed_without is_stale (of_set.setting s x a) (of_set.sized s x a.stateid) (setting_fresh s x a is) (λ m e. sized_fresh s x a.stateid m.node m.wanted.size)
+    if_passed_without is_stale (set_parts.setting s x a) (set_parts.sized s x a.stateid) (setting_fresh s x a is) (λ m e. sized_fresh s x a.stateid m.node m.wanted.size)
 
 -- What is answered.
 
 pub read_answers : (s : State) (x : Context) (a : Read) → IsFresh (current s x) → Answers is_stale (read s x a)
-unfolding read
 read_answers s x a is =
-    answers_without is_stale s x Num.Read (readable s x a.stateid (current s x)) _ (readable_fresh s x a.stateid (current s x) is) (λ d e. refl)
+    rw (in_steps.read_is s x a)
+    (answers_without is_stale s x Num.Read (readable s x a.stateid (current s x)) _ (readable_fresh s x a.stateid (current s x) is) (λ d e. refl))
 
 pub write_answers : (s : State) (x : Context) (now : Time) (a : Write) → IsFresh (current s x) → Answers is_stale (write s x now a)
-unfolding write
 write_answers s x now a is =
-    answers_without is_stale s x Num.Write (checked (writable s x a.stateid (current s x)) (last_checks s a)) _
+    rw (in_steps.write_is s x now a)
+    (answers_without is_stale s x Num.Write (checked (writable s x a.stateid (current s x)) (last_checks s a)) _
     (checked_without is_stale (writable s x a.stateid (current s x)) (last_checks s a) (writable_fresh s x a.stateid (current s x) is) (λ d e. good (last_checks s a d) refl))
-    (λ d e. refl)
+    (λ d e. refl))
 
 pub set_answers : (s : State) (x : Context) (now : Time) (a : SetAttr) → IsFresh (current s x) → Answers is_stale (set_attr s x now a)
-unfolding set_attr
 set_answers s x now a is =
-    answers_without is_stale s x Num.SetAttr (checked (of_set.asked_for s x a) (of_set.last_checks s)) _
-    (checked_without is_stale (of_set.asked_for s x a) (of_set.last_checks s) (set_fresh s x a is) (λ m e. good (of_set.last_checks s m) refl)) (λ m e. refl)
+    rw (in_steps.set_attr_is s x now a)
+    (answers_without is_stale s x Num.SetAttr (checked (set_parts.asked_for s x a) (set_parts.last_checks s)) _
+    (checked_without is_stale (set_parts.asked_for s x a) (set_parts.last_checks s) (set_fresh s x a is) (λ m e. good (set_parts.last_checks s m) refl)) (λ m e. refl))
 
 pub get_answers : (s : State) (x : Context) (words : List ℕ) → IsFresh (current s x) → Answers is_stale (get_attr s x words)
 unfolding get_attr

@@ -17,7 +17,7 @@ use Rattle.nfs_opens.specs.{declared.stateid.StateId.StateId, Judging.judge, Sha
 use Rattle.nfs_opens.specs.{Table.{Table, open_at}, TableInvariants.IsTable}
 use Rattle.nfs_names.specs.{declared.context.Context.Context, declared.node.Node.Node, Checks.current, GetAttr.get_attr, Lookup.is_link, Outcome.is_ok}
 use Rattle.nfs_names.specs.State.{State, is_open}
-use Rattle.nfs_files.specs.{Bytes.{file_checks, seat, reading, seat_checks, may_use, readable}, OpenTold.{OpenTold, Bits, bits_behind, IsOpenWith}}
+use Rattle.nfs_files.specs.{Bytes.{file_checks, seat, reading, seat_checks, may_use}, OpenTold.{OpenTold, Bits, bits_behind, IsOpenWith}, Parts.readable}
 use Rattle.nfs_files.specs.StateIds.{meant}
 use Rattle.nfs_files.specs.Read as of_read
 use Rattle.nfs_files.proofs.TreeFiles.{IsWhole}
@@ -28,6 +28,7 @@ use Rattle.nfs_serve.specs.{Promises.Endpoint.Arrival, Promises.LockKept.{renews
 use Rattle.nfs_serve.specs.{Promises.OpenReads.{IsAnswered, CanBeHad, its_file, OpensCanRead}, Promises.Points.{state_after, reached, taken, ops_of}}
 use Rattle.nfs_serve.proofs.{Promises.ChangeTells.node_there, Promises.LaterRecords.op_done, Promises.NameStays.sound_at, Promises.OpenKept.open_kept}
 use Rattle.nfs_serve.proofs.Promises.Points.{IsSound, sound_next}
+use Rattle.nfs_files.proofs.InSteps as in_steps
 
 -- The file is a file.
 
@@ -107,8 +108,7 @@ unfolding readable
 readable_is s x given d k there passes may = rw (there, passes, may) refl
 
 read_is_done : (s : State) (x : Context) (a : Read) (d : Node) → readable s x a.stateid (current s x) ≡ Ok d → is_ok (status_of_result (of_read.read s x a).result) ≡ true
-unfolding of_read.read
-read_is_done s x a d e = rw e refl
+read_is_done s x a d e = rw (in_steps.read_is s x a, e) refl
 
 -- Of an operation that was run.
 

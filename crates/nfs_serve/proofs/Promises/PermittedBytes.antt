@@ -21,7 +21,7 @@ use Rattle.nfs_names.specs.{declared.context.Context.Context, declared.node.Node
 use Rattle.nfs_names.specs.State.{State, moment}
 use Rattle.nfs_names.proofs.{Faulted.status_of_refusal, Found.{came, ok_is, checked_ok}, NameLaws.current_refuses, Ones.by_delay}
 use Rattle.nfs_names.proofs.Refusing.{Refuses, refuses_checked}
-use Rattle.nfs_files.specs.{Bytes.{file_checks, seat, reading, writing, want_of, denials, seat_checks, may_use, readable, writable}, StateIds.meant}
+use Rattle.nfs_files.specs.{Bytes.{file_checks, seat, reading, writing, want_of, denials, seat_checks, may_use}, StateIds.meant, Parts.{readable, writable}}
 use Rattle.nfs_files.specs.Read as of_read
 use Rattle.nfs_files.specs.Write as of_write
 use Rattle.nfs_files.proofs.{Passing.if_passed_ok, Seats.{readable_refuses, writable_refuses}, WrittenOps.current_number}
@@ -31,6 +31,7 @@ use Rattle.nfs_serve.specs.Promises.Permitted.{Rights, Right, Reads, Writes, Exe
 use Rattle.nfs_serve.proofs.Promises.Granting.{reads, writes, may_read, may_write}
 use Rattle.nfs_serve.proofs.Promises.PermittedNames.{gets, gives, is_access, lets, current_without, big_other, not_access}
 use Rattle.nfs_serve.proofs.Promises.Without.{AreGood, are_good, IsWithout, checked_without, if_passed_without, Answers, answers_without, seat_without}
+use Rattle.nfs_files.proofs.InSteps as in_steps
 
 -- Bytes: by the stateid.
 
@@ -222,9 +223,8 @@ seat_came s x given d k e id means =
 
 used_by : (s : State) (x : Context) (given : Stateid) (d : Node) (right : Right) (k : Seat) → IsTable s.opens → right ≢ Executes → current s x ≡ Ok d
     → (permits x d (want_of (wanted_by right)) ≡ true → Grants (rights_of d.object) x.who right) → may_use s x (wanted_by right) given d ≡ Ok k → Used s x given right d
-unfolding may_use
 used_by s x given d right k table other there grants e =
-    let its = checked_ok (seat s x given d) (seat_checks s x (wanted_by right) d) k e in
+    let its = checked_ok (seat s x given d) (seat_checks s x (wanted_by right) d) k (sym (in_steps.may_use_is s x (wanted_by right) given d) ∙ e) in
     record {
       there = there;
       special = λ id means some. grants (special_grants s x right d k (judged_special s.opens id x.client d.number k some (seat_came s x given d k its.0 id means)) its.1);
@@ -272,17 +272,16 @@ done_by s x op (Ok a) f all ok = (a, refl)
 
 pub read_granted : (d : RanOp) → IsRun d → (n : ℕ) (r : Rights) → IsAt n r d → is_ok d.status ≡ true → (a : Read) → d.item ≡ Operation (Op.Read a)
     → ByStateid n r d a.stateid Reads
-unfolding of_read.read
 read_granted d run n r at ok a same =
     let s = d.before.store in
     let x = d.context in
     by_ok (λ text t. ByStateid n r d a.stateid Reads) d run (Operation (Op.Read a)) same ok (λ fine.
-    (let its = done_by s x Num.Read (readable s x a.stateid (current s x)) _ (readable_refuses s x a.stateid (current s x) (current_refuses s x)) fine in
+    (let its = done_by s x Num.Read (readable s x a.stateid (current s x)) _ (readable_refuses s x a.stateid (current s x) (current_refuses s x))
+    (subst (λ (o : Outcome). is_ok (status_of_result o.result) ≡ true) (in_steps.read_is s x a) fine) in
     used_here d n r its.0 a.stateid Reads at (readable_used s x a.stateid its.0 run.whole.table its.1)))
 
 pub write_granted : (d : RanOp) → IsRun d → (n : ℕ) (r : Rights) → IsAt n r d → is_ok d.status ≡ true → (a : Write) → d.item ≡ Operation (Op.Write a)
     → ByStateid n r d a.stateid Writes
-unfolding of_write.write
 write_granted d run n r at ok a same =
     let s = d.before.store in
     let x = d.context in
@@ -291,7 +290,8 @@ write_granted d run n r at ok a same =
     (by_delay (λ o. is_ok (status_of_result o.result) ≡ true → ByStateid n r d a.stateid Writes) (has_bytes a.bytes && run.refused) s x Num.Write (of_write.write s x (moment run.now) a)
     (λ delayed. absurd (false≢true delayed)) (λ fine.
     (let its = done_by s x Num.Write (checked v (of_write.last_checks s a)) _
-    (refuses_checked v (of_write.last_checks s a) (writable_refuses s x a.stateid (current s x) (current_refuses s x)) (λ d. refl)) fine in
+    (refuses_checked v (of_write.last_checks s a) (writable_refuses s x a.stateid (current s x) (current_refuses s x)) (λ d. refl))
+    (subst (λ (o : Outcome). is_ok (status_of_result o.result) ≡ true) (in_steps.write_is s x (moment run.now) a) fine) in
     used_here d n r its.0 a.stateid Writes at (writable_used s x a.stateid its.0 run.whole.table (checked_ok v (of_write.last_checks s a) its.0 its.1).0))))
 
 -- What is refused by NFS4ERR_ACCESS.
@@ -304,30 +304,32 @@ seat_let s x right d (Lock number access) may = are_good is_access (seat_checks 
 
 may_use_let : (s : State) (x : Context) (right : Right) (given : Stateid) (d : Node) → permits x d (want_of (wanted_by right)) ≡ true
     → IsWithout is_access (may_use s x (wanted_by right) given d)
-unfolding may_use
 may_use_let s x right given d may =
-    checked_without is_access (seat s x given d) (seat_checks s x (wanted_by right) d) (seat_without is_access refl refl s x given d) (λ k e. seat_let s x right d k may)
+    rw (in_steps.may_use_is s x (wanted_by right) given d)
+    (checked_without is_access (seat s x given d) (seat_checks s x (wanted_by right) d) (seat_without is_access refl refl s x given d) (λ k e. seat_let s x right d k may))
 
 found_let : (s : State) (x : Context) → IsWithout is_access (checked (current s x) file_checks)
 found_let s x = checked_without is_access (current s x) file_checks (current_without s x) (λ d e. are_good is_access (file_checks d) refl)
 
 read_let : (s : State) (x : Context) (n : ℕ) (r : Rights) → x.current ≡ Some n → rights_at s.tree n ≡ Some r → (a : Read) → Grants r x.who Reads
     → Answers is_access (of_read.read s x a)
-unfolding of_read.read readable
+unfolding readable
 read_let s x n r at is a grants =
-    answers_without is_access s x Num.Read (readable s x a.stateid (current s x)) _
+    rw (in_steps.read_is s x a)
+    (answers_without is_access s x Num.Read (readable s x a.stateid (current s x)) _
     (if_passed_without is_access (checked (current s x) file_checks) (may_use s x reading a.stateid) (found_let s x) (λ d e.
-    may_use_let s x Reads a.stateid d (may_read x d (gives s x n r d Reads at is (checked_ok (current s x) file_checks d e).0 grants)))) (λ d e. refl)
+    may_use_let s x Reads a.stateid d (may_read x d (gives s x n r d Reads at is (checked_ok (current s x) file_checks d e).0 grants)))) (λ d e. refl))
 
 write_let : (s : State) (x : Context) (now : Time) (n : ℕ) (r : Rights) → x.current ≡ Some n → rights_at s.tree n ≡ Some r → (a : Write) → Grants r x.who Writes
     → Answers is_access (of_write.write s x now a)
-unfolding of_write.write writable
+unfolding writable
 write_let s x now n r at is a grants =
-    answers_without is_access s x Num.Write (checked (writable s x a.stateid (current s x)) (of_write.last_checks s a)) _
+    rw (in_steps.write_is s x now a)
+    (answers_without is_access s x Num.Write (checked (writable s x a.stateid (current s x)) (of_write.last_checks s a)) _
     (checked_without is_access (writable s x a.stateid (current s x)) (of_write.last_checks s a)
     (if_passed_without is_access (checked (current s x) file_checks) (may_use s x writing a.stateid) (found_let s x) (λ d e.
     may_use_let s x Writes a.stateid d (may_write x d (gives s x n r d Writes at is (checked_ok (current s x) file_checks d e).0 grants))))
-    (λ d e. are_good is_access (of_write.last_checks s a d) refl)) (λ d e. refl)
+    (λ d e. are_good is_access (of_write.last_checks s a d) refl)) (λ d e. refl))
 
 pub read_refused : (d : RanOp) → IsRun d → (n : ℕ) (r : Rights) → IsAt n r d → d.status ≡ Access → (a : Read) → d.item ≡ Operation (Op.Read a)
     → Grants r d.context.who Reads → ⊥

@@ -15,7 +15,8 @@ use Rattle.nfs_names.specs.{Checks.{node_as, node_at, no_directory, permits, nam
 use Rattle.nfs_names.specs.{Outcome.checked, State.{State, moment}}
 use Rattle.nfs_names.proofs.{Found.{ok_is, checked_ok, or_fault, first_append}, Ones.by_delay}
 use Rattle.nfs_files.specs.Bytes.{file_checks, want_of}
-use Rattle.nfs_files.specs.Open.{access_of, makes, argument_checks, place_checks, absent_checks, there_checks, found_by, by_name, by_claim, asked_for, tree_checks, last_checks}
+use Rattle.nfs_files.specs.Open.{access_of, makes, argument_checks, place_checks, absent_checks, there_checks, tree_checks, last_checks}
+use Rattle.nfs_files.specs.OpenParts.{found_by, by_name, by_claim, asked_for}
 use Rattle.nfs_files.specs.Open.{opened, open_file}
 use Rattle.nfs_files.proofs.WrittenOps.{current_number}
 use Rattle.nfs_exec.specs.Runs.Ops.{RanOp}
@@ -24,6 +25,7 @@ use Rattle.nfs_serve.specs.Promises.Permitted.{Rights, Right, Writes, Executes, 
 use Rattle.nfs_serve.proofs.Promises.Granting.{may_write, may_execute, may_ask, rights_here, current_at}
 use Rattle.nfs_serve.proofs.Promises.PermittedNames.{gives, is_access, lets, at_without, current_without, wanted_without, big_other, not_access}
 use Rattle.nfs_serve.proofs.Promises.Without.{IsWithout, AreGood, are_good, err_without, ok_without, by_bool, then_without, checked_without, mapped_without, Answers, answers_without}
+use Rattle.nfs_files.proofs.InSteps as in_steps
 
 -- The checks of the tree answer otherwise.
 
@@ -100,9 +102,10 @@ module _ (s : State) (x : Context) (o : Open) where
       (λ d e. each d (checked_ok (current s x) (argument_checks o) d e).0)
 
   open_let : (now : Time) → IsWithout is_access (asked_for s x o) → Answers is_access (open_file s x now o)
-  unfolding open_file
-  open_let now is = answers_without is_access s x Num.Open (checked (asked_for s x o) (last_checks s x o)) (opened s x now o)
-      (checked_without is_access (asked_for s x o) (last_checks s x o) is (λ f e. last_good s x o f)) (λ f e. refl)
+  open_let now is =
+      rw (in_steps.open_is s x now o)
+      (answers_without is_access s x Num.Open (checked (asked_for s x o) (last_checks s x o)) (opened s x now o)
+      (checked_without is_access (asked_for s x o) (last_checks s x o) is (λ f e. last_good s x o f)) (λ f e. refl))
 
 -- Of an OPEN that was run.
 

@@ -11,15 +11,17 @@ use Rattle.nfs_results.specs.Results.{status_of_result}
 use Rattle.nfs_tree.specs.Files.{lookup}
 use Rattle.nfs_attrs.specs.declared.wanted.Wanted.{Wanted}
 use Rattle.nfs_names.specs.{declared.context.Context.Context, declared.making.Making.Making, declared.node.Node.Node, Checks.{node_at, current}}
-use Rattle.nfs_names.specs.{Create.attributes_in, Outcome.{is_ok, checked}, State.{State, moment}}
+use Rattle.nfs_names.specs.{Create.attributes_in, Outcome.{Outcome, is_ok, checked}, State.{State, moment}}
 use Rattle.nfs_names.proofs.{Found.{came, ok_is, checked_ok}, Ones.by_delay}
-use Rattle.nfs_files.specs.Open.{access_of, makes, argument_checks, place_checks, absent_checks, there_checks, found_by, by_name, by_handle, by_claim, asked_for, last_checks}
+use Rattle.nfs_files.specs.Open.{access_of, makes, argument_checks, place_checks, absent_checks, there_checks, last_checks}
+use Rattle.nfs_files.specs.OpenParts.{found_by, by_name, by_handle, by_claim, asked_for}
 use Rattle.nfs_files.specs.{Open.{opened, open_file}, OpenTold.{named_in, claimed}}
 use Rattle.nfs_files.proofs.{OpenAnswers.open_refuses, Passing.mapped_came, WrittenOps.current_number}
 use Rattle.nfs_exec.specs.Runs.Ops.{RanOp}
 use Rattle.nfs_exec.proofs.Runs.OneRun.{IsRun, by_ok}
 use Rattle.nfs_serve.specs.Promises.Permitted.{Rights, Right, Writes, Executes, Grants, rights_of, rights_at, has_right, IsAt}
 use Rattle.nfs_serve.proofs.{Promises.Granting.{writes, executes, asks, rights_here}, Promises.PermittedBytes.done_by, Promises.PermittedNames.gets}
+use Rattle.nfs_files.proofs.InSteps as in_steps
 
 -- What was found, by the claim.
 
@@ -102,13 +104,13 @@ claim_gives s x o DelegPrevFh d n r f right there is leads e has = absurd cc
 
 open_done : (d : RanOp) (run : IsRun d) (G : Type 0) → is_ok d.status ≡ true → (a : Open) → d.item ≡ Operation (Op.Open a)
     → ((f : _) → asked_for d.before.store d.context a ≡ Ok f → G) → G
-unfolding open_file
 open_done d run G ok a same then =
     let s = d.before.store in
     let x = d.context in
     by_ok (λ text t. G) d run (Operation (Op.Open a)) same ok
     (by_delay (λ o. is_ok (status_of_result o.result) ≡ true → G) run.refused s x Num.Open (open_file s x (moment run.now) a) (λ delayed. absurd (false≢true delayed)) (λ fine.
-    (let its = done_by s x Num.Open (checked (asked_for s x a) (last_checks s x a)) (opened s x (moment run.now) a) (open_refuses s x a) fine in
+    (let its = done_by s x Num.Open (checked (asked_for s x a) (last_checks s x a)) (opened s x (moment run.now) a) (open_refuses s x a)
+    (subst (λ (o : Outcome). is_ok (status_of_result o.result) ≡ true) (in_steps.open_is s x (moment run.now) a) fine) in
     then its.0 (checked_ok (asked_for s x a) (last_checks s x a) its.0 its.1).0)))
 
 pub open_granted : (d : RanOp) → IsRun d → (n : ℕ) (r : Rights) → rights_at d.before.store.tree n ≡ Some r → is_ok d.status ≡ true → (a : Open)

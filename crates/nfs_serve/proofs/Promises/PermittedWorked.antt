@@ -24,27 +24,27 @@ unfolding computing
 making = ByOpen _ _ refl refl refl
 
 set : rights_after_all 2 (with_mode 420) (ops_of made worked.to_group) ≡ with_mode 32
-unfolding computing set_attr_args of_set.asked_for of_set.set_attr
+unfolding computing set_attr_args of_set.set_attr
 set = refl
 
 again : rights_after_all 2 (with_mode 32) (ops_of worked.refused worked.to_owner) ≡ with_mode 256
-unfolding computing set_attr_args of_set.asked_for of_set.set_attr
+unfolding computing set_attr_args of_set.set_attr
 again = refl
 
 at : (d : RanOp) → IsAt 2 (with_mode 32) (last_of d (ops_of worked.shut worked.asks))
-unfolding computing set_attr_args of_set.asked_for of_set.set_attr
+unfolding computing set_attr_args of_set.set_attr
 at d = record { at = refl; is = refl }
 
 denied : statuses (ops_of worked.shut worked.asks) ≡ Nfs4Ok ∷ Nfs4Ok ∷ Access ∷ []
-unfolding computing set_attr_args of_set.asked_for of_set.set_attr
+unfolding computing set_attr_args of_set.set_attr
 denied = refl
 
 at_last : (d : RanOp) → IsAt 2 (with_mode 256) (last_of d (ops_of worked.free worked.asks_again))
-unfolding computing set_attr_args of_set.asked_for of_set.set_attr
+unfolding computing set_attr_args of_set.set_attr
 at_last d = record { at = refl; is = refl }
 
 given : statuses (ops_of worked.free worked.asks_again) ≡ Nfs4Ok ∷ Nfs4Ok ∷ Nfs4Ok ∷ []
-unfolding computing set_attr_args of_set.asked_for of_set.set_attr
+unfolding computing set_attr_args of_set.set_attr
 given = refl
 
 pub is_asked_of_the_owner : IsAskedOfTheOwner
@@ -80,11 +80,11 @@ not_to_owner (ToGroup other within bit) = other refl
 not_to_owner (ToOthers other out bit) = other refl
 
 other_class : (d : RanOp) → IsGranted (with_status Nfs4Ok (last_of d (ops_of worked.shut worked.asks))) → ⊥
-unfolding computing set_attr_args of_set.asked_for of_set.set_attr
+unfolding computing set_attr_args of_set.set_attr
 other_class d is = not_to_owner ((is.read 2 (with_mode 32) (record { at = refl; is = refl }) refl asked refl).special _ refl refl)
 
 needless : (d : RanOp) → IsRefused (with_status Access (last_of d (ops_of worked.free worked.asks_again))) → ⊥
-unfolding computing set_attr_args of_set.asked_for of_set.set_attr
+unfolding computing set_attr_args of_set.set_attr
 needless d is = is.read 2 (with_mode 256) (record { at = refl; is = refl }) refl asked refl (ToOwner refl refl)
 
 other_mode : ◌≢◌ {A = ℕ} 420 32

@@ -25,7 +25,9 @@ use Rattle.nfs_names.specs.State as store
 use Rattle.nfs_names.proofs.{Faulted.status_of_refusal, Found.{came, ok_is, checked_ok}, NameLaws.by_create, Ones.by_delay}
 use Rattle.nfs_names.proofs.Refusing.{IsRefusal, Refuses, refuses_checked}
 use Rattle.nfs_files.specs.{FileImage.is_number, Open.{makes, open_file}, SetAttr.set_attr}
+use Rattle.nfs_files.specs.OpenParts as open_parts
 use Rattle.nfs_files.specs.Open as of_open
+use Rattle.nfs_files.specs.SetAttrParts as set_parts
 use Rattle.nfs_files.specs.SetAttr as of_set
 use Rattle.nfs_files.proofs.{Passing.{if_passed_ok, mapped_came}, SetAnswers.asked_refuses, WrittenOps.{by_found, current_number}}
 use Rattle.nfs_exec.specs.{Step.Behind.stays, Step.Machine.Machine, Step.Laws.MachineEvent, Runs.Kept.{Kept, While}, Runs.Ops.{RanOp, ops_by}}
@@ -38,6 +40,7 @@ use Rattle.nfs_serve.specs.Promises.RightsTold.{ByCreate, ByOpen, RightsAreTold,
 use Rattle.nfs_serve.proofs.{Promises.PermittedOpens.finds, Promises.Points.{left, next_is, IsSound, whole_before, sound_next, sound_all, sound_new}}
 use Rattle.nfs_serve.proofs.Promises.RightsKept.{Are, Have, map_to, new_have, resized_have, staying_have, is_quiet, names_item, quiet_item}
 use Rattle.nfs_serve.proofs.{Promises.Staying.through_asked, Promises.NameStays.runs_at}
+use Rattle.nfs_files.proofs.InSteps as in_steps
 
 -- What an OPEN leaves of a tree: as it is, cut, or with a file that was made.
 data OpenTree (t : Files) (x : Context) (now : Time) (o : Open) (u : Files) : Type 0 where
@@ -51,7 +54,7 @@ there_tree t x now o m true = Cut m refl
 there_tree t x now o m false = Same refl
 
 found_tree : (s : store.State) (x : Context) (now : Time) (o : Open) (m : Making) (at : Option ℕ) (f : _) → attributes_in (makes o.openhow).attributes ≡ Ok m.wanted
-    → of_open.found_by s x o m at ≡ Ok f → OpenTree s.tree x now o (of_open.tree_of s.tree x now o f)
+    → open_parts.found_by s x o m at ≡ Ok f → OpenTree s.tree x now o (of_open.tree_of s.tree x now o f)
 found_tree s x now o m None f wanted e =
     let c = mapped_came _ (checked (Ok m) (of_open.absent_checks x o)) f e in
     let same : m ≡ c.found = ok_is refl (checked_ok (Ok m) (of_open.absent_checks x o) c.found c.is).0 in
@@ -61,14 +64,14 @@ found_tree s x now o m (Some n) f wanted e =
     let c = mapped_came _ (checked (node_at s (Some n)) (of_open.there_checks x o)) f e in
     subst (λ f. OpenTree s.tree x now o (of_open.tree_of s.tree x now o f)) c.same (there_tree s.tree x now o c.found.number (of_open.cuts o m.wanted))
 
-handle_tree : (s : store.State) (x : Context) (now : Time) (o : Open) (b : Bool) (d : Node) (f : _) → cond b (Err Inval) (of_open.by_handle x o d) ≡ Ok f
+handle_tree : (s : store.State) (x : Context) (now : Time) (o : Open) (b : Bool) (d : Node) (f : _) → cond b (Err Inval) (open_parts.by_handle x o d) ≡ Ok f
     → OpenTree s.tree x now o (of_open.tree_of s.tree x now o f)
 handle_tree s x now o true d f e = absurd cc
 handle_tree s x now o false d f e =
     let c = mapped_came _ (checked (Ok d) (of_open.there_checks x o)) f e in
     subst (λ f. OpenTree s.tree x now o (of_open.tree_of s.tree x now o f)) c.same (Same refl)
 
-claim_tree : (s : store.State) (x : Context) (now : Time) (o : Open) (claim : OpenClaim) (d : Node) (f : _) → of_open.by_claim s x o claim d ≡ Ok f
+claim_tree : (s : store.State) (x : Context) (now : Time) (o : Open) (claim : OpenClaim) (d : Node) (f : _) → open_parts.by_claim s x o claim d ≡ Ok f
     → OpenTree s.tree x now o (of_open.tree_of s.tree x now o f)
 claim_tree s x now o (Null name) d f e =
     let its = finds s x o name d f e in
@@ -80,16 +83,16 @@ claim_tree s x now o (DelegatePrev file) d f e = absurd cc
 claim_tree s x now o (DelegCurFh id) d f e = absurd cc
 claim_tree s x now o DelegPrevFh d f e = absurd cc
 
-asked_tree : (s : store.State) (x : Context) (now : Time) (o : Open) (f : _) → of_open.asked_for s x o ≡ Ok f → OpenTree s.tree x now o (of_open.tree_of s.tree x now o f)
-unfolding of_open.asked_for
+asked_tree : (s : store.State) (x : Context) (now : Time) (o : Open) (f : _) → open_parts.asked_for s x o ≡ Ok f → OpenTree s.tree x now o (of_open.tree_of s.tree x now o f)
+unfolding open_parts.asked_for
 asked_tree s x now o f e =
-    let c = came (checked (current s x) (of_open.argument_checks o)) (of_open.by_claim s x o o.claim) f e in claim_tree s x now o o.claim c.found f c.then
+    let c = came (checked (current s x) (of_open.argument_checks o)) (open_parts.by_claim s x o o.claim) f e in claim_tree s x now o o.claim c.found f c.then
 
 open_tree : (s : store.State) (x : Context) (now : Time) (o : Open) → OpenTree s.tree x now o (open_file s x now o).state.tree
-unfolding open_file
 open_tree s x now o =
-    by_found (λ k. OpenTree s.tree x now o k.state.tree) s x Num.Open (checked (of_open.asked_for s x o) (of_open.last_checks s x o)) (of_open.opened s x now o)
-    (λ status. Same refl) (λ f e. asked_tree s x now o f (checked_ok (of_open.asked_for s x o) (of_open.last_checks s x o) f e).0)
+    rw (in_steps.open_is s x now o)
+    (by_found (λ k. OpenTree s.tree x now o k.state.tree) s x Num.Open (checked (open_parts.asked_for s x o) (of_open.last_checks s x o)) (of_open.opened s x now o)
+    (λ status. Same refl) (λ f e. asked_tree s x now o f (checked_ok (open_parts.asked_for s x o) (of_open.last_checks s x o) f e).0))
 
 -- It sets nothing of a file that is there.
 open_have : (n : ℕ) (r : Rights) (t : Files) (x : Context) (now : Time) (o : Open) (u : Files) → OpenTree t x now o u → Have n r t → Have n r u
@@ -162,14 +165,14 @@ with_set_have n m r w now t None is = elim (cases_Bool (of_set.gives_some w)) [
 picked : {P Q : Type 0} (a b : P) → a ≡ b → (pick : P → Q) → pick a ≡ pick b
 picked a b same pick = ap pick same
 
-setting_is : (s : store.State) (x : Context) (a : SetAttr) (m : _) → of_set.asked_for s x a ≡ Ok m
+setting_is : (s : store.State) (x : Context) (a : SetAttr) (m : _) → set_parts.asked_for s x a ≡ Ok m
     → (x.current ≡ Some m.node.number) × (attributes_in a.obj_attributes ≡ Ok m.wanted)
-unfolding of_set.asked_for
+unfolding set_parts.asked_for
 setting_is s x a m e =
-    let set = (if_passed_ok (of_set.setting s x a) (of_set.sized s x a.stateid) m e).0 in
+    let set = (if_passed_ok (set_parts.setting s x a) (set_parts.sized s x a.stateid) m e).0 in
     let d = came (current s x) _ m set in
     let w = came (attributes_in a.obj_attributes) _ m d.then in
-    let same = ok_is refl (checked_ok _ (of_set.owner_checks x) m w.then).0 in (
+    let same = ok_is refl (checked_ok _ (set_parts.owner_checks x) m w.then).0 in (
       current_number s x d.found d.is ∙ picked _ m same (λ m. Some m.node.number),
       w.is ∙ picked _ m same (λ m. Ok m.wanted),
     )
@@ -192,15 +195,15 @@ by_refusal P s x op (Ok a) f all refused done = done a refl
 
 set_have : (n : ℕ) (r : Rights) (s : store.State) (x : Context) (now : Time) (a : SetAttr) → Have n r s.tree
     → (let o = set_attr s x now a in Leaves n r (rights_left n r x (Operation (Op.SetAttr a))) (status_of_result o.result) o.state)
-unfolding set_attr
 set_have n r s x now a is =
-    let q = rights_left n r x (Operation (Op.SetAttr a)) in
-    by_refusal (λ o. Leaves n r q (status_of_result o.result) o.state) s x Num.SetAttr (checked (of_set.asked_for s x a) (of_set.last_checks s)) (of_set.was_set s x now a)
-    (refuses_checked (of_set.asked_for s x a) (of_set.last_checks s) (asked_refuses s x a) (λ m. refl))
+    rw (in_steps.set_attr_is s x now a)
+    (let q = rights_left n r x (Operation (Op.SetAttr a)) in
+    by_refusal (λ o. Leaves n r q (status_of_result o.result) o.state) s x Num.SetAttr (checked (set_parts.asked_for s x a) (set_parts.last_checks s)) (set_parts.was_set s x now a)
+    (refuses_checked (set_parts.asked_for s x a) (set_parts.last_checks s) (asked_refuses s x a) (λ m. refl))
     (λ status refusal. refused_have n r q _ s (ap is_ok (status_of_refusal (op_number Num.SetAttr) status) ∙ refusal.done) is) (λ m e.
-    (let its = setting_is s x a m (checked_ok (of_set.asked_for s x a) (of_set.last_checks s) m e).0 in
+    (let its = setting_is s x a m (checked_ok (set_parts.asked_for s x a) (set_parts.last_checks s) m e).0 in
     subst (λ q. Have n q (of_set.with_set s.tree m.node.number now m.wanted m.wanted.size)) (sym (set_left n m.node.number r x a m.wanted its.0 its.1))
-    (with_set_have n m.node.number r m.wanted now s.tree m.wanted.size is)))
+    (with_set_have n m.node.number r m.wanted now s.tree m.wanted.size is))))
 
 -- An operation that was run.
 

@@ -24,6 +24,7 @@ use Rattle.nfs_names.specs.Operation as names
 use Rattle.nfs_names.proofs.{Found.{current_is, checked_ok}, Ones.{each_of, if_delayed, by_delay}}
 use Rattle.nfs_names.proofs.NameLaws as law
 use Rattle.nfs_files.specs.{Commit.commit, LockT.{tested, lock_t}, OpenTold.{named_in, claimed}, Operation.grows, Read.read, TestStateid.test_stateid}
+use Rattle.nfs_files.specs.OpenParts as open_parts
 use Rattle.nfs_files.specs.Open as of_open
 use Rattle.nfs_files.specs.SetAttr as of_set
 use Rattle.nfs_files.specs.Write as of_write
@@ -34,6 +35,7 @@ use Rattle.nfs_exec.specs.{Step.Machine.Machine, Step.Behind.{Step, step, on_sto
 use Rattle.nfs_exec.proofs.{Step.Behind.by_step, Runs.Handles.handle_in, Runs.OneRun.{in_room_is, too_big}}
 use Rattle.nfs_serve.specs.Promises.NameStays.{IsDone}
 use Rattle.nfs_serve.proofs.Promises.NameSaid.{not_done, pushed_found}
+use Rattle.nfs_files.proofs.InSteps as in_steps
 
 -- Most operations leave both.
 
@@ -93,19 +95,20 @@ plain_tested s x None = (refl, refl)
 plain_tested s x (Some h) = (refl, refl)
 
 plain_file : (s : State) (x : Context) (now : Time) (op : Op) → is_plain (Operation op) ≡ true → Plain x (files.one s x now op)
-unfolding commit lock_t read test_stateid of_set.set_attr of_write.write
+unfolding test_stateid
 plain_file s x now (Op.Close a) e = by_close (Plain x) s x a (λ status. (refl, refl)) (λ t did judged granted its. (refl, refl))
-plain_file s x now (Op.Commit a) e = by_found (Plain x) s x Num.Commit _ _ (λ status. (refl, refl)) (λ d e. (refl, refl))
+plain_file s x now (Op.Commit a) e = rw (in_steps.commit_is s x) (by_found (Plain x) s x Num.Commit _ _ (λ status. (refl, refl)) (λ d e. (refl, refl)))
 plain_file s x now (Op.FreeStateid given) e = by_free (Plain x) s x given (λ status. (refl, refl)) (λ id did freed. (refl, refl))
 plain_file s x now (Op.Lock a) e = by_lock (Plain x) s x a (λ status. (refl, refl)) (λ h. (refl, refl)) (λ m did judged granted locked. (refl, refl))
-plain_file s x now (Op.LockT a) e = by_found (Plain x) s x Num.LockT _ _ (λ status. (refl, refl)) (λ w e. plain_tested s x (locking.test_lock s.opens a.owner.owner w))
+plain_file s x now (Op.LockT a) e =
+    rw (in_steps.test_is s x a) (by_found (Plain x) s x Num.LockT _ _ (λ status. (refl, refl)) (λ w e. plain_tested s x (locking.test_lock s.opens a.owner.owner w)))
 plain_file s x now (Op.LockU a) e = by_unlock (Plain x) s x a (λ status. (refl, refl)) (λ m did judged granted unlocked. (refl, refl))
 plain_file s x now (Op.Open a) e = absurd (false≢true e)
 plain_file s x now (Op.OpenDowngrade a) e = by_downgrade (Plain x) s x a (λ status. (refl, refl)) (λ t did narrowed. (refl, refl))
-plain_file s x now (Op.Read a) e = by_found (Plain x) s x Num.Read _ _ (λ status. (refl, refl)) (λ d e. (refl, refl))
-plain_file s x now (Op.SetAttr a) e = by_found (Plain x) s x Num.SetAttr _ _ (λ status. (refl, refl)) (λ d e. (refl, refl))
+plain_file s x now (Op.Read a) e = rw (in_steps.read_is s x a) (by_found (Plain x) s x Num.Read _ _ (λ status. (refl, refl)) (λ d e. (refl, refl)))
+plain_file s x now (Op.SetAttr a) e = rw (in_steps.set_attr_is s x now a) (by_found (Plain x) s x Num.SetAttr _ _ (λ status. (refl, refl)) (λ d e. (refl, refl)))
 plain_file s x now (Op.TestStateid given) e = (refl, refl)
-plain_file s x now (Op.Write a) e = by_found (Plain x) s x Num.Write _ _ (λ status. (refl, refl)) (λ d e. (refl, refl))
+plain_file s x now (Op.Write a) e = rw (in_steps.write_is s x now a) (by_found (Plain x) s x Num.Write _ _ (λ status. (refl, refl)) (λ d e. (refl, refl)))
 plain_file s x now op e = (refl, refl)
 
 plain_files : (refused : Bool) (s : State) (x : Context) (now : Time) (i : Item) → is_plain i ≡ true → Plain x (files.comes_to refused s x now i)
@@ -252,15 +255,14 @@ OpenedTo claim t x y = (claimed t x claim ≡ y.current) × (n : ℕ) × (y.curr
 
 pub was_opened : (r : Room) (m : Machine) (x : Context) (a : Open)
     → (let s = ran_in r m x (Operation (Op.Open a)) in WasOk s → OpenedTo a.claim s.outcome.machine.store.tree x s.context)
-unfolding of_open.open_file
 was_opened r m x a =
     in_room_is (λ s. WasOk s → OpenedTo a.claim s.outcome.machine.store.tree x s.context) r.limit r.sofar r.now r.refused m x (Operation (Op.Open a))
     (λ ok. absurd (too_big m x (Operation (Op.Open a)) ok))
     (by_delay (Done (λ o. OpenedTo a.claim o.state.tree x o.context)) r.refused m.store x Num.Open (of_open.open_file m.store x (moment r.now) a) (λ ok. absurd (false≢true ok))
-    (by_granted (Done (λ o. OpenedTo a.claim o.state.tree x o.context)) m.store x Num.Open (checked (of_open.asked_for m.store x a) (of_open.last_checks m.store x a))
+    (rw (in_steps.open_is m.store x (moment r.now) a) (by_granted (Done (λ o. OpenedTo a.claim o.state.tree x o.context)) m.store x Num.Open (checked (open_parts.asked_for m.store x a) (of_open.last_checks m.store x a))
     (of_open.opened m.store x (moment r.now) a) (open_refuses m.store x a) (λ status refusal ok. absurd (false≢true (sym refusal.done ∙ ok)))
-    (λ f granted ok. (let asked = (checked_ok (of_open.asked_for m.store x a) (of_open.last_checks m.store x a) f granted).0 in
-    (asked_leads m.store x (moment r.now) a f asked, of_open.file_of m.store.tree f, refl, refl)))))
+    (λ f granted ok. (let asked = (checked_ok (open_parts.asked_for m.store x a) (of_open.last_checks m.store x a) f granted).0 in
+    (asked_leads m.store x (moment r.now) a f asked, of_open.file_of m.store.tree f, refl, refl))))))
 
 pub by_name : (name : List ℕ) (t : Files) (x y : Context) → OpenedTo (Null name) t x y → LedTo name t x y
 by_name name t x y is = go x.current refl is.0

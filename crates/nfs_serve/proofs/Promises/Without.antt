@@ -12,7 +12,7 @@ use Rattle.nfs_opens.specs.Steps.{◌>>=◌, ◌>>◌, in_order, require}
 use Rattle.nfs_names.specs.{declared.context.Context.Context, declared.node.Node.Node, Outcome.{Outcome, passed, checked, mapped, answers, or_refusal}}
 use Rattle.nfs_names.specs.State.{State}
 use Rattle.nfs_names.proofs.Faulted.{status_of_refusal}
-use Rattle.nfs_files.specs.{Bytes.{seat, if_passed}, StateIds.{state_id, meant}}
+use Rattle.nfs_files.specs.{Bytes.seat, StateIds.{state_id, meant}, Parts.if_passed}
 use Rattle.nfs_files.proofs.Prompt.{all_pass, first_passes, not_true}
 
 -- a check that passes stands in the way of no other

@@ -8,9 +8,10 @@ use Rattle.nfs_xdr.specs.declared.time.Time.{Time}
 use Rattle.nfs_tree.specs.Calls as tree
 use Rattle.nfs_names.specs.{State.{state_of, with_tree}, Checks.current}
 use Rattle.nfs_names.proofs.{NameLaws.current_refuses, Faulted.{told_done, told_fault, told_error}}
-use Rattle.nfs_files.specs.{Bytes.writable, Write.{write_ok, with_bytes, last_checks, was_written, write}}
+use Rattle.nfs_files.specs.{Write.{write_ok, with_bytes, last_checks, write}, Parts.{writable, was_written}}
 use Rattle.nfs_files.proofs.{Seats.writable_refuses, WriteRows.{write_goes, write_stops}}
 use Rattle.nfs_files.proofs.bytes.write_bytes.Goals as goal
+use Rattle.nfs_files.proofs.InSteps.{write_is}
 
 -- what the tree did of a WRITE of bytes
 abbrev wrote : (t left : Files) (n offset : ℕ) → Time → List ℕ → Result (Unit {0}) TreeFault → Type 0
@@ -44,10 +45,10 @@ returns-in-Err-write c =
     (subst (λ (b : List ℕ). wrote s.tree c.write.new.self d.number w.offset c.args.now b (Err f)) c.bytes.ensures c.in-Err-write.ensures)
 
 pub returns-in-Err : goal.returns-in-Err
-unfolding write
 returns-in-Err c =
-    let s = state_of c.args.store.now in
+    rw (write_is (state_of c.args.store.now) c.args.context.now c.args.now c.args.asked.now)
+    (let s = state_of c.args.store.now in
     let x = c.args.context.now in
     let w = c.args.asked.now in
     told_error (has_bytes w.bytes) s x Num.Write (writable s x w.stateid (current s x)) (last_checks s w) (was_written s x c.args.now w) _ c.in-Err.status
-    (writable_refuses s x w.stateid (current s x) (current_refuses s x)) (sym c.to_write.ensures ∙ c.in-Err.is) c.refuse-in-Err.ensures
+    (writable_refuses s x w.stateid (current s x) (current_refuses s x)) (sym c.to_write.ensures ∙ c.in-Err.is) c.refuse-in-Err.ensures)

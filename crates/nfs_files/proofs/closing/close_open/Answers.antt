@@ -1,6 +1,6 @@
 use Rattle.std.proofs.Common.{◌∙◌, ap}
 use Rattle.nfs_results.specs.declared.res.Res.TheVariants as Res
-use Rattle.nfs_files.specs.{Target.with_stateid, Close.{spent, closed}}
+use Rattle.nfs_files.specs.{Target.with_stateid, Close.spent, Parts.closed}
 use Rattle.nfs_compound.specs.declared.op_num.OpNum.TheVariants as Num
 use Rattle.nfs_opens.specs.Closing as opens
 use Rattle.nfs_names.specs.State.{State, state_of}

@@ -2,7 +2,7 @@ use Rattle.nfs_opens.specs.{Table.table, declared.share.Share.Share}
 use Rattle.nfs_names.specs.{Ending.with_opens, State.state_of, Outcome.{Outcome, answers}}
 use Rattle.nfs_results.specs.declared.res.Res.TheVariants as Res
 use Rattle.nfs_compound.specs.declared.stateid.Stateid.{Stateid}
-use Rattle.nfs_files.specs.{Target.with_stateid, OpenDowngrade.{bits, narrowed}}
+use Rattle.nfs_files.specs.{Target.with_stateid, OpenDowngrade.bits, Parts.narrowed}
 use Rattle.std.proofs.Common.{◌∙◌, ap}
 use Rattle.nfs_compound.specs.declared.op_num.OpNum.TheVariants as Num
 use Rattle.nfs_opens.specs.Opening as opens

@@ -3,7 +3,7 @@ use Rattle.std.specs.Prelude.{Ok}
 use Rattle.nfs_names.specs.{State.state_of, Outcome.{passed, checked}}
 use Rattle.nfs_xdr.specs.Checks.{first_fault}
 use Rattle.nfs_names.proofs.Found.{judged_err, judged_ok, stopped}
-use Rattle.nfs_files.specs.Open.{asked_for, last_checks}
+use Rattle.nfs_files.specs.{Open.last_checks, OpenParts.asked_for}
 use Rattle.nfs_files.proofs.Granted.{last_same}
 use Rattle.nfs_files.proofs.entering.judge_whole.Goals as goal
 

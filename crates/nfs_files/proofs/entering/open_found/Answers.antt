@@ -4,7 +4,7 @@ use Rattle.nfs_opens.specs.{Table.{Kept, table}, Calls.open_fault}
 use Rattle.nfs_opens.specs.Calls as of_opens
 use Rattle.nfs_names.specs.{State.{State, state_of}, Faults.status_of}
 use Rattle.nfs_names.proofs.{Found.checked_ok, Faulted.{done_by_tree, refused_tree}}
-use Rattle.nfs_files.specs.{Open.{asking, asked_for, last_checks, file_of, tree_of}, OpenParts.tree_fault}
+use Rattle.nfs_files.specs.{Open.{asking, last_checks, file_of, tree_of}, OpenParts.tree_fault, OpenParts.asked_for}
 use Rattle.nfs_files.proofs.{Granted.{may_change, tree_free}, Opened.shared_free}
 use Rattle.nfs_files.proofs.entering.open_found.Goals as goal
 

@@ -1,7 +1,7 @@
 use Rattle.nfs_opens.specs.{Table.table, Locking.unlock, Calls.is_whole}
 use Rattle.nfs_names.specs.{Ending.with_opens, State.state_of, Outcome.{or_delay, is_delay}}
 use Rattle.nfs_compound.specs.declared.stateid.Stateid.{Stateid}
-use Rattle.nfs_files.specs.{Target.with_stateid, LockU.unlocks}
+use Rattle.nfs_files.specs.{Target.with_stateid, Parts.unlocks}
 use Rattle.std.proofs.Common.{ap, ◌∙◌, sym, refl, not}
 use Rattle.std.specs.Prelude.{◌&&◌}
 use Rattle.nfs_compound.specs.declared.op_num.OpNum.TheVariants as Num

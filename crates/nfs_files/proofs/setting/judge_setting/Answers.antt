@@ -4,7 +4,7 @@ use Rattle.nfs_xdr.specs.Checks.{first_fault}
 use Rattle.nfs_attrs.specs.Setting.{may_set}
 use Rattle.nfs_names.specs.{State.state_of, Outcome.{passed, checked}}
 use Rattle.nfs_names.proofs.Found.{judged_err, judged_ok, stopped}
-use Rattle.nfs_files.specs.{declared.setting.Setting.Setting, SetAttr.{setting, owner_checks}}
+use Rattle.nfs_files.specs.{declared.setting.Setting.Setting, SetAttrParts.{setting, owner_checks}}
 use Rattle.nfs_files.proofs.SetRows.{set_by}
 use Rattle.nfs_files.proofs.setting.judge_setting.Goals as goal
 

@@ -6,9 +6,10 @@ use Rattle.nfs_tree.specs.Files.{Files}
 use Rattle.nfs_attrs.specs.Mask.{mask_of, trimmed_words}
 use Rattle.nfs_names.specs.{State.{state_of, with_tree}, Faults.status_of, Outcome.Outcome}
 use Rattle.nfs_names.proofs.Faulted.{did_ok, does_err, by_error}
-use Rattle.nfs_files.specs.{SetAttr.{asked_for, last_checks, with_set, was_set, set_attr}, SetAttrParts.tree_fault}
+use Rattle.nfs_files.specs.{SetAttr.{with_set, set_attr}, SetAttrParts.{tree_fault, asked_for, last_checks, was_set}}
 use Rattle.nfs_files.proofs.SetRows.{set_goes, set_stops}
 use Rattle.nfs_files.proofs.setting.set_attr.Goals as goal
+use Rattle.nfs_files.proofs.InSteps.{set_attr_is}
 
 pub returns-in-Ok-change : goal.returns-in-Ok-change
 returns-in-Ok-change c =
@@ -41,10 +42,10 @@ returns-in-Err-change c =
     ∙ sym (set_stops s x c.args.now a m f (sym c.judge.ensures ∙ c.in-Ok.is) did.0)
 
 pub returns-in-Err : goal.returns-in-Err
-unfolding set_attr
 returns-in-Err c =
-    let s = state_of c.args.store.now in
+    rw (set_attr_is (state_of c.args.store.now) c.args.context.now c.args.now c.args.asked.now)
+    (let s = state_of c.args.store.now in
     let x = c.args.context.now in
     let a = c.args.asked.now in
     ap (λ (r : Res). record { result = r; state = s; context = x }) c.refuse-in-Err.ensures
-    ∙ sym (by_error s x Num.SetAttr (asked_for s x a) (last_checks s) (was_set s x c.args.now a) c.in-Err.status (sym c.judge.ensures ∙ c.in-Err.is))
+    ∙ sym (by_error s x Num.SetAttr (asked_for s x a) (last_checks s) (was_set s x c.args.now a) c.in-Err.status (sym c.judge.ensures ∙ c.in-Err.is)))
