@@ -1,5 +1,5 @@
 -- How long results are.
-use Rattle.std.proofs.Common.{◌≡◌, ℕ, zero, suc, ◌+◌, ◌*◌, ◌-◌, ◌%◌, ◌≤◌, ◌<◌, Bool, true, false, cond, eqb, ltb, List, [], ◌∷◌, ◌++◌, length, Option, Some}
+use Rattle.std.proofs.Common.{◌≡◌, ℕ, zero, suc, ◌+◌, ◌*◌, ◌-◌, ◌%◌, ◌≤◌, ◌<◌, Bool, true, false, ltb, List, [], ◌∷◌, ◌++◌, length, Option, Some}
 use Rattle.std.proofs.{Common.{None, subst, sym, ap, refl, arith}, lemmas.List.{length-append, length-replicate}}
 use Rattle.std.specs.List.{flat_map}
 use Rattle.nfs_xdr.specs.Spelling as spelling
@@ -8,11 +8,13 @@ use Rattle.nfs_xdr.proofs.Putting.{length_number, length_hyper}
 use Rattle.nfs_compound.specs.{declared.stateid.Stateid.Stateid, declared.channel_attrs.ChannelAttrs.ChannelAttrs, Stateid.stateid, StateOwner.state_owner}
 use Rattle.nfs_compound.specs.{ChannelAttrs.channel_attrs, ArgCodecs.{lock_type, stable_how}, declared.op.Item.Item}
 use Rattle.nfs_compound.specs.declared.op.Item.TheVariants.{Operation, Fault}
+use Rattle.nfs_compound.specs.{declared.op_num.OpNum.OpNum, OpNum.op_num}
+use Rattle.nfs_compound.specs.declared.op_num.OpNum.TheVariants as Num
 use Rattle.nfs_results.specs.declared.res.ChangeInfo.{ChangeInfo}
 use Rattle.nfs_results.specs.Items.{access, attr_set, fattr, change_info, create, denied, open_ok, read_ok, rename, write_ok, exchange_id, create_session}
 use Rattle.nfs_results.specs.{Items.{flavors, sequence, status_codes}, declared.res.Denied.Denied, declared.res.Res.Res}
 use Rattle.nfs_results.specs.{Results.{head, operation_of, spell_result, spell_compound_head}, Parts.parts, ResultCodec.HasArrays}
-use Rattle.nfs_results.specs.{Largest.{largest_of, asked, largest}, MayAnswer.{HasSizes, IsPlain, MayAnswer}}
+use Rattle.nfs_results.specs.{Largest.{largest_op, largest_if, largest_of, asked, largest}, MayAnswer.{HasSizes, IsPlain, MayAnswer}}
 
 -- the lengths of texts whose parts are known
 pub ruleset lengths = (length_number, length_hyper, length-append, length-replicate)
@@ -50,24 +52,51 @@ unfolding channel_attrs
 length_channel a = simp lengths (omega arith)
 
 -- a refusal is no longer than the least of the largest results
-eight : (b : Bool) (x y : ℕ) → 8 ≤ x → 8 ≤ y → 8 ≤ cond b x y
-eight true x y f g = f
-eight false x y f g = g
+at_least_op : (operation : OpNum) (asked : ℕ) → 8 ≤ largest_op operation asked
+at_least_op Num.Access asked = omega arith
+at_least_op Num.Close asked = omega arith
+at_least_op Num.Commit asked = omega arith
+at_least_op Num.Create asked = omega arith
+at_least_op Num.GetAttr asked = omega arith
+at_least_op Num.GetFh asked = omega arith
+at_least_op Num.Link asked = omega arith
+at_least_op Num.Lock asked = omega arith
+at_least_op Num.LockT asked = omega arith
+at_least_op Num.LockU asked = omega arith
+at_least_op Num.Lookup asked = omega arith
+at_least_op Num.LookupP asked = omega arith
+at_least_op Num.NVerify asked = omega arith
+at_least_op Num.Open asked = omega arith
+at_least_op Num.OpenDowngrade asked = omega arith
+at_least_op Num.PutFh asked = omega arith
+at_least_op Num.PutPubFh asked = omega arith
+at_least_op Num.PutRootFh asked = omega arith
+at_least_op Num.Read asked = omega arith
+at_least_op Num.ReadDir asked = omega arith
+at_least_op Num.ReadLink asked = omega arith
+at_least_op Num.Remove asked = omega arith
+at_least_op Num.Rename asked = omega arith
+at_least_op Num.RestoreFh asked = omega arith
+at_least_op Num.SaveFh asked = omega arith
+at_least_op Num.SetAttr asked = omega arith
+at_least_op Num.Verify asked = omega arith
+at_least_op Num.Write asked = omega arith
+at_least_op Num.ExchangeId asked = omega arith
+at_least_op Num.CreateSession asked = omega arith
+at_least_op Num.DestroySession asked = omega arith
+at_least_op Num.FreeStateid asked = omega arith
+at_least_op Num.SecinfoNoName asked = omega arith
+at_least_op Num.Sequence asked = omega arith
+at_least_op Num.TestStateid asked = omega arith
+at_least_op Num.DestroyClientId asked = omega arith
+at_least_op Num.ReclaimComplete asked = omega arith
+
+at_least_if : (operation : Option OpNum) (asked : ℕ) → 8 ≤ largest_if operation asked
+at_least_if (Some operation) asked = at_least_op operation asked
+at_least_if None asked = omega arith
 
 pub at_least : (operation asked : ℕ) → 8 ≤ largest_of operation asked
-at_least operation asked =
-    eight (eqb operation 53) _ _ (omega arith)
-    (eight (eqb operation 43) _ _ (omega arith)
-    (eight (eqb operation 25) _ _ (omega arith)
-    (eight (eqb operation 26) _ _ (omega arith)
-    (eight (eqb operation 12) _ _ (omega arith)
-    (eight (eqb operation 13) _ _ (omega arith)
-    (eight (eqb operation 27) _ _ (omega arith)
-    (eight (eqb operation 9) _ _ (omega arith)
-    (eight (eqb operation 10) _ _ (omega arith)
-    (eight (eqb operation 18) _ _ (omega arith)
-    (eight (eqb operation 55) _ _ (omega arith)
-    (omega arith)))))))))))
+at_least operation asked = at_least_if (op_num operation) asked
 
 -- one line a result
 pub behind_within : (asked : ℕ) (r : Res) → HasArrays r → HasSizes asked r → 8 + length (parts r).behind ≤ largest_of (operation_of r) asked

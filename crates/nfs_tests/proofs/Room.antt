@@ -1,29 +1,58 @@
 -- Room for a result on a sheet of 2,200 bytes, and a head that stands in front of it.
-use Rattle.std.proofs.Common.{◌≡◌, ℕ, ◌+◌, ◌≤◌, Bool, true, false, cond, eqb, List, [], ◌++◌, length, append_assoc, ap, sym, ◌∙◌, arith}
+use Rattle.std.proofs.Common.{◌≡◌, ℕ, ◌+◌, ◌≤◌, List, [], ◌++◌, length, Option, Some, None, append_assoc, ap, sym, ◌∙◌, arith}
 use Rattle.std.proofs.lemmas.List.{append-nil, length-append}
 use Rattle.nfs_xdr.specs.{SheetState.{SheetState, HasRoom, Puts}, declared.status.Status.Status, declared.status.Status.TheVariants.Nfs4Ok}
+use Rattle.nfs_compound.specs.{declared.op_num.OpNum.OpNum, OpNum.op_num}
+use Rattle.nfs_compound.specs.declared.op_num.OpNum.TheVariants as Num
 use Rattle.nfs_results.specs.{OpenHead.{HeadsAt, HasHead}, declared.res.Res.Res, Results.{operation_of, spell_result, spell_compound_head}}
-use Rattle.nfs_results.specs.{ResultCodec.HasArrays, Largest.largest_of, MayAnswer.HasSizes}
+use Rattle.nfs_results.specs.{ResultCodec.HasArrays, Largest.{largest_op, largest_if, largest_of}, MayAnswer.HasSizes}
 use Rattle.nfs_results.proofs.Lengths.{behind_within, length_spelled, length_head_within}
 
-either : (b : Bool) (x y : ℕ) → x ≤ 1064 → y ≤ 1064 → cond b x y ≤ 1064
-either true x y f g = f
-either false x y f g = g
+at_most_op : (operation : OpNum) → largest_op operation 64 ≤ 1064
+at_most_op Num.Access = omega arith
+at_most_op Num.Close = omega arith
+at_most_op Num.Commit = omega arith
+at_most_op Num.Create = omega arith
+at_most_op Num.GetAttr = omega arith
+at_most_op Num.GetFh = omega arith
+at_most_op Num.Link = omega arith
+at_most_op Num.Lock = omega arith
+at_most_op Num.LockT = omega arith
+at_most_op Num.LockU = omega arith
+at_most_op Num.Lookup = omega arith
+at_most_op Num.LookupP = omega arith
+at_most_op Num.NVerify = omega arith
+at_most_op Num.Open = omega arith
+at_most_op Num.OpenDowngrade = omega arith
+at_most_op Num.PutFh = omega arith
+at_most_op Num.PutPubFh = omega arith
+at_most_op Num.PutRootFh = omega arith
+at_most_op Num.Read = omega arith
+at_most_op Num.ReadDir = omega arith
+at_most_op Num.ReadLink = omega arith
+at_most_op Num.Remove = omega arith
+at_most_op Num.Rename = omega arith
+at_most_op Num.RestoreFh = omega arith
+at_most_op Num.SaveFh = omega arith
+at_most_op Num.SetAttr = omega arith
+at_most_op Num.Verify = omega arith
+at_most_op Num.Write = omega arith
+at_most_op Num.ExchangeId = omega arith
+at_most_op Num.CreateSession = omega arith
+at_most_op Num.DestroySession = omega arith
+at_most_op Num.FreeStateid = omega arith
+at_most_op Num.SecinfoNoName = omega arith
+at_most_op Num.Sequence = omega arith
+at_most_op Num.TestStateid = omega arith
+at_most_op Num.DestroyClientId = omega arith
+at_most_op Num.ReclaimComplete = omega arith
+
+at_most_if : (operation : Option OpNum) → largest_if operation 64 ≤ 1064
+at_most_if (Some operation) = at_most_op operation
+at_most_if None = omega arith
 
 at_most : (operation : ℕ) → largest_of operation 64 ≤ 1064
-at_most operation =
-    either (eqb operation 53) _ _ (omega arith)
-    (either (eqb operation 43) _ _ (omega arith)
-    (either (eqb operation 25) _ _ (omega arith)
-    (either (eqb operation 26) _ _ (omega arith)
-    (either (eqb operation 12) _ _ (omega arith)
-    (either (eqb operation 13) _ _ (omega arith)
-    (either (eqb operation 27) _ _ (omega arith)
-    (either (eqb operation 9) _ _ (omega arith)
-    (either (eqb operation 10) _ _ (omega arith)
-    (either (eqb operation 18) _ _ (omega arith)
-    (either (eqb operation 55) _ _ (omega arith)
-    (omega arith)))))))))))
+at_most operation = at_most_if (op_num operation)
 
 room_for : (sheet : SheetState) (r : Res) → length sheet.bytes + 1064 ≤ sheet.room → HasSizes 64 r → HasArrays r → HasRoom sheet (spell_result r)
 room_for sheet r room sizes arrays = omega (arith, room, behind_within 64 r arrays sizes, length_spelled r, at_most (operation_of r))
