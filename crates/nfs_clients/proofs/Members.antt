@@ -61,9 +61,6 @@ roster_changed f t n mild is = mild_map (change_at n f) (mild_at f n mild) t is
 pub mild_reclaims : IsMild (λ c. record c { reclaimed = true })
 mild_reclaims = record { id = λ _. refl; owner = λ _. refl; mark = λ _. refl }
 
-pub mild_holds : (mark : Bool) → IsMild (λ c. record c { has_open = mark })
-mild_holds mark = record { id = λ _. refl; owner = λ _. refl; mark = λ _. refl }
-
 -- Without a record.
 
 pub roster_without : (t : Roster) (n : ℕ) → IsRoster t → IsRoster (without t n)

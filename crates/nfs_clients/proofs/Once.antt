@@ -6,9 +6,9 @@ use Rattle.nfs_clients.specs.Roster.{ClientRecord, Roster, IsRoster, no_clients,
 use Rattle.nfs_clients.specs.ExchangeId.{Ask, Case, Refuses, Stays, Adds, has_room, if_room, case_by, case_of, does, with_new, new_client}
 use Rattle.nfs_clients.specs.{CreateSession.{keeps, leaving, without_any, confirms}, DestroyClientId.destroy_fault, Calls.without_unless}
 use Rattle.nfs_clients.specs.declared.destroy.DestroyFault.{DestroyFault}
-use Rattle.nfs_clients.specs.Laws.{Change, Exchanges, Confirms, Keeps, Reclaims, Holds, Destroys, Removes, changed, after_all, IdsAreGivenOnce}
+use Rattle.nfs_clients.specs.Laws.{Change, Exchanges, Confirms, Keeps, Reclaims, Destroys, Removes, changed, after_all, IdsAreGivenOnce}
 use Rattle.nfs_clients.specs.Laws.{TablesAreInOrder}
-use Rattle.nfs_clients.proofs.Members.{the_id, change_at, IsMild, mild_keeps, mild_reclaims, mild_holds, confirmed_id, mild_at, roster_changed}
+use Rattle.nfs_clients.proofs.Members.{the_id, change_at, IsMild, mild_keeps, mild_reclaims, confirmed_id, mild_at, roster_changed}
 use Rattle.nfs_clients.proofs.Members.{roster_confirmed, roster_without, roster_new}
 
 -- the id stays given, and names none
@@ -48,8 +48,7 @@ gone_step t (Exchanges a) id is = gone_case t a (case_of t a) id is
 gone_step t (Confirms n) id is = gone_confirmed (without_any t (leaving t n)) n id (gone_dropped t (leaving t n) id is)
 gone_step t (Keeps n result) id is = gone_changed t n (keeps result) id (mild_keeps result) is
 gone_step t (Reclaims n) id is = gone_changed t n (λ c. record c { reclaimed = true }) id mild_reclaims is
-gone_step t (Holds n mark) id is = gone_changed t n (λ c. record c { has_open = mark }) id (mild_holds mark) is
-gone_step t (Destroys n has_session) id is = gone_unless t n (destroy_fault t n has_session) id is
+gone_step t (Destroys n has_session has_open) id is = gone_unless t n (destroy_fault t n has_session has_open) id is
 gone_step t (Removes n) id is = record { given = is.given; gone = gone_filter the_id id (λ c. not (eqb c.id n)) t.records is.gone }
 
 gone_all : (t : Roster) (changes : List Change) (id : ℕ) → StaysGone t id → client_at (after_all t changes) id ≡ None
@@ -78,8 +77,7 @@ order_step t (Exchanges a) is = order_case t a (has_room t a.owner) (case_by a (
 order_step t (Confirms n) is = roster_confirmed t n is
 order_step t (Keeps n result) is = roster_changed (keeps result) t n (mild_keeps result) is
 order_step t (Reclaims n) is = roster_changed (λ c. record c { reclaimed = true }) t n mild_reclaims is
-order_step t (Holds n mark) is = roster_changed (λ c. record c { has_open = mark }) t n (mild_holds mark) is
-order_step t (Destroys n has_session) is = order_unless t n (destroy_fault t n has_session) is
+order_step t (Destroys n has_session has_open) is = order_unless t n (destroy_fault t n has_session has_open) is
 order_step t (Removes n) is = roster_without t n is
 
 order_all : (t : Roster) (changes : List Change) → IsRoster t → IsRoster (after_all t changes)

@@ -28,13 +28,13 @@ confirmed_is t u owner ys x o e same is x_is =
     sym x_is ∙ is ∙ ap (find (is_confirmed_of owner)) same ∙ ap (λ (t : Roster). confirmed_of t owner) e
 
 -- a record that was added, and what is reported of it
-pub added : (t after : Roster) (owner copy verifier : List ℕ) (flags uid : ℕ) (case : Code) (granted : Exchanged)
-    → case ≡ code.Adds → case_seen case ≡ case_of t (asks owner verifier flags uid) → copy ≡ owner
-    → after ≡ with_new t (asks copy verifier 0 uid) → granted ≡ answer_added t copy
-    → (◌≡◌ {A = Result Exchanged ClientFault} (Ok granted) (exchange t (asks owner verifier flags uid)).answer)
-    × (after ≡ (exchange t (asks owner verifier flags uid)).after)
-added t after owner copy verifier flags uid case granted adds is same done answer =
-    let now : Adds ≡ case_of t (asks owner verifier flags uid) = sym (ap case_seen adds) ∙ is in (
-      ap Ok (answer ∙ ap (answer_added t) same) ∙ ap (λ k. (does t (asks owner verifier flags uid) k).answer) now,
-      done ∙ ap (λ o. with_new t (asks o verifier 0 uid)) same ∙ ap (λ k. (does t (asks owner verifier flags uid) k).after) now,
+pub added : (t after : Roster) (owner copy verifier : List ℕ) (flags uid : ℕ) (has_open : Bool) (case : Code) (granted : Exchanged)
+    → case ≡ code.Adds → case_seen case ≡ case_of t (asks owner verifier flags uid has_open) → copy ≡ owner
+    → after ≡ with_new t (asks copy verifier 0 uid false) → granted ≡ answer_added t copy
+    → (◌≡◌ {A = Result Exchanged ClientFault} (Ok granted) (exchange t (asks owner verifier flags uid has_open)).answer)
+    × (after ≡ (exchange t (asks owner verifier flags uid has_open)).after)
+added t after owner copy verifier flags uid has_open case granted adds is same done answer =
+    let now : Adds ≡ case_of t (asks owner verifier flags uid has_open) = sym (ap case_seen adds) ∙ is in (
+      ap Ok (answer ∙ ap (answer_added t) same) ∙ ap (λ k. (does t (asks owner verifier flags uid has_open) k).answer) now,
+      done ∙ ap (λ o. with_new t (asks o verifier 0 uid false)) same ∙ ap (λ k. (does t (asks owner verifier flags uid has_open) k).after) now,
     )

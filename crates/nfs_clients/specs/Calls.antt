@@ -33,5 +33,5 @@ without_unless None t id = without t id
 without_unless (Some fault) t id = t
 
 -- the table behind the call
-abbrev pub destroyed : Roster → ℕ → Bool → Roster
-destroyed t id has_session = without_unless (destroy_fault t id has_session) t id
+abbrev pub destroyed : Roster → ℕ → (has_session has_open : Bool) → Roster
+destroyed t id has_session has_open = without_unless (destroy_fault t id has_session has_open) t id

@@ -19,15 +19,16 @@ fault_status ClidInUse = status.ClidInUse
 fault_status ServerFault = status.ServerFault
 fault_status Memory = status.Delay
 
--- what the call asks
+-- what the call asks, and whether an open stands of the client that the owner's confirmed record is
 pub record Ask : Type 0 where
   pub owner : List ℕ
   pub verifier : List ℕ
   pub flags : ℕ
   pub uid : ℕ
+  pub has_open : Bool
 
-abbrev pub asks : List ℕ → List ℕ → ℕ → ℕ → Ask
-asks owner verifier flags uid = record { owner = owner; verifier = verifier; flags = flags; uid = uid }
+abbrev pub asks : List ℕ → List ℕ → ℕ → ℕ → Bool → Ask
+asks owner verifier flags uid has_open = record { owner = owner; verifier = verifier; flags = flags; uid = uid; has_open = has_open }
 
 -- EXCHGID4_FLAG_CONFIRMED_R, which no call may carry
 abbrev pub carries_confirmed : Ask → Bool
@@ -62,7 +63,7 @@ case_by a (Some c) =
     ∷ (updates a, Stays c)
     ∷ (same_user a c && same_verifier a c, Stays c)
     ∷ (same_user a c, Adds)
-    ∷ (c.has_open, Refuses ClidInUse)
+    ∷ (a.has_open, Refuses ClidInUse)
     ∷ [])) Adds
 
 -- a record can be added: ids are left, and it takes the place of the owner's unconfirmed one or finds one free
@@ -89,7 +90,6 @@ new_client t a = record {
   number = 1;
   kept = None;
   reclaimed = false;
-  has_open = false;
 }
 
 -- the table with it, in place of the owner's unconfirmed record if there is one

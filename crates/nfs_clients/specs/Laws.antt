@@ -1,7 +1,7 @@
 -- What holds over any run of changes of a client table.
 use Rattle.std.specs.Prelude.{◌≡◌, ℕ, ◌<◌, ◌^◌, Bool, List, [], ◌∷◌, None}
 use Rattle.nfs_clients.specs.{declared.created.CreateResult.CreateResult, Roster.{Roster, IsRoster, no_clients, next_id, client_at, without}}
-use Rattle.nfs_clients.specs.{ExchangeId.{Ask, exchange}, CreateSession.{with_kept, with_confirmed}, Calls.destroyed, Marks.{with_reclaimed, with_open}}
+use Rattle.nfs_clients.specs.{ExchangeId.{Ask, exchange}, CreateSession.{with_kept, with_confirmed}, Calls.destroyed, Marks.with_reclaimed}
 
 -- what changes a table
 pub data Change : Type 0 where
@@ -9,8 +9,7 @@ pub data Change : Type 0 where
   Confirms : ℕ → Change
   Keeps : ℕ → CreateResult → Change
   Reclaims : ℕ → Change
-  Holds : ℕ → Bool → Change
-  Destroys : ℕ → Bool → Change
+  Destroys : ℕ → (has_session has_open : Bool) → Change
   Removes : ℕ → Change
 
 abbrev pub changed : Roster → Change → Roster
@@ -18,8 +17,7 @@ changed t (Exchanges ask) = (exchange t ask).after
 changed t (Confirms id) = with_confirmed t id
 changed t (Keeps id result) = with_kept t id result
 changed t (Reclaims id) = with_reclaimed t id
-changed t (Holds id mark) = with_open t id mark
-changed t (Destroys id has_session) = destroyed t id has_session
+changed t (Destroys id has_session has_open) = destroyed t id has_session has_open
 changed t (Removes id) = without t id
 
 abbrev pub after_all : Roster → List Change → Roster

@@ -1,4 +1,4 @@
--- The marks of a client record: that its reclaim is complete (RFC 8881 section 18.51), and that it has an open.
+-- The mark of a client record that its reclaim is complete (RFC 8881 section 18.51).
 use Rattle.std.specs.{Prelude.{ℕ, Bool, true, false, Option, is_some}, Option.option_map_or}
 use Rattle.nfs_clients.specs.Roster.{ClientRecord, Roster, client_at, with_changed}
 
@@ -14,13 +14,3 @@ has_reclaimed t id = is_reclaimed (client_at t id)
 
 abbrev pub with_reclaimed : Roster → ℕ → Roster
 with_reclaimed t id = with_changed t id (λ c. record c { reclaimed = true })
-
-abbrev pub has_open_by : Option ClientRecord → Bool
-has_open_by found = option_map_or (λ c. c.has_open) found false
-
--- the client has an open
-abbrev pub has_open : Roster → ℕ → Bool
-has_open t id = has_open_by (client_at t id)
-
-abbrev pub with_open : Roster → ℕ → Bool → Roster
-with_open t id mark = with_changed t id (λ c. record c { has_open = mark })

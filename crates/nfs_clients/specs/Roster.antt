@@ -4,7 +4,7 @@ use Rattle.nfs_xdr.specs.Tables.{IsRising, record_at, without_record, with_recor
 use Rattle.nfs_clients.specs.declared.created.CreateResult.{CreateResult}
 
 -- A client record: its id, the string by which the client names itself, the verifier of its start and its user; whether a CREATE_SESSION has confirmed it;
--- the number that the next CREATE_SESSION must bear, and the result of the number before, if one was used up; its marks.
+-- the number that the next CREATE_SESSION must bear, and the result of the number before, if one was used up; whether its reclaim is complete.
 pub record ClientRecord : Type 0 where
   pub id : ℕ
   pub owner : List ℕ
@@ -14,7 +14,6 @@ pub record ClientRecord : Type 0 where
   pub number : ℕ
   pub kept : Option CreateResult
   pub reclaimed : Bool
-  pub has_open : Bool
 
 -- the records in rising order of their ids, the first four bytes of each id, and the last four of the last one given, 0 before the first
 pub record Roster : Type 0 where

@@ -29,8 +29,6 @@ pub(crate) struct Client {
     pub(crate) kept: Option<CreateResult>,
     /// The client has declared its reclaim complete.
     pub(crate) reclaimed: bool,
-    /// The client has an open.
-    pub(crate) has_open: bool,
 }
 
 impl Model for Client {
@@ -38,13 +36,13 @@ impl Model for Client {
 
     ghost Value = { ClientRecord };
 
-    ghost view = { λ c. record { id = c.id; owner = c.owner; verifier = c.verifier; uid = c.uid; confirmed = c.confirmed; number = c.number; kept = c.kept; reclaimed = c.reclaimed; has_open = c.has_open } };
+    ghost view = { λ c. record { id = c.id; owner = c.owner; verifier = c.verifier; uid = c.uid; confirmed = c.confirmed; number = c.number; kept = c.kept; reclaimed = c.reclaimed } };
 }
 
 impl Client {
     /// A record that no CREATE_SESSION has confirmed.
     pub(crate) fn new(id: u64, owner: Owner, verifier: [u8; 8], uid: u32) -> Self
-        ensures { result ≡ record { id = id; owner = owner; verifier = verifier; uid = uid; confirmed = false; number = 1; kept = None; reclaimed = false; has_open = false } }
+        ensures { result ≡ record { id = id; owner = owner; verifier = verifier; uid = uid; confirmed = false; number = 1; kept = None; reclaimed = false } }
     {
         Client {
             id,
@@ -55,7 +53,6 @@ impl Client {
             number: 1,
             kept: None,
             reclaimed: false,
-            has_open: false,
         }
     }
 
@@ -120,12 +117,5 @@ impl Client {
         ensures { self.new ≡ record self.old { reclaimed = true } }
     {
         self.reclaimed = true;
-    }
-
-    /// Sets whether the client has an open.
-    pub(crate) fn hold(&mut self, has_open: bool)
-        ensures { self.new ≡ record self.old { has_open = has_open } }
-    {
-        self.has_open = has_open;
     }
 }

@@ -31,16 +31,20 @@ impl DestroyFault {
 
 impl Clients {
     /// DESTROY_CLIENTID: removes the record, unless it is not there or in use. Whether the client
-    /// has a session is for the caller to say; whether it has an open the record says (`hold`).
-    /// A refusal changes nothing.
-    pub fn destroy(&mut self, client: u64, has_session: bool) -> Result<(), DestroyFault>
-        ensures answer { result ≡ judged (destroy_fault self.old client has_session) }
-        ensures table { self.new ≡ destroyed self.old client has_session }
+    /// has a session or an open is for the caller to say. A refusal changes nothing.
+    pub fn destroy(
+        &mut self,
+        client: u64,
+        has_session: bool,
+        has_open: bool,
+    ) -> Result<(), DestroyFault>
+        ensures answer { result ≡ judged (destroy_fault self.old client has_session has_open) }
+        ensures table { self.new ≡ destroyed self.old client has_session has_open }
     {
         if !self.contains(client) {
             return Err(DestroyFault::Stale);
         }
-        if has_session || self.has_open(client) {
+        if has_session || has_open {
             return Err(DestroyFault::Busy);
         }
         self.remove(client);

@@ -1,6 +1,6 @@
 //! EXCHANGE_ID (RFC 8881 section 18.35), by the cases of this server's profile.
 
-ghost use Rattle.std.specs.Prelude.{◌≡◌, ℕ, List, IsTrue, OnOk, OnErr, IfOk, find, position, option_map, vec_len, vec_capacity, ◌≤◌};
+ghost use Rattle.std.specs.Prelude.{◌≡◌, ℕ, Bool, false, List, IsTrue, OnOk, OnErr, IfOk, find, position, option_map, vec_len, vec_capacity, ◌≤◌};
 ghost use Rattle.std.specs.Option.{option_copied, option_map_or};
 ghost use Rattle.std.specs.List.{remove};
 ghost use Rattle.nfs_xdr.specs.Checks.{judged};
@@ -85,6 +85,14 @@ pub struct Exchanged {
 }
 
 impl Clients {
+    /// The id of the owner's confirmed record: the client whose open `exchange` wants to know of.
+    pub fn confirmed(&self, owner: &[u8]) -> Option<u64>
+        ensures { result ≡ option_map (λ c. c.id) (confirmed_of self.now owner.now) }
+    {
+        let client = confirmed_in(&self.records, &Name::of(owner))?;
+        Some(client.id())
+    }
+
     /// What `exchange` would refuse the call with, but for want of memory; changes nothing.
     pub fn judge_exchange(
         &self,
@@ -92,10 +100,11 @@ impl Clients {
         verifier: [u8; 8],
         flags: u32,
         uid: u32,
+        has_open: bool,
     ) -> Result<(), ClientFault>
-        ensures { result ≡ judged (exchange_fault self.now (asks owner.now verifier flags uid)) }
+        ensures { result ≡ judged (exchange_fault self.now (asks owner.now verifier flags uid has_open)) }
     {
-        if let Case::Refuses(fault) = self.case(&Name::of(owner), verifier, flags, uid) {
+        if let Case::Refuses(fault) = self.case(&Name::of(owner), verifier, flags, uid, has_open) {
             return Err(fault);
         }
         Ok(())
@@ -103,7 +112,8 @@ impl Clients {
 
     /// EXCHANGE_ID (RFC 8881 section 18.35), by the cases of this server's profile. A new record
     /// takes `next_id`, is unconfirmed and replaces the owner's unconfirmed record if there is
-    /// one. `owner` is at most 1,024 bytes on the wire, and is copied.
+    /// one. `owner` is at most 1,024 bytes on the wire, and is copied; `has_open` says whether an
+    /// open stands of the client that `confirmed` names.
     ///
     /// A refusal changes nothing. `Memory` comes last, and only where a record is to be added.
     pub fn exchange(
@@ -113,10 +123,11 @@ impl Clients {
         verifier: [u8; 8],
         flags: u32,
         uid: u32,
+        has_open: bool,
     ) -> Result<Exchanged, ClientFault>
-        ensures { ExchangesOrWants self.old (asks owner.now verifier flags uid) result self.new }
+        ensures { ExchangesOrWants self.old (asks owner.now verifier flags uid has_open) result self.new }
     {
-        match self.case(&Name::of(owner), verifier, flags, uid) {
+        match self.case(&Name::of(owner), verifier, flags, uid, has_open) {
             Case::Refuses(fault) => Err(fault),
             Case::Stays(client) => Ok(client.answer_standing()),
             Case::Adds => {
@@ -127,10 +138,10 @@ impl Clients {
     }
 
     /// What the call comes to.
-    fn case(&self, owner: &Name, verifier: [u8; 8], flags: u32, uid: u32) -> Case
-        ensures { case_seen result ≡ case_of self.now (asks owner.now verifier flags uid) }
+    fn case(&self, owner: &Name, verifier: [u8; 8], flags: u32, uid: u32, has_open: bool) -> Case
+        ensures { case_seen result ≡ case_of self.now (asks owner.now verifier flags uid has_open) }
     {
-        match self.row(owner, verifier, flags, uid) {
+        match self.row(owner, verifier, flags, uid, has_open) {
             Case::Adds => {
                 if self.has_room(owner) {
                     Case::Adds
@@ -143,11 +154,11 @@ impl Clients {
     }
 
     /// The row of the call, but for whether there is room.
-    fn row(&self, owner: &Name, verifier: [u8; 8], flags: u32, uid: u32) -> Case
-        ensures { case_seen result ≡ case_by (asks owner.now verifier flags uid) (confirmed_of self.now owner.now) }
+    fn row(&self, owner: &Name, verifier: [u8; 8], flags: u32, uid: u32, has_open: bool) -> Case
+        ensures { case_seen result ≡ case_by (asks owner.now verifier flags uid has_open) (confirmed_of self.now owner.now) }
     {
         match confirmed_in(&self.records, owner) {
-            Some(client) => client.case(verifier, flags, uid),
+            Some(client) => client.case(verifier, flags, uid, has_open),
             None => case_of_unknown(flags),
         }
     }
@@ -163,7 +174,7 @@ impl Clients {
     /// Puts a new record in the place of the owner's unconfirmed one.
     fn add(&mut self, owner: Owner, verifier: [u8; 8], uid: u32) -> Result<Exchanged, AllocError>
         requires { IsTrue (has_room self.old owner) }
-        ensures ok { OnOk result (self.new ≡ with_new self.old (asks owner verifier 0 uid)) }
+        ensures ok { OnOk result (self.new ≡ with_new self.old (asks owner verifier 0 uid false)) }
         ensures answer { IfOk result (λ e. e ≡ answer_added self.old owner) }
         ensures err { OnErr result (self.new ≡ self.old) }
     {
@@ -194,8 +205,8 @@ enum Case<'a> {
 
 impl Client {
     /// The rows of a call whose owner has this confirmed record.
-    fn case(&self, verifier: [u8; 8], flags: u32, uid: u32) -> Case
-        ensures { (owner : List ℕ) → case_seen result ≡ case_by (asks owner verifier flags uid) (Some self.now) }
+    fn case(&self, verifier: [u8; 8], flags: u32, uid: u32, has_open: bool) -> Case
+        ensures { (owner : List ℕ) → case_seen result ≡ case_by (asks owner verifier flags uid has_open) (Some self.now) }
     {
         if flags & CONFIRMED_R != 0 {
             return Case::Refuses(ClientFault::Inval);
@@ -215,7 +226,7 @@ impl Client {
             }
             return Case::Adds;
         }
-        if self.has_open {
+        if has_open {
             return Case::Refuses(ClientFault::ClidInUse);
         }
         Case::Adds
@@ -224,7 +235,7 @@ impl Client {
 
 /// The rows of a call whose owner has no confirmed record.
 fn case_of_unknown<'a>(flags: u32) -> Case<'a>
-    ensures { (owner verifier : List ℕ) (uid : ℕ) → case_seen result ≡ case_by (asks owner verifier flags uid) None }
+    ensures { (owner verifier : List ℕ) (uid : ℕ) (has_open : Bool) → case_seen result ≡ case_by (asks owner verifier flags uid has_open) None }
 {
     if flags & CONFIRMED_R != 0 {
         return Case::Refuses(ClientFault::Inval);

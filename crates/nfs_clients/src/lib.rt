@@ -5,7 +5,7 @@
 //! unconfirmed record, the table has at most 1,024, and an id is never given twice.
 //!
 //! ```text
-//! let asked = clients.exchange(alloc, owner, verifier, flags, uid)?;     // EXCHANGE_ID
+//! let asked = clients.exchange(alloc, owner, verifier, flags, uid, has_open)?;   // EXCHANGE_ID
 //! if let CreateVerdict::Runs = clients.create_judge(asked.id, asked.number, uid) {
 //!     clients.confirm(asked.id);                                          // CREATE_SESSION
 //!     clients.keep_created(asked.id, CreateResult::Done(Resok::new(body)));

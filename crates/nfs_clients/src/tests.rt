@@ -32,7 +32,7 @@ fn the_last_id_is_given_and_none_behind_it(rt: HostRuntime) -> Result<(), Fail> 
         (b"A", Ok(id(u32::MAX))),
         (b"B", Err(ClientFault::ServerFault)),
     ] {
-        let asked = clients.exchange(rt.alloc(), owner, OLD, 0, 0);
+        let asked = clients.exchange(rt.alloc(), owner, OLD, 0, 0, false);
         assert_eq!(rt; asked.map(|it| it.id), want);
     }
     Ok(())
@@ -63,7 +63,7 @@ fn verdict_of(clients: &Clients, client: u64, number: u32, uid: u32) -> Said {
 #[test]
 fn create_session_numbers(rt: HostRuntime) -> Result<(), Fail> {
     let mut clients = Clients::new(rt.alloc(), 7);
-    clients.exchange(rt.alloc(), b"A", OLD, 0, 0)?;
+    clients.exchange(rt.alloc(), b"A", OLD, 0, 0, false)?;
     let cases = [
         (None, 2, 1, 0, Said::Stale),
         (None, 1, 0, 0, Said::Misordered),
@@ -118,6 +118,9 @@ fn create_session_numbers(rt: HostRuntime) -> Result<(), Fail> {
     };
     assert_eq!(rt; kept.bytes(), b"body".as_slice());
     clients.confirm(id(1));
-    assert_eq!(rt; clients.exchange(rt.alloc(), b"A", OLD, 0, 0), stands(1, 5));
+    assert_eq!(rt;
+        clients.exchange(rt.alloc(), b"A", OLD, 0, 0, false),
+        stands(1, 5)
+    );
     Ok(())
 }

@@ -13,7 +13,7 @@ pub mod Creating
 pub mod AloneResults
 pub mod RepliesKept
 pub mod CompoundCases
-pub mod OpenMarks
+pub mod OpensStaying
 pub mod Invariant
 pub mod LeaseMoments
 pub mod Repeating

@@ -28,10 +28,9 @@ impl Tables {
         ensures outcome { with_result (machine_of self.new) result ≡ destroy_client (machine_of self.old) client }
         ensures size { IsSmall result }
     {
-        match self
-            .clients
-            .destroy(client, self.sessions.has_client(client))
-        {
+        let has_session = self.sessions.has_client(client);
+        let has_open = self.store.has_open(client);
+        match self.clients.destroy(client, has_session, has_open) {
             Ok(()) => {
                 self.leases.remove(client);
                 Res::DestroyClientId

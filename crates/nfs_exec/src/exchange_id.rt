@@ -12,7 +12,7 @@ ghost use Rattle.nfs_results.specs.declared.res.Res.TheVariants as Res;
 ghost use Rattle.nfs_results.specs.Results.{status_of_result};
 ghost use Rattle.nfs_names.specs.Outcome.{is_delay};
 ghost use Rattle.nfs_exec.specs.Step.Machine.{IsMachine, with_result, or_delay, machine_of};
-ghost use Rattle.nfs_exec.specs.Step.ExchangeId.{exchange_id, exchange_id_number, granted};
+ghost use Rattle.nfs_exec.specs.Step.ExchangeId.{exchange_id, exchange_id_number, granted, owner_has_open};
 ghost use Rattle.nfs_exec.specs.Step.View.{settled};
 
 use crate::tables::Tables;
@@ -44,7 +44,11 @@ impl Tables {
         ensures size { MayAnswer (Operation (Op.ExchangeId asked.now)) result }
     {
         let (owner, verifier, flags) = (asked.ownerid.bytes(), asked.verifier, asked.flags);
-        if let Err(fault) = self.clients.judge_exchange(owner, verifier, flags, who.uid) {
+        let has_open = self.owner_has_open(owner);
+        if let Err(fault) = self
+            .clients
+            .judge_exchange(owner, verifier, flags, who.uid, has_open)
+        {
             return refused(fault);
         }
         let next = self.clients.next_id();
@@ -53,7 +57,7 @@ impl Tables {
         };
         match self
             .clients
-            .exchange(alloc, owner, verifier, flags, who.uid)
+            .exchange(alloc, owner, verifier, flags, who.uid, has_open)
         {
             Ok(exchanged) => {
                 settle(&mut self.leases, next, &exchanged);
@@ -63,6 +67,16 @@ impl Tables {
                 self.leases.remove(next);
                 refused(fault)
             }
+        }
+    }
+
+    /// Whether an open stands of the client that the owner's confirmed record is.
+    fn owner_has_open(&self, owner: &[u8]) -> bool
+        ensures { result ≡ owner_has_open (machine_of self.now) owner.now }
+    {
+        match self.clients.confirmed(owner) {
+            Some(client) => self.store.has_open(client),
+            None => false,
         }
     }
 }

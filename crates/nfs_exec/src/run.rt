@@ -1,6 +1,6 @@
 //! The operations of a compound behind its SEQUENCE (RFC 8881 section 2.3).
 
-ghost use Rattle.std.specs.Prelude.{◌≡◌, ◌≤◌, ◌<◌, ◌^◌, ◌+◌, ◌-◌, ℕ, Option, length, if◌then◌else◌};
+ghost use Rattle.std.specs.Prelude.{◌≡◌, ◌≤◌, ◌<◌, ◌^◌, ◌+◌, ◌-◌, ℕ, Option, length};
 ghost use Rattle.nfs_xdr.specs.Tables.{In};
 ghost use Rattle.nfs_xdr.specs.declared.status.Status.TheVariants.{Nfs4Ok};
 ghost use Rattle.nfs_compound.specs.declared.op.Item.{Item};
@@ -11,9 +11,9 @@ ghost use Rattle.nfs_results.specs.ResultCodec.{IsBounded};
 ghost use Rattle.nfs_names.specs.StoreInvariants.{IsStore};
 ghost use Rattle.nfs_sessions.specs.SessionSlots.{rpc_head};
 ghost use Rattle.nfs_names.specs.Outcome.{is_delay};
-ghost use Rattle.nfs_exec.specs.Step.Machine.{with_result, machine_of, with_mark};
+ghost use Rattle.nfs_exec.specs.Step.Machine.{with_result, machine_of};
 ghost use Rattle.nfs_exec.specs.Step.Place.{status_behind};
-ghost use Rattle.nfs_exec.specs.Step.Behind.{step, moves_opens, otherwise};
+ghost use Rattle.nfs_exec.specs.Step.Behind.{step, otherwise};
 ghost use Rattle.nfs_exec.specs.Step.Run.{run, in_room, reserve};
 ghost use Rattle.nfs_exec.specs.Step.View.{RunsTo, Steps, CanBear};
 
@@ -153,27 +153,15 @@ impl Tables {
         ensures more { result ≡ Nfs4Ok → length out.new.bytes ≤ length out.old.bytes + largest (Operation op.now) }
         ensures store { IsStore (machine_of self.new).store }
     {
-        let client = context.client;
         if let Some(status) = name_op(alloc, &mut self.store, context, op, now, out) {
             return status;
         }
         if let Some(status) = file_op(alloc, &mut self.store, context, op, now, out) {
-            self.mark_open(op, client);
             return status;
         }
         let res = self.unstored(op, context);
         write(&res, out);
         res.status()
-    }
-
-    /// Behind OPEN and CLOSE their client's record is marked where one of its opens stands.
-    fn mark_open(&mut self, op: &Op<'_>, client: u64)
-        ensures marked { machine_of self.new ≡ (if moves_opens (Operation op.now) then with_mark client (machine_of self.old) else machine_of self.old) }
-        ensures store { self.new.store ≡ self.old.store }
-    {
-        if moves_opens(op) {
-            self.clients.hold(client, self.store.has_open(client));
-        }
     }
 
     /// What an operation that is not on the store comes to.
@@ -189,13 +177,6 @@ impl Tables {
             _ => Res::refusal(op.number(), status_behind(op)),
         }
     }
-}
-
-/// Whether the operation can move whether its client has an open.
-fn moves_opens(op: &Op<'_>) -> bool
-    ensures { result ≡ moves_opens (Operation op.now) }
-{
-    matches!(op, Op::Close(_) | Op::Open(_))
 }
 
 /// What an operation behind a SEQUENCE is refused with, where nothing carries it out.

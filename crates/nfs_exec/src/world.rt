@@ -108,8 +108,8 @@ impl World {
         let _tables = &self.tables;
     }
 
-    /// The tables agree in every world: a client record has a lease, and the mark of an open where one of the client's opens
-    /// stands, and nothing else has; who has a session or an open is there and confirmed. This does nothing but say so.
+    /// The tables agree in every world: a client record has a lease, and nothing else has one; who has a session or an open is
+    /// there and confirmed. This does nothing but say so.
     pub fn tables_agree(&self)
         ensures { IsMachine (machine_of self.now) }
     {

@@ -100,8 +100,8 @@ impl Server {
         self.engine.no_clash();
     }
 
-    /// In every state that a server reaches a client record has a lease, and the mark of an open where one of the client's opens
-    /// stands, and nothing else has; who has a session or an open is there and confirmed. This does nothing but say so.
+    /// In every state that a server reaches a client record has a lease, and nothing else has one; who has a session or an open
+    /// is there and confirmed. This does nothing but say so.
     pub fn tables_agree(&self)
         ensures { IsMachine (state_of self.now.kept).machine }
     {

@@ -18,7 +18,7 @@ use Rattle.nfs_files.proofs.Outcomes as files
 use Rattle.nfs_files.proofs.{Outcomes.for_each, TreeFiles.{IsWhole, tree_ended, tree_new}, TableSteps.{table_item, table_staying_is}, Steady.{Few, few_files}}
 use Rattle.nfs_names.proofs.Sound as of_names
 use Rattle.nfs_files.proofs.Sound as of_files
-use Rattle.nfs_exec.specs.{Step.Machine.{Machine, starts, HasNoClashes}, Step.Behind.{Step, step, on_store, moves_opens, marked_if, otherwise}}
+use Rattle.nfs_exec.specs.{Step.Machine.{Machine, starts, HasNoClashes}, Step.Behind.{Step, step, on_store, otherwise}}
 use Rattle.nfs_exec.specs.{Step.Run.{run, in_room, reserve, is_here, behind_here}, Step.ReclaimComplete.{reclaim_complete, of_one, of_all}}
 use Rattle.nfs_exec.specs.{Step.CreateSession.without_any_opens, Step.Compound.{renewed, begun}, Step.Laws.{MachineEvent, Expires, Asks, stepped, all_stepped}}
 use Rattle.nfs_exec.specs.{Runs.Ops.{RanOp, ops, ops_by}, Runs.NoClashes.NoneInRuns}
@@ -37,10 +37,6 @@ whole_ended stays s is = record {
   table = table_staying_is stays s.opens is.table;
   few = is.few;
 }
-
-pub marked_store : (moves : Bool) (client : ℕ) (s : Step) → (marked_if moves client s).outcome.machine.store ≡ s.outcome.machine.store
-marked_store true client s = refl
-marked_store false client s = refl
 
 of_one_store : (m : Machine) (v : Result Node Status) → (of_one m v).machine.store ≡ m.store
 of_one_store m (Ok d) = refl
@@ -67,14 +63,13 @@ whole_step m x now refused i is =
       table = subst IsTable (sym leaves.opens) is.table;
       few = subst Few (sym leaves.opens) is.few;
     }))
-    (for_each (λ o. Is (marked_if (moves_opens i) x.client (on_store m o)).outcome.machine) refused m.store x (moment now) i
-    (subst IsWhole (sym (marked_store (moves_opens i) x.client (on_store m (files.comes_to refused m.store x (moment now) i))))
+    (for_each (λ o. Is (on_store m o).outcome.machine) refused m.store x (moment now) i
     (let sound = of_files.sound_item refused m.store x (moment now) i is.tree is.table is.store in record {
       tree = sound.tree;
       store = sound.store;
       table = table_item refused m.store x (moment now) i is.table;
       few = few_files refused m.store x (moment now) i is.table is.few;
-    })))
+    }))
     (λ none other. subst IsWhole (sym (otherwise_store m x i)) is)
 
 pub whole_room : (limit sofar now : ℕ) (refused : Bool) (m : Machine) (x : Context) (i : Item) → Is m → Is (in_room limit sofar now refused m x i).outcome.machine

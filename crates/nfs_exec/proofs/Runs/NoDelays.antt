@@ -26,14 +26,14 @@ use Rattle.nfs_sessions.specs.Sessions.{Session, SessionTable, session_at, creat
 use Rattle.nfs_sessions.specs.{declared.channel.Wish.Wish, declared.id.SessionId.SessionId, declared.sessions.SessionFault.SessionFault}
 use Rattle.nfs_sessions.specs.declared.sessions.SessionFault.TheVariants as Sessions
 use Rattle.nfs_names.specs.{declared.context.Context.Context, Context.begins, State.{State, moment}}
-use Rattle.nfs_names.specs.{Outcome.{Outcome as OfStore, or_delay as or_delay_there, is_delay, is_ok}, Checks.current}
+use Rattle.nfs_names.specs.{Outcome.{Outcome as OfStore, or_delay as or_delay_there, is_delay, is_ok}, Checks.current, Ending.has_open}
 use Rattle.nfs_names.specs.Operation as names
 use Rattle.nfs_names.proofs.{Faulted.status_of_refusal, Ones.each_of}
 use Rattle.nfs_files.proofs.Outcomes as files
 use Rattle.nfs_files.proofs.{Outcomes.for_each, Prompt.{IsPrompt, all_pass, first_passes, not_true, first_prompt, current_prompt, names_prompt}}
 use Rattle.nfs_files.proofs.PromptFiles.{files_prompt}
 use Rattle.nfs_exec.specs.Step.Machine.{Machine, Outcome, or_delay, refuses as exec_refuses, starts}
-use Rattle.nfs_exec.specs.Step.Behind.{step, on_store, moves_opens, marked_if, otherwise}
+use Rattle.nfs_exec.specs.Step.Behind.{step, on_store, otherwise}
 use Rattle.nfs_exec.specs.Step.CreateSession.{create_session_number, by_verdict, creates, by_created, made_body, wish_of}
 use Rattle.nfs_exec.specs.{Step.Destroy.{destroy_session, destroyed_unless, has_session}, Step.ExchangeId.{exchange_id, exchange_id_number, exchanged, ask_of}}
 use Rattle.nfs_exec.specs.{Step.ReclaimComplete.{reclaim_complete, of_one, of_all}, Step.Run.{in_room, reserve, is_here, behind_here}}
@@ -49,11 +49,6 @@ undelayed : (g : Bool) (s : State) (x : Context) (n : _) (o : OfStore) → is_de
     → is_delay (status_of_result (or_delay_there (g && false) s x n o).result) ≡ false
 undelayed true s x n o fails = fails
 undelayed false s x n o fails = fails
-
-marked_prompt : (moves : Bool) (m : Machine) (x : Context) (o : OfStore) → is_delay (status_of_result o.result) ≡ false
-    → is_delay (marked_if moves x.client (on_store m o)).outcome.status ≡ false
-marked_prompt true m x o fails = fails
-marked_prompt false m x o fails = fails
 
 refused_prompt : (n : ℕ) (s : Status) → is_delay s ≡ false → is_delay (status_of_result (refusal n s)) ≡ false
 refused_prompt n s fails = ap is_delay (status_of_refusal n s) ∙ fails
@@ -87,9 +82,8 @@ step_prompt m x now op =
     by_step (λ s. is_delay s.outcome.status ≡ false) m x now false (Operation op)
     (each_of (λ o. is_delay (status_of_result o.result) ≡ false) (names.comes_to false m.store x (moment now) (Operation op))
     (undelayed_if (names.grows m.store x op) m.store x (arguments op).op (names.one m.store x (moment now) op) (names_prompt m.store x (moment now) op)))
-    (for_each (λ o. is_delay (marked_if (moves_opens (Operation op)) x.client (on_store m o)).outcome.status ≡ false) false m.store x (moment now) (Operation op)
-    (marked_prompt (moves_opens (Operation op)) m x (files.comes_to false m.store x (moment now) (Operation op))
-    (undelayed (files.grows m.store x op) m.store x (arguments op).op (files.one m.store x (moment now) op) (files_prompt m.store x (moment now) op))))
+    (for_each (λ o. is_delay (status_of_result o.result) ≡ false) false m.store x (moment now) (Operation op)
+    (undelayed (files.grows m.store x op) m.store x (arguments op).op (files.one m.store x (moment now) op) (files_prompt m.store x (moment now) op)))
     (λ none other. otherwise_prompt m x op)
 
 room_prompt : (limit sofar now : ℕ) (m : Machine) (x : Context) (op : Op) → is_delay (in_room limit sofar now false m x (Operation op)).outcome.status ≡ false
@@ -247,14 +241,14 @@ client_gone_prompt m client (Some Destroys.Busy) = refused_prompt 57 ClientIdBus
 
 carried_prompt : (m : Machine) (who : Caller) (now : ℕ) (op : Op) → AreCalm m.clients → is_delay (carried_out m who now false (Operation op)).status ≡ false
 carried_prompt m who now (Op.ExchangeId e) calm =
-    let a = ask_of who e in
+    let a = ask_of m who e in
     exchanged_prompt m now a (case_of m.clients a) (room_calm (has_room m.clients a.owner) (case_by a (confirmed_of m.clients a.owner)) (case_prompt a (confirmed_of m.clients a.owner)))
 carried_prompt m who now (Op.CreateSession c) calm =
     created_prompt m now c (clients.create_verdict m.clients c.clientid c.sequence who.uid) (λ status e.
     (let (k, at, kept) = verdict_kept (client_at m.clients c.clientid) c.sequence who.uid (results.Refused status) e in
     calm k (find_in (λ (k : ClientRecord). k.id == c.clientid) m.clients.records k at).0 status kept))
 carried_prompt m who now (Op.DestroySession sessionid) calm = session_gone_prompt m sessionid
-carried_prompt m who now (Op.DestroyClientId client) calm = client_gone_prompt m client (destroy_fault m.clients client (has_session m.sessions client))
+carried_prompt m who now (Op.DestroyClientId client) calm = client_gone_prompt m client (destroy_fault m.clients client (has_session m.sessions client) (has_open m.store client))
 carried_prompt m who now op calm = refused_prompt (item_number (Operation op)) NotSupp refl
 
 placed_prompt : (m : Machine) (n : ℕ) (o : Option Status) (done : Outcome) → ((fault : Status) → o ≡ Some fault → is_delay fault ≡ false) → is_delay done.status ≡ false
@@ -344,11 +338,11 @@ calm_destroyed m client (Some fault) calm = calm
 
 calm_carried : (m : Machine) (who : Caller) (now : ℕ) (refused : Bool) (i : Item) → AreCalm m.clients → AreCalm (carried_out m who now refused i).machine.clients
 calm_carried m who now refused (Operation (Op.ExchangeId e)) calm =
-    calm_delayed m (exchange_id m who now e) refused exchange_id_number calm (calm_exchanged m now (ask_of who e) (case_of m.clients (ask_of who e)) calm)
+    calm_delayed m (exchange_id m who now e) refused exchange_id_number calm (calm_exchanged m now (ask_of m who e) (case_of m.clients (ask_of m who e)) calm)
 calm_carried m who now refused (Operation (Op.CreateSession c)) calm =
     calm_created m now refused c (clients.create_verdict m.clients c.clientid c.sequence who.uid) calm
 calm_carried m who now refused (Operation (Op.DestroySession sessionid)) calm = calm_session m sessionid calm
-calm_carried m who now refused (Operation (Op.DestroyClientId client)) calm = calm_destroyed m client (destroy_fault m.clients client (has_session m.sessions client)) calm
+calm_carried m who now refused (Operation (Op.DestroyClientId client)) calm = calm_destroyed m client (destroy_fault m.clients client (has_session m.sessions client) (has_open m.store client)) calm
 calm_carried m who now refused i calm = calm
 
 calm_first : (m : Machine) (declared : ℕ) (who : Caller) (now : ℕ) (refused : Bool) (i : Item) → AreCalm m.clients → AreCalm (first_item m declared who now refused i).machine.clients

@@ -18,7 +18,7 @@ use Rattle.nfs_sessions.specs.{Id.id_of, declared.channel.Wish.Wish, declared.id
 use Rattle.nfs_sessions.specs.SessionSlots.{GrantedSlots}
 use Rattle.nfs_sessions.specs.Sessions.{Session, SessionTable, is_session, session_at, create, create_unless, create_fault, with_slots}
 use Rattle.nfs_lease.specs.Renewals.{Book, has_run_out, with_lease, with_renewal, without_lease}
-use Rattle.nfs_names.specs.{Context.begins, Outcome.is_ok}
+use Rattle.nfs_names.specs.{Context.begins, Ending.has_open, Outcome.is_ok}
 use Rattle.nfs_exec.specs.{Step.Machine.{Machine, IsMachine, Outcome, or_delay, refuses}, Step.Place.item_fault}
 use Rattle.nfs_exec.specs.Step.ExchangeId.{exchange_id, exchange_id_number, exchanged, ask_of, without_any_lease}
 use Rattle.nfs_exec.specs.Step.CreateSession.{create_session_number, by_verdict, creates, by_created, made_body, wish_of, without_any_sessions}
@@ -229,7 +229,7 @@ carried_strange : (client : ℕ) (m : Machine) (k : ClientRecord) (who : Caller)
     → client_at m.clients client ≡ Some k → is_named_in client m.clients (i ∷ more) ≡ false → IsAsBefore client m (carried_out m who now refused i).machine
 carried_strange client m k who now refused (Operation (Op.ExchangeId e)) more is at none =
     delayed client m (exchange_id m who now e) refused exchange_id_number
-    (exchange_strange client m k now (ask_of who e) (case_of m.clients (ask_of who e)) is at none)
+    (exchange_strange client m k now (ask_of m who e) (case_of m.clients (ask_of m who e)) is at none)
 carried_strange client m k who now refused (Operation (Op.CreateSession c)) more is at none =
     let parts = neither (c.clientid == client) _ none in
     created_strange client m now refused c (clients.create_verdict m.clients c.clientid c.sequence who.uid) (eqb-false c.clientid client parts.0)
@@ -237,7 +237,7 @@ carried_strange client m k who now refused (Operation (Op.CreateSession c)) more
 carried_strange client m k who now refused (Operation (Op.DestroySession sessionid)) more is at none =
     session_strange client m sessionid (eqb-false (id_of sessionid).client client none)
 carried_strange client m k who now refused (Operation (Op.DestroyClientId gone)) more is at none =
-    destroyed_strange client m gone (destroy_fault m.clients gone (has_session m.sessions gone)) (eqb-false gone client none)
+    destroyed_strange client m gone (destroy_fault m.clients gone (has_session m.sessions gone) (has_open m.store gone)) (eqb-false gone client none)
 carried_strange client m k who now refused i more is at none = as_it_was client m
 
 first_strange : (client : ℕ) (m : Machine) (k : ClientRecord) (declared : ℕ) (who : Caller) (now : ℕ) (refused : Bool) (i : Item) (more : List Item) → IsRoster m.clients

@@ -8,7 +8,7 @@ use Rattle.nfs_names.specs.{declared.context.Context.Context, Outcome.is_ok, Sta
 use Rattle.nfs_names.specs.Operation as names
 use Rattle.nfs_files.specs.Operation as table
 use Rattle.nfs_files.proofs.Outcomes.{comes_to, for_each}
-use Rattle.nfs_exec.specs.{Step.Machine.Machine, Step.Behind.{Step, step, stays, on_store, moves_opens, marked_if, otherwise}, Step.Run.{in_room, reserve}}
+use Rattle.nfs_exec.specs.{Step.Machine.Machine, Step.Behind.{Step, step, stays, on_store, otherwise}, Step.Run.{in_room, reserve}}
 use Rattle.nfs_exec.specs.Runs.Ops.{RanOp, done}
 use Rattle.nfs_exec.proofs.{Step.Behind.by_step, Step.RefusalsFit.refused_status, Runs.KeptByRuns.{Is, otherwise_store}}
 
@@ -54,12 +54,6 @@ pub by_run : (P : Status → List ℕ → State → Type 0) (d : RanOp) (r : IsR
     → P d.status d.result d.behind.store
 by_run P d r big named filed other = by_item P d r d.item refl big
     (by_step (λ s. P s.outcome.status s.outcome.result s.outcome.machine.store) d.before d.context r.now r.refused d.item named
-    (for_each (λ o. (let s = marked_if (moves_opens d.item) d.context.client (on_store d.before o) in P s.outcome.status s.outcome.result s.outcome.machine.store))
-    r.refused d.before.store d.context (moment r.now) d.item (by_mark (moves_opens d.item)))
+    (for_each (λ o. P (status_of_result o.result) (spell_result o.result) o.state) r.refused d.before.store d.context (moment r.now) d.item filed)
     (λ none off. (let o = (otherwise d.before d.context d.item).outcome in
     subst (P o.status o.result) (sym (otherwise_store d.before d.context d.item)) (other off))))
-  where
-    by_mark : (moves : Bool) → (let s = marked_if moves d.context.client (on_store d.before (comes_to r.refused d.before.store d.context (moment r.now) d.item)) in
-        P s.outcome.status s.outcome.result s.outcome.machine.store)
-    by_mark true = filed
-    by_mark false = filed

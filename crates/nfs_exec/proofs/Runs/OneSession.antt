@@ -27,7 +27,7 @@ use Rattle.nfs_names.specs.{declared.context.Context.Context, declared.node.Node
 use Rattle.nfs_names.specs.Outcome.{is_ok}
 use Rattle.nfs_files.proofs.Outcomes as files
 use Rattle.nfs_files.proofs.Outcomes.{for_each}
-use Rattle.nfs_exec.specs.{Step.Machine.{Machine, Outcome, or_delay, refuses, starts}, Step.Behind.{step, on_store, moves_opens, marked_if, otherwise}}
+use Rattle.nfs_exec.specs.{Step.Machine.{Machine, Outcome, or_delay, refuses, starts}, Step.Behind.{step, on_store, otherwise}}
 use Rattle.nfs_exec.specs.{Step.Run.{run, in_room, is_here, behind_here}, Step.Place.item_fault, Step.ReclaimComplete.{reclaim_complete, of_one, of_all}}
 use Rattle.nfs_exec.specs.Step.ExchangeId.{exchange_id, exchange_id_number, ask_of}
 use Rattle.nfs_exec.specs.Step.CreateSession.{create_session_number, by_verdict, creates, by_created, confirmed, made_body, wish_of, without_any_sessions}
@@ -61,13 +61,6 @@ asked_same n (Operation (Op.CreateSession c)) rest = refl
 asked_same n i rest = refl
 
 module _ (n : ℕ) (P : Roster → Type 0) (held : IsCarried n P) where
-  marked_carried : (m : Machine) (x : Context) (now : ℕ) (refused : Bool) (i : Item) (moves : Bool) → P m.clients
-      → P (marked_if moves x.client (on_store m (files.comes_to refused m.store x (moment now) i))).outcome.machine.clients
-  marked_carried m x now refused i true a =
-      held.quiet m.clients x.client (λ c. record c { has_open = has_open (files.comes_to refused m.store x (moment now) i).state x.client })
-      (record { id = λ c. refl; number = λ c. refl; kept = λ c. refl }) a
-  marked_carried m x now refused i false a = a
-
   one_carried : (m : Machine) (v : Result Node Status) → P m.clients → P (of_one m v).machine.clients
   one_carried m (Ok d) a = a
   one_carried m (Err status) a = a
@@ -89,8 +82,7 @@ module _ (n : ℕ) (P : Roster → Type 0) (held : IsCarried n P) where
   step_carried : (m : Machine) (x : Context) (now : ℕ) (refused : Bool) (i : Item) → P m.clients → P (step m x now refused i).outcome.machine.clients
   step_carried m x now refused i a =
       by_step (λ s. P s.outcome.machine.clients) m x now refused i (λ o e. a)
-      (for_each (λ o. P (marked_if (moves_opens i) x.client (on_store m o)).outcome.machine.clients) refused m.store x (moment now) i
-      (marked_carried m x now refused i (moves_opens i) a)) (λ none other. otherwise_carried m x i a)
+      (for_each (λ o. P m.clients) refused m.store x (moment now) i a) (λ none other. otherwise_carried m x i a)
 
   run_carried : (limit sofar now : ℕ) (choice : Option ℕ) (m : Machine) (x : Context) (items : List Item) → P m.clients
       → P (run limit sofar now choice m x items).machine.clients
@@ -124,10 +116,10 @@ module _ (n : ℕ) (P : Roster → Type 0) (held : IsCarried n P) where
       (λ t r. made_other m now c t r (eqb-false c.clientid n other) a)
   out_carried m who now refused (Operation (Op.ExchangeId e)) other a =
       delayed_after (λ m. P m.clients) m (exchange_id m who now e) refused exchange_id_number a
-      (carried_case n P held m.clients (ask_of who e) (case_of m.clients (ask_of who e)) a)
+      (carried_case n P held m.clients (ask_of m who e) (case_of m.clients (ask_of m who e)) a)
   out_carried m who now refused (Operation (Op.DestroySession sessionid)) other a = ended_carried m sessionid a
   out_carried m who now refused (Operation (Op.DestroyClientId client)) other a =
-      destroyed_carried m client (destroy_fault m.clients client (has_session m.sessions client)) a
+      destroyed_carried m client (destroy_fault m.clients client (has_session m.sessions client) (has_open m.store client)) a
   out_carried m who now refused i other a = a
 
   first_carried : (m : Machine) (declared : ℕ) (who : Caller) (now : ℕ) (refused : Bool) (i : Item) → asks_of n (i ∷ []) ≡ false → P m.clients

@@ -12,7 +12,7 @@ use Rattle.nfs_names.proofs.Untouched.{leaves_each}
 use Rattle.nfs_files.proofs.Outcomes as files
 use Rattle.nfs_files.proofs.{Outcomes.for_each, Effected.same_client, OthersTables.{same, both}, OthersOps.{is_other, item_apart}}
 use Rattle.nfs_results.specs.Largest.{largest}
-use Rattle.nfs_exec.specs.{Step.Machine.Machine, Step.Behind.{step, on_store, moves_opens, marked_if, otherwise}}
+use Rattle.nfs_exec.specs.{Step.Machine.Machine, Step.Behind.{step, on_store, otherwise}}
 use Rattle.nfs_exec.specs.{Step.ReclaimComplete.{reclaim_complete, of_one, of_all}, Step.Run.{run, in_room, reserve, is_here, behind_here}}
 use Rattle.nfs_files.specs.Own.{HasAsBefore}
 use Rattle.nfs_exec.proofs.{Step.Behind.{by_step, follow_kept, other_context}, Runs.KeptByRuns.{Is, whole_room, otherwise_store}}
@@ -41,20 +41,6 @@ pub known_apart_from : (t : Roster) (c client : ℕ) (f : ClientRecord → Clien
 known_apart_from t c client f mild other =
     at_with (λ (r : ClientRecord). r.id) f mild c client t.records ∙ rw (ne_eqb c client (λ here. other (sym here))) refl
 
-marked_apart : (c : ℕ) (m : Machine) (x : Context) (now : ℕ) (refused : Bool) (i : Item) (moves : Bool) → Is m → x.client ≢ c
-    → (let s = marked_if moves x.client (on_store m (files.comes_to refused m.store x (moment now) i)) in StepsApart c m x s.outcome.machine s.context)
-marked_apart c m x now refused i true is other = (
-  record {
-    own = item_apart c refused m.store x (moment now) i is.table other;
-    known = known_apart_from m.clients c x.client _ (λ r. refl) other;
-  },
-  same_client refused m.store x (moment now) i,
-)
-marked_apart c m x now refused i false is other = (
-  record { own = item_apart c refused m.store x (moment now) i is.table other; known = refl },
-  same_client refused m.store x (moment now) i,
-)
-
 of_one_apart : (c : ℕ) (m : Machine) (v : Result Node Status) → client_at (of_one m v).machine.clients c ≡ client_at m.clients c
 of_one_apart c m (Ok d) = refl
 of_one_apart c m (Err status) = refl
@@ -81,8 +67,8 @@ step_apart c m x now refused i is other =
       record { own = subst (HasAsBefore c m.store.opens) (sym leaves.opens) (same c m.store.opens); known = refl },
       leaves.client,
     )))
-    (for_each (λ o. (let s = marked_if (moves_opens i) x.client (on_store m o) in StepsApart c m x s.outcome.machine s.context)) refused m.store x (moment now) i
-    (marked_apart c m x now refused i (moves_opens i) is other))
+    (for_each (λ o. StepsApart c m x (record m { store = o.state }) o.context) refused m.store x (moment now) i
+    (record { own = item_apart c refused m.store x (moment now) i is.table other; known = refl }, same_client refused m.store x (moment now) i))
     (λ none off. (
       record {
         own = subst (λ (s : State). HasAsBefore c m.store.opens s.opens) (sym (otherwise_store m x i)) (same c m.store.opens);

@@ -14,7 +14,7 @@ use Rattle.nfs_clients.specs.CreateSession as clients
 use Rattle.nfs_sessions.specs.{declared.id.SessionId.SessionId, declared.sessions.SessionFault.SessionFault, Id.id_of}
 use Rattle.nfs_sessions.specs.Sessions.{SessionTable, create, session_at}
 use Rattle.nfs_lease.specs.Renewals.{Book, with_lease, with_renewal, without_lease}
-use Rattle.nfs_names.specs.{Context.begins, Outcome.is_ok}
+use Rattle.nfs_names.specs.{Context.begins, Ending.has_open, Outcome.is_ok}
 use Rattle.nfs_exec.specs.{Step.Machine.{Machine, Outcome, or_delay, refuses}, Step.Place.item_fault}
 use Rattle.nfs_exec.specs.Step.ExchangeId.{exchange_id, exchange_id_number, leases_behind, without_any_lease, ask_of, answered}
 use Rattle.nfs_exec.specs.Step.CreateSession.{create_session_number, by_verdict, creates, by_created, wish_of}
@@ -102,13 +102,13 @@ client_still m client gone (Some fault) = inr refl
 carried_still : (m : Machine) (who : Caller) (now client : ℕ) (refused : Bool) (i : Item)
     → is_ok (carried_out m who now refused i).status && is_for client m who i ≡ false → IsStill client m.leases (carried_out m who now refused i).machine.leases
 carried_still m who now client refused (Operation (Op.ExchangeId e)) none =
-    let v = (exchange m.clients (ask_of who e)).answer in
+    let v = (exchange m.clients (ask_of m who e)).answer in
     delayed_still m client (exchange_id m who now e) refused exchange_id_number (adds client v) (exchanged_still m now client v) none
 carried_still m who now client refused (Operation (Op.CreateSession c)) none =
     created_still m now client refused c (clients.create_verdict m.clients c.clientid c.sequence who.uid) none
 carried_still m who now client refused (Operation (Op.DestroySession sessionid)) none = session_still m client sessionid
 carried_still m who now client refused (Operation (Op.DestroyClientId gone)) none =
-    client_still m client gone (destroy_fault m.clients gone (has_session m.sessions gone))
+    client_still m client gone (destroy_fault m.clients gone (has_session m.sessions gone) (has_open m.store gone))
 carried_still m who now client refused i none = inr refl
 
 first_still : (m : Machine) (declared : ℕ) (who : Caller) (now client : ℕ) (refused : Bool) (i : Item)

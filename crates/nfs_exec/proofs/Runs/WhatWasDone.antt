@@ -17,7 +17,7 @@ use Rattle.nfs_files.proofs.ToldGrants.{IsTold, IsToldClosed, lock_tells, unlock
 use Rattle.nfs_files.specs.LockTold.{Names, LockTold, Stands}
 use Rattle.nfs_files.proofs.Inside as inside
 use Rattle.nfs_files.proofs.ToldLocks as told
-use Rattle.nfs_exec.specs.{Step.Machine.Machine, Step.Behind.{step, on_store, moves_opens, marked_if, otherwise}, Step.Run.{in_room, is_here, behind_here}}
+use Rattle.nfs_exec.specs.{Step.Machine.Machine, Step.Behind.{step, on_store, otherwise}, Step.Run.{in_room, is_here, behind_here}}
 use Rattle.nfs_exec.specs.{Step.Compound.{renewed, begun}, Step.Laws.{MachineEvent, Expires, Asks, ran}, Runs.Ops.{RanOp, ops, ops_by}}
 use Rattle.nfs_exec.specs.Runs.LockHeld.{LocksFor, UnlocksFor, ClosesOf, Spares, Tells, is_of, renews}
 use Rattle.nfs_exec.proofs.{Step.Behind.by_step, Runs.ByEvent.by_compound, Runs.OneRun.by_item, Runs.KeptByRuns.{Is, whole_room, in_more, event_ops}}
@@ -120,13 +120,9 @@ ops_run limit sofar now choice m x (i ∷ more) is d there =
 step_client : (m : Machine) (x : Context) (now : ℕ) (refused : Bool) (i : Item) → Is m → (step m x now refused i).context.client ≡ x.client
 step_client m x now refused i is =
     by_step (λ s. s.context.client ≡ x.client) m x now refused i (λ o e. (leaves_each refused m.store x (moment now) i o e).client)
-    (for_each (λ o. (marked_if (moves_opens i) x.client (on_store m o)).context.client ≡ x.client) refused m.store x (moment now) i (by_mark (moves_opens i)))
+    (for_each (λ o. o.context.client ≡ x.client) refused m.store x (moment now) i (same_client refused m.store x (moment now) i))
     (λ none other. by_item i)
   where
-    by_mark : (moves : Bool) → (marked_if moves x.client (on_store m (files.comes_to refused m.store x (moment now) i))).context.client ≡ x.client
-    by_mark true = same_client refused m.store x (moment now) i
-    by_mark false = same_client refused m.store x (moment now) i
-
     by_item : (i : Item) → (otherwise m x i).context.client ≡ x.client
     by_item (Operation (Op.ReclaimComplete one)) = refl
     by_item i = refl

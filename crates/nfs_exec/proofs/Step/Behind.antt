@@ -8,15 +8,15 @@ use Rattle.nfs_results.specs.{Largest.largest, declared.res.Res.Res, Results.{sp
 use Rattle.nfs_results.proofs.Lengths.{length_head}
 use Rattle.nfs_tree.specs.{declared.object.Object.Object, Files.object_at}
 use Rattle.nfs_names.specs.{State.{State, moment}, declared.context.Context.Context, declared.node.Node.Node, Checks.{current, node_at, node_as}}
-use Rattle.nfs_names.specs.{Comes.{Comes, MayCome}, Ending.has_open, Outcome.{Outcome as OfStore, is_delay, is_ok}}
+use Rattle.nfs_names.specs.{Comes.{Comes, MayCome}, Outcome.{Outcome as OfStore, is_delay, is_ok}}
 use Rattle.nfs_names.specs.Operation as names
 use Rattle.nfs_files.specs.Operation as files
-use Rattle.nfs_clients.specs.{Roster.Roster, Marks.{has_reclaimed, with_open}}
+use Rattle.nfs_clients.specs.Marks.{has_reclaimed}
 use Rattle.nfs_lease.specs.Renewals.{Book}
 use Rattle.nfs_sessions.specs.Sessions.{SessionTable}
-use Rattle.nfs_exec.specs.{Step.Machine.{Machine, Outcome, with_result, with_mark}, Step.Place.status_behind}
+use Rattle.nfs_exec.specs.{Step.Machine.{Machine, Outcome, with_result}, Step.Place.status_behind}
 use Rattle.nfs_exec.specs.Step.ReclaimComplete.{reclaim_complete, of_one, of_all}
-use Rattle.nfs_exec.specs.{Step.Behind.{Step, step, on_store, moves_opens, marked_if, otherwise, stays}, Step.View.Steps}
+use Rattle.nfs_exec.specs.{Step.Behind.{Step, step, on_store, otherwise, stays}, Step.View.Steps}
 use Rattle.nfs_exec.specs.Step.Run.{Ran, run, in_room, follow, is_here, behind_here, reserve}
 
 -- What it answers can be put, and is short.
@@ -47,23 +47,23 @@ other_stays m x op other = refl
 pub step_of_names : (m : Machine) (x : Context) (now : ℕ) (refused : Bool) (i : Item) (o : OfStore)
     → names.comes_to refused m.store x (moment now) i ≡ Some o → step m x now refused i ≡ on_store m o
 step_of_names m x now refused i o e =
-    ap (λ v. option_map_or (on_store m) v (option_map_or (λ o. marked_if (moves_opens i) x.client (on_store m o))
+    ap (λ v. option_map_or (on_store m) v (option_map_or (on_store m)
     (files.comes_to refused m.store x (moment now) i) (otherwise m x i))) e
 
 pub step_of_none : (m : Machine) (x : Context) (now : ℕ) (refused : Bool) (i : Item) → names.comes_to refused m.store x (moment now) i ≡ None
     → files.comes_to refused m.store x (moment now) i ≡ None → step m x now refused i ≡ otherwise m x i
 step_of_none m x now refused i none other =
-    ap (λ v. option_map_or (on_store m) v (option_map_or (λ o. marked_if (moves_opens i) x.client (on_store m o))
+    ap (λ v. option_map_or (on_store m) v (option_map_or (on_store m)
     (files.comes_to refused m.store x (moment now) i) (otherwise m x i))) none
-    ∙ ap (λ v. option_map_or (λ o. marked_if (moves_opens i) x.client (on_store m o)) v (otherwise m x i)) other
+    ∙ ap (λ v. option_map_or (on_store m) v (otherwise m x i)) other
 
 pub step_of_files : (m : Machine) (x : Context) (now : ℕ) (refused : Bool) (i : Item) (o : OfStore)
     → names.comes_to refused m.store x (moment now) i ≡ None → files.comes_to refused m.store x (moment now) i ≡ Some o
-    → step m x now refused i ≡ marked_if (moves_opens i) x.client (on_store m o)
+    → step m x now refused i ≡ on_store m o
 step_of_files m x now refused i o none e =
-    ap (λ v. option_map_or (on_store m) v (option_map_or (λ o. marked_if (moves_opens i) x.client (on_store m o))
+    ap (λ v. option_map_or (on_store m) v (option_map_or (on_store m)
     (files.comes_to refused m.store x (moment now) i) (otherwise m x i))) none
-    ∙ ap (λ v. option_map_or (λ o. marked_if (moves_opens i) x.client (on_store m o)) v (otherwise m x i)) e
+    ∙ ap (λ v. option_map_or (on_store m) v (otherwise m x i)) e
 
 by_either : (P : Step → Type 0) (v w : Option OfStore) (f g : OfStore → Step) (e : Step) → ForSome v (λ o. P (f o)) → ForSome w (λ o. P (g o))
     → (v ≡ None → w ≡ None → P e) → P (option_map_or f v (option_map_or g w e))
@@ -73,29 +73,24 @@ by_either P None None f g e named filed none = none refl refl
 
 pub by_step : (P : Step → Type 0) (m : Machine) (x : Context) (now : ℕ) (refused : Bool) (i : Item)
     → ForSome (names.comes_to refused m.store x (moment now) i) (λ o. P (on_store m o))
-    → ForSome (files.comes_to refused m.store x (moment now) i) (λ o. P (marked_if (moves_opens i) x.client (on_store m o)))
+    → ForSome (files.comes_to refused m.store x (moment now) i) (λ o. P (on_store m o))
     → (names.comes_to refused m.store x (moment now) i ≡ None → files.comes_to refused m.store x (moment now) i ≡ None → P (otherwise m x i))
     → P (step m x now refused i)
 by_step P m x now refused i =
     by_either P (names.comes_to refused m.store x (moment now) i) (files.comes_to refused m.store x (moment now) i)
-    (on_store m) (λ o. marked_if (moves_opens i) x.client (on_store m o)) (otherwise m x i)
+    (on_store m) (on_store m) (otherwise m x i)
 
 -- What holds of a machine whatever its store is, and whether its clients have reclaimed, holds behind the operations.
 
 pub record IsKeptByEach (P : Machine → Type 0) : Type 0 where
   pub stored : (m : Machine) (s : _) → P m → P (record m { store = s })
   pub reclaimed : (m : Machine) (x : Context) → P m → P (of_all m x).machine
-  pub marked : (m : Machine) (client : ℕ) → P m → P (with_mark client m)
 
 pub kept_step : (P : Machine → Type 0) → IsKeptByEach P
     → (m : Machine) (x : Context) (now : ℕ) (refused : Bool) (i : Item) → P m → P (step m x now refused i).outcome.machine
 kept_step P keeps m x now refused i is =
-    by_step (λ s. P s.outcome.machine) m x now refused i (λ o e. keeps.stored m o.state is) (λ o e. by_mark (moves_opens i) o) (λ none other. by_item i)
+    by_step (λ s. P s.outcome.machine) m x now refused i (λ o e. keeps.stored m o.state is) (λ o e. keeps.stored m o.state is) (λ none other. by_item i)
   where
-    by_mark : (moves : Bool) (o : OfStore) → P (marked_if moves x.client (on_store m o)).outcome.machine
-    by_mark true o = keeps.marked (record m { store = o.state }) x.client (keeps.stored m o.state is)
-    by_mark false o = keeps.stored m o.state is
-
     one : (found : Result Node Status) → P (of_one m found).machine
     one (Ok d) = is
     one (Err status) = is
@@ -127,14 +122,12 @@ keeps_leases : (b : Book) → IsKeptByEach (λ m. m.leases ≡ b)
 keeps_leases b = record {
   stored = λ m s is. is;
   reclaimed = λ m x is. elim (cases_Bool (has_reclaimed m.clients x.client)) [ inl again ↦ rw again is | inr once ↦ rw once is ];
-  marked = λ m client is. is;
 }
 
 keeps_sessions : (t : SessionTable) → IsKeptByEach (λ m. m.sessions ≡ t)
 keeps_sessions t = record {
   stored = λ m s is. is;
   reclaimed = λ m x is. elim (cases_Bool (has_reclaimed m.clients x.client)) [ inl again ↦ rw again is | inr once ↦ rw once is ];
-  marked = λ m client is. is;
 }
 
 pub run_leases : (limit sofar now : ℕ) (choice : Option ℕ) (m : Machine) (x : Context) (items : List Item)
@@ -150,16 +143,6 @@ run_sessions limit sofar now choice m x items = kept_run (λ k. k.sessions ≡ m
 pub other_context : (m : Machine) (x : Context) (i : Item) → x ≡ (otherwise m x i).context
 other_context m x (Operation (Op.ReclaimComplete one)) = refl
 other_context m x i = refl
-
--- the mark was set, or nothing can have moved it
-pub marks_moved : (moves : Bool) (client : ℕ) (m : Machine) (clients : Roster) (mark : Bool) → moves ≡ true → mark ≡ has_open m.store client
-    → clients ≡ with_open m.clients client mark → record m { clients = clients } ≡ cond moves (with_mark client m) m
-marks_moved true client m clients mark can is held = ap (λ (t : Roster). record m { clients = t }) (held ∙ ap (with_open m.clients client) is)
-marks_moved false client m clients mark can is held = absurd cc
-
-pub marks_nothing : (moves : Bool) (client : ℕ) (m : Machine) → moves ≡ false → m ≡ cond moves (with_mark client m) m
-marks_nothing true client m cannot = absurd cc
-marks_nothing false client m cannot = refl
 
 -- of what was tried on names
 pub none_named : (m : Machine) (x : Context) (now : ℕ) (i : Item) (old new : SheetState) (r : Option Status) (store : State) (behind : Context)
@@ -195,27 +178,22 @@ same_start m x now i old mid new between store y behind q sheet state context ca
     (subst (λ z. MayCome (λ refused. files.comes_to refused between z (moment now) i) between z old new q store behind) context
     (subst (λ sh. MayCome (λ refused. files.comes_to refused between y (moment now) i) between y sh new q store behind) sheet came))
 
-marks : (moves : Bool) (client : ℕ) (m left : Machine) (o : OfStore) (s : Status) (behind : Context) (old new : SheetState)
-    → left ≡ cond moves (with_mark client (record m { store = o.state })) (record m { store = o.state }) → s ≡ status_of_result o.result
-    → behind ≡ o.context → Puts old new (spell_result o.result) → Steps (marked_if moves client (on_store m o)) s left behind old new
-marks true client m left o s behind old new is status context put = record { status = status; machine = is; context = context; put = put }
-marks false client m left o s behind old new is status context put = record { status = status; machine = is; context = context; put = put }
-
--- an operation on open files was run, and the mark set where it can have moved
-pub file_steps : (m left : Machine) (x : Context) (now : ℕ) (i : Item) (old mid new : SheetState) (between store : State) (y behind : Context)
+-- an operation on open files was run
+pub file_steps : (m : Machine) (x : Context) (now : ℕ) (i : Item) (old mid new : SheetState) (between store : State) (y behind : Context)
     (q : Option Status) (s : Status)
     → ((refused : Bool) → names.comes_to refused m.store x (moment now) i ≡ None) × (mid ≡ old) × (between ≡ m.store) × (y ≡ x)
     → MayCome (λ refused. files.comes_to refused between y (moment now) i) between y mid new q store behind → q ≡ Some s
-    → left ≡ cond (moves_opens i) (with_mark x.client (record m { store = store })) (record m { store = store })
-    → Steps (step m x now (is_delay s) i) s left behind old new
-file_steps m left x now i old mid new between store y behind q s none came is marked =
+    → Steps (step m x now (is_delay s) i) s (record m { store = store }) behind old new
+file_steps m x now i old mid new between store y behind q s none came is =
     let found = some_and (λ o. Comes o old new s store behind) (files.comes_to (is_delay s) m.store x (moment now) i)
     (same_start m x now i old mid new between store y behind (Some s) none.1 none.2 none.3
     (subst (λ q. MayCome (λ refused. files.comes_to refused between y (moment now) i) between y mid new q store behind) is came)) in
-    subst (λ t. Steps t s left behind old new) (sym (step_of_files m x now (is_delay s) i found.0 (none.0 (is_delay s)) found.1))
-    (marks (moves_opens i) x.client m left found.0 s behind old new
-    (marked ∙ ap (λ (t : State). cond (moves_opens i) (with_mark x.client (record m { store = t })) (record m { store = t })) found.2.state)
-    found.2.status found.2.context found.2.put)
+    subst (λ t. Steps t s (record m { store = store }) behind old new) (sym (step_of_files m x now (is_delay s) i found.0 (none.0 (is_delay s)) found.1)) (record {
+      status = found.2.status;
+      machine = ap (λ (t : State). record m { store = t }) found.2.state;
+      context = found.2.context;
+      put = found.2.put;
+    })
 
 -- an operation that is not on the store was run
 pub other_steps : (m before left : Machine) (x : Context) (now : ℕ) (i : Item) (old mid late new : SheetState) (between store : State) (y behind : Context)

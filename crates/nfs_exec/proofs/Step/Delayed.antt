@@ -3,61 +3,31 @@ use Rattle.std.proofs.Common.{◌≡◌, ◌⊎◌, ℕ, zero, suc, ◌+◌, ◌
 use Rattle.std.proofs.{Common.{refl, sym, ◌∙◌, ap, arith, inl, inr}, lemmas.Bool.{cases_Bool, eqb-true, eq-eqb, le-ltb, ltb-false, false≢true}}
 use Rattle.std.proofs.lemmas.List.{append_assoc}
 use Rattle.std.specs.{Prelude.{◌&&◌, ◌||◌, not, nat_lt, slice_get}, Option.{option_map, option_map_or}}
-use Rattle.nfs_xdr.specs.{Caller.Caller, Checks.first_fault, Spelling.{number, opaque}, Tables.{In, with_record}, declared.status.Status.Status}
+use Rattle.nfs_xdr.specs.{Caller.Caller, Checks.first_fault, Spelling.{number, opaque}, declared.status.Status.Status}
 use Rattle.nfs_xdr.specs.declared.status.Status.TheVariants.{Nfs4Ok, MinorVersMismatch, Delay, NotOnlyOp, OpNotInSession}
-use Rattle.nfs_xdr.proofs.Tables.{at_of_in}
 use Rattle.nfs_compound.specs.{Arguments.arguments, declared.op.Op.Op, declared.op.Item.Item, declared.op.Item.TheVariants.{Operation, Fault}}
 use Rattle.nfs_compound.specs.{Request.{Request, item_number}, declared.session_args.CreateSession.CreateSession, declared.op_num.OpNum.OpNum}
 use Rattle.nfs_compound.specs.declared.session_args.Sequence.{Sequence}
 use Rattle.nfs_results.specs.{Largest.largest, Results.{refusal, spell_result, spell_compound_head, status_of_result}}
 use Rattle.nfs_results.specs.declared.res.Res.TheVariants as Res
-use Rattle.nfs_clients.specs.{Roster.{ClientRecord, client_at, id_of as client_id, next_id}, Marks.has_open_by}
 use Rattle.nfs_clients.specs.CreateSession as clients
-use Rattle.nfs_clients.proofs.Members.{the_id}
 use Rattle.nfs_slots.specs.{declared.slot.Verdict.TheVariants.{Fresh, NoSlot}, Slot.{SlotState, judge_slot, next_number}}
 use Rattle.nfs_slots.proofs.TableLemmas.{fresh_number}
 use Rattle.nfs_sessions.specs.{Id.id_of, SessionSlots.judge, Sessions.{Session, session_at, create}, declared.channel.Channel.Channel}
-use Rattle.nfs_names.specs.{declared.context.Context.Context, Context.begins, Ending.has_open, State.{State, moment}, Outcome.{Outcome as OfStore, is_ok}}
+use Rattle.nfs_names.specs.{declared.context.Context.Context, Context.begins, State.{State, moment}, Outcome.{Outcome as OfStore, is_ok}}
 use Rattle.nfs_names.specs.Outcome as of_store
 use Rattle.nfs_names.specs.Operation as names
 use Rattle.nfs_names.proofs.Faulted.{status_of_refusal}
 use Rattle.nfs_files.specs.Operation as files
-use Rattle.nfs_exec.specs.Step.Machine.{Machine, IsMachine, Outcome, or_delay, refuses, with_result, with_mark, is_confirmed}
+use Rattle.nfs_exec.specs.Step.Machine.{Machine, Outcome, or_delay, refuses, with_result}
 use Rattle.nfs_exec.specs.{Step.Place.{item_fault, place_fault, stands_alone, is_sequence}, Step.ExchangeId.{exchange_id, exchange_id_number}}
 use Rattle.nfs_exec.specs.Step.CreateSession.{create_session_number, by_verdict, creates, wish_of}
 use Rattle.nfs_exec.specs.Step.Sequence.{compared, Sequenced, sequenced, unless, by_session, slot_fault, accepted}
-use Rattle.nfs_exec.specs.{Step.Behind.{Step, stays, step, on_store, moves_opens, marked_if, otherwise}, Step.Run.{Ran, run, in_room, reserve, follow, only}}
+use Rattle.nfs_exec.specs.{Step.Behind.{Step, stays, step, on_store, otherwise}, Step.Run.{Ran, run, in_room, reserve, follow, only}}
 use Rattle.nfs_exec.specs.Step.Compound.{Answered, answers, carried_out, by_fault, first_item, renewed, begun, runs_behind, keeps, in_session, by_first, bare}
 use Rattle.nfs_exec.specs.{Step.Laws.{if_runs, first_runs}, Step.Delayed.{grows, kept_by, with_ok, DelayIsACut}}
 use Rattle.nfs_exec.specs.Step.Sequence as sequence
-use Rattle.nfs_exec.proofs.{Step.Invariant.{of_renewed, of_room, runs_for, Stands}, Step.RepliesKept.runs_means}
-
--- The mark of a client's open is set already.
-
-mark_again : (o : Option ClientRecord) (c : ClientRecord) (mark : Bool) → o ≡ Some c → has_open_by o ≡ mark → record c { has_open = mark } ≡ c
-mark_again o c mark found marks =
-    ap (λ (b : Bool). record c { has_open = b }) (sym marks ∙ ap has_open_by found)
-
-unchanged : (f : ClientRecord → ClientRecord) (n : ℕ) (xs : List ClientRecord) → ((c : ClientRecord) → In c xs → c.id ≡ n → f c ≡ c)
-    → with_record the_id xs n f ≡ xs
-unchanged f n [] same = refl
-unchanged f n (x ∷ xs) same =
-    let rest = unchanged f n xs (λ c there. same c (inr there)) in
-    elim (cases_Bool (eqb x.id n)) [
-      | inl here ↦ rw here (ap (λ (c : ClientRecord). c ∷ with_record the_id xs n f) (same x (inl refl) (eqb-true x.id n here))
-          ∙ ap (λ (cs : List ClientRecord). x ∷ cs) rest)
-      | inr other ↦ rw other (ap (λ (cs : List ClientRecord). x ∷ cs) rest)
-    ]
-
-marked_already : (m : Machine) (client : ℕ) → IsMachine m → with_mark client m ≡ m
-marked_already m client is =
-    let t = m.clients in
-    let mark = has_open m.store client in
-    ap (λ (cs : List ClientRecord). record m { clients = record t { records = cs } })
-    (unchanged (λ c. record c { has_open = mark }) client t.records (λ c there named.
-    mark_again (client_at t client) c mark
-    (ap (client_at t) (sym named) ∙ at_of_in the_id (client_id t.instance 1) (next_id t) t.records c is.clients.rising there)
-    (is.marks client)))
+use Rattle.nfs_exec.proofs.Step.RepliesKept.{runs_means}
 
 -- One operation: memory refused makes no difference, or it is refused and nothing changes.
 
@@ -110,53 +80,35 @@ names_delay m x op o = elim (delay_or_not (names.grows m.store x op) m.store x (
   | inr want ↦ inr (record { is = ap (on_store m) want.is; wants = names_grow m.store x op want.wants; ok = want.ok })
 ]
 
-unmoved : (moves : Bool) (m : Machine) (x : Context) (i : Item) → IsMachine m → marked_if moves x.client (stays m x i Delay) ≡ stays m x i Delay
-unmoved true m x i is = ap (λ (k : Machine). stays k x i Delay) (marked_already m x.client is)
-unmoved false m x i is = refl
-
-marked_ok : (moves : Bool) (m : Machine) (x : Context) (o : OfStore) → of_store.is_ok (status_of_result o.result) ≡ true
-    → is_ok (marked_if moves x.client (on_store m o)).outcome.status ≡ true
-marked_ok true m x o ok = ok
-marked_ok false m x o ok = ok
-
 abbrev filed_by : Machine → Context → Op → OfStore → Bool → Step
-filed_by m x op o b =
-    marked_if (moves_opens (Operation op)) x.client (on_store m (of_store.or_delay (files.grows m.store x op && b) m.store x (arguments op).op o))
+filed_by m x op o b = on_store m (of_store.or_delay (files.grows m.store x op && b) m.store x (arguments op).op o)
 
-files_delay : (m : Machine) (x : Context) (op : Op) (o : OfStore) → IsMachine m → Delays (Operation op) m x (filed_by m x op o true) (filed_by m x op o false)
-files_delay m x op o is =
-    let marking : OfStore → Step = λ o. marked_if (moves_opens (Operation op)) x.client (on_store m o) in
-    elim (delay_or_not (files.grows m.store x op) m.store x (arguments op).op o) [
-      | inl same ↦ inl (ap marking same)
-      | inr want ↦ inr (record {
-        is = ap marking want.is ∙ unmoved (moves_opens (Operation op)) m x (Operation op) is;
-        wants = files_grow m.store x op want.wants;
-        ok = marked_ok (moves_opens (Operation op)) m x (of_store.or_delay (files.grows m.store x op && false) m.store x (arguments op).op o) want.ok;
-      })
-    ]
+files_delay : (m : Machine) (x : Context) (op : Op) (o : OfStore) → Delays (Operation op) m x (filed_by m x op o true) (filed_by m x op o false)
+files_delay m x op o = elim (delay_or_not (files.grows m.store x op) m.store x (arguments op).op o) [
+  | inl same ↦ inl (ap (on_store m) same)
+  | inr want ↦ inr (record { is = ap (on_store m) want.is; wants = files_grow m.store x op want.wants; ok = want.ok })
+]
 
-step_delays : (m : Machine) (x : Context) (now : ℕ) (i : Item) → IsMachine m → Delays i m x (step m x now true i) (step m x now false i)
-step_delays m x now (Fault n status) is = inl refl
-step_delays m x now (Operation op) is = by_whom (names.one m.store x (moment now) op) (files.one m.store x (moment now) op)
+step_delays : (m : Machine) (x : Context) (now : ℕ) (i : Item) → Delays i m x (step m x now true i) (step m x now false i)
+step_delays m x now (Fault n status) = inl refl
+step_delays m x now (Operation op) = by_whom (names.one m.store x (moment now) op) (files.one m.store x (moment now) op)
   where
-    marking : OfStore → Step
-    marking o = marked_if (moves_opens (Operation op)) x.client (on_store m o)
-
     stepped_by : (v w : Option OfStore) (b : Bool) → Step
     stepped_by v w b =
         option_map_or (on_store m) (option_map (of_store.or_delay (names.grows m.store x op && b) m.store x (arguments op).op) v)
-        (option_map_or marking (option_map (of_store.or_delay (files.grows m.store x op && b) m.store x (arguments op).op) w) (otherwise m x (Operation op)))
+        (option_map_or (on_store m) (option_map (of_store.or_delay (files.grows m.store x op && b) m.store x (arguments op).op) w)
+        (otherwise m x (Operation op)))
 
     by_whom : (v w : Option OfStore) → Delays (Operation op) m x (stepped_by v w true) (stepped_by v w false)
     by_whom (Some o) w = names_delay m x op o
-    by_whom None (Some o) = files_delay m x op o is
+    by_whom None (Some o) = files_delay m x op o
     by_whom None None = inl refl
 
-room_delays : (limit sofar now : ℕ) (m : Machine) (x : Context) (i : Item) → IsMachine m
+room_delays : (limit sofar now : ℕ) (m : Machine) (x : Context) (i : Item)
     → Delays i m x (in_room limit sofar now true m x i) (in_room limit sofar now false m x i)
-room_delays limit sofar now m x i is = elim (cases_Bool (ltb limit (sofar + largest i + reserve))) [
+room_delays limit sofar now m x i = elim (cases_Bool (ltb limit (sofar + largest i + reserve))) [
   | inl big ↦ rw big (inl refl)
-  | inr fits ↦ rw fits (step_delays m x now i is)
+  | inr fits ↦ rw fits (step_delays m x now i)
 ]
 
 -- The operations behind a SEQUENCE.
@@ -184,12 +136,12 @@ refused_ends m n rest =
     let status = status_of_refusal n Delay in
     rw (ap is_ok status) (ap (λ (s : Status). record (only (refuses m n Delay)) { status = s }) status)
 
-run_delays : (limit sofar now place : ℕ) (m : Machine) (x : Context) (items : List Item) → IsMachine m → is_confirmed m.clients x.client ≡ true
+run_delays : (limit sofar now place : ℕ) (m : Machine) (x : Context) (items : List Item)
     → (run limit sofar now (Some place) m x items ≡ run limit sofar now None m x items) ⊎ IsCutRun limit sofar now place m x items
-run_delays limit sofar now place m x [] is known = inl refl
-run_delays limit sofar now zero m x (i ∷ more) is known =
+run_delays limit sofar now place m x [] = inl refl
+run_delays limit sofar now zero m x (i ∷ more) =
     let goes : Step → Ran = λ s. follow s.outcome (run limit (sofar + length s.outcome.result) now None s.outcome.machine s.context more) in
-    elim (room_delays limit sofar now m x i is) [
+    elim (room_delays limit sofar now m x i) [
       | inl same ↦ inl (ap goes same)
       | inr delayed ↦ inr (record {
         item = i;
@@ -206,14 +158,13 @@ run_delays limit sofar now zero m x (i ∷ more) is known =
         would = rw delayed.ok refl;
       })
     ]
-run_delays limit sofar now (suc place) m x (i ∷ more) is known =
+run_delays limit sofar now (suc place) m x (i ∷ more) =
     let s = in_room limit sofar now false m x i in
-    let one : Stands s = of_room limit sofar now false m x i is known in
     let next = sofar + length s.outcome.result in
     let ran : Ran → Ran = λ rest. record { status = rest.status; count = suc rest.count; results = s.outcome.result ++ rest.results; machine = rest.machine } in
     elim (cases_Bool (is_ok s.outcome.status)) [
       | inr bad ↦ inl (rw bad refl)
-      | inl ok ↦ elim (run_delays limit next now place s.outcome.machine s.context more one.machine one.client) [
+      | inl ok ↦ elim (run_delays limit next now place s.outcome.machine s.context more) [
         | inl same ↦ inl (ap (follow s.outcome) same)
         | inr later ↦ inr (record {
           item = later.item;
@@ -326,15 +277,14 @@ cut_in_run m r c who shorter now place s more channel left runs tag is ok count 
     ∙ ap (λ (status : Status). keeps c who s (texts status left.count)) ok
     ∙ ap (λ (n : ℕ). keeps c who s (texts Nfs4Ok n)) count
 
-in_run : (m : Machine) (r : Request) (who : Caller) (size now place : ℕ) (s : Sequence) (more : List Item) (channel : Channel) → IsMachine m
+in_run : (m : Machine) (r : Request) (who : Caller) (size now place : ℕ) (s : Sequence) (more : List Item) (channel : Channel)
     → sequenced m r who size s ≡ sequence.Runs channel → IsEither m r who size now (suc place) (Operation (Op.Sequence s) ∷ more)
-in_run m r who size now place s more channel is runs =
+in_run m r who size now place s more channel runs =
     let k = renewed m now s in
     let client = (id_of s.sessionid).client in
     let plenty = ap (in_session m r who now None s more) runs in
     let refused = ap (in_session m r who now (Some (suc place)) s more) runs in
-    elim (run_delays channel.response (begun r s channel) now place k (begins client who) more (of_renewed m client now is)
-    (runs_for m r who size s channel is runs)) [
+    elim (run_delays channel.response (begun r s channel) now place k (begins client who) more) [
       | inl same ↦ inl (refused ∙ ap (behind_it k r who s channel) same ∙ sym plenty)
       | inr d ↦ (let results = front s channel ++ d.left.results in inr (record {
         item = d.item;
@@ -364,15 +314,15 @@ in_run m r who size now place s more channel is runs =
     ]
 
 -- a refusal and a repeat run nothing, and SEQUENCE itself wants nothing
-in_session_either : (m : Machine) (r : Request) (who : Caller) (size now place : ℕ) (s : Sequence) (more : List Item) (v : Sequenced) → IsMachine m
+in_session_either : (m : Machine) (r : Request) (who : Caller) (size now place : ℕ) (s : Sequence) (more : List Item) (v : Sequenced)
     → sequenced m r who size s ≡ v → IsEither m r who size now place (Operation (Op.Sequence s) ∷ more)
-in_session_either m r who size now place s more (sequence.Refuses status) is e =
+in_session_either m r who size now place s more (sequence.Refuses status) e =
     inl (ap (in_session m r who now (Some place) s more) e ∙ sym (ap (in_session m r who now None s more) e))
-in_session_either m r who size now place s more (sequence.Repeats reply) is e =
+in_session_either m r who size now place s more (sequence.Repeats reply) e =
     inl (ap (in_session m r who now (Some place) s more) e ∙ sym (ap (in_session m r who now None s more) e))
-in_session_either m r who size now zero s more (sequence.Runs channel) is e =
+in_session_either m r who size now zero s more (sequence.Runs channel) e =
     inl (ap (in_session m r who now (Some zero) s more) e ∙ sym (ap (in_session m r who now None s more) e))
-in_session_either m r who size now (suc place) s more (sequence.Runs channel) is e = in_run m r who size now place s more channel is e
+in_session_either m r who size now (suc place) s more (sequence.Runs channel) e = in_run m r who size now place s more channel e
 
 -- Outside a session.
 
@@ -443,10 +393,10 @@ first_delays m declared who now i = go (item_fault declared i) refl
       })
     ]
 
-items_either : (m : Machine) (r : Request) (who : Caller) (size now place : ℕ) (items : List Item) → IsMachine m → IsEither m r who size now place items
-items_either m r who size now place [] is = inl refl
-items_either m r who size now place (Operation (Op.Sequence s) ∷ more) is = in_session_either m r who size now place s more (sequenced m r who size s) is refl
-items_either m r who size now zero (item ∷ more) is = elim (first_delays m r.declared who now item) [
+items_either : (m : Machine) (r : Request) (who : Caller) (size now place : ℕ) (items : List Item) → IsEither m r who size now place items
+items_either m r who size now place [] = inl refl
+items_either m r who size now place (Operation (Op.Sequence s) ∷ more) = in_session_either m r who size now place s more (sequenced m r who size s) refl
+items_either m r who size now zero (item ∷ more) = elim (first_delays m r.declared who now item) [
   | inl same ↦ inl (ap (λ (o : Outcome). answers r (only o)) same)
   | inr delayed ↦ inr (record {
     item = item;
@@ -467,11 +417,11 @@ items_either m r who size now zero (item ∷ more) is = elim (first_delays m r.d
     alone = λ none. refl;
   })
 ]
-items_either m r who size now (suc place) (item ∷ more) is = inl refl
+items_either m r who size now (suc place) (item ∷ more) = inl refl
 
 pub is_a_cut : DelayIsACut
-is_a_cut = λ m r who size now place is. elim (cases_Bool (eqb r.minor 1)) [
-  | inl one ↦ elim (items_either m r who size now place r.left is) [
+is_a_cut = λ m r who size now place. elim (cases_Bool (eqb r.minor 1)) [
+  | inl one ↦ elim (items_either m r who size now place r.left) [
     | inl same ↦ inl (rw one same)
     | inr d ↦ inr (record {
       item = d.item;

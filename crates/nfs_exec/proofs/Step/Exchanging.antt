@@ -1,19 +1,35 @@
 -- EXCHANGE_ID: what the code's steps come to.
-use Rattle.std.proofs.{Common.{◌≡◌, ℕ, ◌<◌, Bool, true, false, None, Ok, Err, refl, ◌∙◌}, lemmas.Bool.{and_parts, ltb-true}}
-use Rattle.std.specs.Prelude.{◌||◌, nat_lt, is_some, length}
+use Rattle.std.proofs.{Common.{◌≡◌, ℕ, ◌<◌, Bool, true, false, List, Option, Some, None, Ok, Err, refl, ◌∙◌, ap}, lemmas.Bool.{and_parts, ltb-true}}
+use Rattle.std.specs.{Prelude.{◌||◌, nat_lt, is_some, length, option_map}, Option.option_map_or}
 use Rattle.nfs_clients.specs.{declared.exchange_id.Exchanged.Exchanged, declared.exchange_id.ClientFault.ClientFault}
 use Rattle.nfs_clients.specs.declared.exchange_id.ClientFault.TheVariants.{Inval, NoEnt, NotSame, Perm, ClidInUse, ServerFault, Memory}
-use Rattle.nfs_clients.specs.Roster.{Roster, client_at, confirmed_of, next_id, last_counter, most_records, unconfirmed_of}
-use Rattle.nfs_clients.specs.ExchangeId.{Ask, Case, Refuses, Stays, Adds, has_room, if_room, case_by, case_of, does}
+use Rattle.nfs_clients.specs.Roster.{ClientRecord, Roster, client_at, confirmed_of, next_id, last_counter, most_records, unconfirmed_of}
+use Rattle.nfs_clients.specs.ExchangeId.{Ask, asks, Case, Refuses, Stays, Adds, has_room, if_room, case_by, case_of, does}
 use Rattle.nfs_clients.specs.{Calls.{exchange_fault, refusal_of, ExchangesOrWants}, ExchangeId.{fault_status, answer_standing, answer_added}}
 use Rattle.nfs_xdr.specs.{Checks.judged, Caller.Caller}
 use Rattle.nfs_compound.specs.declared.session_args.ExchangeId.{ExchangeId}
 use Rattle.nfs_lease.specs.Renewals.{Book, with_lease, without_lease}
 use Rattle.nfs_results.specs.declared.res.Res.TheVariants as Res
-use Rattle.nfs_names.specs.Outcome.{is_delay}
+use Rattle.nfs_names.specs.{Ending.has_open, Outcome.is_delay}
 use Rattle.nfs_exec.specs.Step.Machine.{Machine, IsMachine, with_result, or_delay}
-use Rattle.nfs_exec.specs.{Step.ExchangeId.{exchange_id, exchange_id_number, granted, ask_of, exchanged}, Step.View.settled}
+use Rattle.nfs_exec.specs.{Step.ExchangeId.{exchange_id, exchange_id_number, granted, ask_of, owner_has_open, exchanged}, Step.View.settled}
 use Rattle.nfs_exec.proofs.Step.LeaseTakenBack.{unleased, taken_back}
+
+-- what the code asks, for the owner's bytes as they were lent
+pub asked_as : (m : Machine) (who : Caller) (e : ExchangeId) (owner : List ℕ) (holds : Bool) → owner ≡ e.ownerid → holds ≡ owner_has_open m owner
+    → asks owner e.verifier e.flags who.uid holds ≡ ask_of m who e
+asked_as m who e owner holds same is = rw (is, same) refl
+
+-- an open stands of the client that was found
+pub found_open : (m : Machine) (o : Option ClientRecord) (client : ℕ) → Some client ≡ option_map (λ (c : ClientRecord). c.id) o
+    → has_open m.store client ≡ option_map_or (λ (c : ClientRecord). has_open m.store c.id) o false
+found_open m None client is = absurd cc
+found_open m (Some c) client is = let same : client ≡ c.id = cc in ap (has_open m.store) same
+
+pub found_none : (m : Machine) (o : Option ClientRecord) → None ≡ option_map (λ (c : ClientRecord). c.id) o
+    → false ≡ option_map_or (λ (c : ClientRecord). has_open m.store c.id) o false
+found_none m None is = refl
+found_none m (Some c) is = absurd cc
 
 no_room : (case : Case) → if_room false case ≡ Adds → ⊥
 no_room (Refuses fault) e = absurd cc
@@ -33,25 +49,25 @@ adds_below t a e =
 
 -- the call was answered: the record's lease stands, or the one that was made first is taken back
 pub answered_ok : (m : Machine) (who : Caller) (now : ℕ) (e : ExchangeId) (next : ℕ) (x : Exchanged) (after : Roster) (b : Book) (case : Case) →
-    IsMachine m → client_at m.clients next ≡ None → (m.clients.last < last_counter → next ≡ next_id m.clients) → case_of m.clients (ask_of who e) ≡ case →
-    Ok x ≡ (does m.clients (ask_of who e) case).answer →
-    after ≡ (does m.clients (ask_of who e) case).after → b ≡ settled (with_lease m.leases next now) next x →
-    with_result (record m { clients = after; leases = b }) (Res.ExchangeId (granted x)) ≡ exchanged m now (does m.clients (ask_of who e) case)
+    IsMachine m → client_at m.clients next ≡ None → (m.clients.last < last_counter → next ≡ next_id m.clients) → case_of m.clients (ask_of m who e) ≡ case →
+    Ok x ≡ (does m.clients (ask_of m who e) case).answer →
+    after ≡ (does m.clients (ask_of m who e) case).after → b ≡ settled (with_lease m.leases next now) next x →
+    with_result (record m { clients = after; leases = b }) (Res.ExchangeId (granted x)) ≡ exchanged m now (does m.clients (ask_of m who e) case)
 answered_ok m who now e next x after b (Refuses fault) is none value at answer left book = absurd cc
 answered_ok m who now e next x after b (Stays c) is none value at answer left book =
     let same : x ≡ answer_standing c = cc in
     let back : b ≡ m.leases = rw same at book ∙ taken_back m.leases next now (unleased m next is none) in
     rw (same, left, back) refl
 answered_ok m who now e next x after b Adds is none value at answer left book =
-    let same : x ≡ answer_added m.clients (ask_of who e).owner = cc in
-    let id : next ≡ next_id m.clients = value (adds_below m.clients (ask_of who e) at) in
-    let made : b ≡ settled (with_lease m.leases (next_id m.clients) now) next (answer_added m.clients (ask_of who e).owner) = rw (id, same) at book in
+    let same : x ≡ answer_added m.clients (ask_of m who e).owner = cc in
+    let id : next ≡ next_id m.clients = value (adds_below m.clients (ask_of m who e) at) in
+    let made : b ≡ settled (with_lease m.leases (next_id m.clients) now) next (answer_added m.clients (ask_of m who e).owner) = rw (id, same) at book in
     rw (same, left, made) refl
 
 -- the call was refused before anything was made
 pub refused_first : (m : Machine) (who : Caller) (now : ℕ) (e : ExchangeId) (fault : ClientFault) (case : Case) → Err fault ≡ judged (refusal_of case) →
     with_result m (Res.Refused exchange_id_number (fault_status fault))
-    ≡ or_delay (is_delay (fault_status fault)) m exchange_id_number (exchanged m now (does m.clients (ask_of who e) case))
+    ≡ or_delay (is_delay (fault_status fault)) m exchange_id_number (exchanged m now (does m.clients (ask_of m who e) case))
 refused_first m who now e fault (Stays c) is = absurd cc
 refused_first m who now e fault Adds is = absurd cc
 refused_first m who now e Inval (Refuses f) is = let same : f ≡ Inval = cc in rw same refl
@@ -64,26 +80,26 @@ refused_first m who now e Memory (Refuses f) is = let same : f ≡ Memory = cc i
 
 -- memory was refused where the call would have been answered
 pub wanted : (m : Machine) (who : Caller) (now : ℕ) (e : ExchangeId) (case : Case) → judged (refusal_of case) ≡ Ok tt →
-    with_result m (Res.Refused exchange_id_number (fault_status Memory)) ≡ or_delay true m exchange_id_number (exchanged m now (does m.clients (ask_of who e) case))
+    with_result m (Res.Refused exchange_id_number (fault_status Memory)) ≡ or_delay true m exchange_id_number (exchanged m now (does m.clients (ask_of m who e) case))
 wanted m who now e (Refuses f) is = absurd cc
 wanted m who now e (Stays c) is = refl
 wanted m who now e Adds is = refl
 
 told_fault : (m : Machine) (who : Caller) (now : ℕ) (e : ExchangeId) (fault : ClientFault) (after : Roster) (case : Case) → judged (refusal_of case) ≡ Ok tt →
-    Err fault ≡ (does m.clients (ask_of who e) case).answer → ⊥
+    Err fault ≡ (does m.clients (ask_of m who e) case).answer → ⊥
 told_fault m who now e fault after (Refuses f) is answer = absurd cc
 told_fault m who now e fault after (Stays c) is answer = absurd cc
 told_fault m who now e fault after Adds is answer = absurd cc
 
 -- the call was refused behind its lease, which was taken back
 pub refused_last : (m : Machine) (who : Caller) (now : ℕ) (e : ExchangeId) (next : ℕ) (fault : ClientFault) (after : Roster) (b : Book) →
-    IsMachine m → client_at m.clients next ≡ None → judged (exchange_fault m.clients (ask_of who e)) ≡ Ok tt →
-    ExchangesOrWants m.clients (ask_of who e) (Err fault) after →
+    IsMachine m → client_at m.clients next ≡ None → judged (exchange_fault m.clients (ask_of m who e)) ≡ Ok tt →
+    ExchangesOrWants m.clients (ask_of m who e) (Err fault) after →
     b ≡ without_lease (with_lease m.leases next now) next →
     with_result (record m { clients = after; leases = b }) (Res.Refused exchange_id_number (fault_status fault))
     ≡ or_delay (is_delay (fault_status fault)) m exchange_id_number (exchange_id m who now e)
 refused_last m who now e next Memory after b is none judged did book =
     let back : b ≡ m.leases = book ∙ taken_back m.leases next now (unleased m next is none) in
-    rw (did.1, back) (wanted m who now e (case_of m.clients (ask_of who e)) judged)
+    rw (did.1, back) (wanted m who now e (case_of m.clients (ask_of m who e)) judged)
 refused_last m who now e next fault after b is none judged did book =
-    absurd (told_fault m who now e fault after (case_of m.clients (ask_of who e)) judged did.0)
+    absurd (told_fault m who now e fault after (case_of m.clients (ask_of m who e)) judged did.0)

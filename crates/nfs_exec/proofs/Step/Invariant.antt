@@ -10,32 +10,32 @@ use Rattle.nfs_compound.specs.declared.op.Op.TheVariants as Op
 use Rattle.nfs_clients.specs.Roster.{ClientRecord, Roster, IsRoster, id_of as client_id, client_at, without, is_unconfirmed_of, unconfirmed_of, confirmed_of}
 use Rattle.nfs_clients.specs.{Roster.next_id, ExchangeId.{Ask, Case, Refuses, Stays, Adds, has_room, case_by, case_of, does, new_client, with_new}}
 use Rattle.nfs_clients.specs.CreateSession.{leaving, without_any, with_confirmed, with_kept, confirms, keeps, verdict_by}
-use Rattle.nfs_clients.specs.{Marks.{has_open, has_open_by, has_reclaimed, with_reclaimed, with_open}, declared.created.CreateResult.CreateResult}
+use Rattle.nfs_clients.specs.{Marks.{has_reclaimed, with_reclaimed}, declared.created.CreateResult.CreateResult}
 use Rattle.nfs_clients.specs.{declared.created.CreateResult.TheVariants.{Done, Refused}, declared.destroy.DestroyFault.TheVariants.{Stale, Busy}}
 use Rattle.nfs_clients.specs.CreateSession as clients
-use Rattle.nfs_clients.proofs.Members.{the_id, mild_keeps, mild_reclaims, mild_holds, fresh, roster_filter, roster_changed, roster_without, roster_confirmed}
+use Rattle.nfs_clients.proofs.Members.{the_id, mild_keeps, mild_reclaims, fresh, roster_filter, roster_changed, roster_without, roster_confirmed}
 use Rattle.nfs_clients.proofs.Members.{roster_new, without_unconfirmed}
 use Rattle.nfs_sessions.specs.{declared.id.SessionId.SessionId, declared.channel.Channel.Channel, declared.channel.Wish.Wish}
 use Rattle.nfs_sessions.specs.{declared.sessions.SessionFault.SessionFault, Id.id_of, SessionSlots.GrantedSlots}
 use Rattle.nfs_sessions.specs.Sessions.{Session, SessionTable, is_session, session_at, create_unless, create_fault, fault_status, with_session, with_slots}
 use Rattle.nfs_sessions.specs.Sessions as sessions
 use Rattle.nfs_lease.specs.Renewals.{Book, has_run_out, with_lease, with_renewal, without_lease}
-use Rattle.nfs_exec.specs.Step.Machine.{Machine, IsMachine, starts, with_mark, is_client, is_confirmed}
+use Rattle.nfs_exec.specs.Step.Machine.{Machine, IsMachine, starts, is_client, is_confirmed}
 use Rattle.nfs_exec.specs.Step.ExchangeId.{ask_of, leases_behind, without_any_lease}
 use Rattle.nfs_exec.specs.{Step.CreateSession.{by_created, confirmed, wish_of, without_any_sessions, without_any_opens}, Step.Destroy.has_session}
 use Rattle.nfs_exec.specs.{Step.Sequence.sequenced, Step.Compound.{first_item, renewed, begun, run_in, compound}, Step.Expiry.expired}
-use Rattle.nfs_exec.specs.{Step.ReclaimComplete.{reclaim_complete, of_one, of_all}, Step.Behind.{Step, step, on_store, moves_opens, marked_if, otherwise}}
+use Rattle.nfs_exec.specs.{Step.ReclaimComplete.{reclaim_complete, of_one, of_all}, Step.Behind.{Step, step, on_store, otherwise}}
 use Rattle.nfs_exec.specs.Step.Run.{run, in_room, reserve, is_here, behind_here}
 use Rattle.nfs_exec.specs.Step.Sequence as sequence
 use Rattle.nfs_exec.proofs.{Step.Exchanging.room_of, Step.Behind.{by_step, follow_kept}, Runs.ByEvent.{by_compound, by_alone}, Step.RepliesKept.runs_means}
-use Rattle.nfs_exec.proofs.Step.OpenMarks.{changed_holds, keeps_holds, confirms_holds, kept_holds, gone_holds, new_holds, open_staying}
-use Rattle.nfs_names.specs.{declared.context.Context.Context, Context.begins, Ending.{has_open as has_open_in}, declared.node.Node.Node, Checks.current}
+use Rattle.nfs_exec.proofs.Step.OpensStaying.{open_staying}
+use Rattle.nfs_names.specs.{declared.context.Context.Context, Context.begins, Ending.has_open, declared.node.Node.Node, Checks.current}
 use Rattle.nfs_names.specs.{Outcome.{Outcome as OfStore}, State.{State, moment}}
 use Rattle.nfs_names.proofs.Untouched.{Leaves, leaves_each}
 use Rattle.nfs_opens.specs.{Table.Table, TableInvariants.IsTable}
 use Rattle.nfs_opens.proofs.TableLemmas.{table_new}
 use Rattle.nfs_files.proofs.Outcomes as files
-use Rattle.nfs_files.proofs.{Outcomes.for_each, TableSteps.table_staying_is, OwnOpens.{Spares, Everybody, OthersThan, spares_all, spares_others}}
+use Rattle.nfs_files.proofs.{Outcomes.for_each, TableSteps.table_staying_is, OwnOpens.{Spares, OthersThan, spares_others}}
 use Rattle.nfs_results.specs.Largest.{largest}
 
 pub of_start : (mode instance lease : ℕ) → instance < 4294967296 → IsMachine (starts mode instance lease)
@@ -43,7 +43,6 @@ of_start mode instance lease small = record {
   clients = record { rising = omega arith; alone = λ c d a b owner mark. absurd a; few = omega arith; counter = omega arith; instance = small };
   leased = λ client. refl;
   confirmed = λ s there. absurd there;
-  marks = λ client. refl;
   opened = λ client holds. absurd (false≢true holds);
   table = table_new instance;
 }
@@ -85,9 +84,7 @@ of_expired m now is =
       confirmed = λ s there. (let kept = in_filter (λ (s : Session). not (out s.client)) m.sessions.sessions s there in
           ap (λ o. option_map_or (λ (c : ClientRecord). c.confirmed) o false) (at s.client ∙ ap (λ b. cond b (client_at m.clients s.client) None) kept.1)
           ∙ is.confirmed s kept.0);
-      marks = λ c. ap has_open_by (at c) ∙ kept_holds (not (out c)) (client_at m.clients c)
-          ∙ ap (λ b. not (out c) && b) (is.marks c) ∙ sym (open_staying (λ k. not (out k)) m.store c);
-      opened = λ c holds. (let stays = and_parts (not (out c)) (has_open_in m.store c) (sym (open_staying (λ k. not (out k)) m.store c) ∙ holds) in
+      opened = λ c holds. (let stays = and_parts (not (out c)) (has_open m.store c) (sym (open_staying (λ k. not (out k)) m.store c) ∙ holds) in
           ap mark_of (at c ∙ ap (λ b. cond b (client_at m.clients c) None) stays.0) ∙ is.opened c stays.1);
       table = table_staying_is (λ k. not (out k)) m.store.opens is.table;
     }
@@ -106,7 +103,7 @@ any_none p (y ∷ ys) x none there = elim (cases_Bool (p y)) [
 ]
 
 pub of_destroyed_client : (m : Machine) (client : ℕ) → IsMachine m → list_any (λ (s : Session). eqb s.client client) m.sessions.sessions ≡ false →
-    has_open m.clients client ≡ false →
+    has_open m.store client ≡ false →
     IsMachine (record m { clients = without m.clients client; leases = without_lease m.leases client })
 of_destroyed_client m client is none unheld =
     let at : (n : ℕ) → client_at (without m.clients client) n ≡ cond (eqb n client) None (client_at m.clients n) =
@@ -117,21 +114,12 @@ of_destroyed_client m client is none unheld =
       confirmed = λ s there. (let other = any_none (λ (s : Session). eqb s.client client) m.sessions.sessions s none there in
           ap (λ o. option_map_or (λ (c : ClientRecord). c.confirmed) o false) (at s.client ∙ ap (λ b. cond b None (client_at m.clients s.client)) other)
           ∙ is.confirmed s there);
-      marks = λ c. ap has_open_by (at c) ∙ gone_holds (eqb c client) (client_at m.clients c)
-          ∙ ap (λ b. not (eqb c client) && b) (is.marks c) ∙ still c (cases_eq c client);
       opened = λ c holds. ap mark_of (at c) ∙ stays c holds (cases_eq c client);
       table = is.table;
     }
   where
-    nothing : (c : ℕ) → c ≡ client → has_open_in m.store c ≡ false
-    nothing c here = sym (is.marks c) ∙ ap (has_open m.clients) here ∙ unheld
-
-    still : (c : ℕ) → (c ≡ client) ⊎ (c ≢ client) → (not (eqb c client) && has_open_in m.store c) ≡ has_open_in m.store c
-    still c (inl here) = rw (eq-eqb c client here) (sym (nothing c here))
-    still c (inr other) = rw (ne_eqb c client other) refl
-
-    stays : (c : ℕ) → has_open_in m.store c ≡ true → (c ≡ client) ⊎ (c ≢ client) → mark_of (cond (eqb c client) None (client_at m.clients c)) ≡ true
-    stays c holds (inl here) = absurd (false≢true (sym (nothing c here) ∙ holds))
+    stays : (c : ℕ) → has_open m.store c ≡ true → (c ≡ client) ⊎ (c ≢ client) → mark_of (cond (eqb c client) None (client_at m.clients c)) ≡ true
+    stays c holds (inl here) = absurd (false≢true (sym (ap (has_open m.store) here ∙ unheld) ∙ holds))
     stays c holds (inr other) = rw (ne_eqb c client other) (is.opened c holds)
 
 pub of_fewer_sessions : (m : Machine) (t : SessionTable) → IsMachine m
@@ -140,7 +128,6 @@ of_fewer_sessions m t is fewer = record {
   clients = is.clients;
   leased = is.leased;
   confirmed = λ s there. is.confirmed s (fewer s there);
-  marks = is.marks;
   opened = is.opened;
   table = is.table;
 }
@@ -162,7 +149,6 @@ of_renewed m client now is = record {
   clients = is.clients;
   leased = λ c. renewed_some m.leases client now c ∙ is.leased c;
   confirmed = is.confirmed;
-  marks = is.marks;
   opened = is.opened;
   table = is.table;
 }
@@ -183,7 +169,6 @@ of_kept m id change is = record {
   clients = is.clients;
   leased = is.leased;
   confirmed = λ s there. (let was = in_slots m.sessions id change s there in ap (is_confirmed m.clients) was.2 ∙ is.confirmed was.0 was.1);
-  marks = is.marks;
   opened = is.opened;
   table = is.table;
 }
@@ -219,7 +204,6 @@ of_kept_result m client result is = record {
   clients = roster_changed (keeps result) m.clients client (mild_keeps result) is.clients;
   leased = λ c. is.leased c ∙ sym (kept_is m.clients client c result);
   confirmed = λ s there. kept_mark m.clients client s.client result ∙ is.confirmed s there;
-  marks = λ c. changed_holds m.clients client c (keeps result) (mild_keeps result).id (keeps_holds result) ∙ is.marks c;
   opened = λ c holds. kept_mark m.clients client c result ∙ is.opened c holds;
   table = is.table;
 }
@@ -300,12 +284,6 @@ new_mark : (id n : ℕ) (new : ClientRecord) (old : Option ClientRecord) (gone :
 new_mark id n new None gone stays mark = absurd (false≢true mark)
 new_mark id n new (Some c) gone stays mark = rw stays mark
 
--- who has an open is not the one that goes
-unheld : (gone held : Bool) → (held ≡ true → gone ≡ false) → (not gone && held) ≡ held
-unheld gone true stays = rw (stays refl) refl
-unheld true false stays = refl
-unheld false false stays = refl
-
 pub of_new : (m : Machine) (a : Ask) (now : ℕ) → IsMachine m → has_room m.clients a.owner ≡ true →
     IsMachine (record m {
       clients = with_new m.clients a;
@@ -323,10 +301,6 @@ of_new m a now is room =
       confirmed = λ s there. (let mark = is.confirmed s there in
           ap mark_of (new_at t a s.client is.clients) ∙ new_mark (next_id t) s.client (new_client t a) (client_at t s.client)
           (is_id (option_map the_id o) s.client) (keeps_confirmed t a.owner o s.client is.clients refl mark) mark);
-      marks = λ n. ap has_open_by (new_at t a n is.clients)
-          ∙ new_holds (eqb (next_id t) n) (new_client t a) (cond (is_id (option_map the_id o) n) None (client_at t n)) refl
-          ∙ gone_holds (is_id (option_map the_id o) n) (client_at t n) ∙ ap (λ b. not (is_id (option_map the_id o) n) && b) (is.marks n)
-          ∙ unheld (is_id (option_map the_id o) n) (has_open_in m.store n) (λ holds. keeps_confirmed t a.owner o n is.clients refl (is.opened n holds));
       opened = λ n holds. (let mark = is.opened n holds in
           ap mark_of (new_at t a n is.clients)
           ∙ new_mark (next_id t) n (new_client t a) (client_at t n) (is_id (option_map the_id o) n)
@@ -349,7 +323,7 @@ in_without t (Some gone) s there =
     (let kept = in_filter (λ (s : Session). not (eqb s.client gone)) t.sessions s there in (kept.0, not_true (eqb s.client gone) kept.1))
 
 -- an open that is left is of somebody else
-left_open : (s : State) (o : Option ℕ) (n : ℕ) → has_open_in (without_any_opens s o) n ≡ (not (is_id o n) && has_open_in s n)
+left_open : (s : State) (o : Option ℕ) (n : ℕ) → has_open (without_any_opens s o) n ≡ (not (is_id o n) && has_open s n)
 unfolding is_id
 left_open s None n = refl
 left_open s (Some gone) n = open_staying (λ c. not (eqb c gone)) s n
@@ -402,11 +376,7 @@ of_confirmed m now client body t is known sessions =
             | inr old ↦ marked (eqb s.client client) (client_at r s.client)
                 (some_of_mark (client_at r s.client) (is.confirmed s old)) (λ other. is.confirmed s old)
           ]);
-      marks = λ n. changed_holds (with_confirmed r client) client n (keeps (Done body)) (mild_keeps (Done body)).id (keeps_holds (Done body))
-          ∙ ap has_open_by (confirmed_at r client n)
-          ∙ confirms_holds (eqb n client) (cond (is_id gone n) None (client_at r n)) ∙ gone_holds (is_id gone n) (client_at r n)
-          ∙ ap (λ b. not (is_id gone n) && b) (is.marks n) ∙ sym (left_open m.store gone n);
-      opened = λ n holds. (let left = and_parts (not (is_id gone n)) (has_open_in m.store n) (sym (left_open m.store gone n) ∙ holds) in
+      opened = λ n holds. (let left = and_parts (not (is_id gone n)) (has_open m.store n) (sym (left_open m.store gone n) ∙ holds) in
           let old = is.opened n left.1 in
           let stays : cond (is_id gone n) None (client_at r n) ≡ client_at r n = ap (λ b. cond b None (client_at r n)) (not_true (is_id gone n) left.0) in
           kept_mark (with_confirmed r client) client n (Done body) ∙ ap mark_of (confirmed_at r client n)
@@ -436,11 +406,11 @@ nothing_left false false false e = (refl, refl)
 first : (m : Machine) (declared : ℕ) (who : Caller) (now : ℕ) (refused : Bool) (i : Item)
     → IsMachine m → IsMachine (first_item m declared who now refused i).machine
 first m declared who now refused i is = by_alone (λ o. IsMachine o.machine) m declared who now refused i (λ status result. is)
-    (λ e at. of_exchanged m (ask_of who e) now (case_of m.clients (ask_of who e)) is refl)
+    (λ e at. of_exchanged m (ask_of m who e) now (case_of m.clients (ask_of m who e)) is refl)
     (λ c at runs. of_made m now c (wish_of m c) (create_fault m.sessions (wish_of m c)) is (known_runs (client_at m.clients c.clientid) c.sequence who.uid runs))
     (λ sessionid at stood. of_fewer_sessions m (sessions.destroyed m.sessions (id_of sessionid)) is
     (λ s there. (in_filter (λ s. not (is_session (id_of sessionid) s)) m.sessions.sessions s there).0))
-    (λ client at none. (let left = nothing_left (not (is_client m.clients client)) (has_session m.sessions client) (has_open m.clients client) none in
+    (λ client at none. (let left = nothing_left (not (is_client m.clients client)) (has_session m.sessions client) (has_open m.store client) none in
     of_destroyed_client m client is left.0 left.1))
 
 -- One operation behind a SEQUENCE, of a client that is confirmed; and whoever runs the next one is.
@@ -458,7 +428,6 @@ of_reclaimed m x is known = elim (cases_Bool (has_reclaimed m.clients x.client))
       clients = roster_changed reclaims m.clients x.client mild_reclaims is.clients;
       leased = λ c. is.leased c ∙ sym (reclaims_is c);
       confirmed = λ s there. reclaims_mark s.client ∙ is.confirmed s there;
-      marks = λ c. changed_holds m.clients x.client c reclaims mild_reclaims.id (λ c. refl) ∙ is.marks c;
       opened = λ c holds. reclaims_mark c ∙ is.opened c holds;
       table = is.table;
     };
@@ -484,72 +453,27 @@ of_reclaimed m x is known = elim (cases_Bool (has_reclaimed m.clients x.client))
         ]
 
 -- an operation behind which all clients have opens as before
-of_store : (m : Machine) (s : State) → IsMachine m → Spares Everybody m.store.opens s.opens → IsMachine (record m { store = s })
-of_store m s is spares = record {
+of_store : (m : Machine) (s : State) → IsMachine m → s.opens ≡ m.store.opens → IsMachine (record m { store = s })
+of_store m s is same = record {
   clients = is.clients;
   leased = is.leased;
   confirmed = is.confirmed;
-  marks = λ c. is.marks c ∙ sym (spares.same c tt);
-  opened = λ c holds. is.opened c (sym (spares.same c tt) ∙ holds);
-  table = spares.table;
+  opened = λ c holds. is.opened c (ap (λ (t : Table). list_any (λ o. eqb o.client c) t.opens) (sym same) ∙ holds);
+  table = subst IsTable (sym same) is.table;
 }
 
-spares_same : (t u : Table) → u ≡ t → IsTable t → Spares Everybody t u
-spares_same t u same is = subst (Spares Everybody t) (sym same) (record { same = λ c spared. refl; table = is })
-
--- an operation behind which all others have, and the client's record is marked
-
-marking : Bool → ClientRecord → ClientRecord
-marking mark c = record c { has_open = mark }
-
-marking_at : (t : Roster) (client c : ℕ) (mark : Bool) →
-    client_at (with_open t client mark) c ≡ cond (eqb c client) (option_map (marking mark) (client_at t c)) (client_at t c)
-unfolding marking
-marking_at t client c mark = at_with the_id (marking mark) (mild_holds mark).id c client t.records
-
-marking_is : (t : Roster) (client c : ℕ) (mark : Bool) → is_client (with_open t client mark) c ≡ is_client t c
-marking_is t client c mark =
-    ap is_some (marking_at t client c mark)
-    ∙ elim (eqb c client) as (λ v. is_some (cond v (option_map (marking mark) (client_at t c)) (client_at t c)) ≡ is_client t c) [
-      | true ↦ map_is (marking mark) (client_at t c)
-      | false ↦ refl
-    ]
-
-marking_mark : (t : Roster) (client c : ℕ) (mark : Bool) → is_confirmed (with_open t client mark) c ≡ is_confirmed t c
-unfolding marking
-marking_mark t client c mark =
-    ap mark_of (marking_at t client c mark)
-    ∙ elim (eqb c client) as (λ v. mark_of (cond v (option_map (marking mark) (client_at t c)) (client_at t c)) ≡ is_confirmed t c) [
-      | true ↦ map_mark (marking mark) (client_at t c) (mild_holds mark).mark
-      | false ↦ refl
-    ]
-
-marking_holds : (mark : Bool) (o : Option ClientRecord) → is_some o ≡ true → has_open_by (option_map (marking mark) o) ≡ mark
-unfolding marking
-marking_holds mark None there = absurd (false≢true there)
-marking_holds mark (Some c) there = refl
-
-of_marked : (m : Machine) (client : ℕ) (s : State) → IsMachine m → is_confirmed m.clients client ≡ true →
-    Spares (OthersThan client) m.store.opens s.opens → IsMachine (with_mark client (record m { store = s }))
-of_marked m client s is known spares =
-    let mark = has_open_in s client in
-    record {
-      clients = roster_changed (λ c. record c { has_open = mark }) m.clients client (mild_holds mark) is.clients;
-      leased = λ c. is.leased c ∙ sym (marking_is m.clients client c mark);
-      confirmed = λ t there. marking_mark m.clients client t.client mark ∙ is.confirmed t there;
-      marks = λ c. ap has_open_by (marking_at m.clients client c mark) ∙ marks_at c (cases_eq c client);
-      opened = λ c holds. marking_mark m.clients client c mark ∙ opened_at c holds (cases_eq c client);
-      table = spares.table;
-    }
+-- an operation behind which all others have, of a client that is confirmed
+of_own : (m : Machine) (client : ℕ) (s : State) → IsMachine m → is_confirmed m.clients client ≡ true → Spares (OthersThan client) m.store.opens s.opens
+    → IsMachine (record m { store = s })
+of_own m client s is known spares = record {
+  clients = is.clients;
+  leased = is.leased;
+  confirmed = is.confirmed;
+  opened = λ c holds. opened_at c holds (cases_eq c client);
+  table = spares.table;
+}
   where
-    marks_at : (c : ℕ) → (c ≡ client) ⊎ (c ≢ client) →
-        has_open_by (cond (eqb c client) (option_map (marking (has_open_in s client)) (client_at m.clients c)) (client_at m.clients c)) ≡ has_open_in s c
-    marks_at c (inl here) = rw (eq-eqb c client here)
-        (marking_holds (has_open_in s client) (client_at m.clients c) (some_of_mark (client_at m.clients c) (ap (is_confirmed m.clients) here ∙ known))
-        ∙ ap (has_open_in s) (sym here))
-    marks_at c (inr other) = rw (ne_eqb c client other) (is.marks c ∙ sym (spares.same c other))
-
-    opened_at : (c : ℕ) → has_open_in s c ≡ true → (c ≡ client) ⊎ (c ≢ client) → is_confirmed m.clients c ≡ true
+    opened_at : (c : ℕ) → has_open s c ≡ true → (c ≡ client) ⊎ (c ≢ client) → is_confirmed m.clients c ≡ true
     opened_at c holds (inl here) = ap (is_confirmed m.clients) here ∙ known
     opened_at c holds (inr other) = is.opened c (sym (spares.same c other) ∙ holds)
 
@@ -557,28 +481,17 @@ of_step : (m : Machine) (x : Context) (now : ℕ) (refused : Bool) (i : Item) �
     Stands (step m x now refused i)
 of_step m x now refused i is known =
     by_step Stands m x now refused i (λ o e. by_names o (leaves_each refused m.store x (moment now) i o e))
-    (for_each (λ o. Stands (marked_if (moves_opens i) x.client (on_store m o))) refused m.store x (moment now) i (by_mark (moves_opens i) refl))
+    (for_each (λ o. Stands (on_store m o)) refused m.store x (moment now) i
+    (let o = files.comes_to refused m.store x (moment now) i in
+    let own = spares_others refused m.store x (moment now) i is.table in
+    record { machine = of_own m x.client o.state is known own.opens; client = ap (is_confirmed m.clients) own.client ∙ known }))
     (λ none other. by_item i)
   where
     by_names : (o : OfStore) → Leaves m.store x o.state o.context → Stands (on_store m o)
     by_names o left = record {
-      machine = of_store m o.state is (spares_same m.store.opens o.state.opens left.opens is.table);
+      machine = of_store m o.state is left.opens;
       client = ap (is_confirmed m.clients) left.client ∙ known;
     }
-
-    by_mark : (moves : Bool) → moves_opens i ≡ moves → Stands (marked_if moves x.client (on_store m (files.comes_to refused m.store x (moment now) i)))
-    by_mark true can =
-        let o = files.comes_to refused m.store x (moment now) i in
-        let own = spares_others refused m.store x (moment now) i is.table in
-        record {
-          machine = of_marked m x.client o.state is known own.opens;
-          client = marking_mark m.clients x.client o.context.client (has_open_in o.state x.client) ∙ ap (is_confirmed m.clients) own.client ∙ known;
-        }
-    by_mark false cannot =
-        let o = files.comes_to refused m.store x (moment now) i in
-        let all = spares_all refused m.store x (moment now) i (λ a same. false≢true (sym cannot ∙ ap moves_opens same))
-        (λ a same. false≢true (sym cannot ∙ ap moves_opens same)) is.table in
-        record { machine = of_store m o.state is all.opens; client = ap (is_confirmed m.clients) all.client ∙ known }
 
     one : (found : Result Node Status) → Stands (record { outcome = of_one m found; context = x })
     one (Ok d) = record { machine = is; client = known }

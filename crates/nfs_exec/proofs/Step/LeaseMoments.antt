@@ -43,7 +43,7 @@ made P now held m c t (Err fault) is = is
 first : (P : Book → Type 0) (now : ℕ) → IsHeld P now → (m : Machine) (declared : ℕ) (who : Caller) (refused : Bool) (i : Item)
     → P m.leases → P (first_item m declared who now refused i).machine.leases
 first P now held m declared who refused i is = by_alone (λ o. P o.machine.leases) m declared who now refused i (λ status result. is)
-    (λ e at. behind P now held m.leases (exchange m.clients (ask_of who e)).answer is)
+    (λ e at. behind P now held m.leases (exchange m.clients (ask_of m who e)).answer is)
     (λ c at runs. (let did = create m.sessions c.clientid (wish_of m c) in made P now held m c did.after did.answer is))
     (λ sessionid at stood. is) (λ client at none. held.end m.leases client is)
 

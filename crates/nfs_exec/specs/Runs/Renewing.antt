@@ -21,7 +21,7 @@ is_new verdict = false
 
 -- a CREATE_SESSION of the client with a new number, or an EXCHANGE_ID that adds its record
 abbrev pub is_for : ℕ → Machine → Caller → Item → Bool
-is_for client m who (Operation (Op.ExchangeId e)) = adds client (exchange m.clients (ask_of who e)).answer
+is_for client m who (Operation (Op.ExchangeId e)) = adds client (exchange m.clients (ask_of m who e)).answer
 is_for client m who (Operation (Op.CreateSession c)) = is_new (create_verdict m.clients c.clientid c.sequence who.uid) && (c.clientid == client)
 is_for client m who item = false
 

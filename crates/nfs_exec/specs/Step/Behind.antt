@@ -1,12 +1,12 @@
 -- One operation behind a SEQUENCE (RFC 8881 section 2.10.6.4): what it comes to, and the context in which the next one runs.
-use Rattle.std.specs.{Prelude.{ℕ, Bool, true, false, if◌then◌else◌}, Option.option_map_or}
+use Rattle.std.specs.{Prelude.{ℕ, Bool}, Option.option_map_or}
 use Rattle.nfs_xdr.specs.declared.status.Status.{Status}
 use Rattle.nfs_compound.specs.{Request.item_number, declared.op.Item.Item, declared.op.Item.TheVariants.Operation}
 use Rattle.nfs_compound.specs.declared.op.Op.TheVariants as Op
 use Rattle.nfs_names.specs.{declared.context.Context.Context, State.moment, Outcome.{Outcome as OfStore}}
 use Rattle.nfs_names.specs.Operation as names
 use Rattle.nfs_files.specs.Operation as files
-use Rattle.nfs_exec.specs.{Step.Machine.{Machine, Outcome, with_result, refuses, with_mark}, Step.Place.status_behind, Step.ReclaimComplete.reclaim_complete}
+use Rattle.nfs_exec.specs.{Step.Machine.{Machine, Outcome, with_result, refuses}, Step.Place.status_behind, Step.ReclaimComplete.reclaim_complete}
 
 pub record Step : Type 0 where
   pub outcome : Outcome
@@ -20,19 +20,6 @@ stays m x item status = record { outcome = refuses m (item_number item) status; 
 abbrev pub on_store : Machine → OfStore → Step
 on_store m o = record { outcome = with_result (record m { store = o.state }) o.result; context = o.context }
 
--- OPEN and CLOSE alone can move whether a client has an open ..
-abbrev pub moves_opens : Item → Bool
-moves_opens (Operation (Op.Close a)) = true
-moves_opens (Operation (Op.Open a)) = true
-moves_opens item = false
-
--- .. and behind them the client's record has the mark of an open where one of its opens stands
-abbrev pub marked : ℕ → Step → Step
-marked client s = record s { outcome = record s.outcome { machine = with_mark client s.outcome.machine } }
-
-abbrev pub marked_if : Bool → ℕ → Step → Step
-marked_if moves client s = if moves then marked client s else s
-
 -- RECLAIM_COMPLETE, and what nothing carries out
 abbrev pub otherwise : Machine → Context → Item → Step
 otherwise m x (Operation (Op.ReclaimComplete one)) = record { outcome = reclaim_complete m x one; context = x }
@@ -43,4 +30,4 @@ otherwise m x item = stays m x item (status_behind item)
 abbrev pub step : Machine → Context → (now : ℕ) → (refused : Bool) → Item → Step
 step m x now refused item =
     option_map_or (on_store m) (names.comes_to refused m.store x (moment now) item)
-    (option_map_or (λ o. marked_if (moves_opens item) x.client (on_store m o)) (files.comes_to refused m.store x (moment now) item) (otherwise m x item))
+    (option_map_or (on_store m) (files.comes_to refused m.store x (moment now) item) (otherwise m x item))

@@ -8,7 +8,7 @@ use Rattle.nfs_results.specs.Results.{refusal, spell_result, spell_compound_head
 use Rattle.nfs_names.specs.{declared.context.Context.Context, State.State, Outcome.is_delay}
 use Rattle.nfs_names.specs.Operation as names
 use Rattle.nfs_files.specs.Operation as files
-use Rattle.nfs_exec.specs.{Step.Machine.{Machine, IsMachine, starts}, Step.Sequence.{Refuses, sequenced}, Step.Compound.{Answered, first_item, keeps, compound}}
+use Rattle.nfs_exec.specs.{Step.Machine.{Machine, starts}, Step.Sequence.{Refuses, sequenced}, Step.Compound.{Answered, first_item, keeps, compound}}
 use Rattle.nfs_exec.specs.{Step.Laws.{MachineEvent, Asks, all_stepped, first_runs}, Runs.Ops.{RanOp, ops_by}}
 
 -- What may want memory: the operations on the tree and on open files that are said to, and the two that make clients and sessions.
@@ -60,9 +60,9 @@ pub record IsDelayed (m : Machine) (r : Request) (who : Caller) (size now place 
   -- outside a session the machine is as it was
   pub alone : first_runs m r who size r.left ≡ None → left ≡ m
 
--- Memory refused at a place makes no difference, or delays the operation that stands there, in every machine on which the tables agree.
+-- Memory refused at a place makes no difference, or delays the operation that stands there, in every machine.
 abbrev pub DelayIsACut : Type 0
-DelayIsACut = (m : Machine) (r : Request) (who : Caller) (size now place : ℕ) → IsMachine m
+DelayIsACut = (m : Machine) (r : Request) (who : Caller) (size now place : ℕ)
     → (compound m r who size now (Some place) ≡ compound m r who size now None) ⊎ IsDelayed m r who size now place
 
 -- With memory no operation of a request answers NFS4ERR_DELAY, neither behind its SEQUENCE nor alone outside a session; and SEQUENCE does not. What cannot be

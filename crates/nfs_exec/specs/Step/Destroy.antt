@@ -8,6 +8,7 @@ use Rattle.nfs_sessions.specs.{Id.id_of, Sessions.{SessionTable, session_at}}
 use Rattle.nfs_sessions.specs.Sessions as sessions
 use Rattle.nfs_clients.specs.{declared.destroy.DestroyFault.DestroyFault, Roster.without, DestroyClientId.{destroy_fault, destroy_status}}
 use Rattle.nfs_lease.specs.Renewals.{without_lease}
+use Rattle.nfs_names.specs.Ending.{has_open}
 use Rattle.nfs_exec.specs.Step.Machine.{Machine, Outcome, with_result, refuses}
 
 -- a session goes with its slots
@@ -26,4 +27,4 @@ destroyed_unless m client None = with_result (record m { clients = without m.cli
 destroyed_unless m client (Some fault) = refuses m (op_number Num.DestroyClientId) (destroy_status fault)
 
 abbrev pub destroy_client : Machine → ℕ → Outcome
-destroy_client m client = destroyed_unless m client (destroy_fault m.clients client (has_session m.sessions client))
+destroy_client m client = destroyed_unless m client (destroy_fault m.clients client (has_session m.sessions client) (has_open m.store client))

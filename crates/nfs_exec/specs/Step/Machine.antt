@@ -6,8 +6,7 @@ use Rattle.nfs_opens.specs.{declared.records.OpenState.OpenState, Table.{clashes
 use Rattle.nfs_ranges.specs.Holders.{HasNoClash}
 use Rattle.nfs_names.specs.{Outcome.is_ok, Ending.has_open, State.{State, new_store, moment, state_of}}
 use Rattle.nfs_lease.specs.Renewals.{Book, no_leases, leases_of}
-use Rattle.nfs_clients.specs.{Roster.{Roster, IsRoster, no_clients, client_at}, Marks.with_open}
-use Rattle.nfs_clients.specs.Marks as marked
+use Rattle.nfs_clients.specs.Roster.{Roster, IsRoster, no_clients, client_at}
 use Rattle.nfs_sessions.specs.Sessions.{Session, SessionTable, no_sessions}
 use Rattle.nfs_exec.specs.declared.tables.Tables.{Tables}
 
@@ -25,10 +24,6 @@ starts mode instance lease = record {
   leases = no_leases lease;
   store = new_store mode (moment 0) instance lease;
 }
-
--- a client's record has the mark of an open where one of its opens stands
-abbrev pub with_mark : ℕ → Machine → Machine
-with_mark client m = record m { clients = with_open m.clients client (has_open m.store client) }
 
 -- What one operation comes to: its status, its result as it is spelled, and the machine behind it.
 pub record Outcome : Type 0 where
@@ -63,8 +58,6 @@ pub record IsMachine (m : Machine) : Type 0 where
   pub leased : (client : ℕ) → is_some (m.leases.renewed client) ≡ is_client m.clients client
   -- the client of each session is there and confirmed
   pub confirmed : (s : Session) → In s m.sessions.sessions → is_confirmed m.clients s.client ≡ true
-  -- a client record has the mark of an open where an open of the client stands, and nowhere else
-  pub marks : (client : ℕ) → marked.has_open m.clients client ≡ has_open m.store client
   -- who has an open is there and confirmed
   pub opened : (client : ℕ) → has_open m.store client ≡ true → is_confirmed m.clients client ≡ true
   -- the table of opens is one

@@ -17,7 +17,7 @@ use Rattle.nfs_clients.specs.declared.created.CreateResult.TheVariants as result
 use Rattle.nfs_clients.specs.CreateSession as clients
 use Rattle.nfs_sessions.specs.{declared.id.SessionId.SessionId, declared.sessions.SessionFault.SessionFault, Id.id_of}
 use Rattle.nfs_sessions.specs.Sessions.{SessionTable, create, session_at, fault_status}
-use Rattle.nfs_names.specs.Outcome.{is_ok}
+use Rattle.nfs_names.specs.{Ending.has_open, Outcome.is_ok}
 use Rattle.nfs_exec.specs.{Step.Machine.{Machine, Outcome, or_delay}, Step.Place.{stands_alone, is_sequence}, Step.View.{CanBear, IsOpened}}
 use Rattle.nfs_exec.specs.Step.ExchangeId.{exchange_id, exchange_id_number, answered, ask_of}
 use Rattle.nfs_exec.specs.Step.CreateSession.{create_session_number, by_verdict, by_created, wish_of}
@@ -113,10 +113,10 @@ op_small op = is_op_listing.small (arguments op).op
 
 mute_carried : (m : Machine) (who : Caller) (now : ℕ) (refused : Bool) (op : Op) → IsMute (carried_out m who now refused (Operation op)).result
 mute_carried m who now refused (Op.ExchangeId e) =
-    mute_delayed m refused exchange_id_number (exchange_id m who now e) (omega arith) (mute_exchanged (exchange m.clients (ask_of who e)).answer)
+    mute_delayed m refused exchange_id_number (exchange_id m who now e) (omega arith) (mute_exchanged (exchange m.clients (ask_of m who e)).answer)
 mute_carried m who now refused (Op.CreateSession c) = mute_created m now refused c (clients.create_verdict m.clients c.clientid c.sequence who.uid)
 mute_carried m who now refused (Op.DestroySession sessionid) = mute_destroyed m sessionid
-mute_carried m who now refused (Op.DestroyClientId client) = mute_client m client (destroy_fault m.clients client (has_session m.sessions client))
+mute_carried m who now refused (Op.DestroyClientId client) = mute_client m client (destroy_fault m.clients client (has_session m.sessions client) (has_open m.store client))
 mute_carried m who now refused op = mute_bad (item_number (Operation op)) NotSupp (op_small op) refl
 
 mute_op : (m : Machine) (n : ℕ) (alone sequence many : Bool) (o : Outcome) → n < 2 ^ 32 → IsMute o.result

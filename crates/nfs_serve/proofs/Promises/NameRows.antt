@@ -40,7 +40,7 @@ use Rattle.nfs_files.specs.Write as of_write
 use Rattle.nfs_files.proofs.Outcomes as files
 use Rattle.nfs_files.proofs.{Outcomes.for_each, OpenRows.{OpensRows, Kept, Put, opened_rows}, WrittenOps.{by_found, current_number, number_back}}
 use Rattle.nfs_files.proofs.OpensMoved.{by_close, by_free, by_downgrade, by_lock, by_unlock}
-use Rattle.nfs_exec.specs.{Step.Machine.Machine, Step.Behind.{Step, step, on_store, moves_opens, marked_if}, Step.Run.in_room, Runs.Ops.RanOp}
+use Rattle.nfs_exec.specs.{Step.Machine.Machine, Step.Behind.{Step, step, on_store}, Step.Run.in_room, Runs.Ops.RanOp}
 use Rattle.nfs_exec.proofs.{Step.Behind.by_step, Runs.KeptByRuns.otherwise_store, Runs.WhatWasDone.{in_room_is, IsRun}}
 use Rattle.nfs_serve.specs.Promises.NameStays.{IsDone, Makes, ByCreate, ByOpen, ByLink, ByRename, Takes, TakesIt, Removed, MovedAway, MovedOver}
 use Rattle.nfs_files.proofs.InSteps as in_steps
@@ -218,12 +218,8 @@ DidStep m x i s = DidRows m.store.tree s.outcome.machine.store.tree.rows x i s.o
 step_rows : (m : Machine) (x : Context) (now : ℕ) (refused : Bool) (i : Item) → DidStep m x i (step m x now refused i)
 step_rows m x now refused i =
     by_step (DidStep m x i) m x now refused i (did_names refused m.store x (moment now) i)
-    (for_each (λ o. DidStep m x i (marked_if (moves_opens i) x.client (on_store m o))) refused m.store x (moment now) i (by_mark (moves_opens i)))
+    (for_each (λ o. DidStep m x i (on_store m o)) refused m.store x (moment now) i (did_files refused m.store x (moment now) i))
     (λ none other. Same (ap (λ (s : State). s.tree.rows) (otherwise_store m x i)))
-  where
-    by_mark : (moves : Bool) → DidStep m x i (marked_if moves x.client (on_store m (files.comes_to refused m.store x (moment now) i)))
-    by_mark true = did_files refused m.store x (moment now) i
-    by_mark false = did_files refused m.store x (moment now) i
 
 pub run_rows : (d : RanOp) → IsRun d → DidRows d.before.store.tree d.behind.store.tree.rows d.context d.item d.result
 run_rows d r =

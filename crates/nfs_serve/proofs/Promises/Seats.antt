@@ -31,7 +31,7 @@ use Rattle.nfs_files.specs.Write as of_write
 use Rattle.nfs_files.proofs.{ChangesTold.Done, FileOps.by_granted, OpenAnswers.open_refuses, OpensMoved.{by_close, by_free, by_downgrade, by_lock, by_unlock}}
 use Rattle.nfs_files.proofs.{Outcomes.for_each, ToldOpens.asked_leads, WrittenOps.{by_found, current_number}}
 use Rattle.nfs_files.proofs.Outcomes as files
-use Rattle.nfs_exec.specs.{Step.Machine.Machine, Step.Behind.{Step, step, on_store, moves_opens, marked_if, otherwise}, Step.Run.in_room}
+use Rattle.nfs_exec.specs.{Step.Machine.Machine, Step.Behind.{Step, step, on_store, otherwise}, Step.Run.in_room}
 use Rattle.nfs_exec.proofs.{Step.Behind.by_step, Runs.Handles.handle_in, Runs.OneRun.{in_room_is, too_big}}
 use Rattle.nfs_serve.specs.Promises.NameStays.{IsDone}
 use Rattle.nfs_serve.proofs.Promises.NameSaid.{not_done, pushed_found}
@@ -123,12 +123,8 @@ otherwise_same m x i = (refl, refl)
 plain_step : (m : Machine) (x : Context) (now : ℕ) (refused : Bool) (i : Item) → is_plain i ≡ true → Same x (step m x now refused i).context
 plain_step m x now refused i e =
     by_step (λ s. Same x s.context) m x now refused i (plain_names refused m.store x (moment now) i e)
-    (for_each (λ o. Same x (marked_if (moves_opens i) x.client (on_store m o)).context) refused m.store x (moment now) i (by_mark (moves_opens i)))
+    (for_each (λ o. Same x o.context) refused m.store x (moment now) i (plain_files refused m.store x (moment now) i e))
     (λ none other. otherwise_same m x i)
-  where
-    by_mark : (moves : Bool) → Same x (marked_if moves x.client (on_store m (files.comes_to refused m.store x (moment now) i))).context
-    by_mark true = plain_files refused m.store x (moment now) i e
-    by_mark false = plain_files refused m.store x (moment now) i e
 
 -- The room that an operation runs in, and what it came to there.
 

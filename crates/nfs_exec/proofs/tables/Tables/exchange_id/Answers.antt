@@ -1,51 +1,48 @@
-use Rattle.std.proofs.Common.{◌≡◌, ℕ, List, Err, refl, sym, ◌∙◌, ap, subst}
-use Rattle.nfs_xdr.specs.{Caller.{Caller, caller}, Checks.judged}
-use Rattle.nfs_compound.specs.declared.session_args.ExchangeId.{ExchangeId}
-use Rattle.nfs_clients.specs.{ExchangeId.{Ask, asks, case_of, exchange}, Calls.{exchange_fault, ExchangesOrWants}}
+use Rattle.std.proofs.Common.{◌≡◌, Err, refl, sym, ◌∙◌, ap, subst}
+use Rattle.nfs_xdr.specs.{Caller.caller, Checks.judged}
+use Rattle.nfs_clients.specs.{ExchangeId.{Ask, case_of, exchange}, Calls.{exchange_fault, ExchangesOrWants}}
 use Rattle.nfs_lease.specs.Renewals.{Book, leases_of, without_lease}
 use Rattle.nfs_results.specs.{declared.res.Res.Res, declared.res.ExchangeIdOk.ExchangeIdOk, Results.status_of_result}
 use Rattle.nfs_names.specs.Outcome.{is_delay}
 use Rattle.nfs_exec.specs.{Step.Machine.{with_result, or_delay, machine_of}, Step.ExchangeId.{exchange_id, exchange_id_number, ask_of}, Step.View.settled}
-use Rattle.nfs_exec.proofs.Step.Exchanging.{answered_ok, refused_first, refused_last}
+use Rattle.nfs_exec.proofs.Step.Exchanging.{asked_as, answered_ok, refused_first, refused_last}
 use Rattle.nfs_exec.proofs.tables.Tables.exchange_id.Goals as goal
-
--- what is asked for the owner of these bytes
-abbrev asked_by : Caller → ExchangeId → List ℕ → Ask
-asked_by who e owner = asks owner e.verifier e.flags who.uid
 
 pub returns-in-Err-clause-outcome : goal.returns-in-Err-clause-outcome
 returns-in-Err-clause-outcome c =
     let m = machine_of c.args.self.now in
     let who = caller c.args.who.now in
     let e = c.args.asked.now in
+    let ask = asked_as m who e _ _ c.bytes-owner.ensures c.owner_has_open-has_open.ensures in
     subst (λ (r : Res). with_result m r ≡ or_delay (is_delay (status_of_result r)) m exchange_id_number (exchange_id m who c.args.now e)) (sym c.refused.ensures)
-    (refused_first m who c.args.now e c.in-Err.fault (case_of m.clients (ask_of who e))
-    (c.in-Err.ensures ∙ ap (λ (b : List ℕ). judged (exchange_fault m.clients (asked_by who e b))) c.bytes-owner.ensures))
+    (refused_first m who c.args.now e c.in-Err.fault (case_of m.clients (ask_of m who e))
+    (c.in-Err.ensures ∙ ap (λ (a : Ask). judged (exchange_fault m.clients a)) ask))
 
 pub returns-in-Ok-exchange-clause-outcome : goal.returns-in-Ok-exchange-clause-outcome
 returns-in-Ok-exchange-clause-outcome c =
     let m = machine_of c.args.self.now in
     let who = caller c.args.who.now in
     let e = c.args.asked.now in
+    let ask = asked_as m who e _ _ c.bytes-owner.ensures c.owner_has_open-has_open.ensures in
     let book = c.settle.ensures ∙ ap (λ (b : Book). settled b c.next_id-next.result c.in-Ok-exchange.exchanged) c.in-Ok.ensures.ok in
     ap (λ (x : ExchangeIdOk). with_result (record m { clients = c.exchange.new.self; leases = leases_of c.settle.new.leases }) (Res.ExchangeId x)) c.granted.ensures
     ∙ answered_ok m who c.args.now e c.next_id-next.result c.in-Ok-exchange.exchanged c.exchange.new.self
-    (leases_of c.settle.new.leases) (case_of m.clients (ask_of who e))
+    (leases_of c.settle.new.leases) (case_of m.clients (ask_of m who e))
     c.requires.machine c.next_id-next.ensures.fresh c.next_id-next.ensures.value refl
-    (c.in-Ok-exchange.ensures.0 ∙ ap (λ (b : List ℕ). (exchange m.clients (asked_by who e b)).answer) c.bytes-owner.ensures)
-    (c.in-Ok-exchange.ensures.1 ∙ ap (λ (b : List ℕ). (exchange m.clients (asked_by who e b)).after) c.bytes-owner.ensures) book
+    (c.in-Ok-exchange.ensures.0 ∙ ap (λ (a : Ask). (exchange m.clients a).answer) ask)
+    (c.in-Ok-exchange.ensures.1 ∙ ap (λ (a : Ask). (exchange m.clients a).after) ask) book
 
 pub returns-in-Err-exchange-clause-outcome : goal.returns-in-Err-exchange-clause-outcome
 returns-in-Err-exchange-clause-outcome c =
     let m = machine_of c.args.self.now in
     let who = caller c.args.who.now in
     let e = c.args.asked.now in
+    let ask = asked_as m who e _ _ c.bytes-owner.ensures c.owner_has_open-has_open.ensures in
     let after = record m { clients = c.exchange.new.self; leases = leases_of c.remove.new.self } in
     subst (λ (r : Res). with_result after r ≡ or_delay (is_delay (status_of_result r)) m exchange_id_number (exchange_id m who c.args.now e))
     (sym c.refused-in-Err-exchange.ensures)
     (refused_last m who c.args.now e c.next_id-next.result c.in-Err-exchange.fault c.exchange.new.self (leases_of c.remove.new.self)
     c.requires.machine c.next_id-next.ensures.fresh
-    (ap (λ (b : List ℕ). judged (exchange_fault m.clients (asked_by who e b))) (sym c.bytes-owner.ensures) ∙ sym c.judge_exchange.ensures ∙ c.in_default.is)
-    (subst (λ (b : List ℕ). ExchangesOrWants m.clients (asked_by who e b) (Err c.in-Err-exchange.fault) c.exchange.new.self) c.bytes-owner.ensures
-    c.in-Err-exchange.ensures)
+    (ap (λ (a : Ask). judged (exchange_fault m.clients a)) (sym ask) ∙ sym c.judge_exchange.ensures ∙ c.in_default.is)
+    (subst (λ (a : Ask). ExchangesOrWants m.clients a (Err c.in-Err-exchange.fault) c.exchange.new.self) ask c.in-Err-exchange.ensures)
     (c.remove.ensures.lease ∙ ap (λ (b : Book). without_lease b c.next_id-next.result) c.in-Ok.ensures.ok))

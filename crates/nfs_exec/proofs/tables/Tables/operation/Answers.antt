@@ -14,11 +14,11 @@ pub returns-in-Some-file_op-clause-steps : goal.returns-in-Some-file_op-clause-s
 returns-in-Some-file_op-clause-steps c =
     let m = machine_of c.args.self.now in
     let i = Operation c.args.op.now in
-    file_steps m (machine_of c.mark_open.new.self) c.args.context.now c.args.now i c.args.out.now c.name_op.new.out c.file_op.new.out
+    file_steps m c.args.context.now c.args.now i c.args.out.now c.name_op.new.out c.file_op.new.out
     (state_of c.name_op.new.store) (state_of c.file_op.new.store) c.name_op.new.context c.file_op.new.context c.file_op.result c.in-Some-file_op.status
     (none_named m c.args.context.now c.args.now i c.args.out.now c.name_op.new.out c.name_op.result (state_of c.name_op.new.store) c.name_op.new.context
     c.name_op.ensures.comes c.in_default.is)
-    c.file_op.ensures.comes c.in-Some-file_op.is c.mark_open.ensures.marked
+    c.file_op.ensures.comes c.in-Some-file_op.is
 
 pub returns-clause-steps : goal.returns-clause-steps
 returns-clause-steps c =
