@@ -1,6 +1,6 @@
 -- The slots of a session under the channel that was granted (RFC 8881 section 2.10.6.1). A slot keeps a reply without its RPC head.
-use Rattle.std.specs.Prelude.{ℕ, ◌-◌, List, replicate}
-use Rattle.nfs_slots.specs.{Slot.{SlotState, SlotTable, unused_slot}, declared.slot.Verdict.Verdict}
+use Rattle.std.specs.Prelude.{ℕ, List, replicate}
+use Rattle.nfs_slots.specs.{Slot.{SlotState, unused_slot}, declared.slot.Verdict.Verdict}
 use Rattle.nfs_slots.specs.Slot as slots
 use Rattle.nfs_sessions.specs.declared.channel.Channel.{Channel}
 
@@ -12,18 +12,14 @@ pub record GrantedSlots : Type 0 where
   pub channel : Channel
   pub slots : List SlotState
 
--- each slot keeps the arguments of a request and a reply that the channel lets pass
-abbrev pub slot_table : GrantedSlots → SlotTable
-slot_table g = record { slots = g.slots; size = g.channel.response - rpc_head; request = g.channel.request }
-
 abbrev pub unused : Channel → GrantedSlots
 unused channel = record { channel = channel; slots = replicate channel.slots unused_slot }
 
 abbrev pub judge : GrantedSlots → ℕ → ℕ → ℕ → List ℕ → Verdict
-judge g = slots.judge (slot_table g)
+judge g = slots.judge g.slots
 
 abbrev pub kept : GrantedSlots → ℕ → List ℕ
-kept g = slots.kept (slot_table g)
+kept g = slots.kept g.slots
 
 abbrev pub keep : GrantedSlots → ℕ → ℕ → ℕ → List ℕ → List ℕ → GrantedSlots
-keep g slot number uid args reply = record g { slots = (slots.keep (slot_table g) slot number uid args reply).slots }
+keep g slot number uid args reply = record g { slots = slots.keep g.slots slot number uid args reply }

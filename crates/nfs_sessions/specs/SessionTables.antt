@@ -1,7 +1,7 @@
 -- What every table of sessions keeps, and what its calls ask for and answer where memory is refused.
 use Rattle.std.specs.Prelude.{◌≤◌, ◌≡◌, ℕ, ◌+◌, List, length, suc, Result, Err, IsOk}
 use Rattle.nfs_xdr.specs.{Limits.most_record, Tables.IsRising}
-use Rattle.nfs_slots.specs.{Slot.SlotTable, declared.slot.Verdict.TheVariants.Fresh}
+use Rattle.nfs_slots.specs.{SlotTables.SlotTable, declared.slot.Verdict.TheVariants.Fresh}
 use Rattle.nfs_sessions.specs.{Channel.{most_operations, most_slots, least_bytes}, declared.channel.Channel.Channel}
 use Rattle.nfs_sessions.specs.{SessionSlots.{rpc_head, GrantedSlots, judge, kept}, Sessions.{SessionTable, Created}, declared.id.SessionId.SessionId}
 use Rattle.nfs_sessions.specs.{declared.sessions.SessionFault.SessionFault, declared.sessions.SessionFault.TheVariants.Memory}

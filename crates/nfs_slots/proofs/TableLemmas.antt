@@ -4,14 +4,14 @@ use Rattle.std.proofs.{Common.{refl, sym, ◌∙◌, ap, arith, zero-add}, lemma
 use Rattle.std.proofs.{lemmas.List.Elements.{All-head, All-tail}, lemmas.List.Sums.sum_by-cons, lemmas.Slice.Eq.bytes_eq-Decides}
 use Rattle.std.specs.{Prelude.{◌==◌, if◌then◌else◌, not, ◌&&◌, slice_get, count_by, bytes_eq, length, All}, Option.option_map_or}
 use Rattle.nfs_slots.specs.{declared.slot.Slot.Slot, declared.slot.Verdict.TheVariants.{Fresh, Again, FalseRetry, Misordered, NoSlot}}
-use Rattle.nfs_slots.specs.{Slot.{SlotState, SlotTable, next_number, judge_slot, slot_at, judge, keep}, SlotTables.IsBounded, Buffers.{state_of, IsWithinRoom}}
+use Rattle.nfs_slots.specs.{Slot.{SlotState, next_number, judge_slot, judge, keep}, SlotTables.IsBounded, Buffers.{state_of, IsWithinRoom}}
 use Rattle.nfs_slots.specs.Laws.{Request, is_on, Keeps, OnePlace, RepeatsAreAnswered}
 
 -- what a slot's buffers stand for, put into the table
-pub kept_in : (t : SlotTable) (slots : List Slot) (slot : ℕ) (s : Slot) (state : SlotState)
-    → map state_of slots ≡ t.slots → state_of s ≡ state → map state_of (set slots slot s) ≡ set t.slots slot state
-kept_in t slots slot s state before here = map-set state_of slots slot s
-    ∙ (ap (λ (xs : List SlotState). set xs slot (state_of s)) before ∙ ap (λ (x : SlotState). set t.slots slot x) here)
+pub kept_in : (states : List SlotState) (slots : List Slot) (slot : ℕ) (s : Slot) (state : SlotState)
+    → map state_of slots ≡ states → state_of s ≡ state → map state_of (set slots slot s) ≡ set states slot state
+kept_in states slots slot s state before here = map-set state_of slots slot s
+    ∙ (ap (λ (xs : List SlotState). set xs slot (state_of s)) before ∙ ap (λ (x : SlotState). set states slot x) here)
 
 pub slice_get-set_same : {X : Type 0} (xs : List X) (i : ℕ) (x y : X) → slice_get xs i ≡ Some x → slice_get (set xs i y) i ≡ Some y
 slice_get-set_same [] i x y e = absurd cc
@@ -42,8 +42,8 @@ fresh_found : (found : Option SlotState) (number uid : ℕ) (args : List ℕ)
 fresh_found None number uid args e = absurd cc
 fresh_found (Some s) number uid args e = (s, refl, fresh_number s number uid args e)
 
-pub fresh_at : (t : SlotTable) (slot number uid : ℕ) (args : List ℕ) (s : SlotState)
-    → slot_at t slot ≡ Some s → judge t slot number uid args ≡ Fresh → number ≡ next_number s.number
+pub fresh_at : (t : List SlotState) (slot number uid : ℕ) (args : List ℕ) (s : SlotState)
+    → slice_get t slot ≡ Some s → judge t slot number uid args ≡ Fresh → number ≡ next_number s.number
 fresh_at t slot number uid args s here e =
     fresh_number s number uid args (ap (λ (found : Option SlotState). option_map_or (λ s. judge_slot s number uid args) found NoSlot) (sym here) ∙ e)
 
@@ -67,16 +67,16 @@ count_apart slot r more other =
     ∙ (ap (λ (b : Bool). cond b 1 0 + count_by (is_on slot) more) (ne_eqb r.slot slot other) ∙ zero-add (count_by (is_on slot) more))
 
 -- a slot's number moves on by one for each request that is kept there
-pub moves_on : (slot : ℕ) (old new : SlotTable) (more : List Request) (s : SlotState) → s.number < 2 ^ 32 → slot_at old slot ≡ Some s
-    → Keeps old more new → (r : SlotState) × (slot_at new slot ≡ Some r) × (r.number ≡ (s.number + count_by (is_on slot) more) % 2 ^ 32)
-moves_on slot old new [] s small here keeps = (s, ap (λ (t : SlotTable). slot_at t slot) (sym keeps) ∙ here, behind_all s.number small)
+pub moves_on : (slot : ℕ) (old new : List SlotState) (more : List Request) (s : SlotState) → s.number < 2 ^ 32 → slice_get old slot ≡ Some s
+    → Keeps old more new → (r : SlotState) × (slice_get new slot ≡ Some r) × (r.number ≡ (s.number + count_by (is_on slot) more) % 2 ^ 32)
+moves_on slot old new [] s small here keeps = (s, ap (λ (t : List SlotState). slice_get t slot) (sym keeps) ∙ here, behind_all s.number small)
 moves_on slot old new (r ∷ more) s small here keeps =
     let next = keep old r.slot r.number r.uid r.args r.reply in
     let state : SlotState = record { number = r.number; used = true; uid = r.uid; args = r.args; reply = r.reply } in
     elim (cases_eq r.slot slot) [
       | inl same ↦ (
-          let before : slot_at old r.slot ≡ Some s = ap (slot_at old) same ∙ here in
-          let after : slot_at next slot ≡ Some state = ap (slot_at next) (sym same) ∙ slice_get-set_same old.slots r.slot s state before in
+          let before : slice_get old r.slot ≡ Some s = ap (slice_get old) same ∙ here in
+          let after : slice_get next slot ≡ Some state = ap (slice_get next) (sym same) ∙ slice_get-set_same old r.slot s state before in
           let number : r.number ≡ next_number s.number = fresh_at old r.slot r.number r.uid r.args s before keeps.0 in
           let (end, there, moved) = moves_on slot next new more state (omega (arith, next_small s.number)) after keeps.1 in
           let count = count_by (is_on slot) more in (
@@ -86,20 +86,20 @@ moves_on slot old new (r ∷ more) s small here keeps =
                 ∙ (further s.number count ∙ ap (λ (n : ℕ). (s.number + n) % 2 ^ 32) (sym (count_here slot r more same)))),
           ))
       | inr other ↦ (
-          let after : slot_at next slot ≡ Some s = slice_get-set_other old.slots r.slot slot state (λ e. other (sym e)) ∙ here in
+          let after : slice_get next slot ≡ Some s = slice_get-set_other old r.slot slot state (λ e. other (sym e)) ∙ here in
           let (end, there, moved) = moves_on slot next new more s small after keeps.1 in
           (end, there, moved ∙ ap (λ (n : ℕ). (s.number + n) % 2 ^ 32) (sym (count_apart slot r more other))))
     ]
 
 -- a slot stays as it is where no request is kept on it
-pub stays : (slot : ℕ) (old new : SlotTable) (more : List Request) → Keeps old more new → count_by (is_on slot) more ≡ 0 → slot_at new slot ≡ slot_at old slot
-stays slot old new [] keeps none = ap (λ (t : SlotTable). slot_at t slot) (sym keeps)
+pub stays : (slot : ℕ) (old new : List SlotState) (more : List Request) → Keeps old more new → count_by (is_on slot) more ≡ 0 → slice_get new slot ≡ slice_get old slot
+stays slot old new [] keeps none = ap (λ (t : List SlotState). slice_get t slot) (sym keeps)
 stays slot old new (r ∷ more) keeps none =
     let next = keep old r.slot r.number r.uid r.args r.reply in
     elim (cases_eq r.slot slot) [
       | inl same ↦ (let one : 1 + count_by (is_on slot) more ≡ 0 = sym (count_here slot r more same) ∙ none in absurd (omega arith))
       | inr other ↦ stays slot next new more keeps.1 (sym (count_apart slot r more other) ∙ none)
-          ∙ slice_get-set_other old.slots r.slot slot _ (λ e. other (sym e))
+          ∙ slice_get-set_other old r.slot slot _ (λ e. other (sym e))
     ]
 
 bytes_same : (xs : List ℕ) → bytes_eq xs xs ≡ true
@@ -115,9 +115,9 @@ pub one_place : OnePlace
 one_place old new r more uid args keeps fresh =
     let next = keep old r.slot r.number r.uid r.args r.reply in
     let state : SlotState = record { number = r.number; used = true; uid = r.uid; args = r.args; reply = r.reply } in
-    let (s, found, number) = fresh_found (slot_at old r.slot) r.number r.uid r.args keeps.0 in
+    let (s, found, number) = fresh_found (slice_get old r.slot) r.number r.uid r.args keeps.0 in
     let small : r.number < 2 ^ 32 = omega (arith, next_small s.number) in
-    let (end, there, moved) = moves_on r.slot next new more state small (slice_get-set_same old.slots r.slot s state found) keeps.1 in
+    let (end, there, moved) = moves_on r.slot next new more state small (slice_get-set_same old r.slot s state found) keeps.1 in
     full_round r.number (count_by (is_on r.slot) more) small (fresh_at new r.slot r.number uid args end there fresh ∙ ap next_number moved)
 
 again : (r : Request) → judge_slot (record { number = r.number; used = true; uid = r.uid; args = r.args; reply = r.reply }) r.number r.uid r.args ≡ Again
@@ -127,8 +127,8 @@ pub repeats_are_answered : RepeatsAreAnswered
 repeats_are_answered old new r more keeps none =
     let next = keep old r.slot r.number r.uid r.args r.reply in
     let state : SlotState = record { number = r.number; used = true; uid = r.uid; args = r.args; reply = r.reply } in
-    let (s, found, number) = fresh_found (slot_at old r.slot) r.number r.uid r.args keeps.0 in
-    let there : slot_at new r.slot ≡ Some state = stays r.slot next new more keeps.1 none ∙ slice_get-set_same old.slots r.slot s state found in (
+    let (s, found, number) = fresh_found (slice_get old r.slot) r.number r.uid r.args keeps.0 in
+    let there : slice_get new r.slot ≡ Some state = stays r.slot next new more keeps.1 none ∙ slice_get-set_same old r.slot s state found in (
       ap (λ (x : Option SlotState). option_map_or (λ s. judge_slot s r.number r.uid r.args) x NoSlot) there ∙ again r,
       ap (λ (x : Option SlotState). option_map_or (λ s. s.reply) x []) there,
     )

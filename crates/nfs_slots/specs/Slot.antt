@@ -12,12 +12,6 @@ pub record SlotState : Type 0 where
   pub args : List ℕ
   pub reply : List ℕ
 
--- the slots of a session, from slot 0 on, and the most bytes of a reply and of arguments that each keeps
-pub record SlotTable : Type 0 where
-  pub slots : List SlotState
-  pub size : ℕ
-  pub request : ℕ
-
 -- a slot that took no request
 abbrev pub unused_slot : SlotState
 unused_slot = record { number = 0; used = false; uid = 0; args = []; reply = [] }
@@ -34,18 +28,14 @@ judge_slot s number uid args =
     else if (uid == s.uid) && bytes_eq args s.args then Again
     else FalseRetry
 
-abbrev pub slot_at : SlotTable → ℕ → Option SlotState
-slot_at t slot = slice_get t.slots slot
-
-abbrev pub judge : SlotTable → ℕ → ℕ → ℕ → List ℕ → Verdict
-judge t slot number uid args = option_map_or (λ s. judge_slot s number uid args) (slot_at t slot) NoSlot
+-- the slots of a session are a list, from slot 0 on
+abbrev pub judge : List SlotState → ℕ → ℕ → ℕ → List ℕ → Verdict
+judge slots slot number uid args = option_map_or (λ s. judge_slot s number uid args) (slice_get slots slot) NoSlot
 
 -- the slot takes the request in the place of its last one, and every other slot stays as it was
-abbrev pub keep : SlotTable → ℕ → ℕ → ℕ → List ℕ → List ℕ → SlotTable
-keep t slot number uid args reply = record t {
-  slots = slice_set t.slots slot (record { number = number; used = true; uid = uid; args = args; reply = reply });
-}
+abbrev pub keep : List SlotState → ℕ → ℕ → ℕ → List ℕ → List ℕ → List SlotState
+keep slots slot number uid args reply = slice_set slots slot (record { number = number; used = true; uid = uid; args = args; reply = reply })
 
 -- the reply that a slot keeps
-abbrev pub kept : SlotTable → ℕ → List ℕ
-kept t slot = option_map_or (λ s. s.reply) (slot_at t slot) []
+abbrev pub kept : List SlotState → ℕ → List ℕ
+kept slots slot = option_map_or (λ s. s.reply) (slice_get slots slot) []

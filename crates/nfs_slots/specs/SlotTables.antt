@@ -1,21 +1,27 @@
 -- What every table of slots keeps, and what its calls answer.
-use Rattle.std.specs.{Prelude.{ℕ, ◌≤◌, List, [], replicate, length}, Option.option_map_or}
+use Rattle.std.specs.{Prelude.{ℕ, ◌≤◌, List, [], replicate, length, slice_get}, Option.option_map_or}
 use Rattle.nfs_xdr.specs.declared.status.Status.{Status}
 use Rattle.nfs_xdr.specs.declared.status.Status.TheVariants as status
-use Rattle.nfs_slots.specs.{Slot.{SlotTable, unused_slot, slot_at, kept}, declared.slot.Verdict.Verdict}
+use Rattle.nfs_slots.specs.{Slot.{SlotState, unused_slot, kept}, declared.slot.Verdict.Verdict}
 use Rattle.nfs_slots.specs.declared.slot.Verdict.TheVariants.{Fresh, Again, FalseRetry, Misordered, NoSlot}
+
+-- the slots of a session, and the most bytes of a reply and of arguments that each keeps
+pub record SlotTable : Type 0 where
+  pub slots : List SlotState
+  pub size : ℕ
+  pub request : ℕ
 
 abbrev pub unused : ℕ → ℕ → ℕ → SlotTable
 unused count size request = record { slots = replicate count unused_slot; size = size; request = request }
 
 -- the argument bytes that a slot keeps, by which a repeat is compared
-abbrev pub kept_args : SlotTable → ℕ → List ℕ
-kept_args t slot = option_map_or (λ s. s.args) (slot_at t slot) []
+abbrev pub kept_args : List SlotState → ℕ → List ℕ
+kept_args slots slot = option_map_or (λ s. s.args) (slice_get slots slot) []
 
 -- no slot keeps a reply or arguments of more bytes than the table has room for
 pub record IsBounded (t : SlotTable) : Type 0 where
-  pub reply : (slot : ℕ) → length (kept t slot) ≤ t.size
-  pub args : (slot : ℕ) → length (kept_args t slot) ≤ t.request
+  pub reply : (slot : ℕ) → length (kept t.slots slot) ≤ t.size
+  pub args : (slot : ℕ) → length (kept_args t.slots slot) ≤ t.request
 
 -- the status that a verdict is answered with: a new request, and one that is repeated, are not refused
 abbrev pub verdict_status : Verdict → Status

@@ -18,7 +18,7 @@ pub struct Slots {
 
 impl Model for Slots {
     ghost use Rattle.std.specs.Prelude.{map, All};
-    ghost use Rattle.nfs_slots.specs.Slot.{SlotTable};
+    ghost use Rattle.nfs_slots.specs.SlotTables.{SlotTable};
     ghost use Rattle.nfs_slots.specs.Buffers.{state_of, IsWithinRoom};
 
     ghost Value = { SlotTable };
@@ -57,7 +57,7 @@ impl Slots {
     /// The argument bytes are those that a repeat is compared by, and come in two parts: what a request has between
     /// `head` and `tail` is not compared.
     pub fn judge(&self, slot: u32, number: u32, uid: u32, head: &[u8], tail: &[u8]) -> Verdict
-        ensures { result ≡ judge self.now slot number uid (head.now ++ tail.now) }
+        ensures { result ≡ judge self.now.slots slot number uid (head.now ++ tail.now) }
     {
         match self.slots.get(slot as usize) {
             Some(s) => s.judge(number, uid, head, tail),
@@ -68,10 +68,10 @@ impl Slots {
     /// Keeps the reply to a request that was fresh and has run, in the place of the request before it. The argument
     /// bytes are in two parts, as in `judge`.
     pub fn keep(&mut self, slot: u32, number: u32, uid: u32, head: &[u8], tail: &[u8], reply: &[u8])
-        requires fresh { judge self.old slot number uid (head.now ++ tail.now) ≡ Verdict.Fresh }
+        requires fresh { judge self.old.slots slot number uid (head.now ++ tail.now) ≡ Verdict.Fresh }
         requires args { length (head.now ++ tail.now) ≤ self.old.request }
         requires reply { length reply.now ≤ self.old.size }
-        ensures { self.new ≡ keep self.old slot number uid (head.now ++ tail.now) reply.now }
+        ensures { self.new ≡ record self.old { slots = keep self.old.slots slot number uid (head.now ++ tail.now) reply.now } }
     {
         self.slots[slot as usize].keep(number, uid, head, tail, reply);
     }
@@ -79,7 +79,7 @@ impl Slots {
     /// The reply that slot `slot` keeps: the bytes of its last `keep`, and none where it keeps nothing. It is no longer
     /// than the room that was reserved for it.
     pub fn kept(&self, slot: u32) -> &[u8]
-        ensures reply { result.now ≡ kept self.now slot }
+        ensures reply { result.now ≡ kept self.now.slots slot }
         ensures bounded { IsBounded self.now }
     {
         match self.slots.get(slot as usize) {
