@@ -2,6 +2,7 @@
 
 ghost use Rattle.std.specs.Prelude.{◌≡◌, ◌++◌, Option};
 ghost use Rattle.nfs_xdr.specs.Caller.{caller};
+ghost use Rattle.nfs_compound.specs.OpNum.{op_number};
 ghost use Rattle.nfs_xdr.specs.SheetState.{Puts};
 ghost use Rattle.nfs_clients.specs.CreateSession as clients;
 ghost use Rattle.nfs_compound.specs.declared.op_num.OpNum.TheVariants as Num;
@@ -11,7 +12,7 @@ ghost use Rattle.nfs_sessions.specs.Sessions.{create};
 ghost use Rattle.nfs_names.specs.Outcome.{is_delay};
 ghost use Rattle.nfs_exec.specs.Step.Machine.{Machine, or_delay, refuses, machine_of};
 ghost use Rattle.nfs_names.specs.StoreInvariants.{IsStore};
-ghost use Rattle.nfs_exec.specs.Step.CreateSession.{create_session, create_session_number, wish_of, session_made, made_body, channel_of, attrs_of, creates, kept_again, confirmed};
+ghost use Rattle.nfs_exec.specs.Step.CreateSession.{create_session, wish_of, session_made, made_body, channel_of, attrs_of, creates, kept_again, confirmed};
 ghost use Rattle.nfs_exec.specs.Step.View.{without_left, Does, HasLoneRoom};
 
 use crate::tables::Tables;
@@ -67,7 +68,7 @@ impl Tables {
         requires latest { IsLatest (machine_of self.old).leases now }
         requires store { IsStore (machine_of self.old).store }
         requires room { HasLoneRoom out.old }
-        ensures { Does (or_delay (is_delay result) (machine_of self.old) create_session_number
+        ensures { Does (or_delay (is_delay result) (machine_of self.old) (op_number Num.CreateSession)
             (creates (machine_of self.old) now asked.now (create self.old.sessions asked.now.clientid (wish_of (machine_of self.old) asked.now))))
             result (machine_of self.new) out.old out.new }
     {
@@ -196,7 +197,7 @@ fn put_kept(kept: &CreateResult, out: &mut Sheet) -> Status
 #[tactic(auto, using(nfs_xdr::proofs::Putting::putting))]
 fn put_refusal(status: Status, out: &mut Sheet) -> Status
     requires room { HasLoneRoom out.old }
-    ensures { (m : Machine) → Does (refuses m create_session_number status) result m out.old out.new }
+    ensures { (m : Machine) → Does (refuses m (op_number Num.CreateSession) status) result m out.old out.new }
 {
     out.put_u32(OpNum::CreateSession.number());
     out.put_u32(status.number());

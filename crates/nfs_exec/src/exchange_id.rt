@@ -2,6 +2,8 @@
 
 ghost use Rattle.std.specs.Prelude.{◌≡◌};
 ghost use Rattle.nfs_xdr.specs.Caller.{caller};
+ghost use Rattle.nfs_compound.specs.OpNum.{op_number};
+ghost use Rattle.nfs_compound.specs.declared.op_num.OpNum.TheVariants as Num;
 ghost use Rattle.nfs_compound.specs.declared.op.Item.TheVariants.{Operation};
 ghost use Rattle.nfs_compound.specs.declared.op.Op.TheVariants as Op;
 ghost use Rattle.nfs_clients.specs.ExchangeId.{fault_status};
@@ -12,7 +14,7 @@ ghost use Rattle.nfs_results.specs.declared.res.Res.TheVariants as Res;
 ghost use Rattle.nfs_results.specs.Results.{status_of_result};
 ghost use Rattle.nfs_names.specs.Outcome.{is_delay};
 ghost use Rattle.nfs_exec.specs.Step.Machine.{IsMachine, with_result, or_delay, machine_of};
-ghost use Rattle.nfs_exec.specs.Step.ExchangeId.{exchange_id, exchange_id_number, granted, owner_has_open};
+ghost use Rattle.nfs_exec.specs.Step.ExchangeId.{exchange_id, granted, owner_has_open};
 ghost use Rattle.nfs_exec.specs.Step.View.{settled};
 
 use crate::tables::Tables;
@@ -39,7 +41,7 @@ impl Tables {
         requires machine { IsMachine (machine_of self.old) }
         requires latest { IsLatest (machine_of self.old).leases now }
         ensures outcome { with_result (machine_of self.new) result
-            ≡ or_delay (is_delay (status_of_result result)) (machine_of self.old) exchange_id_number
+            ≡ or_delay (is_delay (status_of_result result)) (machine_of self.old) (op_number Num.ExchangeId)
             (exchange_id (machine_of self.old) (caller who.now) now asked.now) }
         ensures size { MayAnswer (Operation (Op.ExchangeId asked.now)) result }
     {
@@ -93,7 +95,7 @@ fn settle(leases: &mut Leases, next: u64, exchanged: &Exchanged)
 }
 
 fn refused(fault: ClientFault) -> Res<'static>
-    ensures { result ≡ Res.Refused exchange_id_number (fault_status fault) }
+    ensures { result ≡ Res.Refused (op_number Num.ExchangeId) (fault_status fault) }
 {
     Res::Refused {
         operation: OpNum::ExchangeId.number(),

@@ -7,15 +7,15 @@ use Rattle.nfs_compound.specs.{declared.session_args.CreateSession.CreateSession
 use Rattle.nfs_compound.specs.declared.session_args.Sequence.{Sequence}
 use Rattle.nfs_compound.specs.declared.op.Op.TheVariants as Op
 use Rattle.nfs_clients.specs.CreateSession as clients
-use Rattle.nfs_clients.specs.{CreateSession.create_verdict, DestroyClientId.destroy_fault, declared.destroy.DestroyFault.DestroyFault}
+use Rattle.nfs_clients.specs.CreateSession.{create_verdict}
 use Rattle.nfs_clients.specs.declared.created.CreateResult.TheVariants as results
 use Rattle.nfs_results.specs.declared.res.Res.TheVariants as Res
 use Rattle.nfs_sessions.specs.{Id.id_of, Sessions.{session_at, create, destroyed}, declared.channel.Channel.Channel}
-use Rattle.nfs_names.specs.{Ending.has_open, Outcome.is_ok}
-use Rattle.nfs_exec.specs.{Step.Machine.{Machine, Outcome, refuses, with_result}, Step.Place.item_fault, Step.ExchangeId.{exchange_id, exchange_id_number}}
-use Rattle.nfs_exec.specs.Step.CreateSession.{create_session_number, by_verdict, creates, wish_of}
-use Rattle.nfs_exec.specs.{Step.Destroy.{destroy_session, destroyed_unless, has_session}, Step.Run.{is_here, only}, Step.Sequence.{Sequenced, sequenced}}
-use Rattle.nfs_exec.specs.Step.Compound.{Answered, answers, bare, carried_out, by_fault, first_item, in_session, by_first, compound}
+use Rattle.nfs_names.specs.Outcome.{is_ok}
+use Rattle.nfs_exec.specs.{Step.Machine.{by_fault, Machine, Outcome, refuses, with_result}, Step.Place.item_fault, Step.ExchangeId.exchange_id}
+use Rattle.nfs_exec.specs.Step.CreateSession.{by_verdict, creates, wish_of}
+use Rattle.nfs_exec.specs.{Step.Destroy.{destroy_session, client_fault, client_ended}, Step.Run.{is_here, only}, Step.Sequence.{Sequenced, sequenced}}
+use Rattle.nfs_exec.specs.Step.Compound.{Answered, answers, bare, carried_out, first_item, in_session, by_first, compound}
 use Rattle.nfs_exec.specs.{Step.Laws.{Asks, ran, first_runs, if_runs}, Runs.Ops.{RanOp, ops_in, ops_of, ops_by}}
 use Rattle.nfs_exec.specs.Step.Sequence as sequence
 
@@ -63,7 +63,7 @@ pub by_alone : (P : Outcome → Type 0) (m : Machine) (declared : ℕ) (who : Ca
     → P (creates m now c (create m.sessions c.clientid (wish_of m c))))
     → ((sessionid : List ℕ) → i ≡ Operation (Op.DestroySession sessionid) → is_some (session_at m.sessions (id_of sessionid)) ≡ true
     → P (with_result (record m { sessions = destroyed m.sessions (id_of sessionid) }) Res.DestroySession))
-    → ((client : ℕ) → i ≡ Operation (Op.DestroyClientId client) → destroy_fault m.clients client (has_session m.sessions client) (has_open m.store client) ≡ None → P (destroyed_unless m client None))
+    → ((client : ℕ) → i ≡ Operation (Op.DestroyClientId client) → client_fault m client ≡ None → P (by_fault m 57 None (client_ended m client)))
     → P (first_item m declared who now refused i)
 by_alone P m declared who now refused i same exchanges creates_it ends goes = by_place (item_fault declared i)
   where
@@ -79,7 +79,7 @@ by_alone P m declared who now refused i same exchanges creates_it ends goes = by
     by_verdict_is c clients.Misordered is e = same _ _
     by_verdict_is c clients.InUse is e = same _ _
     by_verdict_is c clients.Runs is e =
-        let o = creates m now c (create m.sessions c.clientid (wish_of m c)) in by_delay (refused && is_ok o.status) create_session_number o (creates_it c is e)
+        let o = creates m now c (create m.sessions c.clientid (wish_of m c)) in by_delay (refused && is_ok o.status) 43 o (creates_it c is e)
 
     by_session : (sessionid : List ℕ) → i ≡ Operation (Op.DestroySession sessionid) → P (destroy_session m sessionid)
     by_session sessionid is = elim (cases_Bool (is_some (session_at m.sessions (id_of sessionid)))) [
@@ -87,17 +87,17 @@ by_alone P m declared who now refused i same exchanges creates_it ends goes = by
       | inr gone ↦ rw gone (same _ _)
     ]
 
-    by_client : (client : ℕ) (o : Option DestroyFault) → i ≡ Operation (Op.DestroyClientId client) → destroy_fault m.clients client (has_session m.sessions client) (has_open m.store client) ≡ o
-        → P (destroyed_unless m client o)
+    by_client : (client : ℕ) (o : Option Status) → i ≡ Operation (Op.DestroyClientId client) → client_fault m client ≡ o
+        → P (by_fault m 57 o (client_ended m client))
     by_client client None is e = goes client is e
     by_client client (Some fault) is e = same _ _
 
     carried : (j : Item) → i ≡ j → P (carried_out m who now refused j)
     carried (Operation (Op.ExchangeId e)) is =
-        by_delay (refused && is_ok (exchange_id m who now e).status) exchange_id_number (exchange_id m who now e) (exchanges e is)
+        by_delay (refused && is_ok (exchange_id m who now e).status) 42 (exchange_id m who now e) (exchanges e is)
     carried (Operation (Op.CreateSession c)) is = by_verdict_is c (create_verdict m.clients c.clientid c.sequence who.uid) is refl
     carried (Operation (Op.DestroySession sessionid)) is = by_session sessionid is
-    carried (Operation (Op.DestroyClientId client)) is = by_client client (destroy_fault m.clients client (has_session m.sessions client) (has_open m.store client)) is refl
+    carried (Operation (Op.DestroyClientId client)) is = by_client client (client_fault m client) is refl
     carried j is = same _ _
 
     by_place : (f : Option Status) → P (by_fault m (item_number i) f (carried_out m who now refused i))

@@ -14,11 +14,9 @@ use Rattle.nfs_clients.specs.Roster.{ClientRecord, Roster, client_at, with_chang
 use Rattle.nfs_clients.specs.ExchangeId.{carries_confirmed, updates, same_verifier, same_user}
 use Rattle.nfs_clients.specs.ExchangeId.{Ask, Case, Refuses, Stays, Adds, has_room, case_by, if_room, case_of, new_client, does, fault_status}
 use Rattle.nfs_clients.specs.{Marks.has_reclaimed, declared.created.CreateResult.CreateResult, DestroyClientId.destroy_fault}
-use Rattle.nfs_clients.specs.declared.destroy.DestroyFault.{DestroyFault}
 use Rattle.nfs_clients.specs.declared.exchange_id.ClientFault.TheVariants as Faults
 use Rattle.nfs_clients.specs.CreateSession as clients
 use Rattle.nfs_clients.specs.declared.created.CreateResult.TheVariants as results
-use Rattle.nfs_clients.specs.declared.destroy.DestroyFault.TheVariants as Destroys
 use Rattle.nfs_lease.specs.Renewals.{has_run_out}
 use Rattle.nfs_slots.specs.{declared.slot.Verdict.Verdict, declared.slot.Verdict.TheVariants.{Fresh, Again, FalseRetry, Misordered, NoSlot}}
 use Rattle.nfs_sessions.specs.{Id.id_of, SessionSlots.{GrantedSlots, judge}}
@@ -32,13 +30,13 @@ use Rattle.nfs_names.proofs.{Faulted.status_of_refusal, Ones.each_of}
 use Rattle.nfs_files.proofs.Outcomes as files
 use Rattle.nfs_files.proofs.{Outcomes.for_each, Prompt.{IsPrompt, all_pass, first_passes, not_true, first_prompt, current_prompt, names_prompt}}
 use Rattle.nfs_files.proofs.PromptFiles.{files_prompt}
-use Rattle.nfs_exec.specs.Step.Machine.{Machine, Outcome, or_delay, refuses as exec_refuses, starts}
+use Rattle.nfs_exec.specs.Step.Machine.{by_fault, Machine, Outcome, is_client, or_delay, refuses as exec_refuses, starts}
 use Rattle.nfs_exec.specs.Step.Behind.{step, on_store, otherwise}
-use Rattle.nfs_exec.specs.Step.CreateSession.{create_session_number, by_verdict, creates, by_created, made_body, wish_of}
-use Rattle.nfs_exec.specs.{Step.Destroy.{destroy_session, destroyed_unless, has_session}, Step.ExchangeId.{exchange_id, exchange_id_number, exchanged, ask_of}}
+use Rattle.nfs_exec.specs.Step.CreateSession.{by_verdict, creates, by_created, made_body, wish_of}
+use Rattle.nfs_exec.specs.{Step.Destroy.{destroy_session, has_session, client_fault, client_ended}, Step.ExchangeId.{exchange_id, exchanged, ask_of}}
 use Rattle.nfs_exec.specs.{Step.ReclaimComplete.{reclaim_complete, of_one, of_all}, Step.Run.{in_room, reserve, is_here, behind_here}}
 use Rattle.nfs_exec.specs.{Step.Place.{stands_alone, is_sequence, place_fault, item_fault, status_behind}, Step.Sequence.{compared, Sequenced, sequenced}}
-use Rattle.nfs_exec.specs.{Step.Compound.{carried_out, by_fault, first_item, bare, renewed, begun, in_session, by_first}, Step.Delayed.NothingDelays}
+use Rattle.nfs_exec.specs.{Step.Compound.{carried_out, first_item, bare, renewed, begun, in_session, by_first}, Step.Delayed.NothingDelays}
 use Rattle.nfs_exec.specs.{Step.Laws.{MachineEvent, Expires, Asks, stepped, all_stepped}, Runs.Ops.{RanOp, ops, ops_in, ops_of}}
 use Rattle.nfs_exec.specs.Step.Sequence as sequence
 use Rattle.nfs_exec.proofs.{Step.Behind.{IsKeptByEach, by_step, kept_run}, Runs.KeptByRuns.in_more}
@@ -179,7 +177,7 @@ case_prompt a (Some c) =
     ∷ (updates a, Stays c)
     ∷ (same_user a c && same_verifier a c, Stays c)
     ∷ (same_user a c, Adds)
-    ∷ (c.has_open, Refuses Faults.ClidInUse)
+    ∷ (a.has_open, Refuses Faults.ClidInUse)
     ∷ []) refl
 
 room_calm : (b : Bool) (v : Case) → calm_case v ≡ true → calm_case (if_room b v) ≡ true
@@ -215,15 +213,15 @@ made_prompt : (m : Machine) (now : ℕ) (c : CreateSession) (id : ℕ) (wish : W
     → ((fault : SessionFault) → o ≡ Some fault → is_delay (session_status fault) ≡ false)
     → is_delay (creates m now c (create_unless m.sessions id wish o)).status ≡ false
 made_prompt m now c id wish None fails = refl
-made_prompt m now c id wish (Some fault) fails = refused_prompt create_session_number (session_status fault) (fails fault refl)
+made_prompt m now c id wish (Some fault) fails = refused_prompt 43 (session_status fault) (fails fault refl)
 
 created_prompt : (m : Machine) (now : ℕ) (c : CreateSession) (v : clients.Verdict)
     → ((status : Status) → v ≡ clients.Again (results.Refused status) → is_delay status ≡ false) → is_delay (by_verdict m now false c v).status ≡ false
-created_prompt m now c clients.Stale kept = refused_prompt create_session_number StaleClientId refl
+created_prompt m now c clients.Stale kept = refused_prompt 43 StaleClientId refl
 created_prompt m now c (clients.Again (results.Done body)) kept = refl
-created_prompt m now c (clients.Again (results.Refused status)) kept = refused_prompt create_session_number status (kept status refl)
-created_prompt m now c clients.Misordered kept = refused_prompt create_session_number SeqMisordered refl
-created_prompt m now c clients.InUse kept = refused_prompt create_session_number ClidInUse refl
+created_prompt m now c (clients.Again (results.Refused status)) kept = refused_prompt 43 status (kept status refl)
+created_prompt m now c clients.Misordered kept = refused_prompt 43 SeqMisordered refl
+created_prompt m now c clients.InUse kept = refused_prompt 43 ClidInUse refl
 created_prompt m now c clients.Runs kept =
     made_prompt m now c c.clientid (wish_of m c) (create_fault m.sessions (wish_of m c)) (λ fault e.
     not_true (is_delay (session_status fault)) (first_passes calm_fault (create_checks m.sessions (wish_of m c)) refl fault e))
@@ -234,10 +232,10 @@ session_gone_prompt m sessionid = elim (cases_Bool (is_some (session_at m.sessio
   | inr gone ↦ rw gone (refused_prompt 44 BadSession refl)
 ]
 
-client_gone_prompt : (m : Machine) (client : ℕ) (o : Option DestroyFault) → is_delay (destroyed_unless m client o).status ≡ false
-client_gone_prompt m client None = refl
-client_gone_prompt m client (Some Destroys.Stale) = refused_prompt 57 StaleClientId refl
-client_gone_prompt m client (Some Destroys.Busy) = refused_prompt 57 ClientIdBusy refl
+client_gone_prompt : (m : Machine) (client : ℕ) (o : Option Status) → ((fault : Status) → o ≡ Some fault → is_delay fault ≡ false)
+    → is_delay (by_fault m 57 o (client_ended m client)).status ≡ false
+client_gone_prompt m client None fails = refl
+client_gone_prompt m client (Some fault) fails = refused_prompt 57 fault (fails fault refl)
 
 carried_prompt : (m : Machine) (who : Caller) (now : ℕ) (op : Op) → AreCalm m.clients → is_delay (carried_out m who now false (Operation op)).status ≡ false
 carried_prompt m who now (Op.ExchangeId e) calm =
@@ -248,7 +246,11 @@ carried_prompt m who now (Op.CreateSession c) calm =
     (let (k, at, kept) = verdict_kept (client_at m.clients c.clientid) c.sequence who.uid (results.Refused status) e in
     calm k (find_in (λ (k : ClientRecord). k.id == c.clientid) m.clients.records k at).0 status kept))
 carried_prompt m who now (Op.DestroySession sessionid) calm = session_gone_prompt m sessionid
-carried_prompt m who now (Op.DestroyClientId client) calm = client_gone_prompt m client (destroy_fault m.clients client (has_session m.sessions client) (has_open m.store client))
+carried_prompt m who now (Op.DestroyClientId client) calm =
+    client_gone_prompt m client (client_fault m client) (λ fault e. not_true (is_delay fault) (first_passes (λ s. not (is_delay s)) (
+    (not (is_client m.clients client), StaleClientId)
+    ∷ (has_session m.sessions client || has_open m.store client, ClientIdBusy)
+    ∷ []) refl fault e))
 carried_prompt m who now op calm = refused_prompt (item_number (Operation op)) NotSupp refl
 
 placed_prompt : (m : Machine) (n : ℕ) (o : Option Status) (done : Outcome) → ((fault : Status) → o ≡ Some fault → is_delay fault ≡ false) → is_delay done.status ≡ false
@@ -327,22 +329,22 @@ calm_created m now refused c clients.Misordered calm = calm
 calm_created m now refused c clients.InUse calm = calm
 calm_created m now refused c clients.Runs calm =
     let did = create m.sessions c.clientid (wish_of m c) in
-    calm_delayed m (creates m now c did) refused create_session_number calm (calm_made m now c did.after did.answer calm)
+    calm_delayed m (creates m now c did) refused 43 calm (calm_made m now c did.after did.answer calm)
 
 calm_session : (m : Machine) (sessionid : List ℕ) → AreCalm m.clients → AreCalm (destroy_session m sessionid).machine.clients
 calm_session m sessionid calm = elim (cases_Bool (is_some (session_at m.sessions (id_of sessionid)))) [ inl stood ↦ rw stood calm | inr gone ↦ rw gone calm ]
 
-calm_destroyed : (m : Machine) (client : ℕ) (o : Option DestroyFault) → AreCalm m.clients → AreCalm (destroyed_unless m client o).machine.clients
+calm_destroyed : (m : Machine) (client : ℕ) (o : Option Status) → AreCalm m.clients → AreCalm (by_fault m 57 o (client_ended m client)).machine.clients
 calm_destroyed m client None calm = calm_filtered m.clients (λ c. not (c.id == client)) calm
 calm_destroyed m client (Some fault) calm = calm
 
 calm_carried : (m : Machine) (who : Caller) (now : ℕ) (refused : Bool) (i : Item) → AreCalm m.clients → AreCalm (carried_out m who now refused i).machine.clients
 calm_carried m who now refused (Operation (Op.ExchangeId e)) calm =
-    calm_delayed m (exchange_id m who now e) refused exchange_id_number calm (calm_exchanged m now (ask_of m who e) (case_of m.clients (ask_of m who e)) calm)
+    calm_delayed m (exchange_id m who now e) refused 42 calm (calm_exchanged m now (ask_of m who e) (case_of m.clients (ask_of m who e)) calm)
 calm_carried m who now refused (Operation (Op.CreateSession c)) calm =
     calm_created m now refused c (clients.create_verdict m.clients c.clientid c.sequence who.uid) calm
 calm_carried m who now refused (Operation (Op.DestroySession sessionid)) calm = calm_session m sessionid calm
-calm_carried m who now refused (Operation (Op.DestroyClientId client)) calm = calm_destroyed m client (destroy_fault m.clients client (has_session m.sessions client) (has_open m.store client)) calm
+calm_carried m who now refused (Operation (Op.DestroyClientId client)) calm = calm_destroyed m client (client_fault m client) calm
 calm_carried m who now refused i calm = calm
 
 calm_first : (m : Machine) (declared : ℕ) (who : Caller) (now : ℕ) (refused : Bool) (i : Item) → AreCalm m.clients → AreCalm (first_item m declared who now refused i).machine.clients
@@ -359,7 +361,6 @@ keeps_calm = record {
     | inl again ↦ rw again is
     | inr once ↦ rw once (calm_changed m.clients x.client (λ c. record c { reclaimed = true }) (λ c calm. calm) is)
   ];
-  marked = λ m client is. calm_changed m.clients client _ (λ c calm. calm) is;
 }
 
 calm_session_run : (m : Machine) (r : Request) (who : Caller) (now : ℕ) (choice : Option ℕ) (s : Sequence) (more : List Item) (v : Sequenced) → AreCalm m.clients

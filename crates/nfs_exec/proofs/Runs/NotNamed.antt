@@ -10,7 +10,6 @@ use Rattle.nfs_compound.specs.declared.op.Op.TheVariants as Op
 use Rattle.nfs_clients.specs.Roster.{ClientRecord, Roster, IsRoster, id_of as client_id, next_id, client_at, is_unconfirmed_of, unconfirmed_of}
 use Rattle.nfs_clients.specs.ExchangeId.{Ask, Case, Refuses, Stays, Adds, case_of, does, new_client}
 use Rattle.nfs_clients.specs.CreateSession.{leaving, leaving_by, without_any, confirms, keeps, with_confirmed, is_other_confirmed_of}
-use Rattle.nfs_clients.specs.{DestroyClientId.destroy_fault, declared.destroy.DestroyFault.DestroyFault}
 use Rattle.nfs_clients.specs.CreateSession as clients
 use Rattle.nfs_clients.specs.declared.created.CreateResult.TheVariants as results
 use Rattle.nfs_clients.proofs.Members.{mild_keeps}
@@ -18,12 +17,12 @@ use Rattle.nfs_sessions.specs.{Id.id_of, declared.channel.Wish.Wish, declared.id
 use Rattle.nfs_sessions.specs.SessionSlots.{GrantedSlots}
 use Rattle.nfs_sessions.specs.Sessions.{Session, SessionTable, is_session, session_at, create, create_unless, create_fault, with_slots}
 use Rattle.nfs_lease.specs.Renewals.{Book, has_run_out, with_lease, with_renewal, without_lease}
-use Rattle.nfs_names.specs.{Context.begins, Ending.has_open, Outcome.is_ok}
-use Rattle.nfs_exec.specs.{Step.Machine.{Machine, IsMachine, Outcome, or_delay, refuses}, Step.Place.item_fault}
-use Rattle.nfs_exec.specs.Step.ExchangeId.{exchange_id, exchange_id_number, exchanged, ask_of, without_any_lease}
-use Rattle.nfs_exec.specs.Step.CreateSession.{create_session_number, by_verdict, creates, by_created, made_body, wish_of, without_any_sessions}
-use Rattle.nfs_exec.specs.{Step.Destroy.{destroy_session, destroyed_unless, has_session}, Step.Run.{run, is_here, behind_here}}
-use Rattle.nfs_exec.specs.{Step.Compound.{carried_out, by_fault, first_item, renewed, begun, compound}, Step.Expiry.expired}
+use Rattle.nfs_names.specs.{Context.begins, Outcome.is_ok}
+use Rattle.nfs_exec.specs.{Step.Machine.{by_fault, Machine, IsMachine, Outcome, or_delay, refuses}, Step.Place.item_fault}
+use Rattle.nfs_exec.specs.Step.ExchangeId.{exchange_id, exchanged, ask_of, without_any_lease}
+use Rattle.nfs_exec.specs.Step.CreateSession.{by_verdict, creates, by_created, made_body, wish_of, without_any_sessions}
+use Rattle.nfs_exec.specs.{Step.Destroy.{destroy_session, client_fault, client_ended}, Step.Run.{run, is_here, behind_here}}
+use Rattle.nfs_exec.specs.{Step.Compound.{carried_out, first_item, renewed, begun, compound}, Step.Expiry.expired}
 use Rattle.nfs_exec.specs.Runs.Own.{sessions_of, IsAsBefore, has_owner, is_named_in}
 use Rattle.nfs_exec.specs.Step.Sequence as sequence
 use Rattle.nfs_exec.proofs.{Runs.ByEvent.by_answered, Step.Behind.{run_leases, run_sessions}, Runs.KeptByRuns.Is}
@@ -202,7 +201,7 @@ created_strange client m now refused c clients.Misordered other stays = as_it_wa
 created_strange client m now refused c clients.InUse other stays = as_it_was client m
 created_strange client m now refused c clients.Runs other stays =
     let did = create m.sessions c.clientid (wish_of m c) in
-    delayed client m (creates m now c did) refused create_session_number (made_strange client m now c did.after did.answer other stays
+    delayed client m (creates m now c did) refused 43 (made_strange client m now c did.after did.answer other stays
     (session_made m.sessions client c.clientid (wish_of m c) (create_fault m.sessions (wish_of m c)) other))
 
 session_strange : (client : ℕ) (m : Machine) (sessionid : List ℕ) → (id_of sessionid).client ≢ client → IsAsBefore client m (destroy_session m sessionid).machine
@@ -216,7 +215,7 @@ session_strange client m sessionid other = elim (cases_Bool (is_some (session_at
   | inr gone ↦ rw gone (as_it_was client m)
 ]
 
-destroyed_strange : (client : ℕ) (m : Machine) (gone : ℕ) (o : Option DestroyFault) → gone ≢ client → IsAsBefore client m (destroyed_unless m gone o).machine
+destroyed_strange : (client : ℕ) (m : Machine) (gone : ℕ) (o : Option Status) → gone ≢ client → IsAsBefore client m (by_fault m 57 o (client_ended m gone)).machine
 destroyed_strange client m gone None other = record {
   known = known_without m.clients client (Some gone) (λ e. (let here : gone ≡ client = cc in other here));
   sessions = refl;
@@ -228,7 +227,7 @@ destroyed_strange client m gone (Some fault) other = as_it_was client m
 carried_strange : (client : ℕ) (m : Machine) (k : ClientRecord) (who : Caller) (now : ℕ) (refused : Bool) (i : Item) (more : List Item) → IsRoster m.clients
     → client_at m.clients client ≡ Some k → is_named_in client m.clients (i ∷ more) ≡ false → IsAsBefore client m (carried_out m who now refused i).machine
 carried_strange client m k who now refused (Operation (Op.ExchangeId e)) more is at none =
-    delayed client m (exchange_id m who now e) refused exchange_id_number
+    delayed client m (exchange_id m who now e) refused 42
     (exchange_strange client m k now (ask_of m who e) (case_of m.clients (ask_of m who e)) is at none)
 carried_strange client m k who now refused (Operation (Op.CreateSession c)) more is at none =
     let parts = neither (c.clientid == client) _ none in
@@ -237,7 +236,7 @@ carried_strange client m k who now refused (Operation (Op.CreateSession c)) more
 carried_strange client m k who now refused (Operation (Op.DestroySession sessionid)) more is at none =
     session_strange client m sessionid (eqb-false (id_of sessionid).client client none)
 carried_strange client m k who now refused (Operation (Op.DestroyClientId gone)) more is at none =
-    destroyed_strange client m gone (destroy_fault m.clients gone (has_session m.sessions gone) (has_open m.store gone)) (eqb-false gone client none)
+    destroyed_strange client m gone (client_fault m gone) (eqb-false gone client none)
 carried_strange client m k who now refused i more is at none = as_it_was client m
 
 first_strange : (client : ℕ) (m : Machine) (k : ClientRecord) (declared : ℕ) (who : Caller) (now : ℕ) (refused : Bool) (i : Item) (more : List Item) → IsRoster m.clients

@@ -16,23 +16,23 @@ use Rattle.nfs_results.proofs.Lengths.{length_head, length_spelled}
 use Rattle.nfs_results.proofs.Heads as heads
 use Rattle.nfs_clients.specs.{Roster.{ClientRecord, Roster, IsRoster, client_at, is_confirmed_of}, ExchangeId.case_of}
 use Rattle.nfs_clients.specs.CreateSession.{following, create_verdict, leaving, leaving_by, is_other_confirmed_of, with_kept, with_confirmed}
-use Rattle.nfs_clients.specs.{Marks.has_reclaimed, DestroyClientId.destroy_fault, declared.destroy.DestroyFault.DestroyFault}
+use Rattle.nfs_clients.specs.Marks.{has_reclaimed}
 use Rattle.nfs_clients.specs.CreateSession as clients
 use Rattle.nfs_clients.specs.declared.created.CreateResult.TheVariants as results
 use Rattle.nfs_sessions.specs.{declared.id.SessionId.SessionId, declared.channel.Wish.Wish, declared.sessions.SessionFault.SessionFault, Id.{id_of, id_bytes}}
 use Rattle.nfs_sessions.specs.Sessions.{Session, SessionTable, is_session, session_at, create, create_unless, create_fault, fault_status, with_session}
 use Rattle.nfs_sessions.specs.{SessionSlots.unused, Channel.granted}
 use Rattle.nfs_lease.specs.Renewals.{has_run_out}
-use Rattle.nfs_names.specs.{declared.context.Context.Context, declared.node.Node.Node, Context.begins, Checks.current, State.moment, Ending.has_open}
+use Rattle.nfs_names.specs.{declared.context.Context.Context, declared.node.Node.Node, Context.begins, Checks.current, State.moment}
 use Rattle.nfs_names.specs.Outcome.{is_ok}
 use Rattle.nfs_files.proofs.Outcomes as files
 use Rattle.nfs_files.proofs.Outcomes.{for_each}
-use Rattle.nfs_exec.specs.{Step.Machine.{Machine, Outcome, or_delay, refuses, starts}, Step.Behind.{step, on_store, otherwise}}
+use Rattle.nfs_exec.specs.{Step.Machine.{by_fault, Machine, Outcome, or_delay, refuses, starts}, Step.Behind.{step, on_store, otherwise}}
 use Rattle.nfs_exec.specs.{Step.Run.{run, in_room, is_here, behind_here}, Step.Place.item_fault, Step.ReclaimComplete.{reclaim_complete, of_one, of_all}}
-use Rattle.nfs_exec.specs.Step.ExchangeId.{exchange_id, exchange_id_number, ask_of}
-use Rattle.nfs_exec.specs.Step.CreateSession.{create_session_number, by_verdict, creates, by_created, confirmed, made_body, wish_of, without_any_sessions}
-use Rattle.nfs_exec.specs.{Step.Destroy.{destroy_session, destroyed_unless, has_session}, Step.Sequence.{Sequenced, sequenced}}
-use Rattle.nfs_exec.specs.Step.Compound.{carried_out, by_fault, first_item, renewed, begun, bare, Answered, in_session, by_first, compound}
+use Rattle.nfs_exec.specs.Step.ExchangeId.{exchange_id, ask_of}
+use Rattle.nfs_exec.specs.Step.CreateSession.{by_verdict, creates, by_created, confirmed, made_body, wish_of, without_any_sessions}
+use Rattle.nfs_exec.specs.{Step.Destroy.{destroy_session, client_fault, client_ended}, Step.Sequence.{Sequenced, sequenced}}
+use Rattle.nfs_exec.specs.Step.Compound.{carried_out, first_item, renewed, begun, bare, Answered, in_session, by_first, compound}
 use Rattle.nfs_exec.specs.{Step.Laws.{MachineEvent, Expires, Asks, stepped, all_stepped}, Runs.OneSession.{asks_of, asks_session, Gives, MakesOne, GivesOne}}
 use Rattle.nfs_exec.specs.Step.Sequence as sequence
 use Rattle.nfs_exec.proofs.{Step.Behind.{by_step, follow_kept}, Step.Creating.length_id, Runs.WhatWasDone.in_room_is, Runs.SlotNumbers.IsCounted}
@@ -54,7 +54,7 @@ by_verdict_after P m now refused c clients.Misordered same made = same
 by_verdict_after P m now refused c clients.InUse same made = same
 by_verdict_after P m now refused c clients.Runs same made =
     let did = create m.sessions c.clientid (wish_of m c) in
-    delayed_after P m (creates m now c did) refused create_session_number same (made did.after did.answer)
+    delayed_after P m (creates m now c did) refused 43 same (made did.after did.answer)
 
 asked_same : (n : ℕ) (i : Item) (rest : List Item) → asks_of n (i ∷ rest) ≡ asks_of n (i ∷ [])
 asked_same n (Operation (Op.CreateSession c)) rest = refl
@@ -102,7 +102,7 @@ module _ (n : ℕ) (P : Roster → Type 0) (held : IsCarried n P) where
       held.other (with_confirmed m.clients c.clientid) c.clientid (results.Done (made_body c id)) other (carried_confirmed n P held m.clients c.clientid a)
   made_other m now c t (Err fault) other a = held.other m.clients c.clientid (results.Refused (fault_status fault)) other a
 
-  destroyed_carried : (m : Machine) (client : ℕ) (o : Option DestroyFault) → P m.clients → P (destroyed_unless m client o).machine.clients
+  destroyed_carried : (m : Machine) (client : ℕ) (o : Option Status) → P m.clients → P (by_fault m 57 o (client_ended m client)).machine.clients
   destroyed_carried m client None a = held.fewer m.clients (λ c. not (c.id == client)) a
   destroyed_carried m client (Some fault) a = a
 
@@ -115,11 +115,11 @@ module _ (n : ℕ) (P : Roster → Type 0) (held : IsCarried n P) where
       by_verdict_after (λ m. P m.clients) m now refused c (create_verdict m.clients c.clientid c.sequence who.uid) a
       (λ t r. made_other m now c t r (eqb-false c.clientid n other) a)
   out_carried m who now refused (Operation (Op.ExchangeId e)) other a =
-      delayed_after (λ m. P m.clients) m (exchange_id m who now e) refused exchange_id_number a
+      delayed_after (λ m. P m.clients) m (exchange_id m who now e) refused 42 a
       (carried_case n P held m.clients (ask_of m who e) (case_of m.clients (ask_of m who e)) a)
   out_carried m who now refused (Operation (Op.DestroySession sessionid)) other a = ended_carried m sessionid a
   out_carried m who now refused (Operation (Op.DestroyClientId client)) other a =
-      destroyed_carried m client (destroy_fault m.clients client (has_session m.sessions client) (has_open m.store client)) a
+      destroyed_carried m client (client_fault m client) a
   out_carried m who now refused i other a = a
 
   first_carried : (m : Machine) (declared : ℕ) (who : Caller) (now : ℕ) (refused : Bool) (i : Item) → asks_of n (i ∷ []) ≡ false → P m.clients
@@ -161,10 +161,10 @@ record IsRun (m : Machine) (now : ℕ) (c : CreateSession) (o : Outcome) : Type 
   pub is : o ≡ created m now c
 
 delay_runs : (m : Machine) (now : ℕ) (c : CreateSession) (refused : Bool) → IsNext m.clients c.clientid c.sequence
-    → (let o = or_delay refused m create_session_number (created m now c) in (o.machine ≡ m) ⊎ IsRun m now c o)
+    → (let o = or_delay refused m 43 (created m now c) in (o.machine ≡ m) ⊎ IsRun m now c o)
 delay_runs m now c refused next = go (refused && is_ok (created m now c).status)
   where
-    go : (v : Bool) → (let o = cond v (refuses m create_session_number Delay) (created m now c) in (o.machine ≡ m) ⊎ IsRun m now c o)
+    go : (v : Bool) → (let o = cond v (refuses m 43 Delay) (created m now c) in (o.machine ≡ m) ⊎ IsRun m now c o)
     go true = inl refl
     go false = inr (record { next = next; is = refl })
 
@@ -299,10 +299,10 @@ made_either m now c id behind (Ok session) long next did told =
 
 delay_either : (m : Machine) (now : ℕ) (c : CreateSession) (id behind : List ℕ) (refused : Bool) (o : Outcome) → length id ≡ 16
     → (Tells (id ++ behind) o → IsEither m now c (id ++ behind) o.machine)
-    → (let d = or_delay refused m create_session_number o in Tells (id ++ behind) d → IsEither m now c (id ++ behind) d.machine)
+    → (let d = or_delay refused m 43 o in Tells (id ++ behind) d → IsEither m now c (id ++ behind) d.machine)
 delay_either m now c id behind refused o long each = go (refused && is_ok o.status)
   where
-    go : (v : Bool) → (let d = cond v (refuses m create_session_number Delay) o in Tells (id ++ behind) d → IsEither m now c (id ++ behind) d.machine)
+    go : (v : Bool) → (let d = cond v (refuses m 43 Delay) o in Tells (id ++ behind) d → IsEither m now c (id ++ behind) d.machine)
     go true = λ told. absurd (refused_short Delay id behind long told)
     go false = each
 

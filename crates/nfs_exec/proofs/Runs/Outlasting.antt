@@ -8,18 +8,18 @@ use Rattle.nfs_compound.specs.{declared.session_args.CreateSession.CreateSession
 use Rattle.nfs_compound.specs.declared.op.Op.TheVariants as Op
 use Rattle.nfs_results.specs.Results.{status_of_result}
 use Rattle.nfs_clients.specs.{declared.exchange_id.Exchanged.Exchanged, declared.exchange_id.ClientFault.ClientFault}
-use Rattle.nfs_clients.specs.{declared.destroy.DestroyFault.DestroyFault, DestroyClientId.destroy_fault, ExchangeId.exchange}
+use Rattle.nfs_clients.specs.ExchangeId.{exchange}
 use Rattle.nfs_clients.specs.declared.created.CreateResult.TheVariants as kept
 use Rattle.nfs_clients.specs.CreateSession as clients
 use Rattle.nfs_sessions.specs.{declared.id.SessionId.SessionId, declared.sessions.SessionFault.SessionFault, Id.id_of}
 use Rattle.nfs_sessions.specs.Sessions.{SessionTable, create, session_at}
 use Rattle.nfs_lease.specs.Renewals.{Book, with_lease, with_renewal, without_lease}
-use Rattle.nfs_names.specs.{Context.begins, Ending.has_open, Outcome.is_ok}
-use Rattle.nfs_exec.specs.{Step.Machine.{Machine, Outcome, or_delay, refuses}, Step.Place.item_fault}
-use Rattle.nfs_exec.specs.Step.ExchangeId.{exchange_id, exchange_id_number, leases_behind, without_any_lease, ask_of, answered}
-use Rattle.nfs_exec.specs.Step.CreateSession.{create_session_number, by_verdict, creates, by_created, wish_of}
-use Rattle.nfs_exec.specs.{Step.Destroy.{destroy_session, destroyed_unless, has_session}, Step.Sequence.{Sequenced, sequenced}, Step.Run.{is_here, behind_here}}
-use Rattle.nfs_exec.specs.Step.Compound.{carried_out, by_fault, first_item, renewed, begun, bare, in_session, by_first, compound}
+use Rattle.nfs_names.specs.{Context.begins, Outcome.is_ok}
+use Rattle.nfs_exec.specs.{Step.Machine.{by_fault, Machine, Outcome, or_delay, refuses}, Step.Place.item_fault}
+use Rattle.nfs_exec.specs.Step.ExchangeId.{exchange_id, leases_behind, without_any_lease, ask_of, answered}
+use Rattle.nfs_exec.specs.Step.CreateSession.{by_verdict, creates, by_created, wish_of}
+use Rattle.nfs_exec.specs.{Step.Destroy.{destroy_session, client_fault, client_ended}, Step.Sequence.{Sequenced, sequenced}, Step.Run.{is_here, behind_here}}
+use Rattle.nfs_exec.specs.Step.Compound.{carried_out, first_item, renewed, begun, bare, in_session, by_first, compound}
 use Rattle.nfs_exec.specs.{Step.Laws.{Asks, first_runs, if_runs}, Runs.LockHeld.is_of, Runs.Renewing.{adds, is_new, is_for, renews_alone, renews_or_begins}}
 use Rattle.nfs_exec.specs.Step.Sequence as sequence
 use Rattle.nfs_exec.proofs.Step.Behind.{run_leases}
@@ -87,7 +87,7 @@ created_still m now client refused c clients.Misordered e = inr refl
 created_still m now client refused c clients.InUse e = inr refl
 created_still m now client refused c clients.Runs e =
     let did = create m.sessions c.clientid (wish_of m c) in
-    delayed_still m client (creates m now c did) refused create_session_number (c.clientid == client) (made_still m now client c did.after did.answer) e
+    delayed_still m client (creates m now c did) refused 43 (c.clientid == client) (made_still m now client c did.after did.answer) e
 
 session_still : (m : Machine) (client : ℕ) (sessionid : List ℕ) → IsStill client m.leases (destroy_session m sessionid).machine.leases
 session_still m client sessionid = elim (cases_Bool (is_some (session_at m.sessions (id_of sessionid)))) [
@@ -95,7 +95,7 @@ session_still m client sessionid = elim (cases_Bool (is_some (session_at m.sessi
   | inr gone ↦ rw gone (inr refl)
 ]
 
-client_still : (m : Machine) (client gone : ℕ) (o : Option DestroyFault) → IsStill client m.leases (destroyed_unless m gone o).machine.leases
+client_still : (m : Machine) (client gone : ℕ) (o : Option Status) → IsStill client m.leases (by_fault m 57 o (client_ended m gone)).machine.leases
 client_still m client gone None = still_without m.leases client gone
 client_still m client gone (Some fault) = inr refl
 
@@ -103,12 +103,12 @@ carried_still : (m : Machine) (who : Caller) (now client : ℕ) (refused : Bool)
     → is_ok (carried_out m who now refused i).status && is_for client m who i ≡ false → IsStill client m.leases (carried_out m who now refused i).machine.leases
 carried_still m who now client refused (Operation (Op.ExchangeId e)) none =
     let v = (exchange m.clients (ask_of m who e)).answer in
-    delayed_still m client (exchange_id m who now e) refused exchange_id_number (adds client v) (exchanged_still m now client v) none
+    delayed_still m client (exchange_id m who now e) refused 42 (adds client v) (exchanged_still m now client v) none
 carried_still m who now client refused (Operation (Op.CreateSession c)) none =
     created_still m now client refused c (clients.create_verdict m.clients c.clientid c.sequence who.uid) none
 carried_still m who now client refused (Operation (Op.DestroySession sessionid)) none = session_still m client sessionid
 carried_still m who now client refused (Operation (Op.DestroyClientId gone)) none =
-    client_still m client gone (destroy_fault m.clients gone (has_session m.sessions gone) (has_open m.store gone))
+    client_still m client gone (client_fault m gone)
 carried_still m who now client refused i none = inr refl
 
 first_still : (m : Machine) (declared : ℕ) (who : Caller) (now client : ℕ) (refused : Bool) (i : Item)

@@ -4,7 +4,7 @@ use Rattle.nfs_xdr.specs.{Caller.Caller, SheetState.{SheetState, HasRoom, Puts},
 use Rattle.nfs_compound.specs.{declared.op.Item.Item, declared.op.Item.TheVariants.Operation, Request.item_number, declared.op.Op.Op}
 use Rattle.nfs_results.specs.{declared.res.Res.Res, Results.{spell_result, status_of_result, refusal}, ResultCodec.HasArrays}
 use Rattle.nfs_names.specs.Outcome.{is_delay}
-use Rattle.nfs_exec.specs.{Step.Machine.{Machine, Outcome, with_result, refuses}, Step.Place.item_fault, Step.Compound.{carried_out, by_fault, first_item}}
+use Rattle.nfs_exec.specs.{Step.Machine.{by_fault, Machine, Outcome, with_result, refuses}, Step.Place.item_fault, Step.Compound.{carried_out, first_item}}
 use Rattle.nfs_exec.specs.Step.View.{Does, IsSmall}
 
 pub small_fits : (sheet : SheetState) (r : Res) → length sheet.bytes + 92 ≤ sheet.room → IsSmall r → HasArrays r → HasRoom sheet (spell_result r)

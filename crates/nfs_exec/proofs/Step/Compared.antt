@@ -9,14 +9,14 @@ use Rattle.nfs_results.proofs.Lengths.{lengths}
 use Rattle.nfs_compound.specs.{declared.op.Item.Item, declared.op.Item.TheVariants.Operation, declared.session_args.Sequence.Sequence}
 use Rattle.nfs_compound.specs.Request.{Request, Lists, HasBody, IsRequest}
 use Rattle.nfs_compound.specs.declared.op.Op.TheVariants as Op
-use Rattle.nfs_exec.specs.{Step.Sequence.{highest_at, compared, sequence_number}, Step.Executing.{first_sequence, sequence_of}}
+use Rattle.nfs_exec.specs.{Step.Sequence.{highest_at, compared}, Step.Executing.{first_sequence, sequence_of}}
 use Rattle.nfs_exec.specs.Step.Compared.{before_highest, IsCut, ComparesAllButHighest, DifferThereAlone}
 
 -- the body of a compound that SEQUENCE begins
 record Begins (body : List ℕ) (s : Sequence) : Type 0 where
   behind : List ℕ
   sixteen : length s.sessionid ≡ 16
-  is : body ≡ spelling.number sequence_number ++ (spelling.fixed s.sessionid ++ (spelling.number s.sequenceid ++ (spelling.number s.slotid
+  is : body ≡ spelling.number 53 ++ (spelling.fixed s.sessionid ++ (spelling.number s.sequenceid ++ (spelling.number s.slotid
       ++ (spelling.number s.highest_slotid ++ behind))))
 
 nested : (a b c d e f rest : List ℕ) → (a ++ (b ++ (c ++ (d ++ (e ++ f))))) ++ rest ≡ a ++ (b ++ (c ++ (d ++ (e ++ (f ++ rest)))))
@@ -37,7 +37,7 @@ begins_items (suc n) body (Operation (Op.Sequence q) ∷ more) s e is =
       behind = spelling.flag q.cachethis ++ rest;
       sixteen = session.0;
       is = stands
-          ∙ nested (spelling.number sequence_number) (spelling.fixed q.sessionid) (spelling.number q.sequenceid) (spelling.number q.slotid)
+          ∙ nested (spelling.number 53) (spelling.fixed q.sessionid) (spelling.number q.sequenceid) (spelling.number q.slotid)
           (spelling.number q.highest_slotid) (spelling.flag q.cachethis) rest;
     })
 begins_items n body (item ∷ more) s e is = absurd cc
@@ -52,10 +52,10 @@ nested_front : (a b c d e f g rest : List ℕ) → (a ++ (b ++ (c ++ (d ++ (e ++
 nested_front a b c d e f g rest = append_assoc a (b ++ (c ++ (d ++ (e ++ (f ++ g))))) rest ∙ ap (λ (w : List ℕ). a ++ w) (nested b c d e f g rest)
 
 front_is : (r : Request) (s : Sequence) (rest : List ℕ) → (before_highest r s).bytes ++ rest
-    ≡ spelling.opaque r.tag ++ (spelling.number r.minor ++ (spelling.number r.declared ++ (spelling.number sequence_number
+    ≡ spelling.opaque r.tag ++ (spelling.number r.minor ++ (spelling.number r.declared ++ (spelling.number 53
     ++ (spelling.fixed s.sessionid ++ (spelling.number s.sequenceid ++ (spelling.number s.slotid ++ rest))))))
 front_is r s rest =
-    nested_front (spelling.opaque r.tag) (spelling.number r.minor) (spelling.number r.declared) (spelling.number sequence_number)
+    nested_front (spelling.opaque r.tag) (spelling.number r.minor) (spelling.number r.declared) (spelling.number 53)
     (spelling.fixed s.sessionid) (spelling.number s.sequenceid) (spelling.number s.slotid) rest
 
 -- the field stands behind what stands before it
@@ -96,7 +96,7 @@ compares = λ bytes r s is e. (cut bytes r s is e).0
 tag_read : (bytes : List ℕ) (r : Request) (s : Sequence) → IsRequest bytes r → (c : IsCut bytes r s)
     → (rest : List ℕ) × (number_at (compared r) ≡ Some (length r.tag, rest))
 tag_read bytes r s is c =
-    let others = spelling.number r.minor ++ (spelling.number r.declared ++ (spelling.number sequence_number
+    let others = spelling.number r.minor ++ (spelling.number r.declared ++ (spelling.number 53
     ++ (spelling.fixed s.sessionid ++ (spelling.number s.sequenceid ++ (spelling.number s.slotid ++ c.behind))))) in
     let small : length r.tag < 2 ^ 32 = (let fits = is.head.tag_fits.0 in omega (arith, fits)) in (
       spelling.fixed r.tag ++ others,

@@ -17,7 +17,7 @@ use Rattle.nfs_sessions.specs.{declared.sessions.SessionFault.TheVariants.{TooSm
 use Rattle.nfs_sessions.specs.{Sessions.{SessionTable, Created, create, create_unless, create_fault, fault_status}, SessionTables.CreatesOrWants}
 use Rattle.nfs_names.specs.Outcome.{is_delay}
 use Rattle.nfs_exec.specs.Step.Machine.{Machine, Outcome, or_delay, refuses}
-use Rattle.nfs_exec.specs.{Step.CreateSession.{create_session_number, session_made, made_body, by_verdict, by_created, creates, confirmed}, Step.View.Does}
+use Rattle.nfs_exec.specs.{Step.CreateSession.{session_made, made_body, by_verdict, by_created, creates, confirmed}, Step.View.Does}
 
 pub length_id : (id : SessionId) → length (id_bytes id) ≡ 16
 length_id id = length-append (hyper id.client) (hyper id.counter) ∙ omega (arith, length_hyper id.client, length_hyper id.counter)
@@ -78,11 +78,11 @@ made m now c id did after left body old new ok is kept whole put =
 -- A session was refused.
 
 no_memory : (m : Machine) (now : ℕ) (c : CreateSession) (did : Created) → IsOk did.answer
-    → or_delay true m create_session_number (creates m now c did) ≡ refuses m create_session_number Delay
+    → or_delay true m 43 (creates m now c did) ≡ refuses m 43 Delay
 no_memory m now c did ok = go did.answer ok
   where
     go : (answer : Result SessionId SessionFault) → IsOk answer
-        → or_delay true m create_session_number (by_created m now c did.after answer) ≡ refuses m create_session_number Delay
+        → or_delay true m 43 (by_created m now c did.after answer) ≡ refuses m 43 Delay
     go (Ok id) ok = refl
     go (Err fault) ok = absurd cc
 
@@ -90,8 +90,8 @@ told : (m : Machine) (now : ℕ) (c : CreateSession) (clients : Roster) (after :
     (old new : SheetState) (wish : Wish) (o : Option SessionFault) →
     Err fault ≡ (create_unless m.sessions c.clientid wish o).answer → after ≡ (create_unless m.sessions c.clientid wish o).after →
     clients ≡ with_kept m.clients c.clientid (Refused s) → s ≡ fault_status fault → is_delay s ≡ false →
-    ((n : Machine) → Does (refuses n create_session_number s) s n old new) →
-    Does (or_delay (is_delay s) m create_session_number (creates m now c (create_unless m.sessions c.clientid wish o))) s
+    ((n : Machine) → Does (refuses n 43 s) s n old new) →
+    Does (or_delay (is_delay s) m 43 (creates m now c (create_unless m.sessions c.clientid wish o))) s
     (record m { clients = clients; sessions = after }) old new
 told m now c clients after fault s old new wish None answer left kept status plain does = absurd cc
 told m now c clients after fault s old new wish (Some f) answer left kept status plain does =
@@ -101,31 +101,31 @@ told m now c clients after fault s old new wish (Some f) answer left kept status
     let to : n ≡ record m { clients = with_kept m.clients c.clientid (Refused (fault_status f)) } =
     ap (λ (t : Roster). record m { clients = t; sessions = after }) (kept ∙ ap (λ (u : Status). with_kept m.clients c.clientid (Refused u)) is)
     ∙ ap (λ (t : SessionTable). record m { clients = with_kept m.clients c.clientid (Refused (fault_status f)); sessions = t }) left in
-    subst (λ b. Does (or_delay b m create_session_number (refuses (record m { clients = with_kept m.clients c.clientid (Refused (fault_status f)) })
-    create_session_number (fault_status f))) s n old new) (sym plain)
-    (subst (λ (k : Machine). Does (refuses k create_session_number (fault_status f)) s n old new) to
-    (subst (λ (u : Status). Does (refuses n create_session_number u) s n old new) is (does n)))
+    subst (λ b. Does (or_delay b m 43 (refuses (record m { clients = with_kept m.clients c.clientid (Refused (fault_status f)) })
+    43 (fault_status f))) s n old new) (sym plain)
+    (subst (λ (k : Machine). Does (refuses k 43 (fault_status f)) s n old new) to
+    (subst (λ (u : Status). Does (refuses n 43 u) s n old new) is (does n)))
 
 wanted : (m : Machine) (now : ℕ) (c : CreateSession) (clients : Roster) (after : SessionTable) (s : Status) (old new : SheetState) (did : Created) →
     IsOk did.answer → after ≡ m.sessions → clients ≡ with_kept m.clients c.clientid (Refused s) → s ≡ Delay →
-    ((n : Machine) → Does (refuses n create_session_number s) s n old new) →
-    Does (or_delay (is_delay s) m create_session_number (creates m now c did)) s (record m { clients = clients; sessions = after }) old new
+    ((n : Machine) → Does (refuses n 43 s) s n old new) →
+    Does (or_delay (is_delay s) m 43 (creates m now c did)) s (record m { clients = clients; sessions = after }) old new
 wanted m now c clients after s old new did ok left kept status does =
     let same : clients ≡ m.clients = kept ∙ ap (λ (u : Status). with_kept m.clients c.clientid (Refused u)) status
     ∙ sym (not_kept m.clients c.clientid (Refused Delay) refl) in
     let n = record m { clients = clients; sessions = after } in
     let to : n ≡ m = ap (λ (t : Roster). record m { clients = t; sessions = after }) same ∙ ap (λ (t : SessionTable). record m { sessions = t }) left in
     subst (λ (o : Outcome). Does o s n old new)
-    (sym (ap (λ (u : Status). or_delay (is_delay u) m create_session_number (creates m now c did)) status ∙ no_memory m now c did ok))
-    (subst (λ (k : Machine). Does (refuses k create_session_number Delay) s n old new) to
-    (subst (λ (u : Status). Does (refuses n create_session_number u) s n old new) status (does n)))
+    (sym (ap (λ (u : Status). or_delay (is_delay u) m 43 (creates m now c did)) status ∙ no_memory m now c did ok))
+    (subst (λ (k : Machine). Does (refuses k 43 Delay) s n old new) to
+    (subst (λ (u : Status). Does (refuses n 43 u) s n old new) status (does n)))
 
 pub refused_session : (m : Machine) (now : ℕ) (c : CreateSession) (wish : Wish) (clients : Roster) (after : SessionTable)
     (fault : SessionFault) (s : Status) (old new : SheetState) →
     CreatesOrWants m.sessions (create m.sessions c.clientid wish) (Err fault) after →
     clients ≡ with_kept m.clients c.clientid (Refused s) → s ≡ fault_status fault →
-    ((n : Machine) → Does (refuses n create_session_number s) s n old new) →
-    Does (or_delay (is_delay s) m create_session_number (creates m now c (create m.sessions c.clientid wish))) s
+    ((n : Machine) → Does (refuses n 43 s) s n old new) →
+    Does (or_delay (is_delay s) m 43 (creates m now c (create m.sessions c.clientid wish))) s
     (record m { clients = clients; sessions = after }) old new
 refused_session m now c wish clients after TooSmall s old new did kept status does =
     told m now c clients after TooSmall s old new wish (create_fault m.sessions wish) did.0 did.1 kept status (ap is_delay status) does
@@ -138,9 +138,9 @@ refused_session m now c wish clients after Memory s old new did kept status does
 
 -- the call was refused by its number or its caller
 pub refused_call : (m : Machine) (now : ℕ) (refused : Bool) (c : CreateSession) (v w : Verdict) (s t r : Status) (left : Machine) (old new : SheetState) →
-    w ≡ v → by_verdict m now refused c w ≡ refuses m create_session_number t → s ≡ t → left ≡ m →
-    ((n : Machine) → Does (refuses n create_session_number s) r n old new) → Does (by_verdict m now refused c v) r left old new
+    w ≡ v → by_verdict m now refused c w ≡ refuses m 43 t → s ≡ t → left ≡ m →
+    ((n : Machine) → Does (refuses n 43 s) r n old new) → Does (by_verdict m now refused c v) r left old new
 refused_call m now refused c v w s t r left old new is told status same does =
     subst (λ (o : Outcome). Does o r left old new) (sym told ∙ ap (by_verdict m now refused c) is)
-    (subst (λ (k : Machine). Does (refuses m create_session_number t) r k old new) (sym same)
-    (subst (λ (u : Status). Does (refuses m create_session_number u) r m old new) status (does m)))
+    (subst (λ (k : Machine). Does (refuses m 43 t) r k old new) (sym same)
+    (subst (λ (u : Status). Does (refuses m 43 u) r m old new) status (does m)))

@@ -19,12 +19,12 @@ use Rattle.nfs_names.specs.Outcome as of_store
 use Rattle.nfs_names.specs.Operation as names
 use Rattle.nfs_names.proofs.Faulted.{status_of_refusal}
 use Rattle.nfs_files.specs.Operation as files
-use Rattle.nfs_exec.specs.Step.Machine.{Machine, Outcome, or_delay, refuses, with_result}
-use Rattle.nfs_exec.specs.{Step.Place.{item_fault, place_fault, stands_alone, is_sequence}, Step.ExchangeId.{exchange_id, exchange_id_number}}
-use Rattle.nfs_exec.specs.Step.CreateSession.{create_session_number, by_verdict, creates, wish_of}
+use Rattle.nfs_exec.specs.Step.Machine.{by_fault, Machine, Outcome, or_delay, refuses, with_result}
+use Rattle.nfs_exec.specs.{Step.Place.{item_fault, place_fault, stands_alone, is_sequence}, Step.ExchangeId.exchange_id}
+use Rattle.nfs_exec.specs.Step.CreateSession.{by_verdict, creates, wish_of}
 use Rattle.nfs_exec.specs.Step.Sequence.{compared, Sequenced, sequenced, unless, by_session, slot_fault, accepted}
 use Rattle.nfs_exec.specs.{Step.Behind.{Step, stays, step, on_store, otherwise}, Step.Run.{Ran, run, in_room, reserve, follow, only}}
-use Rattle.nfs_exec.specs.Step.Compound.{Answered, answers, carried_out, by_fault, first_item, renewed, begun, runs_behind, keeps, in_session, by_first, bare}
+use Rattle.nfs_exec.specs.Step.Compound.{Answered, answers, carried_out, first_item, renewed, begun, runs_behind, keeps, in_session, by_first, bare}
 use Rattle.nfs_exec.specs.{Step.Laws.{if_runs, first_runs}, Step.Delayed.{grows, kept_by, with_ok, DelayIsACut}}
 use Rattle.nfs_exec.specs.Step.Sequence as sequence
 use Rattle.nfs_exec.proofs.Step.RepliesKept.{runs_means}
@@ -339,14 +339,14 @@ lone m n o = elim (cases_Bool (is_ok o.status)) [ inl ok ↦ inr (rw ok refl, ok
 
 created_delays : (m : Machine) (now : ℕ) (c : CreateSession) (v : clients.Verdict)
     → IsLone m (Operation (Op.CreateSession c)) (by_verdict m now true c v) (by_verdict m now false c v)
-created_delays m now c clients.Runs = elim (lone m create_session_number (creates m now c (create m.sessions c.clientid (wish_of m c)))) [
+created_delays m now c clients.Runs = elim (lone m 43 (creates m now c (create m.sessions c.clientid (wish_of m c)))) [
   | inl same ↦ inl same
   | inr delayed ↦ inr (record { is = delayed.0; wants = λ x. refl; ok = delayed.1 })
 ]
 created_delays m now c v = inl refl
 
 carried_delays : (m : Machine) (who : Caller) (now : ℕ) (i : Item) → IsLone m i (carried_out m who now true i) (carried_out m who now false i)
-carried_delays m who now (Operation (Op.ExchangeId e)) = elim (lone m exchange_id_number (exchange_id m who now e)) [
+carried_delays m who now (Operation (Op.ExchangeId e)) = elim (lone m 42 (exchange_id m who now e)) [
   | inl same ↦ inl same
   | inr delayed ↦ inr (record { is = delayed.0; wants = λ x. refl; ok = delayed.1 })
 ]

@@ -2,7 +2,7 @@
 use Rattle.std.proofs.Common.{◌≡◌, ◌≢◌, ℕ, ◌+◌, ◌<◌, Bool, true, false, cond, eqb, ltb, List, [], ◌∷◌, length, Option, Some, None, Result, Ok, Err, refl, sym}
 use Rattle.std.proofs.{Common.{◌∙◌, ap, subst, arith, inl, inr}, lemmas.Bool.{cases_Bool, cases_eq, ne_eqb, eq-eqb, eqb-true, and_parts, false≢true}}
 use Rattle.std.specs.{Prelude.{not, ◌&&◌, ◌||◌, filter, is_some, option_map, ◌⊎◌}, Option.option_map_or, List.list_any}
-use Rattle.nfs_xdr.specs.{Caller.Caller, declared.status.Status.Status, Tables.{In, record_at}}
+use Rattle.nfs_xdr.specs.{Caller.Caller, declared.status.Status.Status, declared.status.Status.TheVariants.{StaleClientId, ClientIdBusy}, Tables.{In, record_at}}
 use Rattle.nfs_xdr.proofs.{Lists.{in_filter, in_push, in_map, find_in}, Tables.{at_of_in, at_without, at_with, at_push}}
 use Rattle.nfs_compound.specs.{declared.op.Item.Item, declared.op.Item.TheVariants.Operation, Request.Request}
 use Rattle.nfs_compound.specs.{declared.session_args.CreateSession.CreateSession, declared.session_args.Sequence.Sequence}
@@ -11,7 +11,7 @@ use Rattle.nfs_clients.specs.Roster.{ClientRecord, Roster, IsRoster, id_of as cl
 use Rattle.nfs_clients.specs.{Roster.next_id, ExchangeId.{Ask, Case, Refuses, Stays, Adds, has_room, case_by, case_of, does, new_client, with_new}}
 use Rattle.nfs_clients.specs.CreateSession.{leaving, without_any, with_confirmed, with_kept, confirms, keeps, verdict_by}
 use Rattle.nfs_clients.specs.{Marks.{has_reclaimed, with_reclaimed}, declared.created.CreateResult.CreateResult}
-use Rattle.nfs_clients.specs.{declared.created.CreateResult.TheVariants.{Done, Refused}, declared.destroy.DestroyFault.TheVariants.{Stale, Busy}}
+use Rattle.nfs_clients.specs.declared.created.CreateResult.TheVariants.{Done, Refused}
 use Rattle.nfs_clients.specs.CreateSession as clients
 use Rattle.nfs_clients.proofs.Members.{the_id, mild_keeps, mild_reclaims, fresh, roster_filter, roster_changed, roster_without, roster_confirmed}
 use Rattle.nfs_clients.proofs.Members.{roster_new, without_unconfirmed}
@@ -397,7 +397,7 @@ of_made m now c wish (Some fault) is known = of_kept_result m c.clientid (Refuse
 
 -- The operations that stand alone.
 
-nothing_left : (a b held : Bool) → cond a (Some Stale) (cond (b || held) (Some Busy) None) ≡ None → (b ≡ false) × (held ≡ false)
+nothing_left : (a b held : Bool) → cond a (Some StaleClientId) (cond (b || held) (Some ClientIdBusy) None) ≡ None → (b ≡ false) × (held ≡ false)
 nothing_left true b held e = absurd cc
 nothing_left false true held e = absurd cc
 nothing_left false false true e = absurd cc

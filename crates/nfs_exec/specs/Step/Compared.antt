@@ -2,14 +2,15 @@
 -- for sa_highest_slotid.
 use Rattle.std.specs.Prelude.{◌≡◌, List, ℕ, ◌++◌, Some}
 use Rattle.nfs_xdr.specs.{Limits.opaque_limit, Text.{Text, ◌then◌, uint32, enum, fixed, opaque}}
-use Rattle.nfs_compound.specs.{declared.session_args.Sequence.Sequence, Request.{Request, IsRequest}}
-use Rattle.nfs_exec.specs.{Step.Sequence.{compared, sequence_number}, Step.Executing.sequence_of}
+use Rattle.nfs_compound.specs.{OpNum.op_number, declared.session_args.Sequence.Sequence, Request.{Request, IsRequest}}
+use Rattle.nfs_compound.specs.declared.op_num.OpNum.TheVariants as Num
+use Rattle.nfs_exec.specs.{Step.Sequence.compared, Step.Executing.sequence_of}
 
 -- what stands before the field
 abbrev pub before_highest : Request → Sequence → Text
 before_highest r s =
     opaque opaque_limit r.tag then uint32 r.minor then uint32 r.declared
-    then enum sequence_number then fixed 16 s.sessionid then uint32 s.sequenceid then uint32 s.slotid
+    then enum (op_number Num.Sequence) then fixed 16 s.sessionid then uint32 s.sequenceid then uint32 s.slotid
 
 -- The bytes are what stands before the field, the field, and what stands behind it; and a repeat is compared by the first and the last of these.
 pub record IsCut (bytes : List ℕ) (r : Request) (s : Sequence) : Type 0 where

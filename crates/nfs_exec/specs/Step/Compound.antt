@@ -2,16 +2,17 @@
 use Rattle.std.specs.Prelude.{◌+◌, ℕ, ◌==◌, Bool, List, [], ◌∷◌, ◌++◌, length, Option, Some, None, if◌then◌else◌}
 use Rattle.nfs_xdr.specs.{declared.status.Status.Status, declared.status.Status.TheVariants.{Nfs4Ok, MinorVersMismatch, NotSupp}, Caller.Caller}
 use Rattle.nfs_compound.specs.{declared.op.Item.Item, declared.op.Item.TheVariants.Operation, declared.session_args.Sequence.Sequence}
-use Rattle.nfs_compound.specs.Request.{Request, item_number}
+use Rattle.nfs_compound.specs.{OpNum.op_number, Request.{Request, item_number}}
+use Rattle.nfs_compound.specs.declared.op_num.OpNum.TheVariants as Num
 use Rattle.nfs_compound.specs.declared.op.Op.TheVariants as Op
 use Rattle.nfs_results.specs.declared.res.Res.TheVariants as Res
 use Rattle.nfs_results.specs.Results.{spell_result, spell_compound_head}
 use Rattle.nfs_names.specs.Context.{begins}
 use Rattle.nfs_lease.specs.Renewals.{with_renewal}
 use Rattle.nfs_sessions.specs.{declared.channel.Channel.Channel, SessionSlots.rpc_head, Id.id_of, Sessions.keep}
-use Rattle.nfs_exec.specs.{Step.Machine.{Machine, Outcome, with_result, refuses, or_delay}, Step.Place.item_fault}
-use Rattle.nfs_exec.specs.{Step.ExchangeId.{exchange_id, exchange_id_number}, Step.CreateSession.create_session, Step.Destroy.{destroy_session, destroy_client}}
-use Rattle.nfs_exec.specs.Step.Sequence.{Sequenced, Refuses, Repeats, Runs, compared, sequenced, accepted, sequence_number}
+use Rattle.nfs_exec.specs.{Step.Machine.{Machine, Outcome, with_result, refuses, by_fault, or_delay}, Step.Place.item_fault}
+use Rattle.nfs_exec.specs.{Step.ExchangeId.exchange_id, Step.CreateSession.create_session, Step.Destroy.{destroy_session, destroy_client}}
+use Rattle.nfs_exec.specs.Step.Sequence.{Sequenced, Refuses, Repeats, Runs, compared, sequenced, accepted}
 use Rattle.nfs_exec.specs.Step.Run.{Ran, run, finished, only, follow, is_here, behind_here}
 
 -- The bytes of the result of a compound, from its status on, and the machine behind it.
@@ -28,15 +29,11 @@ bare r status m = answers r (record (finished m) { status = status })
 
 -- Outside a session one operation stands alone, and may want memory; no other item is run there.
 abbrev pub carried_out : Machine → Caller → ℕ → Bool → Item → Outcome
-carried_out m who now refused (Operation (Op.ExchangeId e)) = or_delay refused m exchange_id_number (exchange_id m who now e)
+carried_out m who now refused (Operation (Op.ExchangeId e)) = or_delay refused m (op_number Num.ExchangeId) (exchange_id m who now e)
 carried_out m who now refused (Operation (Op.CreateSession c)) = create_session m who now refused c
 carried_out m who now refused (Operation (Op.DestroySession sessionid)) = destroy_session m sessionid
 carried_out m who now refused (Operation (Op.DestroyClientId client)) = destroy_client m client
 carried_out m who now refused item = refuses m (item_number item) NotSupp
-
-abbrev pub by_fault : Machine → ℕ → Option Status → Outcome → Outcome
-by_fault m number None o = o
-by_fault m number (Some status) o = refuses m number status
 
 -- an item outside a session, of so many declared
 abbrev pub first_item : Machine → ℕ → Caller → ℕ → Bool → Item → Outcome
@@ -65,7 +62,7 @@ keeps r who s a =
 
 -- a refusal and a repeat change nothing
 abbrev pub in_session : Machine → Request → Caller → ℕ → Option ℕ → Sequence → List Item → Sequenced → Answered
-in_session m r who now choice s more (Refuses status) = answers r (only (refuses m sequence_number status))
+in_session m r who now choice s more (Refuses status) = answers r (only (refuses m (op_number Num.Sequence) status))
 in_session m r who now choice s more (Repeats reply) = record { text = reply; machine = m }
 in_session m r who now choice s more (Runs c) = keeps r who s (answers r (runs_behind (renewed m now s) r who now choice s c more))
 

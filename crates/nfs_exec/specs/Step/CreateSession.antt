@@ -15,9 +15,6 @@ use Rattle.nfs_lease.specs.Renewals.{with_renewal}
 use Rattle.nfs_names.specs.{State.State, Ending.staying}
 use Rattle.nfs_exec.specs.{Step.Machine.{Machine, Outcome, refuses, or_delay}, Step.ExchangeId.without_any_lease}
 
-abbrev pub create_session_number : ℕ
-create_session_number = op_number Num.CreateSession
-
 -- what is asked for of a channel, and what is answered of one; there is no header padding and no RDMA
 abbrev pub channel_of : ChannelAttrs → Channel
 channel_of a = record {
@@ -81,7 +78,7 @@ by_created m now c sessions (Ok id) = record {
   machine = confirmed (record m { sessions = sessions }) now c.clientid (made_body c id);
 }
 by_created m now c sessions (Err fault) =
-    refuses (record m { clients = with_kept m.clients c.clientid (Refused (fault_status fault)) }) create_session_number (fault_status fault)
+    refuses (record m { clients = with_kept m.clients c.clientid (Refused (fault_status fault)) }) (op_number Num.CreateSession) (fault_status fault)
 
 abbrev pub creates : Machine → ℕ → CreateSession → Created → Outcome
 creates m now c did = by_created m now c did.after did.answer
@@ -89,14 +86,14 @@ creates m now c did = by_created m now c did.after did.answer
 -- what was kept, answered again
 abbrev pub kept_again : Machine → CreateResult → Outcome
 kept_again m (Done body) = record { status = Nfs4Ok; result = done_head Num.CreateSession ++ body; machine = m }
-kept_again m (Refused status) = refuses m create_session_number status
+kept_again m (Refused status) = refuses m (op_number Num.CreateSession) status
 
 abbrev pub by_verdict : Machine → ℕ → Bool → CreateSession → Verdict → Outcome
-by_verdict m now refused c Stale = refuses m create_session_number StaleClientId
+by_verdict m now refused c Stale = refuses m (op_number Num.CreateSession) StaleClientId
 by_verdict m now refused c (Again result) = kept_again m result
-by_verdict m now refused c Misordered = refuses m create_session_number SeqMisordered
-by_verdict m now refused c InUse = refuses m create_session_number ClidInUse
-by_verdict m now refused c Runs = or_delay refused m create_session_number (creates m now c (create m.sessions c.clientid (wish_of m c)))
+by_verdict m now refused c Misordered = refuses m (op_number Num.CreateSession) SeqMisordered
+by_verdict m now refused c InUse = refuses m (op_number Num.CreateSession) ClidInUse
+by_verdict m now refused c Runs = or_delay refused m (op_number Num.CreateSession) (creates m now c (create m.sessions c.clientid (wish_of m c)))
 
 -- a result that is answered again wants no memory
 abbrev pub create_session : Machine → Caller → ℕ → Bool → CreateSession → Outcome

@@ -1,15 +1,16 @@
 -- DESTROY_SESSION (RFC 8881 section 18.37) and DESTROY_CLIENTID (section 18.50).
-use Rattle.std.specs.{Prelude.{ℕ, Bool, ◌==◌, List, Option, Some, None, is_some, if◌then◌else◌}, List.list_any}
-use Rattle.nfs_xdr.specs.declared.status.Status.TheVariants.{BadSession}
+use Rattle.std.specs.{Prelude.{ℕ, Bool, ◌==◌, ◌||◌, not, List, [], ◌∷◌, Option, is_some, if◌then◌else◌}, List.list_any}
+use Rattle.nfs_xdr.specs.{Checks.first_fault, declared.status.Status.Status}
+use Rattle.nfs_xdr.specs.declared.status.Status.TheVariants.{BadSession, StaleClientId, ClientIdBusy}
 use Rattle.nfs_compound.specs.declared.op_num.OpNum.TheVariants as Num
 use Rattle.nfs_compound.specs.OpNum.{op_number}
 use Rattle.nfs_results.specs.declared.res.Res.TheVariants as Res
 use Rattle.nfs_sessions.specs.{Id.id_of, Sessions.{SessionTable, session_at}}
 use Rattle.nfs_sessions.specs.Sessions as sessions
-use Rattle.nfs_clients.specs.{declared.destroy.DestroyFault.DestroyFault, Roster.without, DestroyClientId.{destroy_fault, destroy_status}}
+use Rattle.nfs_clients.specs.Roster.{without}
 use Rattle.nfs_lease.specs.Renewals.{without_lease}
 use Rattle.nfs_names.specs.Ending.{has_open}
-use Rattle.nfs_exec.specs.Step.Machine.{Machine, Outcome, with_result, refuses}
+use Rattle.nfs_exec.specs.Step.Machine.{Machine, Outcome, with_result, refuses, by_fault, is_client}
 
 -- a session goes with its slots
 abbrev pub destroy_session : Machine → List ℕ → Outcome
@@ -21,10 +22,16 @@ destroy_session m sessionid =
 abbrev pub has_session : SessionTable → ℕ → Bool
 has_session t client = list_any (λ s. s.client == client) t.sessions
 
--- a client goes with its lease, where it has neither a session nor an open
-abbrev pub destroyed_unless : Machine → ℕ → Option DestroyFault → Outcome
-destroyed_unless m client None = with_result (record m { clients = without m.clients client; leases = without_lease m.leases client }) Res.DestroyClientId
-destroyed_unless m client (Some fault) = refuses m (op_number Num.DestroyClientId) (destroy_status fault)
+-- why a client cannot go: there is none, or it has a session or an open
+abbrev pub client_fault : Machine → ℕ → Option Status
+client_fault m client = first_fault (
+    (not (is_client m.clients client), StaleClientId)
+    ∷ (has_session m.sessions client || has_open m.store client, ClientIdBusy)
+    ∷ [])
+
+-- a client goes with its lease
+abbrev pub client_ended : Machine → ℕ → Outcome
+client_ended m client = with_result (record m { clients = without m.clients client; leases = without_lease m.leases client }) Res.DestroyClientId
 
 abbrev pub destroy_client : Machine → ℕ → Outcome
-destroy_client m client = destroyed_unless m client (destroy_fault m.clients client (has_session m.sessions client) (has_open m.store client))
+destroy_client m client = by_fault m (op_number Num.DestroyClientId) (client_fault m client) (client_ended m client)

@@ -11,9 +11,6 @@ use Rattle.nfs_lease.specs.Renewals.{Book, with_lease, without_lease}
 use Rattle.nfs_xdr.specs.Caller.{Caller}
 use Rattle.nfs_exec.specs.Step.Machine.{Machine, Outcome, with_result}
 
-abbrev pub exchange_id_number : ℕ
-exchange_id_number = op_number Num.ExchangeId
-
 -- the text `nfs41d`, by which the server names itself and its scope
 abbrev pub server_name : List ℕ
 server_name = 110 ∷ 102 ∷ 115 ∷ 52 ∷ 49 ∷ 100 ∷ []
@@ -36,7 +33,7 @@ granted x = record {
 
 abbrev pub answered : Result Exchanged ClientFault → Res
 answered (Ok x) = Res.ExchangeId (granted x)
-answered (Err fault) = Res.Refused exchange_id_number (fault_status fault)
+answered (Err fault) = Res.Refused (op_number Num.ExchangeId) (fault_status fault)
 
 abbrev pub without_any_lease : Book → Option ℕ → Book
 without_any_lease b None = b

@@ -1,11 +1,13 @@
 -- Laws of compounds and of expiry, over the definitions alone.
 use Rattle.std.specs.{Prelude.{◌≡◌, ◌≤◌, ℕ, ◌+◌, ◌-◌, ◌^◌, ◌==◌, Bool, false, ◌&&◌, List, [], ◌∷◌, Option, Some, None, if◌then◌else◌}, Option.option_map_or}
 use Rattle.nfs_xdr.specs.{declared.status.Status.Status, Caller.Caller}
-use Rattle.nfs_compound.specs.{declared.session_args.Sequence.Sequence, declared.op.Item.Item, declared.op.Item.TheVariants.Operation, Request.Request}
+use Rattle.nfs_compound.specs.{OpNum.op_number, declared.session_args.Sequence.Sequence, declared.op.Item.Item, declared.op.Item.TheVariants.Operation}
+use Rattle.nfs_compound.specs.Request.{Request}
+use Rattle.nfs_compound.specs.declared.op_num.OpNum.TheVariants as Num
 use Rattle.nfs_compound.specs.declared.op.Op.TheVariants as Op
 use Rattle.nfs_lease.specs.Renewals.{has_run_out}
 use Rattle.nfs_sessions.specs.{declared.id.SessionId.SessionId, Id.id_of, Laws.is_id}
-use Rattle.nfs_exec.specs.{Step.Machine.{Machine, starts, refuses}, Step.Sequence.{Sequenced, Refuses, Repeats, Runs, sequenced, sequence_number}}
+use Rattle.nfs_exec.specs.{Step.Machine.{Machine, starts, refuses}, Step.Sequence.{Sequenced, Refuses, Repeats, Runs, sequenced}}
 use Rattle.nfs_exec.specs.{Step.Run.only, Step.Compound.{answers, compound}, Step.Expiry.expired}
 
 -- The request begins with this SEQUENCE, which comes to this.
@@ -25,7 +27,7 @@ RepeatsChangeNothing = (m : Machine) (r : Request) (who : Caller) (size now : �
 abbrev pub RefusalsChangeNothing : Type 0
 RefusalsChangeNothing = (m : Machine) (r : Request) (who : Caller) (size now : ℕ) (choice : Option ℕ) (s : Sequence) (status : Status)
     → Begins m r who size s (Refuses status)
-    → compound m r who size now choice ≡ answers r (only (refuses m sequence_number status))
+    → compound m r who size now choice ≡ answers r (only (refuses m (op_number Num.Sequence) status))
 
 -- Expiry at two moments is expiry at the later.
 abbrev pub ExpiresOnce : Type 0

@@ -1,4 +1,4 @@
--- What may stand in which place of a compound (RFC 8881 sections 2.10.6.4 and 15.1.3), and that it is short.
+-- What may stand in which place of a compound (RFC 8881 sections 2.10.6.4 and 15.1.3).
 use Rattle.std.specs.Prelude.{ℕ, ◌||◌, ◌&&◌, nat_lt, not, Bool, true, false, [], ◌∷◌, Option, Some}
 use Rattle.nfs_xdr.specs.{Checks.first_fault, declared.status.Status.Status}
 use Rattle.nfs_xdr.specs.declared.status.Status.TheVariants.{NotOnlyOp, NotSupp, OpNotInSession, SequencePos}

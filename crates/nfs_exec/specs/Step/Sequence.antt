@@ -3,15 +3,11 @@ use Rattle.std.specs.Prelude.{ℕ, ◌+◌, ◌-◌, nat_lt, nat_le, List, [], �
 use Rattle.nfs_xdr.specs.{Checks.first_fault, Spelling.padding, declared.status.Status.Status}
 use Rattle.nfs_xdr.specs.declared.status.Status.TheVariants.{BadSession, BadSlot, BadHighSlot, SeqMisordered, SeqFalseRetry, ReqTooBig, TooManyOps}
 use Rattle.nfs_xdr.specs.Caller.{Caller}
-use Rattle.nfs_compound.specs.declared.op_num.OpNum.TheVariants as Num
-use Rattle.nfs_compound.specs.{OpNum.op_number, declared.session_args.Sequence.Sequence, Request.Request}
+use Rattle.nfs_compound.specs.{declared.session_args.Sequence.Sequence, Request.Request}
 use Rattle.nfs_results.specs.declared.res.SequenceOk.{SequenceOk}
 use Rattle.nfs_slots.specs.{declared.slot.Verdict.Verdict, declared.slot.Verdict.TheVariants.{Fresh, Again, FalseRetry, Misordered, NoSlot}}
 use Rattle.nfs_sessions.specs.{declared.channel.Channel.Channel, Id.id_of, SessionSlots.{GrantedSlots, judge, kept}, Sessions.{Session, session_at}}
 use Rattle.nfs_exec.specs.Step.Machine.{Machine}
-
-abbrev pub sequence_number : ℕ
-sequence_number = op_number Num.Sequence
 
 -- Where sa_highest_slotid stands in the arguments of a compound that SEQUENCE begins: behind the tag, its padding and 40 bytes, which are the length of
 -- the tag (4), the minor version (4), the count (4), SEQUENCE's number (4), the session (16), the number (4) and the slot (4).

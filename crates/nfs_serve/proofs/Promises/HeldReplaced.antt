@@ -15,9 +15,9 @@ use Rattle.nfs_clients.specs.declared.created.CreateResult.TheVariants as result
 use Rattle.nfs_opens.specs.{declared.records.LockState.LockState, declared.records.OpenState.OpenState, Table.Table}
 use Rattle.nfs_names.specs.{Ending.{has_open, table_staying}, Outcome.is_ok}
 use Rattle.nfs_files.specs.LockTold.{LockTold}
-use Rattle.nfs_exec.specs.{Step.Machine.{Machine, IsMachine, refuses}, Step.Place.item_fault}
-use Rattle.nfs_exec.specs.{Step.CreateSession.{create_session_number, without_any_opens, by_created, creates, by_verdict, wish_of}, Step.Run.is_here}
-use Rattle.nfs_exec.specs.{Step.Compound.{carried_out, by_fault, first_item, bare, by_first, compound}, Step.Laws.Asks}
+use Rattle.nfs_exec.specs.{Step.Machine.{by_fault, Machine, IsMachine, refuses}, Step.Place.item_fault}
+use Rattle.nfs_exec.specs.{Step.CreateSession.{without_any_opens, by_created, creates, by_verdict, wish_of}, Step.Run.is_here}
+use Rattle.nfs_exec.specs.{Step.Compound.{carried_out, first_item, bare, by_first, compound}, Step.Laws.Asks}
 use Rattle.nfs_exec.specs.Runs.LockHeld.{is_of_owner, takes_place, replaces_in, replaces}
 use Rattle.nfs_serve.proofs.{Promises.HeldBefore.Holds, Promises.HeldLock.not_so, Promises.HeldTraced.held_staying}
 
@@ -109,8 +109,8 @@ module _ (k : LockTold) (owner : List ℕ) (one : k.last ≡ k.first) (m : Machi
   by_new now refused c takes =
       let did = create m.sessions c.clientid (wish_of m c) in
       let o = creates m now c did in
-      elim (refused && is_ok o.status) as (λ b. is_ok (cond b (refuses m create_session_number Delay) o).status ≡ true
-      → Holds k owner (cond b (refuses m create_session_number Delay) o).machine.store.opens → (cond b (refuses m create_session_number Delay) o).machine ≡ m) [
+      elim (refused && is_ok o.status) as (λ b. is_ok (cond b (refuses m 43 Delay) o).status ≡ true
+      → Holds k owner (cond b (refuses m 43 Delay) o).machine.store.opens → (cond b (refuses m 43 Delay) o).machine ≡ m) [
         | true ↦ λ ok holds. refl
         | false ↦ by_made now c did.after did.answer takes
       ]

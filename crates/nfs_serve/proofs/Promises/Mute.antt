@@ -11,18 +11,18 @@ use Rattle.nfs_compound.specs.{declared.op.Op.Op, declared.op.Item.Item, declare
 use Rattle.nfs_compound.specs.{Request.{Request, item_number}, declared.session_args.CreateSession.CreateSession}
 use Rattle.nfs_results.specs.declared.res.Res.TheVariants as Res
 use Rattle.nfs_results.specs.{Results.{refusal, spell_result}, Refusals.{bears, can_refuse}, Parts.is_legal}
-use Rattle.nfs_clients.specs.{declared.destroy.DestroyFault.DestroyFault, declared.exchange_id.Exchanged.Exchanged}
+use Rattle.nfs_clients.specs.{declared.exchange_id.Exchanged.Exchanged}
 use Rattle.nfs_clients.specs.{declared.exchange_id.ClientFault.ClientFault, DestroyClientId.destroy_fault, ExchangeId.exchange}
 use Rattle.nfs_clients.specs.declared.created.CreateResult.TheVariants as result
 use Rattle.nfs_clients.specs.CreateSession as clients
 use Rattle.nfs_sessions.specs.{declared.id.SessionId.SessionId, declared.sessions.SessionFault.SessionFault, Id.id_of}
 use Rattle.nfs_sessions.specs.Sessions.{SessionTable, create, session_at, fault_status}
-use Rattle.nfs_names.specs.{Ending.has_open, Outcome.is_ok}
-use Rattle.nfs_exec.specs.{Step.Machine.{Machine, Outcome, or_delay}, Step.Place.{stands_alone, is_sequence}, Step.View.{CanBear, IsOpened}}
-use Rattle.nfs_exec.specs.Step.ExchangeId.{exchange_id, exchange_id_number, answered, ask_of}
-use Rattle.nfs_exec.specs.Step.CreateSession.{create_session_number, by_verdict, by_created, wish_of}
-use Rattle.nfs_exec.specs.{Step.Destroy.{destroy_session, destroyed_unless, has_session}, Step.Run.is_here}
-use Rattle.nfs_exec.specs.{Step.Compound.{carried_out, by_fault, first_item, by_first, compound}, Step.Executing.{first_sequence, sequence_of}}
+use Rattle.nfs_names.specs.Outcome.{is_ok}
+use Rattle.nfs_exec.specs.{Step.Machine.{by_fault, Machine, Outcome, or_delay}, Step.Place.{stands_alone, is_sequence}, Step.View.{CanBear, IsOpened}}
+use Rattle.nfs_exec.specs.Step.ExchangeId.{exchange_id, answered, ask_of}
+use Rattle.nfs_exec.specs.Step.CreateSession.{by_verdict, by_created, wish_of}
+use Rattle.nfs_exec.specs.{Step.Destroy.{destroy_session, client_fault, client_ended}, Step.Run.is_here}
+use Rattle.nfs_exec.specs.{Step.Compound.{carried_out, first_item, by_first, compound}, Step.Executing.{first_sequence, sequence_of}}
 use Rattle.nfs_exec.proofs.Step.RefusalsFit.{opened_bears}
 use Rattle.nfs_serve.proofs.{Promises.Reader.sequenced, Promises.Spelled.{IsBad, IsMute, mute_spelled, bare_spelled}}
 
@@ -96,7 +96,7 @@ mute_created m now refused c clients.Misordered = mute_bad 43 SeqMisordered (ome
 mute_created m now refused c clients.InUse = mute_bad 43 ClidInUse (omega arith) refl
 mute_created m now refused c clients.Runs =
     let did = create m.sessions c.clientid (wish_of m c) in
-    mute_delayed m refused create_session_number (by_created m now c did.after did.answer) (omega arith) (mute_made m now c did.after did.answer)
+    mute_delayed m refused 43 (by_created m now c did.after did.answer) (omega arith) (mute_made m now c did.after did.answer)
 
 mute_destroyed : (m : Machine) (sessionid : List ℕ) → IsMute (destroy_session m sessionid).result
 mute_destroyed m sessionid = elim (cases_Bool (is_some (session_at m.sessions (id_of sessionid)))) [
@@ -104,7 +104,7 @@ mute_destroyed m sessionid = elim (cases_Bool (is_some (session_at m.sessions (i
   | inr not_there ↦ rw not_there (mute_bad 44 BadSession (omega arith) refl)
 ]
 
-mute_client : (m : Machine) (client : ℕ) (o : Option DestroyFault) → IsMute (destroyed_unless m client o).result
+mute_client : (m : Machine) (client : ℕ) (o : Option Status) → IsMute (by_fault m 57 o (client_ended m client)).result
 mute_client m client None = record { op = 57; first = 0; rest = []; spelled = refl; op_small = omega arith; first_small = omega arith; other = refl }
 mute_client m client (Some fault) = mute_refusal 57 _ (omega arith) refl
 
@@ -113,10 +113,10 @@ op_small op = is_op_listing.small (arguments op).op
 
 mute_carried : (m : Machine) (who : Caller) (now : ℕ) (refused : Bool) (op : Op) → IsMute (carried_out m who now refused (Operation op)).result
 mute_carried m who now refused (Op.ExchangeId e) =
-    mute_delayed m refused exchange_id_number (exchange_id m who now e) (omega arith) (mute_exchanged (exchange m.clients (ask_of m who e)).answer)
+    mute_delayed m refused 42 (exchange_id m who now e) (omega arith) (mute_exchanged (exchange m.clients (ask_of m who e)).answer)
 mute_carried m who now refused (Op.CreateSession c) = mute_created m now refused c (clients.create_verdict m.clients c.clientid c.sequence who.uid)
 mute_carried m who now refused (Op.DestroySession sessionid) = mute_destroyed m sessionid
-mute_carried m who now refused (Op.DestroyClientId client) = mute_client m client (destroy_fault m.clients client (has_session m.sessions client) (has_open m.store client))
+mute_carried m who now refused (Op.DestroyClientId client) = mute_client m client (client_fault m client)
 mute_carried m who now refused op = mute_bad (item_number (Operation op)) NotSupp (op_small op) refl
 
 mute_op : (m : Machine) (n : ℕ) (alone sequence many : Bool) (o : Outcome) → n < 2 ^ 32 → IsMute o.result

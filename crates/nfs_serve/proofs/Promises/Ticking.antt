@@ -9,8 +9,8 @@ use Rattle.nfs_rpc.specs.declared.call.Procedure.TheVariants as Procedures
 use Rattle.nfs_compound.specs.{declared.op.Item.Item, declared.op.Item.TheVariants.{Operation, Fault}, Request.{Request, item_number}, ReadRequest.request_at}
 use Rattle.nfs_compound.specs.declared.session_args.Sequence.{Sequence}
 use Rattle.nfs_compound.specs.declared.op.Op.TheVariants as Op
-use Rattle.nfs_exec.specs.{Step.Machine.{Machine, Outcome}, Step.Place.place_fault, Step.Sequence.{Sequenced, sequenced}, Step.Run.is_here}
-use Rattle.nfs_exec.specs.{Step.Compound.{carried_out, by_fault, first_item, in_session, by_first, compound}, Step.Expiry.expired}
+use Rattle.nfs_exec.specs.{Step.Machine.{by_fault, Machine, Outcome}, Step.Place.place_fault, Step.Sequence.{Sequenced, sequenced}, Step.Run.is_here}
+use Rattle.nfs_exec.specs.{Step.Compound.{carried_out, first_item, in_session, by_first, compound}, Step.Expiry.expired}
 use Rattle.nfs_exec.specs.{Step.Laws.{if_runs, first_runs}, Step.Executing.{is_alone, executes}}
 use Rattle.nfs_exec.specs.Step.Sequence as sequence
 use Rattle.nfs_exec.proofs.Step.Repeating.{expires}

@@ -4,7 +4,7 @@ use Rattle.nfs_clients.specs.{ExchangeId.{Ask, case_of, exchange}, Calls.{exchan
 use Rattle.nfs_lease.specs.Renewals.{Book, leases_of, without_lease}
 use Rattle.nfs_results.specs.{declared.res.Res.Res, declared.res.ExchangeIdOk.ExchangeIdOk, Results.status_of_result}
 use Rattle.nfs_names.specs.Outcome.{is_delay}
-use Rattle.nfs_exec.specs.{Step.Machine.{with_result, or_delay, machine_of}, Step.ExchangeId.{exchange_id, exchange_id_number, ask_of}, Step.View.settled}
+use Rattle.nfs_exec.specs.{Step.Machine.{with_result, or_delay, machine_of}, Step.ExchangeId.{exchange_id, ask_of}, Step.View.settled}
 use Rattle.nfs_exec.proofs.Step.Exchanging.{asked_as, answered_ok, refused_first, refused_last}
 use Rattle.nfs_exec.proofs.tables.Tables.exchange_id.Goals as goal
 
@@ -14,7 +14,7 @@ returns-in-Err-clause-outcome c =
     let who = caller c.args.who.now in
     let e = c.args.asked.now in
     let ask = asked_as m who e _ _ c.bytes-owner.ensures c.owner_has_open-has_open.ensures in
-    subst (λ (r : Res). with_result m r ≡ or_delay (is_delay (status_of_result r)) m exchange_id_number (exchange_id m who c.args.now e)) (sym c.refused.ensures)
+    subst (λ (r : Res). with_result m r ≡ or_delay (is_delay (status_of_result r)) m 42 (exchange_id m who c.args.now e)) (sym c.refused.ensures)
     (refused_first m who c.args.now e c.in-Err.fault (case_of m.clients (ask_of m who e))
     (c.in-Err.ensures ∙ ap (λ (a : Ask). judged (exchange_fault m.clients a)) ask))
 
@@ -39,7 +39,7 @@ returns-in-Err-exchange-clause-outcome c =
     let e = c.args.asked.now in
     let ask = asked_as m who e _ _ c.bytes-owner.ensures c.owner_has_open-has_open.ensures in
     let after = record m { clients = c.exchange.new.self; leases = leases_of c.remove.new.self } in
-    subst (λ (r : Res). with_result after r ≡ or_delay (is_delay (status_of_result r)) m exchange_id_number (exchange_id m who c.args.now e))
+    subst (λ (r : Res). with_result after r ≡ or_delay (is_delay (status_of_result r)) m 42 (exchange_id m who c.args.now e))
     (sym c.refused-in-Err-exchange.ensures)
     (refused_last m who c.args.now e c.next_id-next.result c.in-Err-exchange.fault c.exchange.new.self (leases_of c.remove.new.self)
     c.requires.machine c.next_id-next.ensures.fresh

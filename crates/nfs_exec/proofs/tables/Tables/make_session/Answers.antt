@@ -2,7 +2,7 @@ use Rattle.std.proofs.Common.{◌≡◌, ℕ, Option, Ok, Err, ap, sym, subst, �
 use Rattle.nfs_xdr.specs.declared.status.Status.{Status}
 use Rattle.nfs_sessions.specs.{declared.channel.Wish.Wish, Sessions.create, SessionTables.CreatesOrWants}
 use Rattle.nfs_names.specs.Outcome.{is_delay}
-use Rattle.nfs_exec.specs.{Step.Machine.{or_delay, refuses, machine_of}, Step.CreateSession.{create_session_number, wish_of, channel_of, creates}}
+use Rattle.nfs_exec.specs.{Step.Machine.{or_delay, refuses, machine_of}, Step.CreateSession.{wish_of, channel_of, creates}}
 use Rattle.nfs_exec.specs.Step.View.{Does}
 use Rattle.nfs_exec.proofs.Step.Creating.{made, refused_session}
 use Rattle.nfs_exec.proofs.tables.Tables.make_session.Goals as goal
@@ -28,9 +28,9 @@ returns-in-Err c =
     wish c.in-Err.ensures in
     let status : c.put_refusal.result ≡ c.status-status.result = (c.put_refusal.ensures m).status in
     let left = machine_of (record c.args.self.now { clients = c.keep_created.new.self; sessions = c.create.new.self }) in
-    subst (λ (s : Status). Does (or_delay (is_delay s) m create_session_number
+    subst (λ (s : Status). Does (or_delay (is_delay s) m 43
     (creates m c.args.now asked (create m.sessions asked.clientid (wish_of m asked)))) s left c.args.out.now c.put_refusal.new.out) (sym status)
     (refused_session m c.args.now asked (wish_of m asked) c.keep_created.new.self c.create.new.self c.in-Err.fault
     c.status-status.result c.args.out.now c.put_refusal.new.out did c.keep_created.ensures c.status-status.ensures
-    (λ n. subst (λ (s : Status). Does (refuses n create_session_number c.status-status.result) s n c.args.out.now c.put_refusal.new.out) status
+    (λ n. subst (λ (s : Status). Does (refuses n 43 c.status-status.result) s n c.args.out.now c.put_refusal.new.out) status
     (c.put_refusal.ensures n)))
