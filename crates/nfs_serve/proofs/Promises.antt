@@ -42,6 +42,11 @@ pub mod HeldBefore
 pub mod HeldSpared
 pub mod HeldTraced
 pub mod HeldReplaced
+pub mod OpenBefore
+pub mod OpenTraced
+pub mod OpenGranted
+pub mod SharesDenied
+pub mod SharesWorked
 pub mod StatesBegun
 pub mod OneStateEach
 pub mod DenialsCaused
@@ -100,6 +105,10 @@ pub mod SessionsOnce
 pub mod SessionsWorked
 pub mod Staying
 pub mod SessionStays
+pub mod SessionMade
+pub mod SessionsDenied
+pub mod NeverExpired
+pub mod SessionsDeniedWorked
 pub mod OpenKept
 pub mod HeldOpen
 pub mod WrongOpens

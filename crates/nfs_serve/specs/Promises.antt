@@ -29,6 +29,9 @@ pub mod Handles
 pub mod LockOwners
 pub mod Denials
 pub mod NoIsTrue
+pub mod OpenGranted
+pub mod SharesDenied
+pub mod SharesWorked
 pub mod WrongDenials
 pub mod LockMade
 pub mod AskedAgain
@@ -61,6 +64,9 @@ pub mod PermittedWorked
 pub mod RightsTold
 pub mod EntriesAlike
 pub mod SessionsOnce
+pub mod SessionsDenied
+pub mod NeverExpired
+pub mod SessionsDeniedWorked
 pub mod OpenKept
 pub mod HeldOpen
 pub mod WrongOpens

@@ -44,6 +44,8 @@ ghost use Rattle.nfs_serve.specs.Promises.NameStays.{NameStays, GoneStays};
 ghost use Rattle.nfs_serve.specs.Promises.NameWorked.{LeadsTo, NamesAreRefused};
 ghost use Rattle.nfs_serve.specs.Promises.Network.{ExactlyOnce, AnswersExecuted};
 ghost use Rattle.nfs_serve.specs.Promises.NoIsTrue.{NoIsTrue};
+ghost use Rattle.nfs_serve.specs.Promises.SharesDenied.{ShareDenialsAreTrue, LockedIsTrue};
+ghost use Rattle.nfs_serve.specs.Promises.SharesWorked.{AreRefusedTruly, SharesRefused};
 ghost use Rattle.nfs_serve.specs.Promises.Numbered.{AnswersNumbered, ExactlyOnceByNumber, XidsSuffice};
 ghost use Rattle.nfs_serve.specs.Promises.OpenKept.{OpenKept, EachOpenIsTold};
 ghost use Rattle.nfs_serve.specs.Promises.OpenReads.{OpensCanRead};
@@ -57,6 +59,9 @@ ghost use Rattle.nfs_serve.specs.Promises.RealTime.{Atomic};
 ghost use Rattle.nfs_serve.specs.Promises.RightsTold.{RightsAreTold, RootIsTold};
 ghost use Rattle.nfs_serve.specs.Promises.Seen.{ReplyReader, IsSequenced, Bears, server};
 ghost use Rattle.nfs_serve.specs.Promises.SessionsOnce.{EachMakesOne, EachWasMade, RepeatsMakeNone, NextMakesOne, IsGivenOnce};
+ghost use Rattle.nfs_serve.specs.Promises.NeverExpired.{NoneIsExpired};
+ghost use Rattle.nfs_serve.specs.Promises.SessionsDenied.{BadSessionIsTrue};
+ghost use Rattle.nfs_serve.specs.Promises.SessionsDeniedWorked.{IsLeft, EndsAreRefused};
 ghost use Rattle.nfs_serve.specs.Promises.SeenWrite.{IsSeen};
 ghost use Rattle.nfs_serve.specs.Promises.SessionStays.{SessionsStay, StaysToLast};
 ghost use Rattle.nfs_serve.specs.Promises.WrongAnswers.{AnswersAreRefused};
@@ -393,6 +398,40 @@ pub fn a_denial_is_true()
 /// reports another client, and one that is denied for the owner's own lock.
 pub fn wrong_denials_are_refused()
     ensures { DenialsRefused }
+{}
+
+/// A no is true where an open is the reason: in every run an OPEN that is answered NFS4ERR_SHARE_DENIED is forbidden by an open of another owner of its file, and a READ, WRITE
+/// or SETATTR that is answered NFS4ERR_LOCKED has a special stateid and is denied by an open of its file. That open was granted by an OPEN that was answered NFS4_OK, with these
+/// bits by what was answered since, and nothing has ended it.
+pub fn shares_deny_truly()
+    ensures opening { ShareDenialsAreTrue }
+    ensures bytes { LockedIsTrue }
+{}
+
+/// The definitions compute: a client opens a file and denies others to write; another client's OPEN for writing is refused, and so is a WRITE under the anonymous stateid. Those
+/// runs meet the premises of `shares_deny_truly`.
+pub fn shares_deny_an_open()
+    ensures { AreRefusedTruly }
+{}
+
+/// The definitions compute: `shares_deny_truly` refuses an OPEN and a WRITE that are refused where nobody opened a file, or for an open whose client's lease has run out; an
+/// OPEN that is refused for its own owner's open; and a WRITE by the stateid of an open that is answered NFS4ERR_LOCKED.
+pub fn wrong_shares_are_refused()
+    ensures { SharesRefused }
+{}
+
+/// In every run, while a session's client renews in time, no DESTROY_SESSION of it is answered NFS4_OK and no CREATE_SESSION puts another id in its client's place, neither a
+/// SEQUENCE in the session nor a DESTROY_SESSION of it is answered NFS4ERR_BADSESSION: from the CREATE_SESSION on that made it. And nothing is answered NFS4ERR_EXPIRED.
+pub fn sessions_are_denied_truly()
+    ensures bad { BadSessionIsTrue }
+    ensures expired { NoneIsExpired }
+{}
+
+/// The definitions compute: a client makes a session, and renews in time; where it does not, or destroys the session, it is answered NFS4ERR_BADSESSION, and its stateid is
+/// NFS4ERR_BAD_STATEID. That run meets the premises of `sessions_are_denied_truly`, which refuses a server that forgets the session, and a READ answered NFS4ERR_EXPIRED.
+pub fn a_session_is_denied()
+    ensures left { IsLeft }
+    ensures refused { EndsAreRefused }
 {}
 
 /// A lock stands under the open that a LOCK named by its own argument: of each LOCK that is told a lock, the one that made its lock state, which is this one or one before it.

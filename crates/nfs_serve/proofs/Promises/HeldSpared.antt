@@ -12,7 +12,8 @@ use Rattle.nfs_results.specs.{declared.res.Res.Res, Results.{spell_result, done_
 use Rattle.nfs_results.proofs.Lengths.{length_head, length_spelled}
 use Rattle.nfs_ranges.specs.{declared.Kind.Kind, Holders.{cleared, is_within}}
 use Rattle.nfs_ranges.proofs.CanonicalLemmas.{within_is}
-use Rattle.nfs_opens.specs.{declared.records.LockState.LockState, declared.stateid.StateId.StateId, declared.stateid.CurrentSeqid.TheVariants.Own}
+use Rattle.nfs_opens.specs.{declared.records.LockState.LockState, declared.records.OpenState.OpenState, declared.stateid.StateId.StateId}
+use Rattle.nfs_opens.specs.declared.stateid.CurrentSeqid.TheVariants.{Own}
 use Rattle.nfs_opens.specs.{declared.locking.Wish.Wish, Holding.{FileHolders, on_file}, Table.Table, TableInvariants.IsTable, Closing.{not_under, without_open}}
 use Rattle.nfs_opens.specs.Locking.{unlock}
 use Rattle.nfs_opens.specs.Closing as closing
@@ -169,6 +170,24 @@ closes_leave_none d r n c l there under =
     by_item (λ status text s. Names Num.Close text 0 → In l s.opens.locks → ⊥) d r (Operation (Op.Close c.asked)) c.is
     (λ told there. absurd (close_refused RepTooBig 0 told))
     (λ told there. leaves_none d.before.store d.context (moment r.now) r.refused c.asked c.id c.means told l there (under ∙ sym c.opened)) c.names there
+
+-- nor the open
+leaves_no_open : (s : State) (x : Context) (now : Time) (refused : Bool) (a : Close) (id : StateId) → meant x Own a.open_stateid ≡ Ok id
+    → Names Num.Close (spell_result (one_or_delay refused s x now (Op.Close a)).result) 0
+    → (o : OpenState) → In o (one_or_delay refused s x now (Op.Close a)).state.opens.opens → o.number ≡ id.number → ⊥
+leaves_no_open s x now refused a id means names o there its =
+    let did = did_close s x now refused a names in
+    let told = close_tells s x now refused a did.id.number
+    (record { asked = a; file = did.file; id = did.id; did = did.did; is = refl; judged = did.judged; granted = did.granted; opened = refl }) did.ok in
+    let number : o.number ≡ did.id.number = its ∙ (id_once (meant x Own a.open_stateid) id told.id means told.meant ∙ told.opened) in
+    let passes = (in_filter (λ (o : OpenState). not (o.number == did.id.number)) s.opens.opens o (subst (λ (u : Table). In o u.opens) did.left there)).1 in
+    let bad : false ≡ true = sym (ap not (eq-eqb o.number did.id.number number)) ∙ passes in cc
+
+pub closes_leave_no_open : (d : RanOp) (r : IsRun d) (n : ℕ) → ClosesOf d n → (o : OpenState) → In o d.behind.store.opens.opens → o.number ≡ n → ⊥
+closes_leave_no_open d r n c o there its =
+    by_item (λ status text s. Names Num.Close text 0 → In o s.opens.opens → ⊥) d r (Operation (Op.Close c.asked)) c.is
+    (λ told there. absurd (close_refused RepTooBig 0 told))
+    (λ told there. leaves_no_open d.before.store d.context (moment r.now) r.refused c.asked c.id c.means told o there (its ∙ sym c.opened)) c.names there
 
 -- All three.
 

@@ -26,7 +26,7 @@ use Rattle.nfs_serve.specs.{Promises.Denials.{IsRefusedFor, ByLock, ByTest, IsBe
 use Rattle.nfs_serve.specs.{Promises.NoIsTrue.{IsInLease, Passes, AllPass, IsGrantedIn, IsGranted, Before, Within, NoIsTrue}, Promises.LockKept.replaces_by}
 use Rattle.nfs_serve.specs.{Promises.Outlived.last_renewal, Promises.Points.{state_after, state_after_all, reached, taken, before, asked_by, ops_of}}
 use Rattle.nfs_serve.proofs.Promises.DenialsCaused.{WasDenied, IsLocker, IsTester, asker, is_denied, lock_denied, test_denied}
-use Rattle.nfs_serve.proofs.{Promises.HeldBefore.{Holds, found_at}, Promises.HeldReplaced.replaced_same}
+use Rattle.nfs_serve.proofs.{Promises.HeldBefore.{Holds, found_at}, Promises.HeldReplaced.{lock_had, replaced_none}}
 use Rattle.nfs_serve.proofs.Promises.HeldTraced.{Traced, Stood, Given, event_traced, event_until, held_staying}
 use Rattle.nfs_serve.proofs.{Promises.OneStateEach.{HasOneEach, locker_is, each_kept}, Promises.LaterRecords.{runs_keep, op_done, first_there}}
 use Rattle.nfs_serve.proofs.Promises.StatesBegun.{same_lock, WasThere, IsBegunIn, event_states, until_states}
@@ -46,11 +46,11 @@ asked_until : (k : LockTold) (owner : List ℕ) → k.last ≡ k.first → (m : 
 asked_until k owner one m None until d back is same holds = absurd (none_at until d back same)
 asked_until k owner one m (Some e) until d back is same holds = event_until k owner one m e until d back is same holds
 
-reached_more : (s : State) (records : List Arrival) (c : Arrival) → state_after_all s (records ++ c ∷ []) ≡ state_after (state_after_all s records) c
+pub reached_more : (s : State) (records : List Arrival) (c : Arrival) → state_after_all s (records ++ c ∷ []) ≡ state_after (state_after_all s records) c
 reached_more s [] c = refl
 reached_more s (r ∷ more) c = reached_more (state_after s r) more c
 
-whole_at : (mode instance lease : ℕ) (records : List Arrival) (c : Arrival) → Is (before (reached mode instance lease records) c)
+pub whole_at : (mode instance lease : ℕ) (records : List Arrival) (c : Arrival) → Is (before (reached mode instance lease records) c)
 whole_at mode instance lease records c =
     let sound : IsSound (reached mode instance lease records) = sound_all (new_state mode instance lease) records (sound_new mode instance lease) in
     whole_before (reached mode instance lease records) c sound.whole
@@ -84,7 +84,7 @@ module _ (mode instance lease : ℕ) (small : instance < 2 ^ 32) where
         | inr leaves ↦ inl leaves
         | inl takes ↦ inr (ap (λ (s : State). s.machine) (next_is s c)
             ∙ for_asked (λ o. option_map_or (replaces k.client m) o false ≡ true → Holds k owner (left m o).store.opens → left m o ≡ m) s c (λ e holds. refl)
-            (λ r who. replaced_same k owner one m (machine_at records c) r who (length c.bytes) (taken s c) c.choice) takes holds)
+            (λ r who. replaced_none k.client (Holds k owner) (lock_had k owner one) m (machine_at records c) r who (length c.bytes) (taken s c) c.choice) takes holds)
       ]
 
   pass_more : (k : LockTold) (records between : List Arrival) (c : Arrival) → AllPass mode instance lease k records between

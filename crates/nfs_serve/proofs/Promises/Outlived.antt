@@ -1,7 +1,7 @@
 -- A byte is held only where its client renewed at most a lease before.
-use Rattle.std.proofs.Common.{◌≡◌, ℕ, ◌+◌, ◌-◌, ◌≤◌, Bool, true, false, cond, List, [], ◌∷◌, length, Option, Some, None, refl, sym, ◌∙◌, ap, subst, arith, inl, inr}
+use Rattle.std.proofs.Common.{◌≡◌, ℕ, ◌+◌, ◌-◌, ◌<◌, ◌≤◌, Bool, true, false, cond, List, [], ◌∷◌, length, Option, Some, None, refl, sym, ◌∙◌, ap, subst, arith, inl, inr}
 use Rattle.std.proofs.lemmas.Bool.{cases_Bool, eq-eqb, ltb-false, false≢true}
-use Rattle.std.specs.{Prelude.{◌==◌, is_some}, Option.option_map_or}
+use Rattle.std.specs.{Prelude.{◌==◌, ◌^◌, is_some}, Option.option_map_or}
 use Rattle.nfs_xdr.specs.Caller.{Caller}
 use Rattle.nfs_xdr.proofs.Lists.{any_in}
 use Rattle.nfs_compound.specs.Request.{Request}
@@ -91,26 +91,38 @@ some_of (Some r) e = (r, refl)
 not_out : (lease now r : ℕ) → is_out lease now (Some r) ≡ false → now ≤ r + lease
 not_out lease now r e = let h = ltb-false lease (now - r) e in omega arith
 
-pub none_outlives : NoneOutlives
-none_outlives mode instance lease records c file n byte kind small held =
+-- a client that has an open renewed at most a lease ago
+pub record IsRenewed (mode instance lease client : ℕ) (records : List Arrival) (c : Arrival) : Type 0 where
+  pub last : ℕ
+  pub renewed : last_renewal client None (new_state mode instance lease) records ≡ Some last
+  pub within : taken (reached mode instance lease records) c ≤ last + lease
+
+pub renewed_in_time : (mode instance lease client : ℕ) (records : List Arrival) (c : Arrival) → instance < 2 ^ 32
+    → has_open (before (reached mode instance lease records) c).store client ≡ true → IsRenewed mode instance lease client records c
+renewed_in_time mode instance lease client records c small open_there =
     let first = new_state mode instance lease in
     let s = reached mode instance lease records in
     let m = before s c in
     let new = sound_new mode instance lease in
-    let sound : IsSound s = sound_all first records new in
-    let whole = whole_before s c sound.whole in
     let is : IsMachine m = machine_before s c (machine_all first records (of_start mode instance lease small)) in
-    let (l, holder) = whole.table.holders file n byte (λ none. let bad : Some kind ≡ None = sym held ∙ none in cc) in
-    let (o, under) = whole.table.under l holder.stands in
-    let open_there : has_open m.store l.client ≡ true =
-    any_in (λ (o : OpenState). o.client == l.client) m.store.opens.opens o under.stands (eq-eqb o.client l.client under.client) in
-    let known = confirmed_is m.clients l.client (is.opened l.client open_there) in
-    let (r, at) = some_of (m.leases.renewed l.client) (is.leased l.client ∙ known) in
-    let up = up_expired l.client (taken s c) (last_renewal l.client None first records) s.machine.leases
-    (up_all first records l.client None new (λ r e. absurd (let bad : None ≡ Some r = e in cc))) in
+    let known = confirmed_is m.clients client (is.opened client open_there) in
+    let (r, at) = some_of (m.leases.renewed client) (is.leased client ∙ known) in
+    let up = up_expired client (taken s c) (last_renewal client None first records) s.machine.leases
+    (up_all first records client None new (λ r e. absurd (let bad : None ≡ Some r = e in cc))) in
     let (q, last, low) = up r at in
     let stays : is_out m.leases.lease (taken s c) (Some r) ≡ false =
-    ap (is_out m.leases.lease (taken s c)) (sym at) ∙ expired_all s.machine.leases (taken s c) l.client in
+    ap (is_out m.leases.lease (taken s c)) (sym at) ∙ expired_all s.machine.leases (taken s c) client in
     let lasts : m.leases.lease ≡ lease = lease_all first records in
     let within = not_out m.leases.lease (taken s c) r stays in
-    record { lock = l; there = holder.stands; number = holder.number; last = q; renewed = last; within = omega arith }
+    record { last = q; renewed = last; within = omega arith }
+
+pub none_outlives : NoneOutlives
+none_outlives mode instance lease records c file n byte kind small held =
+    let s = reached mode instance lease records in
+    let m = before s c in
+    let whole = whole_before s c (sound_all (new_state mode instance lease) records (sound_new mode instance lease)).whole in
+    let (l, holder) = whole.table.holders file n byte (λ none. let bad : Some kind ≡ None = sym held ∙ none in cc) in
+    let (o, under) = whole.table.under l holder.stands in
+    let time = renewed_in_time mode instance lease l.client records c small
+    (any_in (λ (o : OpenState). o.client == l.client) m.store.opens.opens o under.stands (eq-eqb o.client l.client under.client)) in
+    record { lock = l; there = holder.stands; number = holder.number; last = time.last; renewed = time.renewed; within = time.within }

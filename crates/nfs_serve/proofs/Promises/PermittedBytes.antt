@@ -45,7 +45,7 @@ seat_access ReadBypass = reading
 seat_access (Open number access) = access
 seat_access (Lock number access) = access
 
-abbrev is_state : Seat → Bool
+abbrev pub is_state : Seat → Bool
 is_state Anonymous = false
 is_state ReadBypass = false
 is_state (Open number access) = true
@@ -165,7 +165,7 @@ judged_special t id client file k some e =
     is_special_seat (is_anonymous id) (is_bypass id) (judge_named client (Some file) Either id.seqid (cond (id.instance == t.instance) (named_by t (open_at t id.number) (lock_at t id.number)) None))
     k some e
 
-judged_state : (t : Table) (id : StateId) (client file : ℕ) (k : Seat) → is_special id ≡ false → judge t id client (Some file) Either ≡ Ok k → is_state k ≡ true
+pub judged_state : (t : Table) (id : StateId) (client file : ℕ) (k : Seat) → is_special id ≡ false → judge t id client (Some file) Either ≡ Ok k → is_state k ≡ true
 judged_state t id client file k none e =
     named_state t client file id.seqid k (id.instance == t.instance) (open_at t id.number) (lock_at t id.number) (judged_named t id client file k none e)
 

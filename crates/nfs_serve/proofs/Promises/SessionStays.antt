@@ -35,7 +35,7 @@ has_left id s c is ends replaced =
     (λ r who. lasts id (before s c) r who (length c.bytes) (taken s c) c.choice is)
     ends replaced)
 
-stays : (id : SessionId) (lease last : ℕ) (s : State) (records : List Arrival) → Renewed id.client lease last s → HasSession id s.machine → StaysThere id lease last s records
+pub stays : (id : SessionId) (lease last : ℕ) (s : State) (records : List Arrival) → Renewed id.client lease last s → HasSession id s.machine → StaysThere id lease last s records
 stays id lease last s [] lives is = is
 stays id lease last s (c ∷ more) lives is = (
   is,

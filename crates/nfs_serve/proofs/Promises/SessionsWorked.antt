@@ -27,7 +27,7 @@ abbrev gives_so : (client number : ℕ) → List ℕ → Machine → Option Mach
 gives_so client number id m (Some (Asks r who size now choice)) = answers_so client number id r (compound m r who size now choice).text r.left
 gives_so client number id m o = false
 
-given : (client number : ℕ) (id : List ℕ) (s : State) (c : Arrival) (o : Option MachineEvent) → asked_by s c ≡ o → gives_so client number id (before s c) o ≡ true
+pub given : (client number : ℕ) (id : List ℕ) (s : State) (c : Arrival) (o : Option MachineEvent) → asked_by s c ≡ o → gives_so client number id (before s c) o ≡ true
     → GivesIn client number id s c
 given client number id s c (Some (Asks r who size now choice)) e test = by_items r.left refl test
   where

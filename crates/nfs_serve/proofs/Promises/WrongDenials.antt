@@ -30,7 +30,7 @@ is_lock item = false
 abbrev grants : RanOp → Bool
 grants d = is_lock d.item && says_ok d.result
 
-abbrev all_ops : State → List Arrival → List RanOp
+abbrev pub all_ops : State → List Arrival → List RanOp
 all_ops s [] = []
 all_ops s (c ∷ more) = ops_of s c ++ all_ops (state_after s c) more
 
@@ -48,7 +48,7 @@ in_first d [] back there = absurd there
 in_first d (f ∷ front) back (inl here) = inl here
 in_first d (f ∷ front) back (inr later) = inr (in_first d front back later)
 
-in_records : (s : State) (before : List Arrival) (c : Arrival) (more : List Arrival) (d : RanOp) → In d (ops_of (state_after_all s before) c) → In d (all_ops s (before ++ c ∷ more))
+pub in_records : (s : State) (before : List Arrival) (c : Arrival) (more : List Arrival) (d : RanOp) → In d (ops_of (state_after_all s before) c) → In d (all_ops s (before ++ c ∷ more))
 in_records s [] c more d there = in_first d (ops_of s c) (all_ops (state_after s c) more) there
 in_records s (b ∷ before) c more d there = in_back d (ops_of s b) (all_ops (state_after s b) (before ++ c ∷ more)) (in_records (state_after s b) before c more d there)
 
@@ -61,11 +61,11 @@ given_in k owner records g =
     stays_in grants (all_ops (new_state 511 7 90) records) g.lock
     (subst (λ rs. In g.lock (all_ops (new_state 511 7 90) rs)) (sym g.all) (in_records (new_state 511 7 90) g.earlier g.arrival g.between g.lock there)) (it_grants k owner g.lock g.grants)
 
-none_in : (ds : List RanOp) (d : RanOp) → length ds ≡ 0 → In d ds → ⊥
+pub none_in : (ds : List RanOp) (d : RanOp) → length ds ≡ 0 → In d ds → ⊥
 none_in [] d e there = there
 none_in (x ∷ ds) d e there = absurd (omega (arith, e))
 
-one_in : (ds : List RanOp) (x d : RanOp) → length ds ≡ 1 → In d ds → d ≡ last_of x ds
+pub one_in : (ds : List RanOp) (x d : RanOp) → length ds ≡ 1 → In d ds → d ≡ last_of x ds
 one_in [] x d e there = absurd there
 one_in (y ∷ []) x d e (inl here) = here
 one_in (y ∷ []) x d e (inr later) = absurd later
@@ -97,7 +97,7 @@ by_one k owner records c until client one its here (Before g lease spared) = rec
 }
 by_one k owner records c until client one its here (Within front lock back same g spared) = absurd (not_within k owner until front back lock here same g)
 
-late : (records : List Arrival) (c : Arrival) (client moment last : ℕ) → last_renewal client None (new_state 511 7 90) records ≡ Some last → taken (reached 511 7 90 records) c ≡ moment
+pub late : (records : List Arrival) (c : Arrival) (client moment last : ℕ) → last_renewal client None (new_state 511 7 90) records ≡ Some last → taken (reached 511 7 90 records) c ≡ moment
     → last + 91 ≤ moment → IsInLease 511 7 90 client records c → ⊥
 late records c client moment last renewed now past is =
     let same : Some last ≡ Some is.0 = sym renewed ∙ is.1 in
