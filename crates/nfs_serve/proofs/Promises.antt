@@ -101,6 +101,7 @@ pub mod PermittedWorked
 pub mod RightsKept
 pub mod RightsTold
 pub mod EntriesAlike
+pub mod EntriesWorked
 pub mod SessionsOnce
 pub mod SessionsWorked
 pub mod Staying

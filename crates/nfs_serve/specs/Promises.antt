@@ -63,6 +63,7 @@ pub mod Permitted
 pub mod PermittedWorked
 pub mod RightsTold
 pub mod EntriesAlike
+pub mod EntriesWorked
 pub mod SessionsOnce
 pub mod SessionsDenied
 pub mod NeverExpired

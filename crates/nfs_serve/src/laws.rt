@@ -16,6 +16,7 @@ ghost use Rattle.nfs_serve.specs.Promises.ChangeSeenWorked as change_seen;
 ghost use Rattle.nfs_serve.specs.Promises.ChangeTells.{ChangeTells, ReadsAreAlike, AttributesAreAlike, ChangeIsTold};
 ghost use Rattle.nfs_serve.specs.Promises.ChangeWorked.{ToldByChange, ToldByAttributes, ChangesAreRefused};
 ghost use Rattle.nfs_serve.specs.Promises.EntriesAlike.{EntriesAreAlike};
+ghost use Rattle.nfs_serve.specs.Promises.EntriesWorked.{IsToldAlike, EntriesAreRefused, AttributesAreRefused};
 ghost use Rattle.nfs_serve.specs.Promises.Exchanges.{RunsTo, null_script, null_output, exchange_script, exchange_output};
 ghost use Rattle.nfs_serve.specs.Promises.FileRead.{ReadsAreWhole};
 ghost use Rattle.nfs_serve.specs.Promises.FileReadWorked.{IsReadWhole, ReadsAreRefused};
@@ -521,6 +522,24 @@ pub fn attributes_are_alike()
 /// In every run READDIR tells of an object what GETATTR of it does, of the same attributes, as long as its change is the same; and so do two READDIRs.
 pub fn entries_are_alike()
     ensures { EntriesAreAlike }
+{}
+
+/// The definitions compute: a file is written twice, and a GETATTR asks for its change, size, mode and number of names; a later READDIR of the root gives the same. That
+/// run meets the premises of `entries_are_alike`.
+pub fn an_entry_is_alike()
+    ensures { IsToldAlike }
+{}
+
+/// The definitions compute: over that run `entries_are_alike` refuses an entry that gives the size from before the second WRITE, one that gives change 1, and one that gives
+/// the attributes of another object.
+pub fn wrong_entries_are_refused()
+    ensures { EntriesAreRefused }
+{}
+
+/// The definitions compute: over that run `attributes_are_alike` refuses a GETATTR that gives another mode while the change is the same, and `change_is_told` one that gives
+/// change 1.
+pub fn wrong_attributes_are_refused()
+    ensures { AttributesAreRefused }
 {}
 
 /// In every run a GETATTR of attribute 3, whatever else it asks for, that answers NFS4_OK gives the object's change.

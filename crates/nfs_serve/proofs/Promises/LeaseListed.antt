@@ -39,7 +39,7 @@ unfolding number
 no_front [] behind long e = let byte : ◌≡◌ {A = ℕ} 91 90 = ap (λ (text : List ℕ). get_or text 3 0) e in absurd (omega arith)
 no_front (x ∷ front) behind long e = absurd (omega arith)
 
-two : (x : RanOp) (ds : List RanOp) → length ds ≡ 2 → ds ≡ take 1 ds ++ last_of x ds ∷ []
+pub two : (x : RanOp) (ds : List RanOp) → length ds ≡ 2 → ds ≡ take 1 ds ++ last_of x ds ∷ []
 two x [] e = absurd (omega arith)
 two x (a ∷ []) e = absurd (omega arith)
 two x (a ∷ b ∷ []) e = refl

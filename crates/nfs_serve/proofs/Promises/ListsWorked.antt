@@ -70,7 +70,7 @@ bytes_at [] e i = omega arith
 bytes_at (b ∷ bytes) e zero = ltb-true b 256 (and_parts _ _ e).0
 bytes_at (b ∷ bytes) e (suc i) = bytes_at bytes (and_parts _ _ e).1 i
 
-are_bytes : (bytes : List ℕ) → list_all (λ b. nat_lt b 256) bytes ≡ true → IsBytes bytes
+pub are_bytes : (bytes : List ℕ) → list_all (λ b. nat_lt b 256) bytes ≡ true → IsBytes bytes
 are_bytes bytes e = record { each = bytes_at bytes e }
 
 entry_fits : (cookie name : ℕ) → cookie < 2 ^ 64 → nat_lt name 256 ≡ true → results.entry.Fits (entry cookie name)
