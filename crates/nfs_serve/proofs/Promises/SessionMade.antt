@@ -11,9 +11,9 @@ use Rattle.nfs_clients.specs.declared.created.CreateResult.TheVariants as result
 use Rattle.nfs_lease.specs.Renewals.{Book, with_renewal}
 use Rattle.nfs_names.specs.Outcome.{is_ok}
 use Rattle.nfs_sessions.specs.{declared.id.SessionId.SessionId, declared.sessions.SessionFault.SessionFault, Sessions.{SessionTable, session_at, create}}
-use Rattle.nfs_exec.specs.{Runs.OneSession.MakesOne, Step.Compound.{bare, by_fault, by_first, carried_out, compound, first_item}, Step.ExchangeId.without_any_lease}
-use Rattle.nfs_exec.specs.{Step.CreateSession.{by_created, by_verdict, create_session_number, creates, wish_of}, Step.Laws.{MachineEvent, Asks, stepped}}
-use Rattle.nfs_exec.specs.{Step.Machine.{Machine, Outcome, refuses}, Step.Place.item_fault, Step.Run.is_here}
+use Rattle.nfs_exec.specs.{Runs.OneSession.MakesOne, Step.Compound.{bare, by_first, carried_out, compound, first_item}, Step.ExchangeId.without_any_lease}
+use Rattle.nfs_exec.specs.{Step.CreateSession.{by_created, by_verdict, creates, wish_of}, Step.Laws.{MachineEvent, Asks, stepped}}
+use Rattle.nfs_exec.specs.{Step.Machine.{Machine, Outcome, by_fault, refuses}, Step.Place.item_fault, Step.Run.is_here}
 use Rattle.nfs_exec.proofs.Runs.Renewing.{AtLeast}
 use Rattle.nfs_serve.specs.{Step.{State, new_state}, Promises.Endpoint.Arrival, Promises.Points.{state_after, reached, taken, before, asked_by}}
 use Rattle.nfs_serve.specs.{Promises.SessionStays.{HasSession, StaysThere}, Promises.SessionsOnce.GivesIn}
@@ -44,7 +44,7 @@ module _ (session : SessionId) (m : Machine) (absent : session_at m.sessions ses
   by_new refused c mine =
       let did = create m.sessions c.clientid (wish_of m c) in
       let o = creates m now c did in
-      elim (refused && is_ok o.status) as (λ b. Renews (cond b (refuses m create_session_number Delay) o).machine) [
+      elim (refused && is_ok o.status) as (λ b. Renews (cond b (refuses m 43 Delay) o).machine) [
         | true ↦ same m refl
         | false ↦ by_made c did.after did.answer mine
       ]

@@ -9,7 +9,7 @@ use Rattle.nfs_compound.specs.declared.op.Op.TheVariants as Op
 use Rattle.nfs_slots.specs.declared.slot.Verdict.{Verdict}
 use Rattle.nfs_slots.specs.declared.slot.Verdict.TheVariants as V
 use Rattle.nfs_sessions.specs.{declared.id.SessionId.SessionId, Id.id_of, SessionSlots.{GrantedSlots, judge}, Sessions.{Session, session_at}}
-use Rattle.nfs_exec.specs.{Step.Compound.{by_fault, first_item}, Step.Destroy.destroy_session, Step.Machine.{Machine, Outcome}, Step.Place.item_fault, Step.Run.is_here}
+use Rattle.nfs_exec.specs.{Step.Compound.first_item, Step.Destroy.destroy_session, Step.Machine.{Machine, Outcome, by_fault}, Step.Place.item_fault, Step.Run.is_here}
 use Rattle.nfs_exec.specs.Step.Sequence.{Sequenced, Refuses, Repeats, Runs, unless, fresh_fault, slot_fault, by_verdict, by_slots, by_session, compared, sequenced}
 use Rattle.nfs_exec.proofs.Step.RefusalsFit.{refused_status}
 use Rattle.nfs_serve.specs.{Step.State, Promises.Endpoint.Arrival, Promises.LockKept.{renews_by, replaces_by}}
