@@ -123,13 +123,18 @@ def worked(program, script, last):
     return taken[1] - taken[0]
 
 
+def most_resident(process):
+    """The most bytes of a process that were resident so far."""
+    with open(f"/proc/{process.pid}/status", encoding="ascii") as status:
+        return int(re.search(r"VmHWM:\s*(\d+) kB", status.read())[1]) * 1_024
+
+
 def resident(program, pieces, target):
     """The most bytes that are resident in a run of the program over the pieces of a script, up to the last of them (those of the process before it
     became the program do not count), and the run's status and user seconds. What it puts out goes to `target`."""
     process = subprocess.Popen([program, "replay"], stdin=subprocess.PIPE, stdout=target)
     gives(process, pieces)
-    with open(f"/proc/{process.pid}/status", encoding="ascii") as status:
-        most = int(re.search(r"VmHWM:\s*(\d+) kB", status.read())[1]) * 1_024
+    most = most_resident(process)
     process.stdin.close()
     _, status, usage = os.wait4(process.pid, 0)
     process.returncode = status

@@ -8,7 +8,7 @@ from svg import CEILING, FAINT, INK, OURS, Drawing
 KEPT = [
     ("the bytes of a file", "file", "reads_are_alike"),
     ("its attributes: size, mode, owner, times", "file", "attributes_are_alike"),
-    ("where a name leads", "directory", "names_are_alike"),
+    ("the object of a name", "directory", "names_are_alike"),
     ("that a name is not there", "directory", "names_are_alike"),
     ("its own copy, after its own CREATE or REMOVE", "directory", "reports_are_true"),
 ]
@@ -30,7 +30,7 @@ def rows(picture):
         picture.rect(36, y - 20, 330, 28, "#ffffff", INK, radius=4)
         picture.text(48, y, what, 13)
         picture.text(384, y, f"change of the {whose}", 13, fill=OURS)
-        picture.text(600, y, law, 12, fill=FAINT, style="italic")
+        picture.text(612, y, law, 12, fill=FAINT, style="italic")
 
 
 def question(picture):
@@ -57,7 +57,7 @@ def draw():
     picture.text(36, 36, "The client's cache", 15, weight="bold")
     picture.text(48, 64, "what it keeps", 13, weight="bold")
     picture.text(384, 64, "is true while this is the same", 13, weight="bold")
-    picture.text(600, 64, "law", 13, fill=FAINT)
+    picture.text(612, 64, "law", 13, fill=FAINT)
     rows(picture)
     question(picture)
     return picture.svg()

@@ -55,5 +55,5 @@ def draw():
     picture.text(500, TOP + 136, f"From the contracts follows, for every run: laws::{LAW}. A retransmission gets the kept reply and changes nothing.", 13, "middle")
     picture.line(20, TOP + 152, 980, TOP + 152, CEILING, 1, "3 4")
     wrong(picture, TOP + 190)
-    picture.text(20, 338, f"The change is crates/nfs_slots/must-fail/{EDIT}.edit. The gate tries it, and hundreds of others, and wants each refused.", 11, fill=FAINT)
+    picture.text(20, 338, f"The change is crates/nfs_slots/must-fail/{EDIT}.edit. The gate tries it and hundreds of others: each has to be refused.", 11, fill=FAINT)
     return picture.svg()

@@ -42,7 +42,7 @@ def fault_of(name, commits, is_listed, after=since):
         return f"{name} is of {unknown[0]}, which this history has not"
     old = [f"{it}, {age} commits back" for it, age in ages.items() if age > MOST or it in changed]
     if old and not is_listed:
-        return f"{name} is of {'; '.join(old)}: measure again, or say so in docs/PERFORMANCE.md"
+        return f"{name} is of {'; '.join(old)}: measure again, or say so in docs/PERFORMANCE.md (tests/tools/docs --write)"
     return f"{name} is not old: its line in docs/PERFORMANCE.md goes" if is_listed and not old else None
 
 
@@ -56,6 +56,35 @@ def listed(lines):
     return found
 
 
+def dates_of(path):
+    """The days of the runs that a file is of: its line `# date`, or its column `date`."""
+    lines = path.read_text(encoding="utf-8").splitlines()
+    named = [line.removeprefix("# date: ")[:10] for line in lines if line.startswith("# date: ")]
+    heads, *rows = [line.split("\t") for line in lines if not line.startswith("#")]
+    if "date" in heads:
+        named += [row[heads.index("date")] for row in rows]
+    return sorted(set(filter(None, named)))
+
+
+def is_old(commits, after=since):
+    return any(it.endswith(" with changes") or (after(it.split()[0]) or 0) > MOST for it in commits)
+
+
+def row_of(name, commits, dates, lines):
+    """The line of an old file; its reason is that of the line that the table has of it."""
+    reasons = {cells[0].strip("`"): cells[-1] for cells in ([it.strip() for it in line.strip().strip("|").split("|")] for line in lines[2:])}
+    words = " ".join(f"`{it.split()[0]}`{' with changes' if it.endswith(' with changes') else ''}" for it in commits)
+    return f"| `{name}` | {words} | {', '.join(dates)} | {reasons.get(name) or 'not measured again yet'} |"
+
+
+def made(lines):
+    """The table of old results as it is to be; without the whole history as it is."""
+    if not is_whole():
+        return lines
+    files = [(path, commits_of(path)) for path in sorted(RESULTS.glob("*.tsv"))]
+    return lines[:2] + [row_of(path.name, commits, dates_of(path), lines) for path, commits in files if is_old(commits)]
+
+
 def compared(lines):
     """How many files of results are as the table of old ones says, what is wrong, and a line for each that is old. Without the whole history the ages
     are not known, and a line says so."""
@@ -65,7 +94,7 @@ def compared(lines):
         return len(names), [], ["this history is cut, so no age of a file of bench/results was looked at"]
     for name, commits in names.items():
         is_listed = table.get(name) == commits
-        fault = fault_of(name, commits, is_listed)
+        fault = fault_of(name, commits, is_listed) or (f"{name} is not of the commits that its line has" if name in table and not is_listed else None)
         passed += fault is None
         faults += [f"bench/results/{fault}"] if fault else []
         if is_listed and not fault:
@@ -94,4 +123,11 @@ def try_itself():
         said = fault_of("it", list(commits), is_listed, ages.get)
         if (said is None) != (wanted is None) or (wanted and wanted not in said):
             wrong.append(f"tests/tools/measured.py: of {commits} with {ages} it says {said}, and not {wanted}")
-    return len(TRIED) - len(wrong), wrong
+    lines = ["| File |", "|---|", "| `a.tsv` | `b` | 2026-01-01 | why |"]
+    for name, reason in (("a.tsv", "why"), ("c.tsv", "not measured again yet")):
+        row = row_of(name, ["b", "d with changes"], ["2026-01-01"], lines)
+        if row != f"| `{name}` | `b` `d` with changes | 2026-01-01 | {reason} |" or listed([*lines[:2], row]) != {name: ["b", "d with changes"]}:
+            wrong.append(f"tests/tools/measured.py: it makes the line {row}")
+    if [is_old(["a"], {"a": age}.get) for age in (None, 50, 51)] != [False, False, True] or not is_old(["a with changes"], {"a": 0}.get):
+        wrong.append("tests/tools/measured.py: it calls another age old")
+    return len(TRIED) + 3 - len(wrong), wrong
