@@ -2,11 +2,13 @@
 server gives out is counted along: clients, sessions, opens with lock states, and objects."""
 import measure  # noqa: F401 (it says where the encoder is)
 import nfs4
+import wire
+from caller import SLOTS
 from nfs4 import op
-from scripts import ROOT, SAVEFH, SLOTS, client_id, create, lock, open_file, putfh, session_id, stateid
+from scripts import ROOT, SAVEFH, create, lock, open_file, putfh, session_id, stateid
+from wire import open_current
 
 MOST = 62
-PIECE = 65_536
 
 
 class Script:
@@ -19,7 +21,7 @@ class Script:
 
     def sends(self, *operations):
         data = nfs4.record(nfs4.compound(1, operations))
-        self.entries += [nfs4.entry(self.moment, 0, data[at:at + PIECE]) for at in range(0, len(data), PIECE)]
+        self.entries += [nfs4.entry(self.moment, 0, data[at:at + nfs4.MOST_PIECE]) for at in range(0, len(data), nfs4.MOST_PIECE)]
 
     def sent(self):
         return b"".join(self.entries)
@@ -39,14 +41,14 @@ class Client:
 
     def exchanges(self, verifier):
         """EXCHANGE_ID, which makes a new record."""
-        self.script.sends(op("EXCHANGE_ID", verifier=nfs4.u64(verifier), owner=self.owner))
+        self.script.sends(wire.exchange_id(self.owner, verifier))
         self.script.clients += 1
         self.client, self.number = self.script.clients, 0
 
     def begins(self):
         """CREATE_SESSION."""
         self.number += 1
-        self.script.sends(op("CREATE_SESSION", clientid=client_id(self.client), seqid=self.number))
+        self.script.sends(wire.create_session(self.client, self.number))
         self.script.sessions += 1
         self.session, self.turn = session_id(self.client, self.script.sessions), 0
 
@@ -73,7 +75,7 @@ class Client:
     def opens(self, file, count, name=lambda n: b"%d" % n):
         """So many opens of a file, each of an owner of its own."""
         first = self.script.states + 1
-        self.does([putfh(file)], [again(name(n)) for n in range(count)], MOST - 1)
+        self.does([putfh(file)], [open_current(name(n)) for n in range(count)], MOST - 1)
         self.script.states += count
         return first
 
@@ -89,7 +91,7 @@ class Client:
         self.asks(putfh(file), lock(8, 1, b"locker", stateid(opened)))
         self.script.states += 1
         locked = self.script.states
-        self.does([putfh(file)], [op("LOCK", locktype=kind, offset=2 * n + 10, length=1, StateID=stateid(locked)) for n in range(count)])
+        self.does([putfh(file)], [wire.lock(kind, 2 * n + 10, 1, stateid(locked)) for n in range(count)])
         return locked
 
     def directories(self, count, name=lambda n: b"%d" % n):
@@ -100,25 +102,11 @@ class Client:
         return first
 
     def links(self, file, directory, count):
-        self.does([putfh(file), SAVEFH, putfh(directory)], [op("LINK", name=b"%d" % n) for n in range(count)], MOST - 3)
+        self.does([putfh(file), SAVEFH, putfh(directory)], [wire.link(b"%d" % n) for n in range(count)], MOST - 3)
 
     def pages(self, file, opened, count):
         """A byte in each of so many pages of a file, at most 256."""
         self.does([putfh(file)], [op("WRITE", StateID=stateid(opened), offset=4_096 * n, stable=2, data=b"x") for n in range(count)])
-
-
-def again(owner):
-    """OPEN of the current filehandle."""
-    return op("OPEN", share_access=3, owner=owner, claim_type=4)
-
-
-# Two names that are one number to the base of the golden ratio's 64 bits, modulo 2^64; what is made of them in any order is one number as well.
-PAIR = b"eadaaenaaaai", b"akaihaalsioa"
-
-
-def colliding(n, length=12):
-    """The n-th of 2^length names that are one such number."""
-    return b"".join(PAIR[n >> bit & 1] for bit in range(length))
 
 
 def one_file(name=b"file"):

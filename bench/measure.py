@@ -1,4 +1,4 @@
-"""What the measurements share: where the encoder is, their options, and how they run the program."""
+"""What the measurements share: where the encoder and the client are, their options, and how they run the program."""
 import contextlib
 import fcntl
 import os
@@ -15,7 +15,7 @@ from pathlib import Path
 
 sys.dont_write_bytecode = True
 TOP = Path(__file__).resolve().parent.parent
-sys.path.insert(0, str(TOP / "tools"))
+sys.path[:0] = str(TOP / "tools"), str(TOP / "tests")
 
 import results  # noqa: E402
 from program import PROGRAM, needed  # noqa: E402

@@ -10,15 +10,13 @@ import sys
 
 import measure  # noqa: F401 (it says where the encoder is)
 import nfs4
-from nfs4 import op, u32, u64
+import wire
+from caller import SLOTS, channel
+from nfs4 import op
+from wire import CURRENT, PUT_ROOT as ROOT, SAVE as SAVEFH, create, lookup, putfh, remove, rename, session_id  # noqa: F401 (others take them from here)
 from words import Words
 
-INSTANCE = 7
-ROOT = op("PUTROOTFH")
-SAVEFH = op("SAVEFH")
-CURRENT = u32(1, 0, 0, 0)
-CLOSE = op("CLOSE", StateID=CURRENT)
-SLOTS = 16
+CLOSE = wire.close(CURRENT)
 
 
 def entry(call):
@@ -30,51 +28,22 @@ def compound(xid, *operations):
     return entry(nfs4.compound(xid, operations))
 
 
-def client_id(counter):
-    return INSTANCE << 32 | counter
-
-
-def session_id(client, counter):
-    return u32(INSTANCE, client) + u64(counter)
-
-
 def stateid(counter):
     """The state of this counter, with whatever seqid it has."""
-    return u32(0, INSTANCE) + u64(counter)
+    return wire.stateid(0, counter)
 
 
 def exchange_id(xid, owner, verifier=1):
-    return compound(xid, op("EXCHANGE_ID", verifier=u64(verifier), owner=owner))
+    return compound(xid, wire.exchange_id(owner, verifier))
 
 
 def create_session(client, number=1, most=4_096, cached=4_096):
     """A session of 16 slots for the client of this counter."""
-    sizes = {f"{side}_{name}": value for side in ("fore", "back") for name, value in
-             (("max_req_size", most), ("max_resp_size", most), ("max_resp_size_cached", cached), ("max_ops", 8), ("max_reqs", SLOTS))}
-    return compound(client if number == 1 else number, op("CREATE_SESSION", clientid=client_id(client), seqid=number, **sizes))
+    sides = channel(most, most, cached, 8)
+    return compound(client if number == 1 else number, wire.create_session(client, number, sides, sides))
 
 
 # Operations.
-
-def putfh(number):
-    return op("PUTFH", FileHandle=u64(INSTANCE << 32, number))
-
-
-def lookup(name):
-    return op("LOOKUP", name=name)
-
-
-def create(name):
-    return op("CREATE", type=2, name=name)
-
-
-def remove(name):
-    return op("REMOVE", name=name)
-
-
-def rename(old, new):
-    return op("RENAME", name=old, newname=new)
-
 
 def readdir(cookie, most):
     return op("READDIR", cookie=cookie, maxcount=most, attr_mask="FileId")
@@ -87,16 +56,15 @@ def getattr_():
 
 def open_file(name, owner=b"owner", access=3):
     """An OPEN that makes the file if it is not there."""
-    return op("OPEN", share_access=access, owner=owner, open_type=1, name=name)
+    return wire.open_file(owner, access, name, True)
 
 
 def close_of(counter):
-    return op("CLOSE", StateID=stateid(counter))
+    return wire.close(stateid(counter))
 
 
 def read(size):
-    """READ by the anonymous stateid."""
-    return op("READ", count=size)
+    return wire.read(wire.ANONYMOUS, 0, size)
 
 
 def write(offset, data):
@@ -106,13 +74,11 @@ def write(offset, data):
 
 def lock(first, length, owner=None, opened=CURRENT, counter=0):
     """A LOCK for writing: by a new lock owner under an open, or by a lock state."""
-    if owner is None:
-        return op("LOCK", locktype=2, offset=first, length=length, StateID=stateid(counter))
-    return op("LOCK", locktype=2, offset=first, length=length, new_lock_owner=1, StateID=opened, owner=owner)
+    return wire.lock(2, first, length, stateid(counter) if owner is None else opened, owner)
 
 
 def unlock(first, length, counter):
-    return op("LOCKU", locktype=2, StateID=stateid(counter), offset=first, length=length)
+    return wire.unlock(first, length, stateid(counter))
 
 
 # Scripts.

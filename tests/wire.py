@@ -9,7 +9,8 @@ sys.path.insert(0, str(Path(__file__).resolve().parent.parent / "tools"))
 import nfs4  # noqa: E402
 from nfs4 import NUMBERS, entry, op, opaque, u32, u64  # noqa: E402, F401 (the tests take them from here)
 from nfs4 import record as marked, reply_head, write_result  # noqa: E402, F401
-from program import HERE, LISTENING, PROGRAM, SECONDS, TOP, Served, needed, replayed  # noqa: E402, F401
+from caller import channel, sizes  # noqa: E402, F401
+from program import HERE, PROGRAM, SECONDS, TOP, Served, needed, replayed  # noqa: E402, F401
 
 ROWS = TOP / "tests/rows"
 INSTANCE = 7
@@ -27,6 +28,16 @@ ANONYMOUS = bytes(16)
 CURRENT = u32(1, 0, 0, 0)
 
 PUT_ROOT, SAVE, GET_HANDLE = op("PUTROOTFH"), op("SAVEFH"), op("GETFH")
+
+
+# Two names whose bytes, taken as a number to the base of the golden ratio's 64 bits, are equal modulo 2^64; and so are any two that are made of
+# them in whatever order.
+PAIR = b"eadaaenaaaai", b"akaihaalsioa"
+
+
+def colliding(n, length=12):
+    """The n-th of 2^length names that are one such number."""
+    return b"".join(PAIR[n >> bit & 1] for bit in range(length))
 
 
 def client_id(counter):
@@ -57,17 +68,6 @@ def compound(operations, uid=0):
 
 def call(xid, body):
     return u32(xid, 0) + body
-
-
-def channel(request=66_560, response=66_560, cached=66_560, operations=64, slots=16):
-    """The attributes of a channel, in their order."""
-    return request, response, cached, operations, slots
-
-
-def sizes(side, attributes):
-    """The same as fields of CREATE_SESSION."""
-    names = ("max_req_size", "max_resp_size", "max_resp_size_cached", "max_ops", "max_reqs")
-    return {f"{side}_{name}": value for name, value in zip(names, attributes, strict=True)}
 
 
 def exchange_id(owner, verifier=1):
@@ -114,6 +114,11 @@ def rename(old, new):
 def open_file(owner, access, name, make=False, deny=0):
     """OPEN by name; a file that is to be made is made UNCHECKED and without attributes."""
     return op("OPEN", share_access=access, share_deny=deny, owner=owner, open_type=int(make), name=name)
+
+
+def open_current(owner, access=3):
+    """OPEN of the current filehandle (CLAIM_FH), which takes 40 bytes and the owner."""
+    return op("OPEN", share_access=access, owner=owner, claim_type=4)
 
 
 def close(given):

@@ -6,15 +6,11 @@ import subprocess
 from pathlib import Path
 
 import nfs4
+from caller import Wrong
 from nfs4 import opaque, u32
 
-SLOTS = 16
 SOURCE = Path(__file__).resolve().parent / "load.c"
 FLAGS = ["-O3", "-Wall"]
-
-
-class Wrong(Exception):
-    """A reply that is not what it should be, or a server that is not there."""
 
 
 def compiled():

@@ -703,6 +703,11 @@ def reply_head(xid):
     return u32(xid, 1, 0, 0, 0, 0)
 
 
+def status_of(reply):
+    """The status of a compound by the bytes of its reply, as a number."""
+    return int.from_bytes(reply[24:28], "big")
+
+
 def compound_results(results):
     """The result of a compound without a tag, of these results' bytes; its status is that of the last."""
     return (results[-1][4:8] if results else u32(0)) + u32(0, len(results)) + b"".join(results)

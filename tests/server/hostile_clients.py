@@ -73,11 +73,6 @@ def at(filehandle):
     return op("PUTFH", FileHandle=filehandle)
 
 
-def open_current(owner, access=3):
-    """OPEN of the current filehandle (CLAIM_FH), which takes 40 bytes and the owner."""
-    return op("OPEN", share_access=access, owner=owner, claim_type=4)
-
-
 def lock_first(byte, opened, owner, kind=2, size=1):
     """LOCK of bytes by a new lock owner."""
     return wire.lock(kind, byte, size, opened, owner)

@@ -13,6 +13,7 @@ from pathlib import Path
 sys.dont_write_bytecode = True
 sys.path.insert(0, str(Path(__file__).resolve().parents[2] / "tools"))
 import nfs4  # noqa: E402
+from caller import Cut, Stream, connected  # noqa: E402
 from words import Words  # noqa: E402
 
 ALL_ONES = 2**64 - 1
@@ -449,11 +450,11 @@ class Proxy:
         self.listener.close()
 
     def serve(self, peer):
-        with peer, socket.create_connection(self.server) as behind:
-            for each in (peer, behind):
-                each.setsockopt(socket.IPPROTO_TCP, socket.TCP_NODELAY, 1)
-            while (record := received(peer)) is not None:
-                answer = self.answer(record, behind)
+        with peer, connected(*self.server, timeout=None) as behind:
+            peer.setsockopt(socket.IPPROTO_TCP, socket.TCP_NODELAY, 1)
+            calls, answers = Stream(peer), Stream(behind)
+            while (record := received(calls)) is not None:
+                answer = self.answer(record, answers)
                 if answer is None:
                     return
                 peer.sendall(nfs4.record(answer))
@@ -464,8 +465,7 @@ class Proxy:
         except nfs4.Unreadable:
             call = None
         if call is None or call.procedure != 1 or call.flavor != 1:
-            behind.sendall(nfs4.record(record))
-            return received(behind)
+            return asked(behind, record)
         with self.lock:
             return self.changed(call, behind)
 
@@ -478,8 +478,7 @@ class Proxy:
             self.way.call(asked)
             made = [nfs4.write_operation(name, fields) for name, fields in asked.operations]
             record = nfs4.compound(call.xid, made, asked.uid, asked.gid, asked.gids, asked.tag, call.minor)
-        behind.sendall(nfs4.record(record))
-        reply = received(behind)
+        reply = asked(behind, record)
         told = reply and nfs4.Reply(reply)
         if not told or told.fault or not hasattr(told, "tag"):
             return reply
@@ -496,27 +495,18 @@ def rewritten(xid, told, results):
     return nfs4.write_reply(xid, status, told.tag, [nfs4.write_result(*result) for result in results])
 
 
-def received(sock):
+def asked(stream, record):
+    """The reply to a record, or None at the end."""
+    stream.source.sendall(nfs4.record(record))
+    return received(stream)
+
+
+def received(stream):
     """The next record, or None at the end."""
-    data, last = b"", 0
     try:
-        while not last:
-            mark = int.from_bytes(exactly(sock, 4), "big")
-            last = mark >> 31
-            data += exactly(sock, mark & ~nfs4.LAST)
-    except OSError:
+        return stream.next()
+    except (OSError, Cut):
         return None
-    return data
-
-
-def exactly(sock, size):
-    out = b""
-    while len(out) < size:
-        piece = sock.recv(size - len(out))
-        if not piece:
-            raise OSError("closed")
-        out += piece
-    return out
 
 
 def main():

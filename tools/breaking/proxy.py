@@ -2,6 +2,7 @@
 import asyncio
 import collections
 import contextlib
+import signal
 import socket
 import struct
 import threading
@@ -138,6 +139,15 @@ class Between:
             task.cancel()
         for connection in list(self.connections):
             connection.close()
+
+    async def run_until_stopped(self, name, seconds=None):
+        """The same until ctrl-C, SIGTERM, or so many seconds; a line under this name says where it listens."""
+        loop = asyncio.get_running_loop()
+        for one in (signal.SIGINT, signal.SIGTERM):
+            loop.add_signal_handler(one, self.stop)
+        if seconds:
+            loop.call_later(seconds, self.stop)
+        await self.run(lambda: print(f"{name}: listening on {self.listen[0]}:{self.port}", flush=True))
 
     def stop(self):
         self.ending.set()

@@ -1,6 +1,7 @@
 """Scripts of recordings: captures of a client and a server (pcap), and scripts of `nfs41d replay`. Their identifiers become symbols."""
 import subprocess
 
+import capture
 import nfs4
 import pcap
 
@@ -76,9 +77,9 @@ class Lift:
         made = lifted(name, fields, self.symbol)
         if name == "SEQUENCE":
             last = self.slots.get((out["sessionid"], out["slot_id"]), 0)
-            made = [(key, Turn(signed(int(word) - last)) if key == "seqid" else word) for key, word in made]
+            made = [(key, Turn(pcap.ahead(int(word), last)) if key == "seqid" else word) for key, word in made]
         elif name == "CREATE_SESSION":
-            made = [(key, Turn(signed(int(word) - self.bases.get(out["clientid"], 1))) if key == "seqid" else word) for key, word in made]
+            made = [(key, Turn(pcap.ahead(int(word), self.bases.get(out["clientid"], 1))) if key == "seqid" else word) for key, word in made]
         return Op(name, made)
 
     def count(self, call, answer):
@@ -102,47 +103,17 @@ class Lift:
         return Script(self.steps, self.binds)
 
 
-def signed(number):
-    number &= 0xffffffff
-    return number - 2**32 if number >= 2**31 else number
-
-
-class Stream:
-    """The records of one side of a connection, however long."""
-
-    def __init__(self):
-        self.side, self.left, self.whole = pcap.Side(), b"", b""
-
-    def feed(self, number, flags, data):
-        self.left += self.side.feed(number, flags, data)
-        while len(self.left) >= 4:
-            mark = int.from_bytes(self.left[:4], "big")
-            size = mark & ~nfs4.LAST
-            if len(self.left) < 4 + size:
-                return
-            self.whole += self.left[4:4 + size]
-            self.left = self.left[4 + size:]
-            if mark & nfs4.LAST:
-                yield self.whole
-                self.whole = b""
-
-
 def recorded(path, port):
     """Each call of a capture that was answered: (its second, its reply's, connection, call, reply), in the order of the calls."""
-    streams, waiting, out, connections = {}, {}, [], {}
-    for (second, part), client, from_server, flags, number, data in pcap.segments(path, port):
-        if flags & pcap.SYN:
-            streams.pop((client, from_server), None)
-        stream = streams.setdefault((client, from_server), Stream())
+    waiting, out, connections = {}, [], {}
+    for moment, client, from_server, record in capture.heard(path, port, most=nfs4.LAST):
         conn = connections.setdefault(client, len(connections))
-        moment = second + part / 1e6
-        for record in stream.feed(number, flags, data):
-            if not from_server:
-                waiting[client, record[:4]] = [moment, None, conn, record, None]
-                out.append(waiting[client, record[:4]])
-            elif (client, record[:4]) in waiting:
-                call = waiting.pop((client, record[:4]))
-                call[1], call[4] = moment, record
+        if not from_server:
+            waiting[client, record[:4]] = [moment, None, conn, record, None]
+            out.append(waiting[client, record[:4]])
+        elif (client, record[:4]) in waiting:
+            call = waiting.pop((client, record[:4]))
+            call[1], call[4] = moment, record
     return [call for call in out if call[4] is not None]
 
 

@@ -2,11 +2,11 @@
 import contextlib
 import os
 import random
-import socket
 import subprocess
 import time
 
 import nfs4
+from caller import Cut, Stream, connected
 
 from .symbols import ANONYMOUS, entries_of
 
@@ -85,46 +85,33 @@ class Tcp:
     """Calls over TCP, a connection of its own for each number."""
 
     def __init__(self, host, port, patience=20):
-        self.where, self.patience, self.sockets = (host, port), patience, {}
+        self.where, self.patience, self.streams = (host, port), patience, {}
 
     def send(self, conn, record):
         try:
-            if conn not in self.sockets:
-                self.sockets[conn] = socket.create_connection(self.where, self.patience)
-                self.sockets[conn].setsockopt(socket.IPPROTO_TCP, socket.TCP_NODELAY, 1)
-            self.sockets[conn].sendall(nfs4.record(record))
+            if conn not in self.streams:
+                self.streams[conn] = Stream(connected(*self.where, self.patience))
+            self.streams[conn].source.sendall(nfs4.record(record))
         except OSError as fault:
             raise self.closed(conn, fault) from fault
 
     def receive(self, conn):
-        data, last = b"", 0
         try:
-            while not last:
-                mark = int.from_bytes(self.exactly(conn, 4), "big")
-                last = mark >> 31
-                data += self.exactly(conn, mark & ~nfs4.LAST)
+            return self.streams[conn].next()
         except (OSError, KeyError) as fault:
             raise self.closed(conn, fault) from fault
-        return data
+        except Cut as fault:
+            raise self.closed(conn, "the connection was closed") from fault
 
     def call(self, conn, record):
         self.send(conn, record)
         return self.receive(conn)
 
     def closed(self, conn, fault):
-        if conn in self.sockets:
+        if conn in self.streams:
             with contextlib.suppress(OSError):
-                self.sockets.pop(conn).close()
+                self.streams.pop(conn).source.close()
         return Silence(getattr(fault, "strerror", None) or str(fault) or "closed")
-
-    def exactly(self, conn, size):
-        out = bytearray()
-        while len(out) < size:
-            piece = self.sockets[conn].recv(size - len(out))
-            if not piece:
-                raise OSError("the connection was closed")
-            out += piece
-        return bytes(out)
 
     def alive(self):
         """Does it answer NULL, twice with a pause between? (A process that dies may still accept.)"""
@@ -139,7 +126,7 @@ class Tcp:
             return False
 
     def forget(self):
-        for conn in list(self.sockets):
+        for conn in list(self.streams):
             self.closed(conn, "")
 
 

@@ -1,6 +1,5 @@
 """The judge between a client and its server: what the proxy of tools/faults hands on goes to the judge, with no fault or those of a plan."""
 import asyncio
-import signal
 import time
 
 import nfs4
@@ -25,17 +24,9 @@ class Live:
             self.judge.record(moment, connection.number, not from_server, record, self.count)
 
 
-async def served(between, seconds):
-    loop = asyncio.get_running_loop()
-    for one in (signal.SIGINT, signal.SIGTERM):
-        loop.add_signal_handler(one, between.stop)
-    if seconds:
-        loop.call_later(seconds, between.stop)
-    await between.run(lambda: print(f"judge: listening on {between.listen[0]}:{between.port}", flush=True))
-
-
 def judge_live(judge, listen, server, plan, seconds):
     """Serves until it is stopped, by ctrl-C or after so many seconds; faults are told as they are done."""
     live = Live(judge)
-    asyncio.run(served(Between(listen, [server], plan or Plan([]), lambda line: print(line, flush=True), live.seen), seconds))
+    between = Between(listen, [server], plan or Plan([]), lambda line: print(line, flush=True), live.seen)
+    asyncio.run(between.run_until_stopped("judge", seconds))
     judge.finish()

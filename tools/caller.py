@@ -1,31 +1,85 @@
-"""A client of NFS version 4.1 for tests, whose calls and replies are those of tools/nfs4.py."""
+"""The client of NFS version 4.1 that tests, measurements and tools/load are, whose calls and replies are those of nfs4.py; and streams of records."""
 import socket
 import struct
 
-from wire import HERE, SECONDS, channel, marked, nfs4, op, sizes, u64
+import nfs4
+from nfs4 import op, u64
+from program import HERE, SECONDS
 
 SLOTS = 16
 
 
 class Wrong(Exception):
-    """A reply that is not what it is to be."""
+    """A reply that is not what it is to be, or a server that is not there."""
 
 
 class Cut(Wrong):
     """The connection was cut, behind so many bytes of a reply."""
+
+    def __str__(self):
+        return f"the connection was cut behind {self.args[0]} bytes of a reply"
+
+
+def channel(request=66_560, response=66_560, cached=66_560, operations=64, slots=16):
+    """The attributes of a channel, in their order."""
+    return request, response, cached, operations, slots
+
+
+def sizes(side, attributes):
+    """The same as fields of CREATE_SESSION."""
+    names = ("max_req_size", "max_resp_size", "max_resp_size_cached", "max_ops", "max_reqs")
+    return {f"{side}_{name}": value for name, value in zip(names, attributes, strict=True)}
+
+
+def connected(host, port, timeout=SECONDS, source=None):
+    """A connection on which what is written leaves at once."""
+    made = socket.create_connection((host, port), timeout, (source, 0) if source else None)
+    made.setsockopt(socket.IPPROTO_TCP, socket.TCP_NODELAY, 1)
+    return made
+
+
+class Stream:
+    """The records that come over a socket, each in one fragment or more."""
+
+    def __init__(self, source):
+        self.source, self.kept = source, b""
+
+    def has(self, size):
+        """Waits for so many bytes; Cut, with how many came, where the stream ends before."""
+        try:
+            while len(self.kept) < size:
+                piece = self.source.recv(65_536)
+                if not piece:
+                    raise Cut(len(self.kept))
+                self.kept += piece
+        except ConnectionResetError:
+            raise Cut(len(self.kept)) from None
+
+    def next(self):
+        """The next record, without its marks."""
+        whole, end, mark = b"", 0, 0
+        while not mark & nfs4.LAST:
+            at = end + 4
+            self.has(at)
+            mark = int.from_bytes(self.kept[end:at], "big")
+            end = at + (mark & ~nfs4.LAST)
+            self.has(end)
+            whole += self.kept[at:end]
+        self.kept = self.kept[end:]
+        return whole
 
 
 class Client:
     """A client on a connection of its own. It counts its xids and, once it has a session, the numbers of its slots. What it calls may be answered in
     any order, late, or not at all."""
 
-    # what it asks for, of both channels, and what its SEQUENCE says beside session, number and slot
-    fore, back, slots, highest, keeps = channel(), channel(), SLOTS, None, 0
+    # what it asks for, of both channels, and what its SEQUENCE says beside session, number and slot; and what else its CREATE_SESSION says
+    fore, back, slots, highest, keeps, more = channel(), channel(), SLOTS, None, 0, {}
 
-    def __init__(self, port, owner=None, source=HERE):
-        self.port, self.source = port, source
+    def __init__(self, port, owner=None, source=None, host=HERE):
+        self.port, self.source, self.host = port, source, host
         self.xid, self.numbers = 0, [0] * self.slots
-        self.stream, self.kept = None, b""
+        self.stream = self.records = None
         self.connect()
         if owner is not None:
             self.begin(owner)
@@ -33,8 +87,8 @@ class Client:
     def connect(self):
         """A connection in place of the one before."""
         self.close()
-        self.stream, self.kept = socket.create_connection((HERE, self.port), timeout=SECONDS, source_address=(self.source, 0)), b""
-        self.stream.setsockopt(socket.IPPROTO_TCP, socket.TCP_NODELAY, 1)
+        self.stream = connected(self.host, self.port, source=self.source)
+        self.records = Stream(self.stream)
 
     def close(self):
         if self.stream:
@@ -51,7 +105,7 @@ class Client:
     def record(self, *operations, uid=0):
         """A record of a compound under the next xid."""
         self.xid += 1
-        return marked(nfs4.compound(self.xid, operations, uid))
+        return nfs4.record(nfs4.compound(self.xid, operations, uid))
 
     def next_on(self, slot, *operations, again=False):
         """The record of a compound on a slot under its next number, or again under the last one."""
@@ -67,23 +121,9 @@ class Client:
 
     # what is answered
 
-    def size(self):
-        """The bytes of the record that is begun, with its mark."""
-        return 4 + (int.from_bytes(self.kept[:4], "big") & 0x7fff_ffff)
-
     def reply(self):
         """The next reply, without its mark."""
-        try:
-            while len(self.kept) < 4 or len(self.kept) < self.size():
-                piece = self.stream.recv(65_536)
-                if not piece:
-                    raise Cut(len(self.kept))
-                self.kept += piece
-        except ConnectionResetError:
-            raise Cut(len(self.kept)) from None
-        size = self.size()
-        told, self.kept = self.kept[4:size], self.kept[size:]
-        return told
+        return self.records.next()
 
     def take(self, patience=SECONDS):
         """The next reply as nfs4.Reply reads it; nothing if none comes in so many seconds."""
@@ -125,7 +165,8 @@ class Client:
         known = self.must(op("EXCHANGE_ID", verifier=u64(verifier), owner=owner))
         self.id, number = int(known["clientid"], 0), int(known["seqid"])
         sides = sizes("fore", fore or self.fore) | sizes("back", self.back)
-        self.session = nfs4.meant(self.must(op("CREATE_SESSION", clientid=self.id, seqid=number, **sides))["sessionid"])
+        self.granted = self.must(op("CREATE_SESSION", clientid=self.id, seqid=number, **sides, **self.more))
+        self.session = nfs4.meant(self.granted["sessionid"])
         self.numbers = [0] * self.slots
 
     def must(self, operation):
