@@ -1,16 +1,12 @@
 """What the measurements share: where the encoder and the client are, their options, and how they run the program."""
 import contextlib
-import fcntl
 import os
 import re
 import shutil
 import signal
-import struct
 import subprocess
 import sys
 import tempfile
-import termios
-import time
 from pathlib import Path
 
 sys.dont_write_bytecode = True
@@ -18,7 +14,7 @@ TOP = Path(__file__).resolve().parent.parent
 sys.path[:0] = str(TOP / "tools"), str(TOP / "tests")
 
 import results  # noqa: E402
-from program import PROGRAM, needed  # noqa: E402
+from program import PROGRAM, Replay, needed, seconds_of  # noqa: E402
 from words import Words  # noqa: E402
 
 COUNTED = re.compile(r"Collected : (\d+)")
@@ -77,32 +73,15 @@ def wants(*tools):
             sys.exit(f"{name()}: it wants {tool}, which is not here")
 
 
-def is_idle(process, pipe):
-    """Whether the program has read all that was written and waits for more."""
-    left = struct.unpack("i", fcntl.ioctl(pipe, termios.FIONREAD, bytes(4)))[0]
-    with open(f"/proc/{process.pid}/stat", encoding="ascii") as stat:
-        return not left and stat.read().rpartition(")")[2].split()[0] == "S"
-
-
-def gives(process, pieces):
-    """Gives the pieces of a script to the program, and waits until it has run them and waits for more."""
-    for piece in pieces:
-        process.stdin.write(piece)
-    process.stdin.flush()
-    while process.poll() is None and not all(time.sleep(0.05) or is_idle(process, process.stdin) for _ in range(3)):
-        pass
-
-
 def counted(program, script):
     """How many instructions a run of the program takes up to the end of a script, which valgrind counts: the same number each time. What it would
     give back when it ends is not in it."""
-    words = ["valgrind", "--tool=callgrind", "--callgrind-out-file=/dev/null", program, "replay"]
-    with tempfile.TemporaryFile() as told:
-        process = subprocess.Popen(words, stdin=subprocess.PIPE, stdout=subprocess.DEVNULL, stderr=told)
+    words = ["valgrind", "--tool=callgrind", "--callgrind-out-file=/dev/null"]
+    with tempfile.TemporaryFile() as told, Replay(program=program, under=words, stderr=told) as run_:
         with contextlib.suppress(BrokenPipeError):
-            gives(process, [script])
-        process.terminate()
-        status = process.wait()
+            run_.takes([script])
+        run_.process.terminate()
+        status = run_.process.wait()
         told.seek(0)
         said = told.read().decode(errors="replace")
     found = COUNTED.search(said)
@@ -112,15 +91,12 @@ def counted(program, script):
 
 
 def worked(program, script, last):
-    """The seconds of a processor that a run of the program takes for the end of a script, by the clock that the kernel has of each process."""
-    process = subprocess.Popen([program, "replay"], stdin=subprocess.PIPE, stdout=subprocess.DEVNULL)
-    taken = []
-    for piece in (script, last):
-        gives(process, [piece])
-        taken.append(time.clock_gettime(~process.pid << 3 | 2))
-    process.kill()
-    process.wait()
-    return taken[1] - taken[0]
+    """The seconds of a processor that a run of the program takes for the end of a script."""
+    with Replay(program=program) as run_:
+        run_.takes([script])
+        before = seconds_of(run_.process)
+        run_.takes([last])
+        return seconds_of(run_.process) - before
 
 
 def most_resident(process):
@@ -132,10 +108,10 @@ def most_resident(process):
 def resident(program, pieces, target):
     """The most bytes that are resident in a run of the program over the pieces of a script, up to the last of them (those of the process before it
     became the program do not count), and the run's status and user seconds. What it puts out goes to `target`."""
-    process = subprocess.Popen([program, "replay"], stdin=subprocess.PIPE, stdout=target)
-    gives(process, pieces)
-    most = most_resident(process)
+    process = (run_ := Replay(target, program=program)).process
+    run_.takes(pieces)
+    most, = run_.kilobytes("VmHWM")
     process.stdin.close()
     _, status, usage = os.wait4(process.pid, 0)
     process.returncode = status
-    return most, status, usage.ru_utime
+    return most * 1_024, status, usage.ru_utime

@@ -5,8 +5,8 @@ import sys
 import time
 from pathlib import Path
 
-from wire import (LEASE, SEQUENCE, TOP, call, compound, create_session, entry, exchange_id, exchanged, marked, replayed, replies, reply, result, results,
-                  sequence, session_created, session_id)
+from wire import (LEASE, SEQUENCE, TOP, Script, compound, create_session, exchange_id, exchanged, marked, replayed, replies, result, results, sequence,
+                  session_created, session_id)
 from cases import judge
 import lines
 from comparing.shrinking import fewer
@@ -16,23 +16,19 @@ BADSESSION = 10052
 SECONDS, KEPT = 60, TOP / "out"
 
 
-class Play:
+class Play(Script):
     """A run: the script, and the replies that it must have, each with its connection. A kind of play has EVENTS, says how it `begins` and what an
     `event` is, and counts in `told` what has to happen in a run worth playing."""
 
     EVENTS, TOLD = 0, ()
 
     def __init__(self, seed, small=None):
+        super().__init__()
         self.random, self.small = random.Random(seed), small
-        self.moment, self.xid = 100, 0
-        self.script, self.expected, self.answered = [], [], []
-        self.told = dict.fromkeys(self.TOLD, 0)
-
-    def bring(self, connection, piece):
-        self.script.append(entry(self.moment, connection, piece))
+        self.answered, self.told = [], dict.fromkeys(self.TOLD, 0)
 
     def expect(self, xid, body, connection=0):
-        self.expected.append((connection, reply(xid, body)))
+        super().expect(xid, body, connection)
         self.answered.append(len(self.script))
 
     def keeps(self):
@@ -159,11 +155,6 @@ class Clients(Play):
         super().__init__(seed, small)
         self.clients = [Client(b"A", verifier), Client(b"B", verifier)]
         self.next_client = self.next_session = 1
-
-    def arrive(self, body, wanted):
-        self.xid += 1
-        self.bring(0, marked(call(self.xid, body)))
-        self.expect(self.xid, wanted)
 
     def until(self, moment):
         """Time passes; what a client whose lease has run out had is gone with the next record (RFC 8881 section 8.3)."""

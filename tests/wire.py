@@ -206,6 +206,49 @@ def replies(output):
     return [(connection, told or b"") for connection, told in nfs4.replies(output)]
 
 
+# Scripts of `nfs41d replay`.
+
+class Script:
+    """A script as it comes about, and the replies that it must have, each with its connection."""
+
+    def __init__(self):
+        self.script, self.expected = [], []
+        self.moment, self.xid = 100, 0
+
+    def bring(self, data, connection=0):
+        """Bytes arrive, in as few pieces as they can."""
+        for at in range(0, len(data), nfs4.MOST_PIECE):
+            self.script.append(entry(self.moment, connection, data[at:at + nfs4.MOST_PIECE]))
+
+    def cut(self, connection):
+        self.script.append(entry(self.moment, connection, b""))
+
+    def expect(self, xid, body, connection=0):
+        self.expected.append((connection, reply(xid, body)))
+
+    def arrive(self, body, wanted):
+        """A call under the next xid, and the reply that it must have."""
+        self.xid += 1
+        self.bring(marked(call(self.xid, body)))
+        self.expect(self.xid, wanted)
+
+
+def script_of(bodies, first=1):
+    """The script of calls on connection 0 at moment 100, under xids from the first on."""
+    return b"".join(entry(100, 0, marked(call(xid, body))) for xid, body in enumerate(bodies, first))
+
+
+class Calls:
+    """The calls of a client on slot 0 of a session, in their order, behind others: the bodies so far."""
+
+    def __init__(self, session, *before):
+        self.session, self.number, self.bodies = session, 0, list(before)
+
+    def asks(self, *operations):
+        self.number += 1
+        self.bodies.append(compound([sequence(self.session, self.number), *operations]))
+
+
 # Streams of the tests over TCP.
 
 def received(client, size):
@@ -228,12 +271,6 @@ def until_closed(client):
     except ConnectionResetError:
         pass
     return bytes(got)
-
-
-def one_reply(client):
-    """The next reply, without its mark."""
-    mark = int.from_bytes(received(client, 4), "big")
-    return received(client, mark & 0x7fff_ffff)
 
 
 def null(xid):

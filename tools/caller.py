@@ -4,7 +4,7 @@ import struct
 
 import nfs4
 from nfs4 import op, u64
-from program import HERE, SECONDS
+from program import HERE, SECONDS, connected
 
 SLOTS = 16
 
@@ -31,11 +31,9 @@ def sizes(side, attributes):
     return {f"{side}_{name}": value for name, value in zip(names, attributes, strict=True)}
 
 
-def connected(host, port, timeout=SECONDS, source=None):
-    """A connection on which what is written leaves at once."""
-    made = socket.create_connection((host, port), timeout, (source, 0) if source else None)
-    made.setsockopt(socket.IPPROTO_TCP, socket.TCP_NODELAY, 1)
-    return made
+def resets(connection):
+    """Its close will be a reset, and not an orderly end."""
+    connection.setsockopt(socket.SOL_SOCKET, socket.SO_LINGER, struct.pack("ii", 1, 0))
 
 
 class Stream:

@@ -51,6 +51,14 @@ class Connections:
         return self.gaps + sum(side.lacks() for side in self.sides.values())
 
 
+def connections(path, port):
+    """Them, of the capture in a file."""
+    found = Connections()
+    for (moment, _), *segment in pcap.segments(path, port):
+        found.take(moment, *segment)
+    return found
+
+
 def heard(path, port, most=4 << 20):
     """The records that a capture has of connections to a server's port, in the order in which they became whole: the moment in seconds, the client
     (its address and port), whether the server sent it, and the record, of at most so many bytes."""

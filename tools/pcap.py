@@ -132,6 +132,14 @@ class Side:
         return fresh
 
 
+def places(data):
+    """Where each packet of a capture that `Written` made begins, and where the last ends."""
+    at = [24]
+    while at[-1] < len(data):
+        at.append(at[-1] + 16 + struct.unpack_from(">I", data, at[-1] + 8)[0])
+    return at
+
+
 def checksum(data):
     total = sum(struct.unpack(f">{len(data + bytes(len(data) % 2)) // 2}H", data + bytes(len(data) % 2)))
     while total >> 16:

@@ -1,5 +1,7 @@
-"""The built program: where it is, a run of it over a script, and a server of it on the loopback."""
+"""The built program: where it is, runs of it over a script, and a server of it on the loopback; and runs of other commands."""
+import array
 import contextlib
+import fcntl
 import os
 import re
 import signal
@@ -7,6 +9,7 @@ import socket
 import subprocess
 import sys
 import tempfile
+import termios
 import time
 from pathlib import Path
 
@@ -24,9 +27,84 @@ def needed(program=PROGRAM):
         sys.exit(2)
 
 
+def waits_for(holds, seconds=SECONDS, pause=0.02):
+    """What `holds` gives as soon as that is something, or at the last after so many seconds."""
+    until = time.monotonic() + seconds
+    while not (found := holds()) and time.monotonic() < until:
+        time.sleep(pause)
+    return found
+
+
+def ran(*words, given=None, seconds=SECONDS, **how):
+    """A run of a command: its status and its two outputs. Its standard input is what is given, or nothing."""
+    source = {"stdin": subprocess.DEVNULL} if given is None else {"input": given}
+    it = subprocess.run(list(map(str, words)), capture_output=True, timeout=seconds, check=False, **source, **how)
+    return it.returncode, it.stdout, it.stderr
+
+
+def seconds_of(process):
+    """The seconds of a processor that a process has used, by the clock that the kernel has of each."""
+    return time.clock_gettime(~process.pid << 3 | 2)
+
+
 def replayed(script, environment=None, words=()):
     """A run of the program over a script."""
     return subprocess.run([PROGRAM, "replay", *words], input=script, capture_output=True, timeout=SECONDS, check=False, env=environment)
+
+
+def connected(host, port, timeout=SECONDS, source=None):
+    """A connection on which what is written leaves at once."""
+    made = socket.create_connection((host, port), timeout, (source, 0) if source else None)
+    made.setsockopt(socket.IPPROTO_TCP, socket.TCP_NODELAY, 1)
+    return made
+
+
+class Replay:
+    """A run of `nfs41d replay` over a script that comes in parts. `under` is the words of a tool that runs it, and `how` what its process has further."""
+
+    def __init__(self, out=subprocess.DEVNULL, *, program=PROGRAM, under=(), **how):
+        self.process = subprocess.Popen([*under, program, "replay"], stdin=subprocess.PIPE, stdout=out, **how)
+
+    def takes(self, pieces, looks=4):
+        """Gives it the pieces of a script, and waits until it has run them and waits for more, at so many looks one after the other."""
+        for piece in pieces:
+            self.process.stdin.write(piece)
+        self.process.stdin.flush()
+        seen, until = 0, time.monotonic() + 5 * SECONDS
+        while self.process.poll() is None and seen < looks:
+            seen = seen + 1 if self.is_idle() else 0
+            if time.monotonic() > until:
+                raise TimeoutError("the program does not wait for more")
+            if seen < looks:
+                time.sleep(0.05)
+
+    def is_idle(self):
+        """Whether the pipe to the program is empty and it sleeps."""
+        left = array.array("i", [0])
+        fcntl.ioctl(self.process.stdin, termios.FIONREAD, left)
+        state = Path(f"/proc/{self.process.pid}/stat").read_text(encoding="ascii").rpartition(") ")[2]
+        return left[0] == 0 and state.startswith("S")
+
+    def kilobytes(self, *words):
+        """What the kernel says of its memory: VmHWM, the most that was resident, and the like."""
+        said = dict(line.split()[:2] for line in Path(f"/proc/{self.process.pid}/status").read_text(encoding="ascii").splitlines() if line.startswith("Vm"))
+        return tuple(int(said[f"{word}:"]) for word in words)
+
+    def ended(self):
+        """The status, once the script has ended."""
+        self.process.stdin.close()
+        return self.process.wait(5 * SECONDS)
+
+    def __enter__(self):
+        return self
+
+    def __exit__(self, *fault):
+        if self.process.poll() is None:
+            self.process.kill()
+            self.process.wait()
+        for pipe in filter(None, (self.process.stdin, self.process.stdout)):
+            with contextlib.suppress(BrokenPipeError):
+                pipe.close()
 
 
 class Served:
@@ -52,19 +130,18 @@ class Served:
 
     def listening(self):
         """The port that it says it listens on."""
-        until = time.monotonic() + SECONDS
-        while time.monotonic() < until and self.program.poll() is None:
+        def told():
             self.told.seek(0)
-            if found := LISTENING.match(self.told.read()):
-                return int(found[1])
-            time.sleep(0.01)
-        raise RuntimeError("the program does not listen")
+            return LISTENING.match(self.told.read()) or self.program.poll() is not None
+
+        found = waits_for(told, pause=0.01)
+        if found in (True, None):
+            raise RuntimeError("the program does not listen")
+        return int(found[1])
 
     def connect(self, source=HERE):
         """A connection from an address of the loopback."""
-        client = socket.create_connection((HERE, self.port), timeout=SECONDS, source_address=(source, 0))
-        client.setsockopt(socket.IPPROTO_TCP, socket.TCP_NODELAY, 1)
-        return client
+        return connected(HERE, self.port, source=source)
 
     def ended(self):
         """The exit status, standard output, and the lines of standard error."""
@@ -88,8 +165,8 @@ class Served:
         return status == -signal.SIGTERM and written == b"" and len(lines) == 1
 
     def seconds(self):
-        """The seconds of a processor that the program has used, by the clock that the kernel has of each process."""
-        return time.clock_gettime(~self.program.pid << 3 | 2)
+        """The seconds of a processor that the program has used."""
+        return seconds_of(self.program)
 
     @contextlib.contextmanager
     def stopped(self):

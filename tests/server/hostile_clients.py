@@ -1,4 +1,5 @@
 """Who is at the server in tests/server/hostile: clients that ask for whatever an attack wants, and the good client that stands beside each attack."""
+import contextlib
 import itertools
 import random
 import struct
@@ -7,6 +8,7 @@ import time
 
 import wire
 from caller import SLOTS, Client, Wrong
+from program import waits_for
 from wire import (GET_HANDLE, HERE, LOCKT, LOCKU, PUT_ROOT, PUTFH, READ, SAVE, SECONDS, TEST_STATEID, create, create_session,
                   destroy_session, exchange_id, nfs4, op, opaque, open_file, read, rename, reply, result, results, sequence, sequenced,
                   test_stateids, u32, u64, write)
@@ -53,7 +55,7 @@ class Peer(Client):
         sender.join(SECONDS)
         return heard
 
-    def does(self, begin, steps, many=62):
+    def does_all(self, begin, steps, many=62):
         """All of these operations, so many in a compound, each compound behind the operations of `begin`, over all slots; all must be done."""
         steps = iter(steps)
         # (some at a time: what makes the steps may take longer than a lease)
@@ -153,9 +155,7 @@ class Good:
 
     def stood(self):
         """Its rounds end, and then it gives its lock up: whether all that it was told was right, its lock stood until then, and it was heard."""
-        until = time.monotonic() + SECONDS
-        while self.thread.is_alive() and len(self.waits) < 5 and time.monotonic() < until:
-            time.sleep(0.01)
+        waits_for(lambda: not self.thread.is_alive() or len(self.waits) >= 5)
         self.stop()
         if self.fault or self.thread.is_alive():
             return False
@@ -169,6 +169,23 @@ class Good:
 
     def shown(self):
         return f"{len(self.waits)} rounds, {self.fault!r}"
+
+
+@contextlib.contextmanager
+def repeated(act, pause):
+    """An act that is done over and over in a thread, as long as it can be."""
+    ending = threading.Event()
+
+    def acts():
+        with contextlib.suppress(OSError, Wrong):
+            while not ending.wait(pause):
+                act()
+
+    thread = threading.Thread(target=acts, daemon=True)
+    thread.start()
+    yield
+    ending.set()
+    thread.join(SECONDS)
 
 
 def many_clients(server, count, verifier=1):
@@ -208,10 +225,10 @@ def chain(peer, name, depth):
     """A chain of so many directories, whose numbers have nothing to do with their order in it: the filehandles of the last two."""
     made = nfs4.Reply(peer.asks(PUT_ROOT, create(name + b" 0"), GET_HANDLE))
     first = int.from_bytes(field(made, "GETFH", "FileHandle")[8:], "big")
-    peer.does([], [step for n in range(1, depth) for step in (PUT_ROOT, create(name + b" %d" % n))])
+    peer.does_all([], [step for n in range(1, depth) for step in (PUT_ROOT, create(name + b" %d" % n))])
     order = list(range(depth))
     random.shuffle(order)
-    peer.does([], [step for above, below in zip(order, order[1:]) for step in (
+    peer.does_all([], [step for above, below in zip(order, order[1:]) for step in (
         PUT_ROOT, SAVE, at(handle(first + above)), rename(name + b" %d" % below, b"next"))], 60)
     last, before = handle(first + order[-1]), handle(first + order[-2])
     peer.asks(at(last), create(b"moved"), create(b"entry"))

@@ -2,12 +2,11 @@
 import contextlib
 import functools
 import statistics
-import struct
 import threading
 import time
 
 from cases import judge
-from hostile_clients import SLOTS, Good, Peer, Served, Wrong, at, chain, lock_first, lock_more, lock_test
+from hostile_clients import SLOTS, Good, Peer, Served, Wrong, at, chain, lock_first, lock_more, lock_test, repeated
 from wire import CURRENT, SAVE, create, null, null_reply, received, rename
 
 # what the attacks with large numbers came to: of each, figures by their names
@@ -20,7 +19,7 @@ def spread_owners(peer, count):
     opened, file = peer.opens(b"spread")
     # (in parts, so that its lease does not run out while they are made)
     for first in range(0, count, 2_000):
-        peer.does([at(file)], [step for n in range(first, min(count, first + 2_000)) for step in (
+        peer.does_all([at(file)], [step for n in range(first, min(count, first + 2_000)) for step in (
             lock_first(2 * n, opened, b"spread %d" % n), lock_more(2 * (2 * count + n), CURRENT))])
     return file, lock_test(3 * count, b"another")
 
@@ -57,27 +56,6 @@ class Attack:
         self.lasted = is_there and self.came > 0
 
 
-class Renews:
-    """A client that holds what others walk over, and renews its lease meanwhile."""
-
-    def __init__(self, peer, pause):
-        self.peer, self.pause, self.ending = peer, pause, threading.Event()
-        self.thread = threading.Thread(target=self.rounds, daemon=True)
-
-    def rounds(self):
-        with contextlib.suppress(OSError, Wrong):
-            while not self.ending.wait(self.pause):
-                self.peer.asks()
-
-    def __enter__(self):
-        self.thread.start()
-        return self
-
-    def __exit__(self, *fault):
-        self.ending.set()
-        self.thread.join(60)
-
-
 def renewed_in_time(name, lease, phases, goods=6):
     """Good clients, each of which renews at 0.7 of a lease behind the reply to its last renewal, at as many phases. `phases` gives functions that
     begin attacks on a server, each with the seconds that they last. All goods keep what they hold."""
@@ -105,7 +83,7 @@ def between_lock_owners(lease=4, owners=30_000, last=20, seconds=(9, 9)):
     def phases(server, stack):
         holds = stack.enter_context(Peer(server, b"holds"))
         file, test = spread_owners(holds, owners)
-        stack.enter_context(Renews(holds, lease / 4))
+        stack.enter_context(repeated(holds.asks, lease / 4))
         attack = lambda n, many: lambda: Attack(server, b"tests %d" % n, [at(file)] + [test] * many)
         return [([attack(n, 58) for n in range(3)], seconds[0]), ([attack(3, last)], seconds[1])]
 
@@ -121,7 +99,7 @@ def below_many_directories(lease=4, depth=20_000, connections=8, seconds=(9, 9))
         def attack(n):
             """60 directories with an entry each, from the one to the other and back."""
             names = [b"%d of %d" % (one, n) for one in range(60)]
-            makes.does([], [step for name in names for step in (at(last), create(name), create(b"entry"))], 60)
+            makes.does_all([], [step for name in names for step in (at(last), create(name), create(b"entry"))], 60)
             moves = [rename(name, name) for name in names]
             return lambda: Attack(server, b"renames %d" % n, [at(last), SAVE, at(before), *moves], [at(before), SAVE, at(last), *moves])
 
@@ -161,9 +139,8 @@ def idle_for_long():
         time.sleep(5 * lease)
         with Peer(server, b"later") as later:
             own, _ = later.opens(b"file")
-            later.stream.sendall(later.next_on(0, at(file), lock_first(0, own, b"another")))
-            status, = struct.unpack_from(">24xI", later.reply())
-        judge(f"{name}: the lock of a client that is gone is free", status == 0, status)
+            status = later.does(at(file), lock_first(0, own, b"another")).status
+        judge(f"{name}: the lock of a client that is gone is free", status == "NFS4_OK", status)
 
 
 def calls_without_a_session(count=2_000):

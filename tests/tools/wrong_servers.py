@@ -13,7 +13,8 @@ from pathlib import Path
 sys.dont_write_bytecode = True
 sys.path.insert(0, str(Path(__file__).resolve().parents[2] / "tools"))
 import nfs4  # noqa: E402
-from caller import Cut, Stream, connected  # noqa: E402
+from caller import Cut, Stream  # noqa: E402
+from program import connected  # noqa: E402
 from words import Words  # noqa: E402
 
 ALL_ONES = 2**64 - 1

@@ -4,11 +4,11 @@ import collections
 import contextlib
 import signal
 import socket
-import struct
 import threading
 import time
 
 import nfs4
+from caller import resets
 
 from . import answers
 from .plan import OF_ALL
@@ -18,7 +18,6 @@ PIECE = 65_536
 MOST_RECORD = 4 << 20
 # How long a reply is kept for the next one to overtake it, and a connection to the server for what a client asked that is cut off.
 PATIENCE = 1
-RESET = struct.pack("ii", 1, 0)
 
 
 class Connection:
@@ -40,7 +39,7 @@ class Connection:
         """Ends the client's connection by a reset, and not in an orderly way."""
         self.is_cut = True
         with contextlib.suppress(OSError):
-            self.writer.get_extra_info("socket").setsockopt(socket.SOL_SOCKET, socket.SO_LINGER, RESET)
+            resets(self.writer.get_extra_info("socket"))
         self.writer.transport.abort()
 
     def close(self):

@@ -6,7 +6,8 @@ import subprocess
 import time
 
 import nfs4
-from caller import Cut, Stream, connected
+from caller import Cut, Stream
+from program import connected, waits_for
 
 from .symbols import ANONYMOUS, entries_of
 
@@ -267,8 +268,6 @@ class Server:
         if self.restart is None:
             raise Gone("the server is gone, and no --restart says how it is started")
         subprocess.run(self.restart, shell=True, stdout=subprocess.DEVNULL, stderr=subprocess.DEVNULL, stdin=subprocess.DEVNULL, check=False)
-        until = time.monotonic() + RESTARTING
-        while self.is_gone():
-            if time.monotonic() > until:
-                raise Gone(f"the server does not answer {RESTARTING} seconds behind --restart")
+        if not waits_for(self.transport.alive, RESTARTING):
+            raise Gone(f"the server does not answer {RESTARTING} seconds behind --restart")
         self.over = False
