@@ -52,17 +52,23 @@ def word(parser):
     parser.add_argument("word", nargs="?", default="", metavar="WORD", help="the rows that have it")
 
 
-def least(program, path, times=3):
-    """The least user seconds of some runs of the program over a script."""
+def took(command, given, target=subprocess.DEVNULL):
+    """What the system counted of a command from one file to another: user seconds and all."""
+    process = subprocess.Popen(command, stdin=given, stdout=target)
+    _, process.returncode, usage = os.wait4(process.pid, 0)
+    if process.returncode:
+        sys.exit(f"{name()}: {command[0]} ended with status {process.returncode}")
+    return usage
+
+
+def least(program, script, times=3):
+    """The least user seconds of some runs of the program over a script, whose pieces are given."""
     found = []
-    for _ in range(times):
-        with open(path, "rb") as given:
-            process = subprocess.Popen([program, "replay"], stdin=given, stdout=subprocess.DEVNULL)
-            _, status, usage = os.wait4(process.pid, 0)
-            process.returncode = status
-        if status:
-            sys.exit(f"{name()}: the program ended with status {status}")
-        found.append(usage.ru_utime)
+    with tempfile.TemporaryFile() as given:
+        given.writelines(script)
+        for _ in range(times):
+            given.seek(0)
+            found.append(took([program, "replay"], given).ru_utime)
     return min(found)
 
 

@@ -42,7 +42,9 @@ class Run:
                 "load": f"{self.load:.1f} at the start, {os.getloadavg()[0]:.1f} at the end"}
 
     def write(self, path, columns, rows, **more):
-        """Writes a table of rows (words or numbers in the order of the columns) with the facts of the run and those given."""
+        """Writes a table of rows (words or numbers in the order of the columns) with the facts of the run and those given; nothing without a path."""
+        if path is None:
+            return
         lines = [f"# {name}: {value}" for name, value in (self.facts() | more).items()]
         lines += ["\t".join(map(str, row)) for row in (columns, *rows)]
         Path(path).write_text("\n".join(lines) + "\n", encoding="utf-8")

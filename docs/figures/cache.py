@@ -2,7 +2,7 @@
 import re
 
 import common
-from svg import CEILING, FAINT, INK, OURS, Drawing
+from svg import CEILING, FAINT, INK, OURS, PAPER, Drawing
 
 # What a client keeps, whose change attribute shows that it is still true, and the law.
 KEPT = [
@@ -27,7 +27,7 @@ def rows(picture):
     """What the cache holds, one line each, with whose change it hangs on and its law."""
     for i, (what, whose, law) in enumerate(KEPT):
         y = 106 + 34 * i
-        picture.rect(36, y - 20, 330, 28, "#ffffff", INK, radius=4)
+        picture.rect(36, y - 20, 330, 28, PAPER, INK, radius=4)
         picture.text(48, y, what, 13)
         picture.text(384, y, f"change of the {whose}", 13, fill=OURS)
         picture.text(612, y, law, 12, fill=FAINT, style="italic")

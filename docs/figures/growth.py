@@ -1,6 +1,6 @@
 """What an operation costs among few and among many objects, from bench/results/growth.tsv (bench/instructions --results)."""
 import common
-from svg import FAINT, INK, RULE, SERIES, Drawing, scale
+from svg import FAINT, INK, MUCH, OURS, RULE, Drawing, scale
 
 GROWS, STEP = 2.0, 24
 
@@ -17,7 +17,7 @@ def series():
 def line(picture, y, name, points):
     """The row of an operation: its name, a small curve of its cost relative to the first, the costs, and the ratio of last to first."""
     ratio = points[-1][1] / points[0][1]
-    colour = SERIES[1] if ratio >= GROWS else SERIES[0]
+    colour = MUCH if ratio >= GROWS else OURS
     across, up = scale(points[0][0], points[-1][0], 470, 560, True), scale(0, max(2.0, ratio), y + 4, y - 13)
     picture.text(20, y, name, 12, weight="bold" if ratio >= GROWS else None)
     picture.line(470, y + 4, 560, y + 4, RULE)
@@ -41,6 +41,5 @@ def draw():
         line(picture, 82 + STEP * i, name, points)
     bottom = 82 + STEP * len(order)
     picture.line(20, bottom - 12, 980, bottom - 12, INK, 0.5)
-    picture.text(20, bottom + 6, f"{facts['how'].capitalize()}. Each curve is the cost relative to that among the fewest.", 11, fill=FAINT)
-    picture.text(20, bottom + 23, common.told(facts), 11, fill=FAINT)
+    picture.notes(bottom + 6, f"{facts['how'].capitalize()}. Each curve is the cost relative to that among the fewest.", common.told(facts))
     return picture.svg()

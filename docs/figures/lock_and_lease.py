@@ -1,6 +1,6 @@
 """A lock and its lease on a time line: the calls of the row a_lock_kept_by_renewals."""
 import common
-from svg import FAINT, INK, ON_COLOUR, OTHER, OURS, RULE, Drawing, scale
+from svg import FAINT, GOOD, INK, ON_COLOUR, OTHER, OURS, RULE, WRONG, Drawing, scale
 
 ROW, LEASE = "a_lock_kept_by_renewals", 90
 
@@ -46,7 +46,7 @@ def draw():
         picture.path([(x + 8, 48), (end - 8, 48)], OURS, 1.4, arrow=True)
         picture.text((x + end) / 2, 68, f"lease, {LEASE} s", 12, "middle", FAINT)
     for (moment, _, _, status), y in zip(locks[1:], (168, 208), strict=True):
-        x, colour = at(moment - begun), "#c0392b" if status != "NFS4_OK" else "#3d8c40"
+        x, colour = at(moment - begun), WRONG if status != "NFS4_OK" else GOOD
         picture.line(x, 118, x, y, colour, 1, "3 3")
         picture.dot(x, y, 5, colour)
         picture.text(x - 12, y + 4, f"LOCK of the same byte at {moment - begun} s: {status}", 12, "end", colour)

@@ -1,6 +1,6 @@
 """A lost reply as a sequence: the calls of the row create_is_not_run_twice, and what a server that keeps no replies would say."""
 import common
-from svg import CEILING, FAINT, INK, OURS, Drawing
+from svg import CEILING, FAINT, INK, OURS, WRONG, Drawing
 
 ROW = "create_is_not_run_twice"
 
@@ -30,8 +30,8 @@ def message(picture, y, begin, end, text, colour=INK, lost=False):
     picture.text(begin + (end - begin) * (0.25 if lost else 0.5), y - 7, text, 12, "middle", fill=colour)
     if lost:
         for turn in (-1, 1):
-            picture.line(stop - 6, y - 6 * turn, stop + 6, y + 6 * turn, "#c0392b", 2.2)
-        picture.text(stop + (26 if end > begin else -26), y + 18, "lost", 12, "middle", fill="#c0392b")
+            picture.line(stop - 6, y - 6 * turn, stop + 6, y + 6 * turn, WRONG, 2.2)
+        picture.text(stop + (26 if end > begin else -26), y + 18, "lost", 12, "middle", fill=WRONG)
 
 
 def side(picture, left, title, note, last, kept):
@@ -47,7 +47,7 @@ def side(picture, left, title, note, last, kept):
     picture.text(client + 8, 250, "hears nothing, sends it again", 12, "start", FAINT, style="italic")
     message(picture, 290, client, server, f"xid 0x{again:x}: slot {slot}, number {number}, CREATE \"{name}\"")
     picture.text(server - 8, 316, note, 12, "end", FAINT, style="italic")
-    message(picture, 354, server, client, last, OURS if kept else "#c0392b")
+    message(picture, 354, server, client, last, OURS if kept else WRONG)
 
 
 def draw():

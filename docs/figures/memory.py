@@ -23,8 +23,7 @@ def draw():
             picture.text(410, y + (16 if len(name) <= 56 else 9 + 14 * j), line, 12, "end")
         picture.rect(at(0), y, max(at(size) - at(0), 1), 22, OURS)
         picture.text(at(size) + 6, y + 16, f"{size:.1f}", 12)
-    picture.text(20, height + 42, "The most of a whole run of `nfs41d replay`, with the program itself.", 11, fill=FAINT)
-    picture.text(20, height + 60, common.told(facts), 11, fill=FAINT)
+    picture.notes(height + 42, "The most of a whole run of `nfs41d replay`, with the program itself.", common.told(facts), apart=18)
     return picture.svg()
 
 

@@ -1,6 +1,6 @@
 """A request's way through proved code, and a wrong server that its contract refuses: a must-fail edit of nfs_slots and the function it breaks."""
 import common
-from svg import CEILING, FAINT, INK, OURS, Drawing
+from svg import CEILING, FAINT, INK, OURS, WRONG, Drawing
 
 EDIT, SOURCE, LAW = "moves_on_when_misordered", "crates/nfs_slots/src/slot.rt", "repeats_change_nothing"
 STEPS = [(("request", "bytes from a socket"), "outside"), (("Call::read", "valid XDR, or refused"), "proved"),
@@ -36,13 +36,13 @@ def wrong(picture, top):
     """The edit as lines of a change, and its end."""
     old, new = wrong_line()
     picture.text(20, top, "A wrong server: a late copy of an old request runs once more", 15, weight="bold")
-    for i, (mark, line, colour) in enumerate((("-", old, FAINT), ("+", new, "#c0392b"))):
+    for i, (mark, line, colour) in enumerate((("-", old, FAINT), ("+", new, WRONG))):
         picture.add("text", f"{mark} {line if len(line) <= 84 else line[:82] + ' ..'}", x=28, y=top + 34 + 22 * i, font_size=12, fill=colour,
                     font_family="monospace")
-    picture.line(690, top + 40, 726, top + 40, "#c0392b", 1.6, arrow=True)
-    picture.rect(732, top + 12, 248, 56, "none", "#c0392b", radius=5)
-    picture.text(856, top + 36, "rt check refuses Slot::judge", 13, "middle", "#c0392b", "bold")
-    picture.text(856, top + 55, "no program is built", 12, "middle", "#c0392b")
+    picture.line(690, top + 40, 726, top + 40, WRONG, 1.6, arrow=True)
+    picture.rect(732, top + 12, 248, 56, "none", WRONG, radius=5)
+    picture.text(856, top + 36, "rt check refuses Slot::judge", 13, "middle", WRONG, "bold")
+    picture.text(856, top + 55, "no program is built", 12, "middle", WRONG)
 
 
 def draw():
@@ -55,5 +55,5 @@ def draw():
     picture.text(500, TOP + 136, f"From the contracts follows, for every run: laws::{LAW}. A retransmission gets the kept reply and changes nothing.", 13, "middle")
     picture.line(20, TOP + 152, 980, TOP + 152, CEILING, 1, "3 4")
     wrong(picture, TOP + 190)
-    picture.text(20, 338, f"The change is crates/nfs_slots/must-fail/{EDIT}.edit. The gate tries it and hundreds of others: each has to be refused.", 11, fill=FAINT)
+    picture.notes(338, f"The change is crates/nfs_slots/must-fail/{EDIT}.edit. The gate tries it and hundreds of others: each has to be refused.")
     return picture.svg()

@@ -2,15 +2,16 @@
 import math
 from xml.sax.saxutils import escape
 
-INK, FAINT, RULE = "#222222", "#666666", "#c8c8c8"
-PROVED, TESTED, TRUSTED = "#cfe6d4", "#fbe9c0", "#f1f1f1"
-OURS, OTHER, CEILING = "#1f6f8b", "#d98e32", "#8a8a8a"
-ON_COLOUR = "#fffffe"
-SERIES = ["#1f6f8b", "#d1495b", "#3d8c40", "#8661c1", "#d98e32", "#5c6b73", "#b0407a", "#00798c"]
+# the colours by what they say
+INK, FAINT, RULE, PAPER = "#222222", "#666666", "#c8c8c8", "#ffffff"
+PROVED, TESTED, TRUSTED, PANEL = "#cfe6d4", "#fbe9c0", "#f1f1f1", "#eff7f1"
+EDGE, TESTED_EDGE, STRIPE = "#3f7d52", "#a57c1b", "#ecd28c"
+OURS, OTHER, CEILING, ON_COLOUR = "#1f6f8b", "#d98e32", "#8a8a8a", "#fffffe"
+OF_PROOF, OF_DEFINITIONS, MUCH, WRONG, GOOD = "#b9cfd6", "#e9a6ae", "#d1495b", "#c0392b", "#3d8c40"
 # what a colour is on a dark page; the others are the same on both
 DARK = {INK: "#e6e6e6", FAINT: "#a6a6a6", RULE: "#4a4a4a", PROVED: "#234a2f", TESTED: "#54431a", TRUSTED: "#2b2b2b", OURS: "#2f8fb0", OTHER: "#c98a3a",
-        CEILING: "#9a9a9a", "#ffffff": "#15181c", "#3f7d52": "#6fbf88", "#a57c1b": "#d8b24a", "#ecd28c": "#6e5a26", "#eff7f1": "#1a2a20",
-        "#b9cfd6": "#37505a", "#e9a6ae": "#7a3c46", "#d1495b": "#e0697a", "#c0392b": "#e8705f", "#3d8c40": "#6bbf6e"}
+        CEILING: "#9a9a9a", PAPER: "#15181c", EDGE: "#6fbf88", TESTED_EDGE: "#d8b24a", STRIPE: "#6e5a26", PANEL: "#1a2a20", OF_PROOF: "#37505a",
+        OF_DEFINITIONS: "#7a3c46", MUCH: "#e0697a", WRONG: "#e8705f", GOOD: "#6bbf6e"}
 FONT = "Helvetica, Arial, 'DejaVu Sans', sans-serif"
 
 
@@ -66,25 +67,30 @@ class Drawing:
 
     def box(self, x, y, width, height, lines, kind, size=12):
         """A box of one of the kinds of trust, with its first line in bold and all in the middle."""
-        styles = {"proved": (PROVED, "#3f7d52", None), "tested": ("url(#hatch)", "#a57c1b", None), "trusted": (TRUSTED, "#8a8a8a", "5 4"),
-                  "outside": ("#ffffff", INK, None)}
+        styles = {"proved": (PROVED, EDGE, None), "tested": ("url(#hatch)", TESTED_EDGE, None), "trusted": (TRUSTED, CEILING, "5 4"),
+                  "outside": (PAPER, INK, None)}
         fill, stroke, dash = styles[kind]
         self.rect(x, y, width, height, fill, stroke, dash, radius=5)
         top = y + height / 2 - (len(lines) - 1) * (size + 4) / 2 + size * 0.35
         for i, line in enumerate(lines):
             self.text(x + width / 2, top + i * (size + 4), line, size, "middle", weight=None if i else "bold")
 
+    def notes(self, y, *lines, apart=17):
+        """Small lines below a figure."""
+        for i, line in enumerate(lines):
+            self.text(20, y + apart * i, line, 11, fill=FAINT)
+
     def svg(self):
         """The text of the file."""
         hatch = ('<defs><pattern id="hatch" width="8" height="8" patternUnits="userSpaceOnUse" patternTransform="rotate(45)">'
-                 f'<rect width="8" height="8" fill="{TESTED}"/><line x1="0" y1="0" x2="0" y2="8" stroke="#ecd28c" stroke-width="3"/></pattern></defs>\n')
+                 f'<rect width="8" height="8" fill="{TESTED}"/><line x1="0" y1="0" x2="0" y2="8" stroke="{STRIPE}" stroke-width="3"/></pattern></defs>\n')
         begun = (f'<svg xmlns="http://www.w3.org/2000/svg" width="{self.width}" height="{self.height}" viewBox="0 0 {self.width} {self.height}" '
                  f'font-family="{FONT}" role="img">\n')
         return begun + self.head + self.style() + hatch + "\n".join(self.parts) + "\n</svg>\n"
 
     def style(self):
         """The style sheet: on a dark page each colour that the drawing uses has its other one."""
-        used = [it for it in DARK if any(f'"{it}"' in part for part in self.parts) or it in (TESTED, "#ecd28c")]
+        used = [it for it in DARK if any(f'"{it}"' in part for part in self.parts) or it in (TESTED, STRIPE)]
         rules = "".join(f'[fill="{it}"]{{fill:{DARK[it]}}}[stroke="{it}"]{{stroke:{DARK[it]}}}' for it in used)
         return f"<style>@media (prefers-color-scheme: dark){{{rules}}}</style>\n"
 
@@ -92,14 +98,6 @@ class Drawing:
 def wide(text, size):
     """About how many units a line of text is wide, rather more than less."""
     return len(text) * size * 0.62
-
-
-def powers(least, most):
-    """1, 2 and 5 times powers of ten from at most `least` to at least `most`."""
-    found = [step * 10.0 ** power for power in range(math.floor(math.log10(least)) - 1, math.ceil(math.log10(most)) + 1) for step in (1, 2, 5)]
-    low = max(value for value in found if value <= least * 1.0001)
-    high = min(value for value in found if value >= most * 0.9999)
-    return [value for value in found if low <= value <= high]
 
 
 def short(value):

@@ -2,15 +2,15 @@
 import sys
 
 import common
-from svg import FAINT, INK, ON_COLOUR, SERIES, Drawing, wide
+from svg import FAINT, INK, MUCH, OF_DEFINITIONS, OF_PROOF, ON_COLOUR, OURS, PAPER, Drawing, wide
 
 sys.path.append(str(common.TOP / "tests/gate"))
 from promises import lines_by_crate  # noqa: E402
 
 ONLY_TEST = {"nfs_testing", "nfs_tests"}
-AREAS = [("to believe", "definitions that the promises rest on", "#d1495b"), ("other definitions", "between crates; laws; comments", "#e9a6ae"),
-         ("code", "Rust with contracts", SERIES[0]), ("proof", "read by the checker alone", "#b9cfd6")]
-DEEP = {"#d1495b", SERIES[0]}
+AREAS = [("to believe", "definitions that the promises rest on", MUCH), ("other definitions", "between crates; laws; comments", OF_DEFINITIONS),
+         ("code", "Rust with contracts", OURS), ("proof", "read by the checker alone", OF_PROOF)]
+DEEP = {MUCH, OURS}
 
 
 def lines(paths):
@@ -42,7 +42,7 @@ def draw():
     at, height = 20.0, 120
     for (name, _, colour), total in zip(AREAS, totals):
         part = total / sum(totals) * (width + 80)
-        picture.rect(at, top, part, height, colour, "#ffffff")
+        picture.rect(at, top, part, height, colour, PAPER)
         fill, middle = ON_COLOUR if colour in DEEP else INK, at + part / 2
         if part > wide(name, 15) + 8:
             picture.text(middle, top + 56, name, 15, "middle", fill, "bold")

@@ -1,7 +1,7 @@
 """The way of a record through the crates, and what of it is proved, tested or trusted. The places are in whole.tsv; that every crate of
 crates.txt is there, but for the two that only test, is checked."""
 import common
-from svg import INK, Drawing
+from svg import EDGE, INK, PANEL, Drawing
 
 ONLY_TEST = {"nfs_testing", "nfs_tests"}
 MEANS = [("proved", "proved: each answer meets its definition, and the code is safe and returns"),
@@ -40,7 +40,7 @@ def draw():
             _, x, y, width, height, trust, text = words
             x, y, width, height = map(int, (x, y, width, height))
             if kind == "panel":
-                picture.rect(x, y, width, height, "#eff7f1", "#3f7d52", radius=8)
+                picture.rect(x, y, width, height, PANEL, EDGE, radius=8)
                 picture.text(x + width / 2, y + 22, text, 13, "middle", weight="bold")
             else:
                 picture.box(x, y, width, height, list(filter(None, text.split("|"))), trust)
