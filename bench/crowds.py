@@ -11,24 +11,23 @@ from wire import open_current
 MOST = 62
 
 
-class Script:
-    """The entries so far, and the moment of the next."""
+class Script(wire.Script):
+    """A script, and how much of each kind the server has given out in it."""
 
     def __init__(self):
-        self.entries, self.moment = [], 100
+        super().__init__()
         self.clients = self.sessions = self.states = 0
         self.objects = 1
 
     def sends(self, *operations):
-        data = nfs4.record(nfs4.compound(1, operations))
-        self.entries += [nfs4.entry(self.moment, 0, data[at:at + nfs4.MOST_PIECE]) for at in range(0, len(data), nfs4.MOST_PIECE)]
+        self.bring(nfs4.record(nfs4.compound(1, operations)))
 
     def sent(self):
-        return b"".join(self.entries)
+        return b"".join(self.script)
 
     def mark(self):
         """How many bytes there are so far."""
-        return sum(map(len, self.entries))
+        return sum(map(len, self.script))
 
 
 class Client:

@@ -1,5 +1,7 @@
 """Plays at random beside a model: a script comes about event by event, and the model says what each reply must be. Where one is another, the play
 is made small by the shrinker of tools/comparing, and the smallest script is shown and kept."""
+import collections
+import functools
 import random
 import sys
 import time
@@ -7,6 +9,7 @@ from pathlib import Path
 
 from wire import (LEASE, SEQUENCE, TOP, Script, compound, create_session, exchange_id, exchanged, marked, replayed, replies, result, results, sequence,
                   session_created, session_id)
+import cases
 from cases import judge
 import lines
 from comparing.shrinking import fewer
@@ -137,6 +140,20 @@ def lies_are_made_small(kind, seed, about, most):
 
     script, expected = smallest(kind, seed, lying)
     judge("a lie is made small", len(script) <= most and about in expected[-1][1], f"{len(script)} records")
+
+
+def main(text, kind, seeds, judged, about, tell):
+    """A part that has plays of these seeds, and a lie about something that is made small. `judged` judges a play by its seed and the replies that came,
+    and gives what happened in it; `tell` says what happened in all."""
+    sums, part = collections.Counter(), cases.Part(text)
+    part.parsed()
+
+    def one(seed):
+        play, found = played(kind, seed)
+        sums.update({"replies": len(found)} | judged(seed, play, found))
+
+    every = {f"seed {seed}": functools.partial(one, seed) for seed in seeds}
+    return part.ends({**every, "a lie is made small": functools.partial(lies_are_made_small, kind, 1, about, 10)}, lambda: tell(sums))
 
 
 class Client:

@@ -87,19 +87,17 @@ def to_capture(script, output, port):
     out = io.BytesIO()
     made = pcap.Written(out, port)
     answers, at = list(nfs4.replies(output)), 0
-    clients, streams = {}, {}
+    streams = {}
     for moment, connection, piece in nfs4.entries(script):
         if not piece:
-            if connection in clients:
-                made.close(moment, clients.pop(connection))
-                streams.pop(connection)
+            made.end(moment, connection)
+            streams.pop(connection, None)
             continue
-        if connection not in clients:
-            clients[connection], streams[connection] = made.open(moment), nfs4.Records()
-        made.sent(moment, clients[connection], True, piece)
-        for call in streams[connection].feed(piece):
+        client = made.on(moment, connection)
+        made.sent(moment, client, True, piece)
+        for call in streams.setdefault(connection, nfs4.Records()).feed(piece):
             if at < len(answers) and answers[at][0] == connection and answers[at][1] and answers[at][1][:4] == call[:4]:
-                made.sent(moment, clients[connection], False, nfs4.record(answers[at][1]))
+                made.sent(moment, client, False, nfs4.record(answers[at][1]))
                 at += 1
         while at < len(answers) and answers[at][1] is None:
             at += 1

@@ -5,6 +5,8 @@ import struct
 import subprocess
 
 PCAPNG = b"\n\r\r\n"
+# the order of bytes by the first four of a pcap
+ORDERS = {b"\xd4\xc3\xb2\xa1": "<", b"\x4d\x3c\xb2\xa1": "<", b"\xa1\xb2\xc3\xd4": ">", b"\xa1\xb2\x3c\x4d": ">"}
 FIN, SYN, RST, PUSH, ACK = 1, 2, 4, 8, 16
 # How many bytes are before the IP packet, by the kind of link: Ethernet, none, Linux's two cooked ones, and the BSD loopback.
 BEFORE = {1: 14, 101: 0, 228: 0, 113: 16, 276: 20, 0: 4}
@@ -29,7 +31,7 @@ def packets(path, notes=None):
     """The second, microsecond and bytes of each IP packet. A file may end inside a packet, as one does that is still written. With a list of notes, packets
     that were cut are taken too; that, and where the file ends, is noted there."""
     data = bytes_of(path)
-    order = {b"\xd4\xc3\xb2\xa1": "<", b"\x4d\x3c\xb2\xa1": "<", b"\xa1\xb2\xc3\xd4": ">", b"\xa1\xb2\x3c\x4d": ">"}.get(data[:4])
+    order = ORDERS.get(data[:4])
     if order is None:
         raise NoCapture(f"{path} is no capture of the kind pcap or pcapng")
     if len(data) < 24:
@@ -154,7 +156,7 @@ class Written:
     MOST = 32_768
 
     def __init__(self, out, port):
-        self.out, self.port, self.numbers, self.opened = out, port, {}, 0
+        self.out, self.port, self.numbers, self.keys, self.opened = out, port, {}, {}, 0
         self.clock = (0, 0)
         out.write(struct.pack(">IHHiIII", 0xa1b2c3d4, 2, 4, 0, 0, 262_144, 101))
 
@@ -184,6 +186,17 @@ class Written:
         self.packet(moment, client, False, SYN | ACK)
         self.packet(moment, client, True, ACK)
         return client
+
+    def on(self, moment, key):
+        """The client's port of the connection that the caller knows by a key: a new one where none is open."""
+        if key not in self.keys:
+            self.keys[key] = self.open(moment)
+        return self.keys[key]
+
+    def end(self, moment, key):
+        """Closes it, where it is open."""
+        if key in self.keys:
+            self.close(moment, self.keys.pop(key))
 
     def sent(self, moment, client, to_server, data):
         for at in range(0, len(data), self.MOST):

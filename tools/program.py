@@ -42,6 +42,11 @@ def ran(*words, given=None, seconds=SECONDS, **how):
     return it.returncode, it.stdout, it.stderr
 
 
+def stat_of(pid):
+    """What the kernel says of a process, from its state on (proc_pid_stat(5))."""
+    return Path(f"/proc/{pid}/stat").read_text(encoding="ascii", errors="replace").rpartition(") ")[2].split()
+
+
 def seconds_of(process):
     """The seconds of a processor that a process has used, by the clock that the kernel has of each."""
     return time.clock_gettime(~process.pid << 3 | 2)
@@ -82,8 +87,7 @@ class Replay:
         """Whether the pipe to the program is empty and it sleeps."""
         left = array.array("i", [0])
         fcntl.ioctl(self.process.stdin, termios.FIONREAD, left)
-        state = Path(f"/proc/{self.process.pid}/stat").read_text(encoding="ascii").rpartition(") ")[2]
-        return left[0] == 0 and state.startswith("S")
+        return left[0] == 0 and stat_of(self.process.pid)[0] == "S"
 
     def kilobytes(self, *words):
         """What the kernel says of its memory: VmHWM, the most that was resident, and the like."""

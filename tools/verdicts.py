@@ -1,5 +1,25 @@
 """Verdicts for a gate: files of TAP and of JUnit, of cases that are each a name and what was wrong with it."""
+from pathlib import Path
 from xml.sax.saxutils import quoteattr
+
+
+def options(words, what):
+    """The words that ask for such files."""
+    words.add_argument("--tap", type=Path, metavar="FILE", help=f"{what}, as TAP")
+    words.add_argument("--junit", type=Path, metavar="FILE", help="the same as JUnit")
+
+
+def lacking(*paths):
+    """Why one of these files cannot be written, or none."""
+    return next((f"there is no folder {path.parent}" for path in paths if path and not path.parent.is_dir()), None)
+
+
+def written(chosen, suite, kind, cases, seconds):
+    """Writes the files that were asked for."""
+    if chosen.tap:
+        tap(chosen.tap, cases)
+    if chosen.junit:
+        junit(chosen.junit, suite, kind, cases, seconds)
 
 
 def tap(path, cases):

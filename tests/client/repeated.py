@@ -5,6 +5,7 @@ from typing import NamedTuple
 import capture
 import nfs4
 import repeats
+from breaking.proxy import readable
 
 NONE = "no reply"
 
@@ -33,7 +34,7 @@ def found_in(path, port):
             if waiting.pop((client, record[:4]), None):
                 answers[status_of(record)] += 1
             continue
-        call = called(record)
+        call = readable(record)
         if call is None or not call.operations or call.operations[0][0] != "SEQUENCE":
             continue
         compounds += 1
@@ -46,13 +47,6 @@ def found_in(path, port):
     # (what a cut connection took with it was asked once more)
     answers[NONE] = again - answers.total()
     return Found(compounds, again, higher, other, +answers)
-
-
-def called(record):
-    try:
-        return nfs4.Call(record)
-    except nfs4.Unreadable:
-        return None
 
 
 def status_of(record):

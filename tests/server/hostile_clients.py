@@ -10,7 +10,7 @@ import wire
 from caller import SLOTS, Client, Wrong
 from program import waits_for
 from wire import (GET_HANDLE, HERE, LOCKT, LOCKU, PUT_ROOT, PUTFH, READ, SAVE, SECONDS, TEST_STATEID, create, create_session,
-                  destroy_session, exchange_id, nfs4, op, opaque, open_file, read, rename, reply, result, results, sequence, sequenced,
+                  destroy_session, exchange_id, filehandle, nfs4, op, opaque, open_file, putfh, read, rename, reply, result, results, sequence, sequenced,
                   test_stateids, u32, u64, write)
 
 DENIED = 10_010
@@ -217,10 +217,6 @@ def fifty(peer, owners, verifier):
     return ids
 
 
-def handle(number):
-    return u32(7, 0) + u64(number)
-
-
 def chain(peer, name, depth):
     """A chain of so many directories, whose numbers have nothing to do with their order in it: the filehandles of the last two."""
     made = nfs4.Reply(peer.asks(PUT_ROOT, create(name + b" 0"), GET_HANDLE))
@@ -229,7 +225,7 @@ def chain(peer, name, depth):
     order = list(range(depth))
     random.shuffle(order)
     peer.does_all([], [step for above, below in zip(order, order[1:]) for step in (
-        PUT_ROOT, SAVE, at(handle(first + above)), rename(name + b" %d" % below, b"next"))], 60)
-    last, before = handle(first + order[-1]), handle(first + order[-2])
+        PUT_ROOT, SAVE, putfh(first + above), rename(name + b" %d" % below, b"next"))], 60)
+    last, before = filehandle(first + order[-1]), filehandle(first + order[-2])
     peer.asks(at(last), create(b"moved"), create(b"entry"))
     return last, before

@@ -2,22 +2,22 @@
 that says so and why."""
 import re
 import subprocess
+import sys
 from pathlib import Path
 
 TOP = Path(__file__).resolve().parents[2]
+sys.path.insert(0, str(TOP / "tools"))
+import results  # noqa: E402
+
 RESULTS = TOP / "bench/results"
 # so many commits after it a measurement is old
 MOST = 50
 
 
 def commits_of(path):
-    """The commits of the runs that a file is of, in words: its line `# commit`, or its column `commit`."""
-    lines = path.read_text(encoding="utf-8").splitlines()
-    named = [line.removeprefix("# commit: ") for line in lines if line.startswith("# commit: ")]
-    heads, *rows = [line.split("\t") for line in lines if not line.startswith("#")]
-    if "commit" in heads:
-        named += [row[heads.index("commit")] for row in rows]
-    return sorted(set(filter(None, named)))
+    """The commits of the runs that a file is of, in words: its fact `commit`, or its column `commit`."""
+    facts, rows = results.read(path)
+    return sorted(set(filter(None, (it.get("commit") for it in (facts, *rows)))))
 
 
 def since(commit):

@@ -285,11 +285,7 @@ class CutKept(Slots):
             self.kept[told[:2]] = told[2]
 
 
-@wrong("one slot for all", "the numbers of all slots of a session are one")
-class OneSlot(Wrong):
-    def call(self, call):
-        if call.operations and call.operations[0][0] == "SEQUENCE":
-            call.operations[0] = "SEQUENCE", changed(call.operations[0][1], put(slot_id="0"))
+in_calls("one slot for all", "the numbers of all slots of a session are one", {"SEQUENCE"}, put(slot_id="0"))
 
 
 @wrong("destroy_session stays", "DESTROY_SESSION answers, and the session lives on")

@@ -88,14 +88,13 @@ def keep(folder, finding, outcome, history, binds):
 
 def write_capture(out, log):
     """What went to the server and came from it, as a capture that tshark decodes."""
-    made, clients = pcap.Written(out, 2049), {}
+    made = pcap.Written(out, 2049)
     for sent in log:
         moment = int(sent.seconds)
-        if sent.step.conn not in clients:
-            clients[sent.step.conn] = made.open(moment)
-        made.sent(moment, clients[sent.step.conn], True, nfs4.record(sent.record))
+        client = made.on(moment, sent.step.conn)
+        made.sent(moment, client, True, nfs4.record(sent.record))
         if sent.got:
-            made.sent(moment, clients[sent.step.conn], False, nfs4.record(sent.got))
+            made.sent(moment, client, False, nfs4.record(sent.got))
 
 
 def by_operation(counts):
