@@ -22,8 +22,8 @@ use Rattle.nfs_names.specs.{Outcome.{Outcome, checked, done, is_ok}, Checks.curr
 use Rattle.nfs_names.proofs.{Found.checked_ok, Ones.by_delay, Effects.Makes, Rows.none_mapped}
 use Rattle.nfs_files.specs.{declared.opening.Found.Found, declared.opening.Found.TheVariants.{There, Absent}, declared.ranges.Wished.Wished}
 use Rattle.nfs_files.specs.{declared.setting.Setting.Setting, Bytes.file_checks, Operation.grows, Close.close, Parts.{readable, writable}}
-use Rattle.nfs_files.specs.{Commit.{write_verifier, commit}, FreeStateid.free_stateid, LockT.{tested, lock_t}, LockU.lock_u, OpenParts.tree_fault}
-use Rattle.nfs_files.specs.{OpenDowngrade.{bits, open_downgrade}, Read.{was_read, read}, TestStateid.test_stateid}
+use Rattle.nfs_files.specs.{Commit.write_verifier, FreeStateid.free_stateid, LockT.tested, LockU.lock_u, OpenParts.tree_fault}
+use Rattle.nfs_files.specs.{OpenDowngrade.{bits, open_downgrade}, Read.was_read, TestStateid.test_stateid}
 use Rattle.nfs_files.specs.Parts as parts
 use Rattle.nfs_files.specs.Lock as of_lock
 use Rattle.nfs_files.specs.OpenParts as open_parts

@@ -21,7 +21,6 @@ use Rattle.nfs_files.specs.{declared.opening.Found.Found, declared.opening.Found
 use Rattle.nfs_files.specs.OpenParts as open_parts
 use Rattle.nfs_files.specs.Open as of_open
 use Rattle.nfs_files.specs.SetAttrParts as set_parts
-use Rattle.nfs_files.specs.SetAttr as of_set
 use Rattle.nfs_files.specs.Write as of_write
 use Rattle.nfs_files.proofs.Inside as inside
 use Rattle.nfs_files.proofs.{OthersTables.{OpensAreOf, LocksAreOf}, Wishes.IsRange}

@@ -30,8 +30,8 @@ use Rattle.nfs_names.proofs.{Found.{came, ok_is, checked_ok, current_is}, NameLa
 use Rattle.nfs_names.proofs.{Refusing.{IsRefusal, Refuses, refuses_checked}, Effected.kept_item}
 use Rattle.nfs_names.proofs.Effects as names_effects
 use Rattle.nfs_files.specs.{declared.opening.Found.Found, declared.opening.Found.TheVariants.{There, Absent}, declared.setting.Setting.Setting, Parts.writable}
-use Rattle.nfs_files.specs.{Operation.grows, Close.close, Commit.commit, FreeStateid.free_stateid, LockT.{tested, lock_t}, LockU.lock_u}
-use Rattle.nfs_files.specs.{Open.{makes, access_of, place_checks, there_checks, absent_checks, cuts}, OpenDowngrade.open_downgrade, Read.read}
+use Rattle.nfs_files.specs.{Operation.grows, Close.close, FreeStateid.free_stateid, LockT.tested, LockU.lock_u}
+use Rattle.nfs_files.specs.{Open.{makes, access_of, place_checks, there_checks, absent_checks, cuts}, OpenDowngrade.open_downgrade}
 use Rattle.nfs_files.specs.OpenParts.{by_handle}
 use Rattle.nfs_files.specs.TestStateid.{test_stateid}
 use Rattle.nfs_files.specs.FileImage.{Image, unwritten, written_over, cut_to, size_in, new_size, old_size, asks_empty, claimed, is_number, left_of}

@@ -20,17 +20,15 @@ use Rattle.nfs_opens.specs.Locking as locking
 use Rattle.nfs_names.specs.{declared.context.Context.Context, State.State, Outcome.{checked, is_delay}, Checks.current}
 use Rattle.nfs_names.proofs.{Faulted.status_of_refusal, NameLaws.current_refuses, Refusing.refuses_checked}
 use Rattle.nfs_files.specs.{Bytes.{seat, file_checks}, StateIds.meant, Ranges.wished, Denied.status_of, Close.close, Parts.{writable, target, closes}}
-use Rattle.nfs_files.specs.{Commit.commit, FreeStateid.free_stateid, LockT.{tested, lock_t}, LockU.lock_u, Parts.{frees, unlocking, unlocks}}
-use Rattle.nfs_files.specs.{OpenDowngrade.{bits, open_downgrade}, Read.read, SetAttr.set_attr, TestStateid.test_stateid, Parts.{narrowing, narrows}}
-use Rattle.nfs_files.specs.Write.{last_checks, write}
+use Rattle.nfs_files.specs.{FreeStateid.free_stateid, LockT.tested, LockU.lock_u, Parts.{frees, unlocking, unlocks}}
+use Rattle.nfs_files.specs.{OpenDowngrade.{bits, open_downgrade}, TestStateid.test_stateid, Parts.{narrowing, narrows}}
+use Rattle.nfs_files.specs.Write.{last_checks}
 use Rattle.nfs_files.proofs.{Outcomes.one, Prompt.{IsPrompt, err_prompt, ok_prompt, own_prompt, answered_prompt}, OpenAnswers.open_refuses}
 use Rattle.nfs_files.proofs.{Seats.{meant_refuses, judge_refuses, readable_refuses, writable_refuses}, SetAnswers.{asked_refuses as set_refuses}}
 use Rattle.nfs_files.proofs.StateAnswers.{target_refuses, close_refuses, free_refuses, downgrade_refuses, narrowing_refuses, wished_refuses, wished_by_refuses, unlock_refuses}
 use Rattle.nfs_files.specs.Parts as parts
 use Rattle.nfs_files.specs.Lock as of_lock
-use Rattle.nfs_files.specs.Open as of_open
 use Rattle.nfs_files.specs.SetAttrParts as set_parts
-use Rattle.nfs_files.specs.SetAttr as of_set
 use Rattle.nfs_files.proofs.InSteps.{close_is, free_is, unlock_is, downgrade_is, commit_is, test_is, read_is, set_attr_is, write_is}
 use Rattle.nfs_files.proofs.InSteps as in_steps
 

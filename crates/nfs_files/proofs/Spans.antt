@@ -1,5 +1,5 @@
 -- Ranges that reach the last byte.
-use Rattle.std.proofs.Common.{◌≡◌, ℕ, ◌+◌, ◌-◌, Bool, true, false, cond, eqb, ltb, not, [], ◌∷◌, refl, ◌∙◌, ap, subst, arith}
+use Rattle.std.proofs.Common.{◌≡◌, ℕ, ◌+◌, ◌-◌, Bool, true, false, cond, eqb, ltb, not, [], ◌∷◌, refl, sym, ◌∙◌, ap, subst, arith}
 use Rattle.std.proofs.lemmas.Bool.{eqb-false, ne_eqb, ltb-false}
 use Rattle.std.specs.Prelude.{Result, Ok, Err, ◌&&◌, ◌==◌, nat_lt}
 use Rattle.nfs_xdr.specs.{Checks.first_fault, declared.status.Status.Status, declared.status.Status.TheVariants.Inval}

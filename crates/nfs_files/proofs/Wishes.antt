@@ -6,7 +6,7 @@ use Rattle.nfs_xdr.specs.{Checks.first_fault, declared.status.Status.Status, dec
 use Rattle.nfs_compound.specs.{declared.lock_args.Lock.Lock, declared.lock_args.LockType.LockType, declared.lock_args.LockU.LockU}
 use Rattle.nfs_compound.specs.declared.stateid.Stateid.{Stateid}
 use Rattle.nfs_opens.specs.{declared.locking.Wish.Wish, declared.stateid.CurrentSeqid.TheVariants.Any, declared.stateid.StateId.StateId}
-use Rattle.nfs_names.specs.{declared.context.Context.Context, Outcome.{checked, mapped, passed}, State.State}
+use Rattle.nfs_names.specs.{declared.context.Context.Context, Outcome.{mapped, passed}, State.State}
 use Rattle.nfs_names.proofs.Found.{came, checked_ok}
 use Rattle.nfs_files.specs.{declared.ranges.Wished.Wished, StateIds.meant, Target.the_file, Ranges.{all_ones, range, wished}, Parts.{wish, wished_by}}
 use Rattle.nfs_files.specs.{Lock.stateid_in, Parts.{reclaim_checks, locking, unlocking}}

@@ -33,7 +33,6 @@ use Rattle.nfs_files.proofs.WrittenTrees.{lasts_new, lasts_link, lasts_without, 
 use Rattle.nfs_files.specs.OpenParts as open_parts
 use Rattle.nfs_files.specs.Open as of_open
 use Rattle.nfs_files.specs.SetAttrParts as set_parts
-use Rattle.nfs_files.specs.SetAttr as of_set
 use Rattle.nfs_files.specs.Write as of_write
 
 -- an object that goes for want of use

@@ -1,6 +1,6 @@
 -- CLOSE (RFC 8881 section 18.2): an open goes, with its lock states and the bytes that they hold, and a file without a row goes with
 -- its last open.
-use Rattle.std.specs.Prelude.{ℕ, replicate, Ok}
+use Rattle.std.specs.Prelude.{replicate, Ok}
 use Rattle.nfs_compound.specs.{declared.stateid.Stateid.Stateid, declared.open_args.Close.Close}
 use Rattle.nfs_compound.specs.declared.op_num.OpNum.TheVariants as Num
 use Rattle.nfs_results.specs.declared.res.Res.TheVariants as Res

@@ -28,7 +28,7 @@ use Rattle.nfs_names.specs.{PutRootFh.put_root_fh, Rename.{without_replaced, mov
 use Rattle.nfs_names.specs.Operation as names
 use Rattle.nfs_names.proofs.{Found.{came, ok_is, checked_ok}, Ones.{if_delayed, each_of, by_delay}}
 use Rattle.nfs_names.proofs.NameLaws as law
-use Rattle.nfs_files.specs.{Operation.grows, Close.close, Commit.commit, FreeStateid.free_stateid, LockT.{tested, lock_t}, LockU.lock_u, Parts.writable}
+use Rattle.nfs_files.specs.{Operation.grows, Close.close, FreeStateid.free_stateid, LockT.tested, LockU.lock_u, Parts.writable}
 use Rattle.nfs_files.specs.{OpenDowngrade.open_downgrade, Read.read, TestStateid.test_stateid}
 use Rattle.nfs_files.specs.Parts as parts
 use Rattle.nfs_files.specs.Lock as of_lock

@@ -15,7 +15,6 @@ use Rattle.nfs_names.specs.{Outcome.checked, State.State}
 use Rattle.nfs_files.specs.{Bytes.{file_checks, seat, reading, writing, seat_checks, may_use}, Read.read, SetAttr.set_attr, Parts.{readable, writable}}
 use Rattle.nfs_files.specs.Write.{last_checks, write}
 use Rattle.nfs_files.specs.SetAttrParts as set_parts
-use Rattle.nfs_files.specs.SetAttr as of_set
 use Rattle.nfs_serve.proofs.Promises.Without.{IsWithout, AreGood, all_good, are_good, err_without, ok_without, then_without, checked_without, seat_without}
 use Rattle.nfs_serve.proofs.Promises.Without.{if_passed_without, Answers, answers_without, ends_then, ends_held, steps_answer}
 use Rattle.nfs_files.proofs.InSteps as in_steps

@@ -1,8 +1,8 @@
-use Rattle.std.proofs.Common.{refl, sym, ap, ◌∙◌}
+use Rattle.std.proofs.Common.{true, sym, ap, ◌∙◌}
 use Rattle.nfs_compound.specs.declared.op_num.OpNum.TheVariants as Num
 use Rattle.nfs_results.specs.Results.{status_of_result}
 use Rattle.nfs_names.specs.{State.state_of, Outcome.{Outcome, is_ok}}
-use Rattle.nfs_files.specs.Open.{opened, open_file}
+use Rattle.nfs_files.specs.Open.{open_file}
 use Rattle.nfs_files.proofs.{InSteps.{open_is, where_found, where_refused}, Refused.{told_refusal, told_delay}}
 use Rattle.nfs_files.proofs.entering.open_file.Goals as goal
 

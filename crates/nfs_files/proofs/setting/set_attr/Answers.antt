@@ -6,7 +6,7 @@ use Rattle.nfs_tree.specs.Files.{Files}
 use Rattle.nfs_attrs.specs.Mask.{mask_of, trimmed_words}
 use Rattle.nfs_names.specs.{State.{state_of, with_tree}, Faults.status_of, Outcome.Outcome}
 use Rattle.nfs_names.proofs.Faulted.{did_ok, does_err, by_error}
-use Rattle.nfs_files.specs.{SetAttr.{with_set, set_attr}, SetAttrParts.{tree_fault, asked_for, last_checks, was_set}}
+use Rattle.nfs_files.specs.{SetAttr.with_set, SetAttrParts.{tree_fault, asked_for, last_checks, was_set}}
 use Rattle.nfs_files.proofs.SetRows.{set_goes, set_stops}
 use Rattle.nfs_files.proofs.setting.set_attr.Goals as goal
 use Rattle.nfs_files.proofs.InSteps.{set_attr_is}
