@@ -79,6 +79,7 @@ pub mod Without
 pub mod NeverStale
 pub mod FileStays
 pub mod FileStaysWorked
+pub mod StaleTruly
 pub mod OpenReads
 pub mod NamelessStays
 pub mod PageText

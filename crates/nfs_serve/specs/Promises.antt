@@ -52,6 +52,7 @@ pub mod NameStays
 pub mod NameWorked
 pub mod FileStays
 pub mod FileStaysWorked
+pub mod StaleTruly
 pub mod ListsAll
 pub mod ListsWorked
 pub mod KnownHandles

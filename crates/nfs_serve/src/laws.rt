@@ -61,6 +61,7 @@ ghost use Rattle.nfs_serve.specs.Promises.RightsTold.{RightsAreTold, RootIsTold}
 ghost use Rattle.nfs_serve.specs.Promises.Seen.{ReplyReader, IsSequenced, Bears, server};
 ghost use Rattle.nfs_serve.specs.Promises.SessionsOnce.{EachMakesOne, EachWasMade, RepeatsMakeNone, NextMakesOne, IsGivenOnce};
 ghost use Rattle.nfs_serve.specs.Promises.NeverExpired.{NoneIsExpired};
+ghost use Rattle.nfs_serve.specs.Promises.StaleTruly.{StaleIsTrue, IsGone};
 ghost use Rattle.nfs_serve.specs.Promises.SessionsDenied.{BadSessionIsTrue};
 ghost use Rattle.nfs_serve.specs.Promises.SessionsDeniedWorked.{IsLeft, EndsAreRefused};
 ghost use Rattle.nfs_serve.specs.Promises.SeenWrite.{IsSeen};
@@ -433,6 +434,16 @@ pub fn sessions_are_denied_truly()
 pub fn a_session_is_denied()
     ensures left { IsLeft }
     ensures refused { EndsAreRefused }
+{}
+
+/// In every run a READ, WRITE, GETATTR or SETATTR is answered NFS4ERR_STALE only where the current filehandle's object has neither a name nor an open.
+pub fn stale_objects_are_gone()
+    ensures { StaleIsTrue }
+{}
+
+/// The definitions compute: a file that has no name is stale behind its last CLOSE. `stale_objects_are_gone` refuses a READ that is answered so while the file is open.
+pub fn a_closed_file_is_stale()
+    ensures { IsGone }
 {}
 
 /// A lock stands under the open that a LOCK named by its own argument: of each LOCK that is told a lock, the one that made its lock state, which is this one or one before it.

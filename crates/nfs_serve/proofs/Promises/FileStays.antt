@@ -56,7 +56,7 @@ current_fresh s x n there at =
 
 -- What is answered of it.
 
-not_stale : (f : Status) → is_stale f ≡ false → f ≢ Stale
+pub not_stale : (f : Status) → is_stale f ≡ false → f ≢ Stale
 not_stale f other is = absurd (false≢true (sym other ∙ ap is_stale is))
 
 abbrev Other : Status → List ℕ → store.State → Type 0
@@ -66,7 +66,7 @@ big_other : (d : RanOp) (i : Item) → is_stale (stays d.before d.context i RepT
 big_other d i = ap is_stale (refused_status (item_number i) RepTooBig)
 
 -- an operation that uses it
-used_other : (d : RanOp) → IsRun d → (n : ℕ) → is_there d.before.store.tree n ≡ true → d.context.current ≡ Some n → (i : Item) → d.item ≡ i → uses i ≡ true
+pub used_other : (d : RanOp) → IsRun d → (n : ℕ) → is_there d.before.store.tree n ≡ true → d.context.current ≡ Some n → (i : Item) → d.item ≡ i → uses i ≡ true
     → is_stale d.status ≡ false
 used_other d r n there at (Operation (Op.Read a)) is u =
     by_item Other d r (Operation (Op.Read a)) is (big_other d (Operation (Op.Read a)))

@@ -1,15 +1,14 @@
 -- No operation's result says NFS4ERR_EXPIRED.
-use Rattle.std.proofs.Common.{◌≡◌, ℕ, ◌<◌, Bool, true, false, List, ◌++◌, take, drop, Option, Some, None, append_assoc, cond, sym, ◌∙◌, ap, arith}
+use Rattle.std.proofs.Common.{◌≡◌, ℕ, ◌<◌, Bool, true, false, List, ◌++◌, take, Some, None, append_assoc, cond, sym, ◌∙◌, ap, arith}
 use Rattle.std.proofs.{lemmas.List.{take_at, drop_at}, lemmas.Nat.from_be_bytes-to_be_bytes_4}
 use Rattle.std.specs.{Prelude.{◌^◌, Result, Ok, Err}, Int.{w32, from_be_bytes}}
-use Rattle.nfs_xdr.specs.{Spelling.number, Status.status_number, StatusCodec.{status_of, statuses}, Tables.In, declared.status.Status.Status}
+use Rattle.nfs_xdr.specs.{Spelling.number, Status.status_number, StatusCodec.{status_of}, declared.status.Status.Status}
 use Rattle.nfs_xdr.specs.declared.status.Status.TheVariants.{RepTooBig, CompleteAlready}
 use Rattle.nfs_xdr.proofs.{Putting.length_number, StatusLaws.is_status_listing}
 use Rattle.nfs_compound.specs.{declared.op.Item.Item, declared.op.Item.TheVariants.Operation, Request.item_number}
 use Rattle.nfs_compound.specs.OpNum.{op_number}
 use Rattle.nfs_compound.specs.declared.op.Op.TheVariants as Op
 use Rattle.nfs_compound.specs.declared.op_num.OpNum.TheVariants as Num
-use Rattle.nfs_results.specs.declared.res.Res.TheVariants as Res
 use Rattle.nfs_results.specs.{declared.res.Res.Res, Parts.parts, Results.{operation_of, refusal, spell_result, status_of_result}}
 use Rattle.nfs_clients.specs.Marks.{has_reclaimed, with_reclaimed}
 use Rattle.nfs_names.specs.{declared.context.Context.Context, declared.node.Node.Node, Checks.current, State.moment}

@@ -1,18 +1,16 @@
 -- An open that stands behind an operation stood before it, with the bits that it had then, and was not closed; or the operation is the OPEN that granted it.
-use Rattle.std.proofs.Common.{◌≡◌, ◌≢◌, ◌⊎◌, ℕ, suc, ◌+◌, ◌≤◌, Bool, true, false, cond, not, List, [], ◌∷◌, ◌++◌, length, take, drop, map, Option, Some, None, refl, sym, ◌∙◌, ap, subst, arith, inl, inr}
-use Rattle.std.proofs.{lemmas.Bool.{cases_eq, cases_Bool, eq-eqb, eqb-false, le-leb, true≢false}, lemmas.Nat.from_be_bytes-to_be_bytes_8}
+use Rattle.std.proofs.Common.{◌≡◌, ◌⊎◌, ℕ, suc, ◌+◌, ◌≤◌, Bool, true, false, cond, not, List, ◌++◌, length, take, drop, map, Option, Some, None, refl, sym, ◌∙◌, ap, subst, arith, inl, inr}
+use Rattle.std.proofs.{lemmas.Bool.{cases_eq, eq-eqb, eqb-false, le-leb, true≢false}, lemmas.Nat.from_be_bytes-to_be_bytes_8}
 use Rattle.std.specs.{Prelude.{◌==◌, ◌&&◌, Ok, nat_le, is_none, bytes_eq, filter, if◌then◌else◌}, Int.{w64, from_be_bytes}}
-use Rattle.nfs_xdr.specs.{Spelling.{number, hyper}, Tables.In, declared.time.Time.Time, declared.status.Status.Status, declared.status.Status.TheVariants.{Delay, RepTooBig}}
+use Rattle.nfs_xdr.specs.{Spelling.{number, hyper}, Tables.In, declared.time.Time.Time}
 use Rattle.nfs_xdr.proofs.{Checks.all_passed, Lists.{in_filter, in_map, in_push}, Tables.in_once}
-use Rattle.nfs_compound.specs.{Stateid.stateid, OpNum.op_number, declared.open_args.Open.Open, declared.op.Op.Op, declared.op.Item.Item, declared.op.Item.TheVariants.Operation}
+use Rattle.nfs_compound.specs.{Stateid.stateid, declared.open_args.Open.Open, declared.op.Op.Op, declared.op.Item.Item, declared.op.Item.TheVariants.Operation}
 use Rattle.nfs_compound.specs.declared.op_num.OpNum.TheVariants as Num
-use Rattle.nfs_compound.specs.declared.op.Op.TheVariants as Op
-use Rattle.nfs_results.specs.{declared.res.ChangeInfo.ChangeInfo, declared.res.Res.Res, Items.open_ok, Results.{spell_result, done_head, status_of_result}}
-use Rattle.nfs_results.specs.declared.res.Res.TheVariants as Res
+use Rattle.nfs_results.specs.{declared.res.ChangeInfo.ChangeInfo, declared.res.Res.Res, Items.open_ok, Results.{spell_result, done_head}}
 use Rattle.nfs_opens.specs.{declared.records.OpenState.OpenState, declared.stateid.StateId.StateId, StateId.last_number, Table.{Table, Asked}, TableInvariants.IsTable}
 use Rattle.nfs_opens.specs.Calls.{open_fault, open_checks}
 use Rattle.nfs_opens.specs.Opening as opening
-use Rattle.nfs_names.specs.{declared.context.Context.Context, Outcome.{Outcome, checked, is_ok}, State.{State, moment}}
+use Rattle.nfs_names.specs.{declared.context.Context.Context, Outcome.{Outcome, checked}, State.{State, moment}}
 use Rattle.nfs_names.proofs.{Found.checked_ok, Ones.by_delay, Untouched.leaves_each}
 use Rattle.nfs_files.specs.{Open.{access_of, deny_of}, OpenTold.{names_open, OpenTold, Bits, bits_behind, IsOpenWith, claimed}, StateIds.wire_id}
 use Rattle.nfs_files.specs.Open as of_open

@@ -1,10 +1,10 @@
 -- Each open that stands was granted in some record, and nothing has ended it since.
-use Rattle.std.proofs.Common.{◌≡◌, ◌⊎◌, ℕ, ◌+◌, ◌<◌, ◌≤◌, not, Bool, true, false, List, [], ◌∷◌, ◌++◌, length, Option, Some, None, refl, sym, ◌∙◌, ap, subst, inl, inr}
+use Rattle.std.proofs.Common.{◌≡◌, ◌⊎◌, ℕ, ◌<◌, not, true, false, List, [], ◌∷◌, ◌++◌, length, Option, Some, None, refl, sym, ◌∙◌, ap, subst, inl, inr}
 use Rattle.std.proofs.{Common.{append_assoc, append-nil}, lemmas.Bool.{cases_Bool, eq-eqb, false≢true}}
 use Rattle.std.specs.{Prelude.{◌^◌, ◌==◌}, Option.option_map_or}
 use Rattle.nfs_xdr.proofs.Lists.{any_in, in_filter}
 use Rattle.nfs_opens.specs.{declared.records.OpenState.OpenState, Table.Table}
-use Rattle.nfs_names.specs.Ending.{has_open, table_staying}
+use Rattle.nfs_names.specs.Ending.{has_open}
 use Rattle.nfs_names.specs.State as of_store
 use Rattle.nfs_files.specs.OpenTold.{OpenTold, Bits, IsOpenWith}
 use Rattle.nfs_exec.specs.{Runs.LockHeld.replaces, Runs.OpenHeld.bits_left, Runs.Ops.{RanOp, ops_by}, Step.Laws.MachineEvent, Step.Machine.{Machine, IsMachine}}

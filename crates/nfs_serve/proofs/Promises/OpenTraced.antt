@@ -1,6 +1,5 @@
 -- An open that stands behind operations, or behind a record, back to the OPEN that granted it, or to what was before them.
 use Rattle.std.proofs.Common.{◌≡◌, ℕ, Bool, List, [], ◌∷◌, ◌++◌, refl, sym, ◌∙◌, ap, subst, inl, inr}
-use Rattle.std.specs.Prelude.{filter}
 use Rattle.nfs_xdr.specs.Tables.{In}
 use Rattle.nfs_xdr.proofs.Lists.{in_filter}
 use Rattle.nfs_opens.specs.{declared.records.OpenState.OpenState, Table.Table}

@@ -1,5 +1,5 @@
 -- A session that a CREATE_SESSION made stays, through whatever records come in time: that renewed its client's lease.
-use Rattle.std.proofs.Common.{◌≡◌, ℕ, ◌+◌, ◌≤◌, Bool, true, false, cond, eqb, List, ◌∷◌, length, Option, Some, None, Result, Ok, Err, refl, sym, ◌∙◌, ap, subst, arith}
+use Rattle.std.proofs.Common.{◌≡◌, ℕ, ◌≤◌, Bool, true, false, cond, eqb, List, ◌∷◌, length, Option, Some, None, Result, Ok, Err, refl, sym, ◌∙◌, ap, subst, arith}
 use Rattle.std.proofs.{lemmas.Bool.{eq-eqb, false≢true}, lemmas.Option.same_Some}
 use Rattle.std.specs.Prelude.{◌&&◌, is_some, option_map}
 use Rattle.nfs_xdr.specs.{Caller.Caller, declared.status.Status.Status, declared.status.Status.TheVariants.{Delay, MinorVersMismatch}}
@@ -12,7 +12,7 @@ use Rattle.nfs_lease.specs.Renewals.{Book, with_renewal}
 use Rattle.nfs_names.specs.Outcome.{is_ok}
 use Rattle.nfs_sessions.specs.{declared.id.SessionId.SessionId, declared.sessions.SessionFault.SessionFault, Sessions.{SessionTable, session_at, create}}
 use Rattle.nfs_exec.specs.{Runs.OneSession.MakesOne, Step.Compound.{bare, by_first, carried_out, compound, first_item}, Step.ExchangeId.without_any_lease}
-use Rattle.nfs_exec.specs.{Step.CreateSession.{by_created, by_verdict, creates, wish_of}, Step.Laws.{MachineEvent, Asks, stepped}}
+use Rattle.nfs_exec.specs.{Step.CreateSession.{by_created, by_verdict, creates, wish_of}, Step.Laws.{Asks}}
 use Rattle.nfs_exec.specs.{Step.Machine.{Machine, Outcome, by_fault, refuses}, Step.Place.item_fault, Step.Run.is_here}
 use Rattle.nfs_exec.proofs.Runs.Renewing.{AtLeast}
 use Rattle.nfs_serve.specs.{Step.{State, new_state}, Promises.Endpoint.Arrival, Promises.Points.{state_after, reached, taken, before, asked_by}}

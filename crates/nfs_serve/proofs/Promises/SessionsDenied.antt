@@ -1,8 +1,8 @@
 -- A session that stands is not answered NFS4ERR_BADSESSION.
-use Rattle.std.proofs.Common.{◌≡◌, ℕ, ◌+◌, ◌≤◌, Bool, true, false, cond, List, [], ◌∷◌, ◌++◌, length, Option, Some, None, refl, sym, ◌∙◌, ap, subst}
+use Rattle.std.proofs.Common.{◌≡◌, ℕ, ◌+◌, ◌≤◌, Bool, true, false, cond, List, [], ◌∷◌, ◌++◌, length, Option, Some, None, refl, sym, ◌∙◌, ap}
 use Rattle.std.proofs.lemmas.Bool.{false≢true}
 use Rattle.std.specs.Prelude.{◌==◌, nat_lt, nat_le, is_some}
-use Rattle.nfs_xdr.specs.{Caller.Caller, Checks.first_fault, Status.status_number, declared.status.Status.Status}
+use Rattle.nfs_xdr.specs.{Caller.Caller, Status.status_number, declared.status.Status.Status}
 use Rattle.nfs_xdr.specs.declared.status.Status.TheVariants as S
 use Rattle.nfs_compound.specs.{Request.item_number, declared.op.Item.TheVariants.Operation, declared.session_args.Sequence.Sequence, Request.Request}
 use Rattle.nfs_compound.specs.declared.op.Op.TheVariants as Op
@@ -10,12 +10,12 @@ use Rattle.nfs_slots.specs.declared.slot.Verdict.{Verdict}
 use Rattle.nfs_slots.specs.declared.slot.Verdict.TheVariants as V
 use Rattle.nfs_sessions.specs.{declared.id.SessionId.SessionId, Id.id_of, SessionSlots.{GrantedSlots, judge}, Sessions.{Session, session_at}}
 use Rattle.nfs_exec.specs.{Step.Compound.first_item, Step.Destroy.destroy_session, Step.Machine.{Machine, Outcome, by_fault}, Step.Place.item_fault, Step.Run.is_here}
-use Rattle.nfs_exec.specs.Step.Sequence.{Sequenced, Refuses, Repeats, Runs, unless, fresh_fault, slot_fault, by_verdict, by_slots, by_session, compared, sequenced}
+use Rattle.nfs_exec.specs.Step.Sequence.{Sequenced, Refuses, Repeats, Runs, unless, fresh_fault, slot_fault, by_verdict, by_slots, by_session, compared}
 use Rattle.nfs_exec.proofs.Step.RefusalsFit.{refused_status}
-use Rattle.nfs_serve.specs.{Step.State, Promises.Endpoint.Arrival, Promises.LockKept.{renews_by, replaces_by}}
-use Rattle.nfs_serve.specs.{Promises.Points.{state_after, reached, taken, before}, Promises.SessionStays.{HasSession, ends_by, StaysThere}}
+use Rattle.nfs_serve.specs.{Step.State, Promises.Endpoint.Arrival, Promises.LockKept.{renews_by}}
+use Rattle.nfs_serve.specs.{Promises.Points.{state_after, reached, taken, before}, Promises.SessionStays.{HasSession, StaysThere}}
 use Rattle.nfs_serve.specs.Promises.SessionsDenied.{IsBadSession, BySequence, ByDestroy, Stands, Made, Ran, LeaveSession, BadSessionIsTrue}
-use Rattle.nfs_serve.proofs.{Promises.SessionMade.made_stays, Promises.SessionStays.sessions_stay, Promises.Without.{AreGood, are_good}}
+use Rattle.nfs_serve.proofs.{Promises.SessionMade.made_stays, Promises.SessionStays.sessions_stay, Promises.Without.{are_good}}
 
 is_bad : Status → Bool
 is_bad f = status_number f == status_number S.BadSession

@@ -1,12 +1,11 @@
 -- The run of a session that ends, computed.
-use Rattle.std.proofs.Common.{◌≡◌, ℕ, ◌+◌, ◌*◌, ◌≤◌, Bool, true, false, List, [], ◌∷◌, ◌++◌, refl, sym, ap, arith, inl, inr}
-use Rattle.std.specs.Prelude.{◌^◌, ◌⊎◌}
-use Rattle.nfs_xdr.specs.Tables.{In}
-use Rattle.nfs_sessions.specs.Sessions.{Session, is_session}
-use Rattle.nfs_exec.specs.{Runs.OneSession.MakesOne, Runs.Ops.RanOp}
-use Rattle.nfs_serve.specs.{Promises.Points.{state_after, before, asked_by, taken}, Promises.HeldLock.{start, locked, renewal}}
-use Rattle.nfs_serve.specs.{Promises.SessionsDenied.{BySequence, ByDestroy, Made}, Promises.SessionStays.{id, forgetful}}
-use Rattle.nfs_serve.specs.Promises.SessionsDeniedWorked.{known, creates, goes_on, too_late, destroys, destroys_again, IsLeft, EndsAreRefused}
+use Rattle.std.proofs.Common.{◌+◌, ◌*◌, refl, ap, arith, inl, inr}
+use Rattle.std.specs.Prelude.{◌^◌}
+use Rattle.nfs_sessions.specs.Sessions.{is_session}
+use Rattle.nfs_exec.specs.{Runs.OneSession.MakesOne}
+use Rattle.nfs_serve.specs.{Promises.Points.{state_after, before, asked_by}}
+use Rattle.nfs_serve.specs.{Promises.SessionsDenied.{BySequence, ByDestroy, Made}, Promises.SessionStays.{id}}
+use Rattle.nfs_serve.specs.Promises.SessionsDeniedWorked.{known, creates, IsLeft, EndsAreRefused}
 use Rattle.nfs_serve.specs.Promises.SessionsOnce as once
 use Rattle.nfs_serve.proofs.{Promises.Computing.computing, Promises.SessionsWorked.given}
 

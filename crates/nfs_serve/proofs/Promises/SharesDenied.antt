@@ -1,5 +1,5 @@
 -- What is refused by NFS4ERR_SHARE_DENIED or by NFS4ERR_LOCKED is forbidden by an open that was granted and has not ended.
-use Rattle.std.proofs.Common.{◌≡◌, ◌⊎◌, ℕ, ◌+◌, ◌<◌, Bool, true, false, cond, not, List, [], ◌∷◌, ◌++◌, Option, Some, None, refl, sym, ◌∙◌, ap, subst, inl, inr}
+use Rattle.std.proofs.Common.{◌≡◌, ◌⊎◌, ℕ, ◌+◌, Bool, true, false, cond, List, [], ◌∷◌, ◌++◌, Option, Some, None, refl, sym, ◌∙◌, ap, subst, inl, inr}
 use Rattle.std.proofs.lemmas.Bool.{cases_Bool, and_parts, eqb-true, eq-eqb, false≢true}
 use Rattle.std.specs.{Prelude.{◌==◌, ◌&&◌, ◌||◌, is_none, is_some, Result, Ok, Err}, List.list_any}
 use Rattle.nfs_xdr.specs.{Checks.first_fault, Status.status_number, Tables.In, declared.time.Time.Time, declared.status.Status.Status}
@@ -14,14 +14,14 @@ use Rattle.nfs_compound.specs.declared.op_num.OpNum.TheVariants as Num
 use Rattle.nfs_results.specs.Results.{status_of_result}
 use Rattle.nfs_tree.specs.{declared.fault.TreeFault.TreeFault, declared.object.Object.Object, Bytes.has_bytes, Files.{object_at, lookup}, TreeInvariants.IsTree}
 use Rattle.nfs_tree.specs.declared.fault.TreeFault.TheVariants as T
-use Rattle.nfs_attrs.specs.{declared.wanted.AttrFault.AttrFault, declared.wanted.Wanted.Wanted, Reading.fault_status, Setting.make_checks}
+use Rattle.nfs_attrs.specs.{declared.wanted.AttrFault.AttrFault, declared.wanted.Wanted.Wanted, Reading.fault_status}
 use Rattle.nfs_attrs.specs.declared.wanted.AttrFault.TheVariants as F
 use Rattle.nfs_opens.specs.{declared.judging.Seat.Seat, declared.judging.Seat.TheVariants.{Anonymous, ReadBypass, Open as OpenSeat, Lock as LockSeat}}
 use Rattle.nfs_opens.specs.{declared.judging.Sort.TheVariants.Either, declared.records.OpenState.OpenState, declared.share.Share.Share, Share.meets}
 use Rattle.nfs_opens.specs.{declared.stateid.CurrentSeqid.TheVariants.Any, declared.stateid.StateId.StateId, Judging.{judge, judge_named, named, special}}
 use Rattle.nfs_opens.specs.{Opening.own_open, StateId.{last_number, is_anonymous, is_bypass}, Steps.map_err, Table.{Table, clashes_with}}
 use Rattle.nfs_names.specs.{declared.context.Context.Context, declared.making.Making.Making, declared.node.Node.Node, Checks.{node_as, node_at, denied, current}}
-use Rattle.nfs_names.specs.{Create.{wanted_of, attributes_in}, Faults.{status_of, by_tree}, Outcome.{Outcome, passed, checked, answers}, State.{State, is_open, moment}}
+use Rattle.nfs_names.specs.{Create.{wanted_of, attributes_in}, Faults.{status_of, by_tree}, Outcome.{Outcome, passed, checked, answers}, State.{State, moment}}
 use Rattle.nfs_names.specs.StoreInvariants.{IsStore}
 use Rattle.nfs_names.proofs.{Faulted.status_of_refusal, Found.{came, ok_is, checked_ok, or_fault, first_append}, Ones.by_delay}
 use Rattle.nfs_files.specs.{Bytes.{file_checks, seat, reading, writing, want_of, denials, seat_checks, may_use, if_passed, readable, writable}, StateIds.meant}
@@ -34,7 +34,7 @@ use Rattle.nfs_files.proofs.{Opened.none_at_next, Outcomes.one_or_delay, Passing
 use Rattle.nfs_exec.specs.Runs.Ops.{RanOp}
 use Rattle.nfs_exec.proofs.Runs.OneRun.{IsRun, by_item}
 use Rattle.nfs_serve.specs.{Step.new_state, Promises.Permitted.is_special, Promises.Points.reached}
-use Rattle.nfs_serve.specs.Promises.SharesDenied.{IsForbidden, ShareDenialsAreTrue, by_stateid, IsShut, LockedIsTrue}
+use Rattle.nfs_serve.specs.Promises.SharesDenied.{ShareDenialsAreTrue, by_stateid, LockedIsTrue}
 use Rattle.nfs_serve.proofs.{Promises.LaterRecords.{op_done, first_there}, Promises.OpenGranted.open_granted, Promises.PermittedBytes.{is_state, judged_state}, Promises.PermittedOpens.finds}
 use Rattle.nfs_serve.proofs.Promises.Points.{IsSound, sound_all, sound_new}
 use Rattle.nfs_serve.proofs.Promises.Without.{IsWithout, AreGood, all_good, are_good, err_without, ok_without, by_bool, then_without, checked_without, mapped_without, seat_without}

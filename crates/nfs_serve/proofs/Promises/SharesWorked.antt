@@ -1,21 +1,21 @@
 -- The runs of refusals for an open's sake that are true, and the refusals that are refused, computed.
-use Rattle.std.proofs.Common.{◌≡◌, ℕ, ◌+◌, ◌*◌, ◌≤◌, Bool, true, false, List, [], ◌∷◌, ◌++◌, length, take, drop, Some, None, refl, sym, ◌∙◌, ap, subst, arith, inl, inr}
-use Rattle.std.proofs.{lemmas.Bool.{and_parts, eq-eqb, true≢false, false≢true}, lemmas.Slice.Eq.bytes_eq-Decides}
-use Rattle.std.specs.Prelude.{◌^◌, ◌==◌, ◌&&◌, ◌||◌, not, nat_le, bytes_eq, filter, Ok}
+use Rattle.std.proofs.Common.{◌≡◌, ℕ, ◌+◌, ◌*◌, Bool, true, false, List, ◌∷◌, ◌++◌, length, take, refl, sym, ◌∙◌, ap, subst, arith, inl}
+use Rattle.std.proofs.{lemmas.Bool.{and_parts, eq-eqb, false≢true}, lemmas.Slice.Eq.bytes_eq-Decides}
+use Rattle.std.specs.Prelude.{◌^◌, ◌&&◌, bytes_eq, filter, Ok}
 use Rattle.nfs_xdr.specs.Tables.{In}
 use Rattle.nfs_xdr.proofs.Lists.{stays_in}
-use Rattle.nfs_compound.specs.{declared.op.Item.Item, declared.op.Item.TheVariants.Operation, declared.open_args.Open.Open, declared.stateid.Stateid.Stateid}
+use Rattle.nfs_compound.specs.{declared.op.Item.Item, declared.op.Item.TheVariants.Operation, declared.open_args.Open.Open}
 use Rattle.nfs_compound.specs.declared.op.Op.TheVariants as Op
 use Rattle.nfs_compound.specs.declared.op_num.OpNum.TheVariants as Num
 use Rattle.nfs_results.specs.Results.{done_head}
-use Rattle.nfs_opens.specs.{declared.share.Share.Share, declared.stateid.CurrentSeqid.TheVariants.Any, declared.stateid.StateId.StateId, Share.meets}
+use Rattle.nfs_opens.specs.{declared.stateid.CurrentSeqid.TheVariants.Any, declared.stateid.StateId.StateId}
 use Rattle.nfs_names.specs.declared.context.Context.{Context}
-use Rattle.nfs_files.specs.{Open.{access_of, deny_of}, OpenTold.{OpenTold, Bits, forbids, names_open}, StateIds.{state_id, meant}}
+use Rattle.nfs_files.specs.{OpenTold.{OpenTold, Bits, forbids, names_open}, StateIds.{state_id, meant}}
 use Rattle.nfs_exec.specs.Runs.Ops.{RanOp}
 use Rattle.nfs_exec.proofs.Runs.OneWalk.{in_back}
 use Rattle.nfs_serve.specs.{Step.new_state, Promises.Endpoint.Arrival, Promises.HeldOpen.{opens, asks}, Promises.HeldLock.{earlier, start, last_of}}
 use Rattle.nfs_serve.specs.{Promises.NoIsTrue.IsInLease, Promises.OpenGranted.{GrantsOpen, IsOpenSince, IsGrantedOpen, Before, Within}, Promises.Permitted.is_special}
-use Rattle.nfs_serve.specs.{Promises.Points.{reached, ops_of}, Promises.SharesDenied.{IsForbidden, IsShut}, Promises.WrongOpens.reads_too}
+use Rattle.nfs_serve.specs.{Promises.Points.{reached, ops_of}, Promises.WrongOpens.reads_too}
 use Rattle.nfs_serve.specs.Promises.SharesWorked.{before_asks, writes, before_writes, to_write, AreRefusedTruly, silence, asks_late, writes_late, asks_again, of_open, SharesRefused}
 use Rattle.nfs_serve.proofs.{Promises.Computing.computing, Promises.HeldLock.{nothing, three}, Promises.HeldOpen.two}
 use Rattle.nfs_serve.proofs.Promises.WrongDenials.{all_ops, in_records, none_in, one_in, late}

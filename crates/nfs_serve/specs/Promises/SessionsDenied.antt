@@ -5,7 +5,7 @@ use Rattle.nfs_xdr.specs.{Caller.Caller, declared.status.Status.TheVariants.BadS
 use Rattle.nfs_compound.specs.{declared.op.Item.Item, declared.op.Item.TheVariants.Operation, declared.session_args.Sequence.Sequence, Request.Request}
 use Rattle.nfs_compound.specs.declared.op.Op.TheVariants as Op
 use Rattle.nfs_sessions.specs.{declared.id.SessionId.SessionId, Id.id_of}
-use Rattle.nfs_exec.specs.{Runs.OneSession.MakesOne, Step.Compound.first_item, Step.Laws.{MachineEvent, Asks}, Step.Run.is_here, Step.Sequence.{Refuses, sequenced}}
+use Rattle.nfs_exec.specs.{Runs.OneSession.MakesOne, Step.Compound.first_item, Step.Laws.{Asks}, Step.Run.is_here, Step.Sequence.{Refuses, sequenced}}
 use Rattle.nfs_serve.specs.{Step.State, Promises.Endpoint.Arrival, Promises.LockKept.{renews_by, replaces_by}}
 use Rattle.nfs_serve.specs.{Promises.Points.{state_after, reached, taken, before, asked_by}, Promises.SessionStays.{ends_by, RunsThere}, Promises.SessionsOnce.GivesIn}
 

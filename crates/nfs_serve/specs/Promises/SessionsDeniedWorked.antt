@@ -1,10 +1,10 @@
 -- A session that ends, worked by hand in words of four bytes over the run of `HeldLock` (RFC 8881 sections 8.3, 18.36, 18.37 and 18.46). Client 1 of instance 7 makes its
 -- session 1 and renews its lease in it in time. Where it is silent, or ends the session, the answer is NFS4ERR_BADSESSION; and no stateid of the client is known then.
-use Rattle.std.specs.Prelude.{◌≡◌, ℕ, ◌+◌, ◌≤◌, List, [], ◌∷◌, ◌++◌}
+use Rattle.std.specs.Prelude.{◌≡◌, ◌+◌, ◌≤◌, List, [], ◌∷◌}
 use Rattle.nfs_xdr.specs.declared.status.Status.TheVariants.{Nfs4Ok, BadStateId}
 use Rattle.nfs_exec.specs.Runs.Ops.{RanOp}
 use Rattle.nfs_serve.specs.{Step.State, Promises.Endpoint.Arrival, Promises.Exchanges.words, Promises.HeldLock.{came, in_session, start, locks, locked, renewal, waits, last_of, statuses}}
-use Rattle.nfs_serve.specs.{Promises.HeldOpen.{opens, opened}, Promises.LostReply.{exchange_id, create_session}, Promises.NeverExpired.IsNotExpired}
+use Rattle.nfs_serve.specs.{Promises.HeldOpen.{opened}, Promises.LostReply.{exchange_id, create_session}, Promises.NeverExpired.IsNotExpired}
 use Rattle.nfs_serve.specs.{Promises.Points.{state_after, state_after_all, reached, taken, ops_of}, Promises.SessionStays.{id, forgetful}}
 use Rattle.nfs_serve.specs.Promises.SessionsDenied.{IsBadSession, Stands, LeaveSession}
 

@@ -1,6 +1,6 @@
 -- A no is true, also where an open is the reason: an OPEN that is answered NFS4ERR_SHARE_DENIED, and a READ, WRITE or SETATTR that is answered NFS4ERR_LOCKED, is
 -- forbidden by an open that was granted and that nothing has ended since (RFC 8881 sections 8.2.3, 9.7, 18.16, 18.22, 18.30 and 18.32).
-use Rattle.std.specs.Prelude.{◌≡◌, ℕ, ◌<◌, ◌^◌, Bool, true, List, ◌∷◌, ◌++◌, Option, Some, None, Ok, is_some}
+use Rattle.std.specs.Prelude.{◌≡◌, ℕ, ◌<◌, ◌^◌, true, List, ◌∷◌, ◌++◌, Option, Some, None, Ok, is_some}
 use Rattle.nfs_xdr.specs.declared.status.Status.TheVariants.{ShareDenied, Locked}
 use Rattle.nfs_compound.specs.{declared.file_args.SetAttr.SetAttr, declared.open_args.Open.Open, declared.op.Item.Item, declared.op.Item.TheVariants.Operation}
 use Rattle.nfs_compound.specs.declared.stateid.Stateid.{Stateid}
