@@ -103,6 +103,8 @@ pub mod RightsKept
 pub mod RightsTold
 pub mod EntriesAlike
 pub mod EntriesWorked
+pub mod ChangesFit
+pub mod ChangesFitWorked
 pub mod SessionsOnce
 pub mod SessionsWorked
 pub mod Staying

@@ -65,6 +65,8 @@ pub mod PermittedWorked
 pub mod RightsTold
 pub mod EntriesAlike
 pub mod EntriesWorked
+pub mod ChangesFit
+pub mod ChangesFitWorked
 pub mod SessionsOnce
 pub mod SessionsDenied
 pub mod NeverExpired

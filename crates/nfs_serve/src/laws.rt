@@ -15,6 +15,8 @@ ghost use Rattle.nfs_serve.specs.Promises.ChangeSeen.{ReportsAreTrue, ChangesAre
 ghost use Rattle.nfs_serve.specs.Promises.ChangeSeenWorked as change_seen;
 ghost use Rattle.nfs_serve.specs.Promises.ChangeTells.{ChangeTells, ReadsAreAlike, AttributesAreAlike, ChangeIsTold};
 ghost use Rattle.nfs_serve.specs.Promises.ChangeWorked.{ToldByChange, ToldByAttributes, ChangesAreRefused};
+ghost use Rattle.nfs_serve.specs.Promises.ChangesFit.{ChangesFit, ChangeIsRead, LastStays};
+ghost use Rattle.nfs_serve.specs.Promises.ChangesFitWorked.{ChangesAtLast};
 ghost use Rattle.nfs_serve.specs.Promises.EntriesAlike.{EntriesAreAlike};
 ghost use Rattle.nfs_serve.specs.Promises.EntriesWorked.{IsToldAlike, EntriesAreRefused, AttributesAreRefused};
 ghost use Rattle.nfs_serve.specs.Promises.Exchanges.{RunsTo, null_script, null_output, exchange_script, exchange_output};
@@ -583,6 +585,20 @@ pub fn reports_are_true()
 /// A change is seen: an operation that changes an object, and is answered NFS4_OK, gives it a change that is greater than at any moment before.
 pub fn changes_are_new()
     ensures { ChangesAreNew }
+{}
+
+/// In every run the change of an object is below 2^64; so the number that a GETATTR gives for it is the change itself; and what would change an object that has the last
+/// one is not answered NFS4_OK.
+pub fn changes_fit()
+    ensures fit { ChangesFit }
+    ensures read { ChangeIsRead }
+    ensures last { LastStays }
+{}
+
+/// The definitions compute: `changes_fit` refuses a GETATTR that gives the low eight bytes of the change 2^64 + 1, which are 1, and a WRITE to a file that has the last
+/// change, answered NFS4_OK.
+pub fn changes_at_last_are_refused()
+    ensures { ChangesAtLast }
 {}
 
 /// The definitions compute: OPEN makes a file, and reports the change of its directory; the file is written, and its change rises. That run meets the premises of

@@ -62,7 +62,7 @@ reports_are_true mode instance lease records c d n there ok at =
 by_report : (n : ℕ) (d : RanOp) (info : ChangeInfo) → IsTheirs n d info → info.before < info.after → Raises n d.before.store.tree d.behind.store.tree
 by_report n d info is less = subst (λ (k : ℕ). k < change_of d.behind.store.tree n) is.before (subst (λ (k : ℕ). info.before < k) is.after less)
 
-changes_raise : (n : ℕ) (d : RanOp) → IsRun d → is_there d.before.store.tree n ≡ true → is_ok d.status ≡ true → Changes n d
+pub changes_raise : (n : ℕ) (d : RanOp) → IsRun d → is_there d.before.store.tree n ≡ true → is_ok d.status ≡ true → Changes n d
     → Raises n d.before.store.tree d.behind.store.tree
 changes_raise n d r there ok (Writes a item at some) = by_ok (λ result left. Raises n d.before.store.tree left.tree) d r (Operation (Op.Write a)) item ok
     (write_raises n r.refused d.before.store d.context (moment r.now) a at there (lt-ltb 0 (length a.bytes) some))
