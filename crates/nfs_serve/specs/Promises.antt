@@ -66,6 +66,8 @@ pub mod RightsTold
 pub mod EntriesAlike
 pub mod EntriesWorked
 pub mod ChangesFit
+pub mod CloseToOpen
+pub mod CloseToOpenWorked
 pub mod ChangesFitWorked
 pub mod SessionsOnce
 pub mod SessionsDenied

@@ -17,6 +17,8 @@ ghost use Rattle.nfs_serve.specs.Promises.ChangeTells.{ChangeTells, ReadsAreAlik
 ghost use Rattle.nfs_serve.specs.Promises.ChangeWorked.{ToldByChange, ToldByAttributes, ChangesAreRefused};
 ghost use Rattle.nfs_serve.specs.Promises.ChangesFit.{ChangesFit, ChangeIsRead, LastStays};
 ghost use Rattle.nfs_serve.specs.Promises.ChangesFitWorked.{ChangesAtLast};
+ghost use Rattle.nfs_serve.specs.Promises.CloseToOpen.{CloseToOpen};
+ghost use Rattle.nfs_serve.specs.Promises.CloseToOpenWorked.{IsKept, StaleBytesRefused};
 ghost use Rattle.nfs_serve.specs.Promises.EntriesAlike.{EntriesAreAlike};
 ghost use Rattle.nfs_serve.specs.Promises.EntriesWorked.{IsToldAlike, EntriesAreRefused, AttributesAreRefused};
 ghost use Rattle.nfs_serve.specs.Promises.Exchanges.{RunsTo, null_script, null_output, exchange_script, exchange_output};
@@ -599,6 +601,23 @@ pub fn changes_fit()
 /// change, answered NFS4_OK.
 pub fn changes_at_last_are_refused()
     ensures { ChangesAtLast }
+{}
+
+/// Close-to-open: a client asks for a file's change, reads, and asks for the change once more; if it is the same, then what was read is what the last WRITE brought,
+/// whoever sent that, and whenever. So who opens a file behind another's CLOSE, and finds the change that it has kept, has kept the bytes of that other.
+pub fn close_to_open()
+    ensures { CloseToOpen }
+{}
+
+/// The definitions compute: a client asks for a file's change and reads it; another one writes it and closes; the first one opens it and finds another change, reads, opens it once
+/// more, and finds the change that it has kept. That run meets the premises of `close_to_open`.
+pub fn what_is_kept_is_read()
+    ensures { IsKept }
+{}
+
+/// The definitions compute: over that run `close_to_open` refuses a server whose WRITE keeps the change, since what the client kept is not what was written.
+pub fn stale_bytes_are_refused()
+    ensures { StaleBytesRefused }
 {}
 
 /// The definitions compute: OPEN makes a file, and reports the change of its directory; the file is written, and its change rises. That run meets the premises of

@@ -270,7 +270,7 @@ run_follows n t d r is =
 
 -- Records.
 
-follows_kept : (n : ℕ) (t : Files) → IsKept (λ s. Follows n t s.tree)
+pub follows_kept : (n : ℕ) (t : Files) → IsKept (λ s. Follows n t s.tree)
 follows_kept n t = record { run = λ d r is. run_follows n t d r is; end = λ stays s is. staying_follows n t stays s is }
 
 pub low_there : (n : ℕ) (m : Machine) → Is m → is_there m.store.tree n ≡ true → n ≤ m.store.tree.last_object
@@ -281,7 +281,7 @@ low_there n m is there =
 abbrev change : Option Stored → ℕ
 change o = option_map_or (λ (s : Stored). s.object.change) o 0
 
-told : (n : ℕ) (t u : Files) → Follows n t u → is_there u n ≡ true → Tells n t u
+pub told : (n : ℕ) (t u : Files) → Follows n t u → is_there u n ≡ true → Tells n t u
 told n t u follows there = go (stored_in u.objects n) refl there
   where
     go : (o : Option Stored) → stored_in u.objects n ≡ o → is_some o ≡ true → Tells n t u

@@ -285,7 +285,7 @@ values_same mask vals also e =
     let first : List ℕ = vals ++ replicate (padding (length vals)) 0 in
     let second : List ℕ = also ++ replicate (padding (length also)) 0 in
     let behind = rest_same 8 (done_head Num.GetAttr) (done_head Num.GetAttr) (set ++ (number (length vals) ++ first)) (set ++ (number (length also) ++ second))
-        (length_head (op_number Num.GetAttr) Nfs4Ok) (length_head (op_number Num.GetAttr) Nfs4Ok) e in
+    (length_head (op_number Num.GetAttr) Nfs4Ok) (length_head (op_number Num.GetAttr) Nfs4Ok) e in
     let texts = rest_same (length set) set set (number (length vals) ++ first) (number (length also) ++ second) refl refl behind in (
       replicate (padding (length vals)) 0,
       replicate (padding (length also)) 0,
@@ -299,7 +299,7 @@ one_value a b mask text small low first second =
     let whole = sym (append_assoc first.front (hyper a ++ first.behind) v.0) ∙ (v.2 ∙ append_assoc second.front (hyper b ++ second.behind) v.1) in
     let rest = rest_same _ first.front second.front ((hyper a ++ first.behind) ++ v.0) ((hyper b ++ second.behind) ++ v.1) first.long second.long whole in
     let same : hyper a ≡ hyper b = front_same 8 (hyper a) (hyper b) (first.behind ++ v.0) (second.behind ++ v.1) (hyper_long a) (hyper_long b)
-        (sym (append_assoc (hyper a) first.behind v.0) ∙ (rest ∙ append_assoc (hyper b) second.behind v.1)) in
+    (sym (append_assoc (hyper a) first.behind v.0) ∙ (rest ∙ append_assoc (hyper b) second.behind v.1)) in
     sym (hyper_back a small) ∙ (ap (from_be_bytes w64) same ∙ hyper_back b low)
 
 pub change_is_read : ChangeIsRead

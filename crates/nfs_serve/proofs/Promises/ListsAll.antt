@@ -203,7 +203,7 @@ module _ (P : RanOp → Type 0) (Before : RanOp → Option Context → Type 0) (
       → HoldsFor P Spares (back ++ all_ops (state_after s c) later)
   from_for s c back later holds = while_for back (all_ops (state_after s c) later) holds.0 (λ all. through_for (state_after s c) later (holds.1 all later))
 
-in_all : (s : State) (records : List Arrival) (d : RanOp) → In d (all_ops s records) → RunsIn s records d
+pub in_all : (s : State) (records : List Arrival) (d : RanOp) → In d (all_ops s records) → RunsIn s records d
 in_all s [] d there = there
 in_all s (c ∷ more) d there = elim (in_both (ops_of s c) (all_ops (state_after s c) more) d there) [ inl here ↦ inl here | inr later ↦ inr (in_all (state_after s c) more d later) ]
 

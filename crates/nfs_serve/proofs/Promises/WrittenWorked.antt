@@ -6,7 +6,7 @@ use Rattle.nfs_xdr.specs.Spelling.{number}
 use Rattle.nfs_compound.specs.declared.op_num.OpNum.TheVariants as Num
 use Rattle.nfs_compound.specs.declared.file_args.Write as args
 use Rattle.nfs_compound.specs.{declared.file_args.Read.Read, declared.file_args.StableHow.TheVariants.Unstable, declared.op.Item.Item}
-use Rattle.nfs_compound.specs.declared.op.Item.TheVariants.{Operation}
+use Rattle.nfs_compound.specs.{declared.op.Item.TheVariants.Operation, declared.open_args.OpenHow.OpenHow, declared.open_args.OpenHow.TheVariants.{NoCreate, Create}}
 use Rattle.nfs_compound.specs.declared.op.Op.TheVariants as Op
 use Rattle.nfs_results.specs.Results.{done_head}
 use Rattle.nfs_names.specs.{declared.context.Context.Context, Context.anonymous}
@@ -16,12 +16,16 @@ use Rattle.nfs_serve.specs.{Promises.Points.ops_of, Promises.Exchanges.words, Pr
 use Rattle.nfs_serve.specs.Promises.WrittenWorked.{StaysTo, BytesRefused, made, writes, written, goes_on, grown, closes, closed, reads, byte, answering}
 use Rattle.nfs_serve.proofs.{Promises.HeldLock.{nothing, three}, Promises.Computing.computing}
 
--- A WRITE behind the place, and whatever is none of the three that change bytes, spares the byte.
+-- A WRITE behind the place, an OPEN that makes nothing, and whatever is none of the three that change bytes, spares the byte.
+
+abbrev makes_it : OpenHow → Bool
+makes_it NoCreate = false
+makes_it (Create how) = true
 
 abbrev changes : Byte → Item → Bool
 changes b (Operation (Op.Write w)) = nat_le w.offset b.place
 changes b (Operation (Op.SetAttr a)) = true
-changes b (Operation (Op.Open a)) = true
+changes b (Operation (Op.Open a)) = makes_it a.openhow
 changes b i = false
 
 write_behind : (b : Byte) (x : Context) (i : Item) (result : List ℕ) → changes b i ≡ false → WritesOver b.file b.place x i result → ⊥
@@ -33,14 +37,14 @@ spared_by : (b : Byte) (d : RanOp) → changes b d.item ≡ false → SparesIt b
 spared_by b d e = record {
   writes = λ over. write_behind b d.context d.item d.result e over;
   sizes = λ sets. true≢false (sym (ap (changes b) sets.is) ∙ e);
-  opens = λ opens. true≢false (sym (ap (changes b) opens.is) ∙ e);
+  opens = λ opens. true≢false (sym (ap (changes b) opens.is ∙ ap makes_it opens.how) ∙ e);
 }
 
-abbrev all_spare : Byte → List RanOp → Bool
+abbrev pub all_spare : Byte → List RanOp → Bool
 all_spare b [] = true
 all_spare b (d ∷ ds) = not (changes b d.item) && all_spare b ds
 
-all_spared : (b : Byte) (ds : List RanOp) → all_spare b ds ≡ true → AreSpared b ds
+pub all_spared : (b : Byte) (ds : List RanOp) → all_spare b ds ≡ true → AreSpared b ds
 all_spared b [] e d there = absurd there
 all_spared b (x ∷ ds) e d there = (let p = and_parts _ _ e in elim there [
   | inl here ↦ subst (SparesIt b) (sym here) (spared_by b x (not-true _ p.0))
