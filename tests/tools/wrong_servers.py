@@ -462,7 +462,7 @@ class Proxy:
         except nfs4.Unreadable:
             call = None
         if call is None or call.procedure != 1 or call.flavor != 1:
-            return asked(behind, record)
+            return replied(behind, record)
         with self.lock:
             return self.changed(call, behind)
 
@@ -475,7 +475,7 @@ class Proxy:
             self.way.call(asked)
             made = [nfs4.write_operation(name, fields) for name, fields in asked.operations]
             record = nfs4.compound(call.xid, made, asked.uid, asked.gid, asked.gids, asked.tag, call.minor)
-        reply = asked(behind, record)
+        reply = replied(behind, record)
         told = reply and nfs4.Reply(reply)
         if not told or told.fault or not hasattr(told, "tag"):
             return reply
@@ -492,7 +492,7 @@ def rewritten(xid, told, results):
     return nfs4.write_reply(xid, status, told.tag, [nfs4.write_result(*result) for result in results])
 
 
-def asked(stream, record):
+def replied(stream, record):
     """The reply to a record, or None at the end."""
     stream.source.sendall(nfs4.record(record))
     return received(stream)
