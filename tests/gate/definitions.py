@@ -163,13 +163,13 @@ class Definitions:
             return self.known(home, rest or it.name, place)
         return (home, None) if home else None
 
-    def known(self, home, name, place):
-        """What a name of a file leads to, as (file, name); none if to std."""
+    def known(self, home, name, place=None):
+        """What a name of a file leads to, as (file, name); none if to std, or to nothing, which is a fault where a place is given."""
         try:
             return self.found(home, name)
         except Lost as why:
-            self.faults.append(f"{place}: {why}")
-            return home, name
+            self.faults += [f"{place}: {why}"] * bool(place)
+            return (home, name) if place else None
 
     def found(self, home, name, above=()):
         """The same, where a name that a file passes on leads to what it stands for there."""
@@ -186,12 +186,6 @@ class Definitions:
             with contextlib.suppress(Lost):
                 return self.found(below, name, above)
         raise Lost(f"{home[0]} specs.{home[1]} defines no {name}")
-
-    def reached(self, home, name):
-        """The same, or none where it leads to nothing."""
-        with contextlib.suppress(Lost):
-            return self.found(home, name)
-        return None
 
     def home_of(self, path, place):
         """The file of specs/ that a path in full leads to, and the name behind it, if any; or a Rust type, as (crate, (path,))."""
@@ -218,7 +212,7 @@ class Definitions:
         return None
 
     def at(self, cited):
-        home, name = cited[0] in self.names and self.reached(*cited) or (None, None)
+        home, name = cited[0] in self.names and self.known(*cited) or (None, None)
         return self.names.get(home, {}).get(name)
 
     # What a text names.
@@ -240,7 +234,7 @@ class Definitions:
             for home, name in imports.get(parts.get(first, first), ()):
                 if name or home not in self.names:
                     found.add((home, name))
-                elif more and (cited := self.reached(home, more[0])):
+                elif more and (cited := self.known(home, more[0])):
                     found.add(cited)
         return found
 

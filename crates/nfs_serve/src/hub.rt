@@ -1,9 +1,9 @@
 //! Up to 16 connections at once.
 
-ghost use Rattle.std.specs.Prelude.{◌≡◌, ◌<◌, ℕ, length, replicate, true, false, IfOk};
+ghost use Rattle.std.specs.Prelude.{◌≡◌, ◌<◌, ℕ, [], ◌∷◌, length, replicate, true, false, IfOk};
 ghost use Rattle.nfs_serve.specs.Server.{state_of};
 ghost use Rattle.nfs_serve.specs.Script.{connection_count};
-ghost use Rattle.nfs_serve.specs.Told.{Logs};
+ghost use Rattle.nfs_serve.specs.Told.{Sweep, Logs};
 ghost use Rattle.nfs_serve.specs.Desk.{closed, HasMore};
 ghost use Rattle.nfs_serve.specs.Hub.{Serves, at};
 ghost use Rattle.nfs_serve.specs.Lane.{desks_of};
@@ -95,10 +95,9 @@ fn serve_lanes<P: Ports, C: Clock, W: Watch<P, C>>(
 {
     for _ in 0..u64::MAX {
         let may_wait = !have_more(lanes);
-        if !begin(lanes, ports, may_wait) {
+        if !begin_sweep(lanes, ports, clock, may_wait) {
             return;
         }
-        clock.begin_sweep();
         sweep(alloc, engine, lanes, ports, clock);
         show(engine, ports, clock, watch);
     }
@@ -139,6 +138,26 @@ fn begin<P: Ports>(lanes: &mut [Lane], ports: &mut P, may_wait: bool) -> bool
         Next::Nobody => true,
         Next::Over => false,
     }
+}
+
+/// A sweep begins on the clock, once the connection has begun that is to begin. `false` where none is left and none will come: then none begins.
+fn begin_sweep<P: Ports, C: Clock>(
+    lanes: &mut [Lane],
+    ports: &mut P,
+    clock: &mut C,
+    may_wait: bool,
+) -> bool
+    requires ports { length lanes.old ≡ connection_count }
+    ensures length { length lanes.new ≡ connection_count }
+    ensures begins { Begins result (at (desks_of lanes.old)) (at (desks_of lanes.new)) (P.log ports.old) (P.log ports.new) }
+    ensures told { result ≡ true → Logs (C.told clock.old) (C.told clock.new) (Sweep ∷ []) }
+    ensures over { result ≡ false → (lanes.new ≡ lanes.old) × (C.told clock.new ≡ C.told clock.old) }
+{
+    if !begin(lanes, ports, may_wait) {
+        return false;
+    }
+    clock.begin_sweep();
+    true
 }
 
 /// Visits each port once, in the order of their numbers.

@@ -1,7 +1,7 @@
 //! One connection of many: what came, what is owed, and its turn.
 
-ghost use Rattle.std.specs.Prelude.{◌≡◌, ◌≤◌, ◌<◌, ◌||◌, length, drop, true, false, IfOk};
-ghost use Rattle.nfs_serve.specs.Told.{Logs};
+ghost use Rattle.std.specs.Prelude.{◌≡◌, ◌≤◌, ◌<◌, ◌||◌, [], ◌∷◌, length, drop, true, false, IfOk};
+ghost use Rattle.nfs_serve.specs.Told.{Turn, Logs};
 ghost use Rattle.nfs_serve.specs.Deeds.{counted};
 ghost use Rattle.nfs_serve.specs.Shows.{readied};
 ghost use Rattle.nfs_rpc.specs.RecordMarking.{is_too_long};
@@ -258,12 +258,14 @@ impl Lane {
         self.live && self.owed.rest().is_empty() && !self.unread.rest().is_empty()
     }
 
-    /// Whether the port has something to step, or else says that it is ready.
-    fn has_turn<P: Ports>(&self, port: u32, ports: &mut P) -> bool
+    /// The port's turn begins on the clock: whether it has something to step, or else says that it is ready.
+    fn begin_turn<P: Ports, C: Clock>(&self, port: u32, ports: &mut P, clock: &mut C) -> bool
         requires port { port ≤ last_connection }
+        ensures told { Logs (C.told clock.old) (C.told clock.new) (Turn ∷ []) }
         ensures logs { Logs (P.log ports.old) (P.log ports.new) (readied port result) }
         ensures none { result ≡ false → HasMore (desk_of self.now) → ⊥ }
     {
+        clock.begin_turn();
         if self.has_more() {
             return true;
         }
@@ -282,8 +284,7 @@ impl Lane {
         requires port { port ≤ last_connection }
         ensures { Visits port (stand engine.old.kept self.old (P.log ports.old) (C.told clock.old)) (stand engine.new.kept self.new (P.log ports.new) (C.told clock.new)) }
     {
-        clock.begin_turn();
-        if !self.has_turn(port, ports) {
+        if !self.begin_turn(port, ports, clock) {
             return;
         }
         self.turn(alloc, engine, port, ports, clock);

@@ -9,20 +9,21 @@ loop-init g c = (start (state_of c.args.engine.now.kept) c.args.lanes.now _ _ c.
 pub loop-preserved : goal.loop-preserved
 loop-preserved g c =
     let (before, len) = c.loop.invariant in
-    let begun : c.begin.result ≡ true = search rules in
-    let w = swept _ _ (at (desks_of c.loop.lanes)) (at (desks_of c.begin.new.lanes)) _ _ _ _ _ _ _
-    (subst (λ b. Begins b (at (desks_of c.loop.lanes)) (at (desks_of c.begin.new.lanes)) (g.P.Ports.log c.loop.ports) (g.P.Ports.log c.begin.new.ports)) begun c.begin.ensures.begins)
-    c.begin_sweep.ensures c.sweep.ensures.sweeps in
+    let begun : c.begin_sweep.result ≡ true = search rules in
+    let w = swept _ _ (at (desks_of c.loop.lanes)) (at (desks_of c.begin_sweep.new.lanes)) _ _ _ _ _ _ _
+    (subst (λ b. Begins b (at (desks_of c.loop.lanes)) (at (desks_of c.begin_sweep.new.lanes)) (g.P.Ports.log c.loop.ports) (g.P.Ports.log c.begin_sweep.new.ports)) begun c.begin_sweep.ensures.begins)
+    (c.begin_sweep.ensures.told begun) c.sweep.ensures.sweeps in
     (more _ _ _ (desks_of c.loop.lanes) (desks_of c.sweep.new.lanes) _ _ _ _ _ _ _ w.sweep before w.sweeps w.logs w.clock, c.sweep.ensures.length)
 
-pub returns-then-not-begin-clause-serves : goal.returns-then-not-begin-clause-serves
-returns-then-not-begin-clause-serves g c =
+pub returns-then-not-begin_sweep-clause-serves : goal.returns-then-not-begin_sweep-clause-serves
+returns-then-not-begin_sweep-clause-serves g c =
     let (before, len) = c.loop.invariant in
-    let none : c.begin.result ≡ false = search rules in (
+    let none : c.begin_sweep.result ≡ false = search rules in
+    let (lanes, told) = c.begin_sweep.ensures.over none in (
       c.loop.counter,
       _,
-      rw (c.begin.ensures.over none) before,
-      inl (subst (λ b. Begins b (at (desks_of c.loop.lanes)) (at (desks_of c.begin.new.lanes)) (g.P.Ports.log c.loop.ports) (g.P.Ports.log c.begin.new.ports)) none c.begin.ensures.begins),
+      rw lanes (rw told before),
+      inl (subst (λ b. Begins b (at (desks_of c.loop.lanes)) (at (desks_of c.begin_sweep.new.lanes)) (g.P.Ports.log c.loop.ports) (g.P.Ports.log c.begin_sweep.new.ports)) none c.begin_sweep.ensures.begins),
     )
 
 pub returns-clause-serves : goal.returns-clause-serves
