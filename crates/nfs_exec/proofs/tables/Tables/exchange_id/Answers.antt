@@ -1,11 +1,12 @@
-use Rattle.std.proofs.Common.{◌≡◌, Err, refl, sym, ◌∙◌, ap, subst}
+use Rattle.std.proofs.Common.{◌≡◌, Err, refl, rules, sym, true, ◌∙◌, ap, subst}
 use Rattle.nfs_xdr.specs.{Caller.caller, Checks.judged}
-use Rattle.nfs_clients.specs.{ExchangeId.{Ask, case_of, exchange}, Calls.{exchange_fault, ExchangesOrWants}}
+use Rattle.nfs_clients.specs.{ExchangeId.{Ask, case_of, exchange, fault_status}, Calls.{exchange_fault, ExchangesOrWants}}
+use Rattle.nfs_clients.specs.declared.exchange_id.ClientFault.TheVariants.{Memory}
 use Rattle.nfs_lease.specs.Renewals.{Book, leases_of, without_lease}
 use Rattle.nfs_results.specs.{declared.res.Res.Res, declared.res.ExchangeIdOk.ExchangeIdOk, Results.status_of_result}
 use Rattle.nfs_names.specs.Outcome.{is_delay}
 use Rattle.nfs_exec.specs.{Step.Machine.{with_result, or_delay, machine_of}, Step.ExchangeId.{exchange_id, ask_of}, Step.View.settled}
-use Rattle.nfs_exec.proofs.Step.Exchanging.{asked_as, answered_ok, refused_first, refused_last}
+use Rattle.nfs_exec.proofs.Step.Exchanging.{asked_as, answered_ok, refused_first, refused_last, wanted}
 use Rattle.nfs_exec.proofs.tables.Tables.exchange_id.Goals as goal
 
 pub returns-in-Err-clause-outcome : goal.returns-in-Err-clause-outcome
@@ -17,6 +18,20 @@ returns-in-Err-clause-outcome c =
     subst (λ (r : Res). with_result m r ≡ or_delay (is_delay (status_of_result r)) m 42 (exchange_id m who c.args.now e)) (sym c.refused.ensures)
     (refused_first m who c.args.now e c.in-Err.fault (case_of m.clients (ask_of m who e))
     (c.in-Err.ensures ∙ ap (λ (a : Ask). judged (exchange_fault m.clients a)) ask))
+
+pub returns-in_default-add-clause-outcome : goal.returns-in_default-add-clause-outcome
+returns-in_default-add-clause-outcome c =
+    let m = machine_of c.args.self.now in
+    let who = caller c.args.who.now in
+    let e = c.args.asked.now in
+    let ask = asked_as m who e _ _ c.bytes-owner.ensures c.owner_has_open-has_open.ensures in
+    let want = wanted m who c.args.now e (case_of m.clients (ask_of m who e))
+    (ap (λ (a : Ask). judged (exchange_fault m.clients a)) (sym ask) ∙ sym c.judge_exchange.ensures ∙ c.in_default.is) in
+    let same : leases_of c.add.new.self ≡ leases_of c.args.self.now.leases = search rules in
+    subst (λ (r : Res). with_result (record m { leases = leases_of c.add.new.self }) r
+    ≡ or_delay (is_delay (status_of_result r)) m 42 (exchange_id m who c.args.now e)) (sym c.refused-in_default-add.ensures)
+    (subst (λ (b : Book). with_result (record m { leases = b }) (Res.Refused 42 (fault_status Memory)) ≡ or_delay true m 42 (exchange_id m who c.args.now e))
+    (sym same) want)
 
 pub returns-in-Ok-exchange-clause-outcome : goal.returns-in-Ok-exchange-clause-outcome
 returns-in-Ok-exchange-clause-outcome c =
