@@ -87,7 +87,7 @@ SHOWS = LIBRARY.replace("ghost use", "pub mod laws;\nmod more;\nmod pair;\n#[cfg
 FIRST = {LIB: SHOWS, LAWS_AT: LAWS, WORDS_AT: WORDS}
 UNCALLED = "tried\thalved\tit is here to be proved\ntried\tsame\tit is here to be proved\n"
 UNMET = "- `tried Words.Met`: `tried laws::quotients`"
-STATED = "this states nothing"
+STATED, HOLLOW = "this states nothing", "Words.Halves: a part of it is true of everything"
 STALE = "BELIEVED.md is not what"
 UNSEEN = "it cannot be seen what this brings"
 NO_EQUATION = "no equation or equivalence of it"
@@ -277,12 +277,16 @@ def statements():
         "a law that a sum is at least a part of it": in_laws(HALVES, "(n : ℕ) → n ≤ n + 0"),
         "a law of a case that always holds": in_laws(HALVES, f"(n : ℕ) → (half n ≡ n) ⊎ (half n ≤ half n + 1)"),
         "a law of what is in an empty list": in_laws(HALVES, "(n : ℕ) → In n [] → half n ≡ n"),
+        "a law of a number above itself": in_laws(HALVES, "(n : ℕ) → half n ≡ half n + 1 → half n ≡ n"),
         "a law of a length below 0": in_laws(HALVES, "(n : ℕ) → half n < 0 → half n ≡ n"),
         "a law for whoever proves everything": in_laws(HALVES, "((A : Type 0) → A) → half 2 ≡ 1"),
         "a law whose premise's name is never met": named("Halves = (n : ℕ) → Never n → half n ≡ n\n\nabbrev pub Never : ℕ → Type 0\nNever n = half n < 0"),
         "a public call of which nothing is said": in_lib("(result ≤ number) × (number ≤ result)", "result ≡ result"),
     }.items():
         is_red(what, changes, STATED)
+    never = f"pub record Halves : Type 0 where\n  pub one : {HALVES}\n  pub two : (n : ℕ) → In n [] → half n ≡ n"
+    is_red("a law of a record of which one field is never asked for", named(never, HEAD + SAID), HOLLOW)
+    is_red("a law of a record of which one field has a case that always holds", named(never.replace("In n [] → half n ≡ n", "(half n ≡ n) ⊎ (n ≤ n + 1)"), HEAD + SAID), HOLLOW)
     for what, new in (("asks", "quotients()\n    requires { half 1 ≡ 1 }"), ("takes", "quotients(never: Never)"), ("answers", "quotients() -> u32")):
         is_red(f"a law that {what}", in_laws("quotients()", new), "a law takes and answers nothing")
     clause = f"    ensures {{ {HALVES} }}\n"

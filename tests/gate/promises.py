@@ -11,7 +11,7 @@ import re
 import rattle
 from definitions import Definitions
 from edits import public
-from rattle import crates, text_of
+from rattle import crates, rows_of, text_of
 from statements import Statements, bare, groups, is_binder, parts_of_record, split, tokens_of
 
 CALLS = "The calls that the program makes"
@@ -65,11 +65,6 @@ def listed(top):
     return {name.strip(): rest.split() for name, _, rest in (it.partition(":") for it in lines)}
 
 
-def rows_of(path):
-    """The rows of a table of tabs, without comments."""
-    return [line.split("\t") for line in text_of(path).splitlines() if line.strip() and not line.startswith("#")]
-
-
 def read(top):
     """The promises of a repository."""
     return Promises(Definitions(top), text_of(top / "docs/PROMISES.md"), [it for it in rows_of(top / "tests/gate/pins.tsv") if len(it) == 3], rows_of(top / "tests/gate/worked.tsv"))
@@ -102,6 +97,7 @@ class Promises:
         self.promises.append(self.of_laws(OTHERS, [it for it in self.laws if it not in told]))
         self.promises.append(self.of_laws(WORKED, [it for it in self.worked if it in self.laws]))
         asked = [self.lean(it) for it in self.promises]
+        self.faults += [f"{it}: a part of it is true of everything, or of nothing that there is" for it in sorted(self.whole().needed, key=str) if self.statements.is_hollow(it)]
         self.judge_pins(asked)
 
     # Laws, and whether they state anything.

@@ -27,6 +27,11 @@ def text_of(path):
     return Path(path).read_text(encoding="utf-8") if os.path.isfile(path) else ""
 
 
+def rows_of(path):
+    """The rows of a table of tabs, without comments."""
+    return [line.split("\t") for line in text_of(path).splitlines() if line.strip() and not line.startswith("#")]
+
+
 def crates(top):
     """The folders of a repository's crates."""
     return sorted(it.parent for it in Path(top).glob("crates/*/src"))

@@ -88,6 +88,25 @@ def is_sum(left, sign, right):
     return sign in ("≤", "≥") and (less == ["0"] or more[: len(less) + 1] == [*less, "+"] or more[-len(less) - 1 :] == ["+", *less])
 
 
+def is_always(tokens):
+    """Whether a relation says no more than that something is itself, or that a sum is at least a part of it."""
+    for sign in REFLEXIVE:
+        if len(sides := split(tokens, sign)) == 2:
+            left, right = map(bare, sides)
+            return left == right or is_sum(left, sign, right)
+    return False
+
+
+def is_absurd(tokens):
+    """Whether a relation says that something is above itself."""
+    for sign in ("≡", "≢", "<", "≤"):
+        if len(sides := split(tokens, sign)) == 2:
+            left, right = map(bare, sides)
+            is_more = lambda more, less: more[:-1] == [*less, "+"] and re.fullmatch("[1-9]\\d*", more[-1])
+            return bool(sign in "≢<" and left == right or sign in "≡<≤" and is_more(left, right) or sign == "≡" and is_more(right, left))
+    return False
+
+
 def equations(one):
     """The equations of a definition, each as its patterns and its text; none where it has no such."""
     found = []
@@ -174,10 +193,8 @@ class Statements:
             return all(self.says(it, scope, seen, known) for it in some)
         if len(parts := split(tokens, "×")) > 1:
             return any(self.says(it, scope, seen, known) for it in parts if not is_binder(it))
-        for sign in REFLEXIVE:
-            if len(sides := split(tokens, sign)) == 2:
-                left, right = map(bare, sides)
-                return left != right and not is_sum(left, sign, right) and not self.is_closed(tokens, (*scope[:2], () if known else scope[2]))
+        if any(len(split(tokens, sign)) == 2 for sign in REFLEXIVE):
+            return not is_always(tokens) and not self.is_closed(tokens, (*scope[:2], () if known else scope[2]))
         return self.applies(groups(tokens), scope, seen, known)
 
     def is_closed(self, tokens, scope):
@@ -191,7 +208,7 @@ class Statements:
         tokens = bare(tokens)
         if last in ([it] for it in names) or tokens == ["⊥"] or tokens[:1] == ["In"] and ["[", "]"] in (tokens[-2:], tokens[1:3]):
             return True
-        if tokens[-2:] in (["<", "0"], ["<", "zero"]) or any(it in tokens for it in RELATIONS) and self.is_closed(tokens, (*scope[:2], ())):
+        if tokens[-2:] in (["<", "0"], ["<", "zero"]) or is_absurd(tokens) or any(it in tokens for it in RELATIONS) and self.is_closed(tokens, (*scope[:2], ())):
             return True
         if len(parts := split(tokens, "×")) > 1:
             return any(self.is_never(it, scope, seen) for it in parts if not is_binder(it))
@@ -203,6 +220,15 @@ class Statements:
             return not constructors(one)
         some = self.types_in(one)
         return (one.is_record or len(some) == 1) and any(self.is_never(it, within, seen) for it in some)
+
+    def is_hollow(self, one):
+        """Whether a part of a definition is true of everything, or has a premise that nothing meets."""
+        return any(self.has_hollow(it, self.scope(one.file)) for it in (constructors(one) if one.is_data else self.types_in(one)))
+
+    def has_hollow(self, tokens, scope):
+        _, premises, last = premises_of(tokens)
+        parts = [it for sign in "×⊎" for some in [split(last, sign)] if len(some) > 1 for it in some if not is_binder(it)]
+        return any(self.is_never(it, scope, ()) for it in premises) or any(self.has_hollow(it, scope) for it in parts) or not parts and is_always(last)
 
     def applies(self, found, scope, seen, known):
         """The same of a name with its arguments."""

@@ -4,8 +4,9 @@ import sys
 from pathlib import Path
 
 TOP = Path(__file__).resolve().parents[2]
-sys.path.insert(0, str(TOP / "tools"))
+sys.path[:0] = [str(TOP / "tools"), str(TOP / "tests/gate")]
 import nfs4  # noqa: E402
+import rattle  # noqa: E402
 from wrong_servers import WRONG  # noqa: E402
 
 
@@ -16,8 +17,7 @@ def found(name):
 
 def least():
     """How many cases each part passes by tests/least.tsv, the fewest and the most, and how many tests and asserts the crates have."""
-    lines = (line.split("\t") for line in (TOP / "tests/least.tsv").read_text(encoding="utf-8").splitlines() if not line.startswith("#"))
-    return {line[0]: line[1].split("-") for line in lines}
+    return {name: number.split("-") for name, number, *_ in rattle.rows_of(TOP / "tests/least.tsv")}
 
 
 def most(part):
@@ -25,9 +25,8 @@ def most(part):
     return int(least()[part][-1])
 
 
-def crates(what):
-    """The tests or the asserts of all crates."""
-    return sum(int(counts[0]) for name, counts in least().items() if name.startswith(f"{what} of "))
+def tests_of_crates():
+    return sum(int(counts[0]) for name, counts in least().items() if name.startswith("tests of "))
 
 
 def constant(script, name):
@@ -69,7 +68,7 @@ COUNTS = {
     "events in these runs": lambda: sum(seeds(it) * constant(it, "EVENTS") for it in PLAYED),
     "records with changed bytes, sent beside a good client": lambda: constant("hostile", "MUTATED"),
     "wrong bodies, each refused by a contract": lambda: len(list(TOP.glob("crates/*/must-fail/*.edit"))),
-    "tests of the crates": lambda: crates("tests"),
+    "tests of the crates": tests_of_crates,
     "wrong servers, each refused by a law": wrong_servers,
     "wrong servers that a judge of servers has to find": lambda: len(WRONG),
     "wrong clients that a judge of clients has to find": wrong_clients,
