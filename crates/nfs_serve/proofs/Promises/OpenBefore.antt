@@ -13,10 +13,12 @@ use Rattle.nfs_opens.specs.Opening as opening
 use Rattle.nfs_names.specs.{declared.context.Context.Context, Outcome.{Outcome, checked}, State.{State, moment}}
 use Rattle.nfs_names.proofs.{Found.checked_ok, Ones.by_delay, Untouched.leaves_each}
 use Rattle.nfs_files.specs.{Open.{access_of, deny_of}, OpenTold.{names_open, OpenTold, Bits, bits_behind, IsOpenWith, claimed}, StateIds.wire_id}
+use Rattle.nfs_files.specs.OpenParts as open_parts
 use Rattle.nfs_files.specs.Open as of_open
 use Rattle.nfs_files.proofs.{Effected.caused_opens, OpensMoved.answered, Opened.shared_free, Outcomes.{one_or_delay, comes_to}, Steady.Few}
 use Rattle.nfs_files.proofs.Effects.{Effect, Opens, Narrows, Closes, Caused, table_behind}
 use Rattle.nfs_files.proofs.ToldOpens.{same_opens, asked_leads}
+use Rattle.nfs_files.proofs.InSteps as in_steps
 use Rattle.nfs_exec.specs.{Runs.LockHeld.ClosesOf, Runs.Ops.RanOp}
 use Rattle.nfs_exec.proofs.{Runs.KeptByRuns.Is, Runs.OneRun.{IsRun, by_item, by_run}, Runs.OpenHeld.open_stays}
 use Rattle.nfs_serve.specs.Promises.OpenGranted.{GrantsOpen}
@@ -161,7 +163,7 @@ new_small t a few own free =
     let left : (t.last == last_number) ≡ false = ap (λ (o : Option OpenState). is_none o && (t.last == last_number)) (sym own) ∙ passed.1.0 in
     elim (cases_eq t.last last_number) [ inl same ↦ absurd (eqb-false _ _ left same) | inr apart ↦ omega arith ]
 
-opened_from : (k : OpenTold) (b : Bits) (s : State) (x : Context) (now : Time) (a : Open) (f : _) → Few s.opens → of_open.asked_for s x a ≡ Ok f
+opened_from : (k : OpenTold) (b : Bits) (s : State) (x : Context) (now : Time) (a : Open) (f : _) → Few s.opens → open_parts.asked_for s x a ≡ Ok f
     → open_fault s.opens (of_open.asking x a (of_open.file_of s.tree f)) ≡ None → (o : Option OpenState)
     → opening.own_open s.opens (of_open.asking x a (of_open.file_of s.tree f)) ≡ o → NewOr k b s x a (of_open.opened s x now a f)
 opened_from k b s x now a f few asked free (Some p) own is =
@@ -193,12 +195,12 @@ opened_from k b s x now a f few asked free None own is =
 
 open_from : (k : OpenTold) (b : Bits) (s : State) (x : Context) (now : Time) (refused : Bool) (a : Open) → Few s.opens
     → NewOr k b s x a (one_or_delay refused s x now (Op.Open a))
-unfolding of_open.open_file
 open_from k b s x now refused a few =
     by_delay (NewOr k b s x a) refused s x Num.Open (of_open.open_file s x now a) (λ is. inr (b, is))
-    (answered (NewOr k b s x a) s x Num.Open (checked (of_open.asked_for s x a) (of_open.last_checks s x a)) (of_open.opened s x now a) (λ status is. inr (b, is))
-    (λ f granted. (let p = checked_ok (of_open.asked_for s x a) (of_open.last_checks s x a) f granted in
-    opened_from k b s x now a f few p.0 (shared_free s x a f p.1) (opening.own_open s.opens (of_open.asking x a (of_open.file_of s.tree f))) refl)))
+    (rw (in_steps.open_is s x now a)
+    (answered (NewOr k b s x a) s x Num.Open (checked (open_parts.asked_for s x a) (of_open.last_checks s x a)) (of_open.opened s x now a) (λ status is. inr (b, is))
+    (λ f granted. (let p = checked_ok (open_parts.asked_for s x a) (of_open.last_checks s x a) f granted in
+    opened_from k b s x now a f few p.0 (shared_free s x a f p.1) (opening.own_open s.opens (of_open.asking x a (of_open.file_of s.tree f))) refl))))
 
 open_run : (k : OpenTold) (b : Bits) (d : RanOp) → IsRun d → (a : Open) → d.item ≡ Operation (Op.Open a) → IsOpenWith k b d.behind.store.opens
     → GrantsOpen k b d ⊎ Stood k d.before.store.opens

@@ -24,13 +24,15 @@ use Rattle.nfs_names.specs.{declared.context.Context.Context, declared.making.Ma
 use Rattle.nfs_names.specs.{Create.{wanted_of, attributes_in}, Faults.{status_of, by_tree}, Outcome.{Outcome, passed, checked, answers}, State.{State, moment}}
 use Rattle.nfs_names.specs.StoreInvariants.{IsStore}
 use Rattle.nfs_names.proofs.{Faulted.status_of_refusal, Found.{came, ok_is, checked_ok, or_fault, first_append}, Ones.by_delay}
-use Rattle.nfs_files.specs.{Bytes.{file_checks, seat, reading, writing, want_of, denials, seat_checks, may_use, if_passed, readable, writable}, StateIds.meant}
-use Rattle.nfs_files.specs.Open.{makes, argument_checks, place_checks, absent_checks, there_checks, found_by, by_name, by_handle, by_claim, asked_for, asking, file_of}
+use Rattle.nfs_files.specs.{Bytes.{file_checks, seat, reading, writing, want_of, denials, seat_checks, may_use}, Parts.{if_passed, readable, writable}, StateIds.meant}
+use Rattle.nfs_files.specs.{Open.{makes, argument_checks, place_checks, absent_checks, there_checks, asking, file_of}, OpenParts.{found_by, by_name, by_handle, by_claim, asked_for}}
 use Rattle.nfs_files.specs.{Open.{tree_checks, last_checks, opened, open_file}, OpenTold.{OpenTold, Bits, IsOpenWith, named_in, claimed}}
 use Rattle.nfs_files.specs.Read as of_read
+use Rattle.nfs_files.specs.SetAttrParts as set_parts
 use Rattle.nfs_files.specs.SetAttr as of_set
 use Rattle.nfs_files.specs.Write as of_write
 use Rattle.nfs_files.proofs.{Opened.none_at_next, Outcomes.one_or_delay, Passing.mapped_came, WrittenOps.current_number}
+use Rattle.nfs_files.proofs.InSteps as in_steps
 use Rattle.nfs_exec.specs.Runs.Ops.{RanOp}
 use Rattle.nfs_exec.proofs.Runs.OneRun.{IsRun, by_item}
 use Rattle.nfs_serve.specs.{Step.new_state, Promises.Permitted.is_special, Promises.Points.reached}
@@ -257,10 +259,11 @@ is_denied s x a file tree store which some =
 
 open_denied : (s : State) (x : Context) (now : Time) (refused : Bool) (a : Open) → IsTree s.tree → IsStore s
     → is_reason (status_of_result (one_or_delay refused s x now (Op.Open a)).result) ≡ true → IsDenied s x a
-unfolding open_file is_reason
+unfolding is_reason
 open_denied s x now refused a tree store =
     by_delay (λ o. is_reason (status_of_result o.result) ≡ true → IsDenied s x a) refused s x Num.Open (open_file s x now a) (λ is. absurd (false≢true is)) (λ is.
-    (let (status, e, reason) = refused_by s x Num.Open (checked (asked_for s x a) (last_checks s x a)) (opened s x now a) (λ f. refl) is in
+    (let (status, e, reason) = refused_by s x Num.Open (checked (asked_for s x a) (last_checks s x a)) (opened s x now a) (λ f. refl)
+    (subst (λ (o : Outcome). is_reason (status_of_result o.result) ≡ true) (in_steps.open_is s x now a) is) in
     let (f, asked, fault) = by_checks (asked_for s x a) (last_checks s x a) status (asked_other s x a) reason e in
     is_denied s x a (file_of s.tree f) tree store (asked_file s x a f asked) (denied_first s x a f status reason fault)))
 
@@ -399,9 +402,9 @@ seat_other s x given d = seat_without is_reason refl refl s x given d
 
 use_denied : (s : State) (x : Context) (wanted : Share) (given : Stateid) (d : Node) (status : Status) → is_reason status ≡ true → may_use s x wanted given d ≡ Err status
     → IsDeniedBy s x wanted given d
-unfolding may_use
 use_denied s x wanted given d status is e =
-    let (k, seated, fault) = by_checks (seat s x given d) (seat_checks s x wanted d) status (seat_other s x given d) is e in
+    let (k, seated, fault) =
+    by_checks (seat s x given d) (seat_checks s x wanted d) status (seat_other s x given d) is (sym (in_steps.may_use_is s x wanted given d) ∙ e) in
     by_seat s x wanted given d k status (seat_meant s x given d k seated) is fault
 
 file_other : (v : Result Node Status) → IsOther v → IsOther (checked v file_checks)
@@ -429,17 +432,19 @@ write_denied s x given v status other is e =
 -- READ, WRITE and SETATTR
 
 read_by : (s : State) (x : Context) (a : Read) → is_reason (status_of_result (of_read.read s x a).result) ≡ true → DeniedOf s x reading a.stateid (current s x)
-unfolding of_read.read is_reason
+unfolding is_reason
 read_by s x a is =
-    let (status, e, reason) = refused_by s x Num.Read (readable s x a.stateid (current s x)) _ (λ d. refl) is in
+    let (status, e, reason) = refused_by s x Num.Read (readable s x a.stateid (current s x)) _ (λ d. refl)
+    (subst (λ (o : Outcome). is_reason (status_of_result o.result) ≡ true) (in_steps.read_is s x a) is) in
     read_denied s x a.stateid (current s x) status (current_other s x) reason e
 
 write_by : (s : State) (x : Context) (now : Time) (a : Write) → is_reason (status_of_result (of_write.write s x now a).result) ≡ true
     → DeniedOf s x writing a.stateid (current s x)
-unfolding of_write.write is_reason
+unfolding is_reason
 write_by s x now a is =
     let v = writable s x a.stateid (current s x) in
-    let (status, e, reason) = refused_by s x Num.Write (checked v (of_write.last_checks s a)) _ (λ d. refl) is in
+    let (status, e, reason) = refused_by s x Num.Write (checked v (of_write.last_checks s a)) _ (λ d. refl)
+    (subst (λ (o : Outcome). is_reason (status_of_result o.result) ≡ true) (in_steps.write_is s x now a) is) in
     write_denied s x a.stateid (current s x) status (current_other s x) reason
     (not_by_checks v (of_write.last_checks s a) status (λ d. good (of_write.last_checks s a d) refl) reason e)
 
@@ -448,27 +453,28 @@ abbrev GivesSize : Attributes → Type 0
 GivesSize a = (w : Wanted) × (attributes_in a ≡ Ok w) × (is_some w.size ≡ true)
 
 sized_denied : (s : State) (x : Context) (given : Stateid) (d : Node) (size : Option ℕ) (status : Status) → is_reason status ≡ true
-    → of_set.sized_by s x given d size ≡ Err status → (is_some size ≡ true) × DeniedOf s x writing given (Ok d)
+    → set_parts.sized_by s x given d size ≡ Err status → (is_some size ≡ true) × DeniedOf s x writing given (Ok d)
 sized_denied s x given d None status is e = absurd cc
 sized_denied s x given d (Some size) status is e = (refl, write_denied s x given (Ok d) status (ok_without is_reason d) is e)
 
-setting_other : (s : State) (x : Context) (a : SetAttr) → IsOther (of_set.setting s x a)
+setting_other : (s : State) (x : Context) (a : SetAttr) → IsOther (set_parts.setting s x a)
 unfolding is_reason
 setting_other s x a =
     then_without is_reason (current s x) _ (current_other s x) (λ d e. then_without is_reason (attributes_in a.obj_attributes) _ (wanted_other a.obj_attributes) (λ w f.
-    checked_without is_reason (Ok (record { node = d; wanted = w })) (of_set.owner_checks x) (ok_without is_reason (record { node = d; wanted = w }))
-    (λ k g. good (of_set.owner_checks x k) refl)))
+    checked_without is_reason (Ok (record { node = d; wanted = w })) (set_parts.owner_checks x) (ok_without is_reason (record { node = d; wanted = w }))
+    (λ k g. good (set_parts.owner_checks x k) refl)))
 
 set_by : (s : State) (x : Context) (now : Time) (a : SetAttr) → is_reason (status_of_result (of_set.set_attr s x now a).result) ≡ true
     → DeniedOf s x writing a.stateid (current s x) × GivesSize a.obj_attributes
-unfolding of_set.set_attr of_set.asked_for is_reason
+unfolding set_parts.asked_for is_reason
 set_by s x now a is =
-    let (status, e, reason) = refused_by s x Num.SetAttr (checked (of_set.asked_for s x a) (of_set.last_checks s)) _ (λ m. refl) is in
-    let asked = not_by_checks (of_set.asked_for s x a) (of_set.last_checks s) status (λ m. good (of_set.last_checks s m) refl) reason e in
-    let (m, setting, sized) = by_next (of_set.setting s x a) (of_set.sized s x a.stateid) status (setting_other s x a) reason asked in
+    let (status, e, reason) = refused_by s x Num.SetAttr (checked (set_parts.asked_for s x a) (set_parts.last_checks s)) _ (λ m. refl)
+    (subst (λ (o : Outcome). is_reason (status_of_result o.result) ≡ true) (in_steps.set_attr_is s x now a) is) in
+    let asked = not_by_checks (set_parts.asked_for s x a) (set_parts.last_checks s) status (λ m. good (set_parts.last_checks s m) refl) reason e in
+    let (m, setting, sized) = by_next (set_parts.setting s x a) (set_parts.sized s x a.stateid) status (setting_other s x a) reason asked in
     let d = came (current s x) _ m setting in
     let w = came (attributes_in a.obj_attributes) _ m d.then in
-    let one = ok_is refl (checked_ok (Ok (record { node = d.found; wanted = w.found })) (of_set.owner_checks x) m w.then).0 in
+    let one = ok_is refl (checked_ok (Ok (record { node = d.found; wanted = w.found })) (set_parts.owner_checks x) m w.then).0 in
     let node : d.found ≡ m.node = ap (λ m. m.node) one in
     let (some, denied) = sized_denied s x a.stateid m.node m.wanted.size status reason sized in
     let same : m.node ≡ denied.0 = ok_is refl denied.1 in (
