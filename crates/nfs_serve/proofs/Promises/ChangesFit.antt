@@ -1,26 +1,28 @@
 -- The change of an object is below 2^64, in every run.
-use Rattle.std.proofs.Common.{◌≡◌, ◌≢◌, inl, inr, ℕ, ◌+◌, ◌^◌, ◌-◌, ◌<◌, ◌≤◌, Bool, true, false, cond, not, List, [], ◌∷◌, ◌++◌, map, length, take, drop, append_assoc, Option, Some, None, refl, sym, ◌∙◌, ap, subst, arith}
-use Rattle.std.proofs.{lemmas.Bool.{cases_Bool, cases_eq, eq-eqb, ne_eqb, eqb-true, not-false, false≢true}, lemmas.List.{take_at, drop_at}, lemmas.Nat.from_be_bytes-to_be_bytes_8}
+use Rattle.std.proofs.Common.{◌≡◌, ◌≢◌, inl, inr, ℕ, ◌+◌, ◌^◌, ◌-◌, ◌<◌, ◌≤◌, Bool, true, false, cond, not, List, [], ◌∷◌, ◌++◌, map, length, take, drop}
+use Rattle.std.proofs.Common.{append_assoc, Option, Some, None, refl, sym, ◌∙◌, ap, subst, arith}
+use Rattle.std.proofs.{lemmas.Bool.{cases_Bool, cases_eq, eq-eqb, ne_eqb, eqb-true, not-false, false≢true}, lemmas.List.{take_at, drop_at}}
+use Rattle.std.proofs.lemmas.Nat.{from_be_bytes-to_be_bytes_8}
 use Rattle.std.specs.{Prelude.{◌==◌, ◌&&◌, filter, option_map, replicate, if◌then◌else◌}, Int.{w64, from_be_bytes}, Option.{ForSome, option_map_or}}
 use Rattle.nfs_xdr.specs.{declared.time.Time.Time, Spelling.{number, hyper, padding}, Tables.In, declared.status.Status.TheVariants.Nfs4Ok}
 use Rattle.nfs_xdr.proofs.{Checks.all_passed, Lists.{find_in, find_past, find_out, find_push_some, find_push_none, find_push_other}, Putting.length_number}
-use Rattle.nfs_compound.specs.{declared.op.Item.Item, declared.op.Item.TheVariants.Operation, declared.op.Op.Op}
+use Rattle.nfs_compound.specs.{declared.op.Item.Item, declared.op.Item.TheVariants.Operation, declared.op.Op.Op, OpNum.op_number}
 use Rattle.nfs_compound.specs.declared.op.Op.TheVariants as Op
 use Rattle.nfs_compound.specs.declared.op_num.OpNum.TheVariants as Num
-use Rattle.nfs_compound.specs.OpNum.{op_number}
 use Rattle.nfs_results.proofs.Lengths.{length_head}
 use Rattle.nfs_results.specs.Items as results
 use Rattle.nfs_results.specs.{declared.res.Res.Res, Results.{spell_result, done_head}}
 use Rattle.nfs_results.specs.declared.res.Res.TheVariants as Res
 use Rattle.nfs_tree.specs.{declared.sets.Sets.Sets, declared.stored.Stored.Stored, Object.{modified, no_sets}, TreeInvariants.IsTree}
-use Rattle.nfs_tree.specs.Files.{Files, root, last_count, stored_in, can_change, is_directory_at, change_of, change_at, with_changed, with_entries_changed, with_links_changed, lookup, named}
-use Rattle.nfs_tree.specs.{Calls.CanChange, Create.{new_object, data_of}, Names.{with_link, without_name, Move, moves, replaced_object, with_moved}}
-use Rattle.nfs_tree.specs.{Bytes.{written, resized, with_bytes}, Calls.rename_fault}
-use Rattle.nfs_tree.proofs.{IndexedLemmas.can_of, Objects.{keeps_changed, stored_map, can_change_all, can_change_after}, Put.{create_granted, link_granted}, Sized.{write_granted, resize_granted}}
-use Rattle.nfs_tree.proofs.{Trees.{remove_granted, has_one, apart}, Moved.{move_granted, replaced_source, replaced_target, replaced_can}}
+use Rattle.nfs_tree.specs.Files.{Files, root, last_count, stored_in, can_change, is_directory_at, change_of, change_at, with_changed, with_entries_changed}
+use Rattle.nfs_tree.specs.{Files.{with_links_changed, lookup, named}, Calls.{CanChange, rename_fault}, Create.{new_object, data_of}}
+use Rattle.nfs_tree.specs.{Names.{with_link, without_name, Move, moves, replaced_object, with_moved}, Bytes.{written, resized, with_bytes}}
+use Rattle.nfs_tree.proofs.{IndexedLemmas.can_of, Objects.{keeps_changed, stored_map, can_change_all, can_change_after}, Put.{create_granted, link_granted}}
+use Rattle.nfs_tree.proofs.{Sized.{write_granted, resize_granted}, Trees.{remove_granted, has_one, apart}}
+use Rattle.nfs_tree.proofs.Moved.{move_granted, replaced_source, replaced_target, replaced_can}
 use Rattle.nfs_attrs.specs.{declared.mask.Mask.Mask, declared.wanted.Wanted.Wanted, Mask.{trimmed_words, common}, Attributes.readable}
-use Rattle.nfs_names.specs.{declared.context.Context.Context, State.{with_tree, is_used, without_unused, moment}, Ending.{with_opens, table_staying}, Rename.without_replaced}
-use Rattle.nfs_names.specs.Outcome.{Outcome, checked, is_ok}
+use Rattle.nfs_names.specs.{declared.context.Context.Context, State.{with_tree, is_used, without_unused, moment}, Ending.{with_opens, table_staying}}
+use Rattle.nfs_names.specs.{Rename.without_replaced, Outcome.{Outcome, checked, is_ok}}
 use Rattle.nfs_names.specs.State as store
 use Rattle.nfs_names.specs.Operation as names
 use Rattle.nfs_names.proofs.{Found.checked_ok, Ones.{by_delay, each_of}, Effects.{Makes, Links, Removes, Moves}}

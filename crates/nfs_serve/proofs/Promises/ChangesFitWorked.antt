@@ -7,8 +7,8 @@ use Rattle.nfs_tree.specs.Files.{change_of}
 use Rattle.nfs_attrs.specs.{Attributes.values, Mask.mask_of}
 use Rattle.nfs_names.specs.{Context.anonymous, GetAttr.get_attr, Outcome.is_ok}
 use Rattle.nfs_exec.specs.{Runs.AttributesTold.TellsValue, Runs.Ops.RanOp}
-use Rattle.nfs_serve.specs.{Promises.ChangeSeen.{Changes, Writes}, Promises.ChangeTells.GetsOf, Promises.ChangesFitWorked.{cut, write, ChangesAtLast}, Promises.EntriesWorked.asked_for}
-use Rattle.nfs_serve.specs.Promises.Exchanges.{words}
+use Rattle.nfs_serve.specs.{Promises.ChangeSeen.{Changes, Writes}, Promises.ChangeTells.GetsOf, Promises.ChangesFitWorked.{cut, write, ChangesAtLast}}
+use Rattle.nfs_serve.specs.{Promises.EntriesWorked.asked_for, Promises.Exchanges.words}
 use Rattle.nfs_serve.proofs.Promises.Computing.{computing}
 
 tells_one : (d : RanOp) → TellsValue 3 (hyper 1) (mask_of asked_for) (cut d).result

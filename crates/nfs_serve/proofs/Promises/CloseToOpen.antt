@@ -1,8 +1,9 @@
 -- Close-to-open, in every run: a WRITE before the READ stays, and one behind it would have raised the change.
-use Rattle.std.proofs.Common.{◌≡◌, ◌⊎◌, inl, inr, ℕ, zero, suc, ◌<◌, ◌≤◌, Bool, true, Some, List, [], ◌∷◌, ◌++◌, length, drop, take, append_assoc, refl, sym, ◌∙◌, ap, subst, arith}
-use Rattle.std.proofs.lemmas.List.{take_at, drop_at}
-use Rattle.std.specs.{Prelude.{◌&&◌}, Int.{w32, from_be_bytes}}
-use Rattle.nfs_xdr.specs.{Spelling.number, Tables.In, declared.time.Time.Time, declared.status.Status.Status, declared.status.Status.TheVariants.{Nfs4Ok, Delay, RepTooBig}}
+use Rattle.std.proofs.Common.{◌≡◌, ◌⊎◌, inl, inr, ℕ, zero, suc, ◌<◌, ◌≤◌, Bool, true, Some, List, [], ◌∷◌, ◌++◌, length, drop, take, append_assoc, refl, sym}
+use Rattle.std.proofs.{Common.{◌∙◌, ap, subst, arith}, lemmas.List.{take_at, drop_at}}
+use Rattle.std.specs.{Prelude.◌&&◌, Int.{w32, from_be_bytes}}
+use Rattle.nfs_xdr.specs.{Spelling.number, Tables.In, declared.time.Time.Time, declared.status.Status.Status}
+use Rattle.nfs_xdr.specs.declared.status.Status.TheVariants.{Nfs4Ok, Delay, RepTooBig}
 use Rattle.nfs_xdr.proofs.Putting.{length_number}
 use Rattle.nfs_compound.specs.{declared.file_args.Write.Write, declared.op.Item.TheVariants.Operation, OpNum.op_number}
 use Rattle.nfs_compound.specs.declared.op.Op.TheVariants as Op
@@ -13,15 +14,16 @@ use Rattle.nfs_tree.specs.Files.{Files, is_there, change_of}
 use Rattle.nfs_names.specs.{declared.context.Context.Context, Checks.current, Outcome.{Outcome, checked, is_ok}, State.moment}
 use Rattle.nfs_names.specs.State as store
 use Rattle.nfs_names.proofs.{Found.{checked_ok, current_is}, Ones.by_delay}
-use Rattle.nfs_files.specs.{Bytes.writable, Operation.grows, Written.{Byte, GivesIt}}
+use Rattle.nfs_files.specs.{Operation.grows, Parts.{writable, was_written}, Written.{Byte, GivesIt}}
 use Rattle.nfs_files.specs.Write as of_write
-use Rattle.nfs_files.proofs.{Outcomes.one_or_delay, WrittenOps.{by_found, current_number, writable_at, number_back, write_spelled}, WrittenTold.short}
+use Rattle.nfs_files.proofs.{InSteps.write_is, Outcomes.one_or_delay, WrittenOps.{by_found, current_number, writable_at, number_back, write_spelled}, WrittenTold.short}
 use Rattle.nfs_exec.specs.{Runs.Ops.RanOp, Runs.WrittenRun.{WritesIt, SparesIt, AreSpared, StandsBefore, StandsWhile}}
-use Rattle.nfs_exec.proofs.{Runs.OneRun.{IsRun, by_item}, Runs.OneWalk.{none_at}}
+use Rattle.nfs_exec.proofs.{Runs.OneRun.{IsRun, by_item}, Runs.OneWalk.none_at}
 use Rattle.nfs_serve.specs.{Step.{State, new_state}, Promises.ChangeTells.{GetsOf, RunsIn}, Promises.ChangeSeen.Writes}
 use Rattle.nfs_serve.specs.{Promises.CloseToOpen.{TellsChange, Keeps, IsWritten, CloseToOpen}, Promises.Endpoint.Arrival, Promises.ListsAll.all_ops}
 use Rattle.nfs_serve.specs.{Promises.Points.{state_after, state_after_all, reached, ops_of}, Promises.WrittenStays.StaysWritten}
-use Rattle.nfs_serve.proofs.{Promises.ChangeAttributes.{gets_run, stored_there}, Promises.ChangeSeen.changes_are_new, Promises.ChangesFit.change_is_read, Promises.ListsAll.in_all, Promises.NameSaid.some_same}
+use Rattle.nfs_serve.proofs.{Promises.ChangeAttributes.{gets_run, stored_there}, Promises.ChangeSeen.changes_are_new, Promises.ChangesFit.change_is_read}
+use Rattle.nfs_serve.proofs.{Promises.ListsAll.in_all, Promises.NameSaid.some_same}
 use Rattle.nfs_serve.proofs.Promises.ChangeTells.{Follows, follows_itself, run_follows, follows_kept, low_there, told}
 use Rattle.nfs_serve.proofs.{Promises.LaterRecords.{IsDone, op_done, first_there, later_keeps}, Promises.PageLists.{in_both, first_in, second_in}}
 use Rattle.nfs_serve.proofs.{Promises.Points.{IsSound, sound_all, sound_new}, Promises.WrittenStays.bytes_stay}
@@ -86,11 +88,10 @@ Wrote n t w count more status text =
 
 write_told : (n : ℕ) (refused : Bool) (s : store.State) (x : Context) (now : Time) (w : Write) (count more : List ℕ) → x.current ≡ Some n → length count ≡ 4
     → 0 < from_be_bytes w32 count → (let o = one_or_delay refused s x now (Op.Write w) in Wrote n s.tree w count more (status_of_result o.result) (spell_result o.result))
-unfolding of_write.write
 write_told n refused s x now w count more at long some =
     let P : Outcome → Type 0 = λ o. Wrote n s.tree w count more (status_of_result o.result) (spell_result o.result) in
     by_delay P (grows s x (Op.Write w) && refused) s x Num.Write (of_write.write s x now w) (λ told. absurd (short Num.Write Delay count more long told))
-    (by_found P s x Num.Write (checked (writable s x w.stateid (current s x)) (of_write.last_checks s w)) (of_write.was_written s x now w)
+    (subst P (sym (write_is s x now w)) (by_found P s x Num.Write (checked (writable s x w.stateid (current s x)) (of_write.last_checks s w)) (was_written s x now w)
     (λ status told. absurd (short Num.Write status count more long told))
     (λ d granted told.
     (let here = writable_at s x w.stateid d (checked_ok (writable s x w.stateid (current s x)) (of_write.last_checks s w) d granted).0 in
@@ -99,7 +100,7 @@ write_told n refused s x now w count more at long some =
       refl,
       some_told (length w.bytes) count same some,
       subst (λ n. is_there s.tree n ≡ true) (some_same x.current d.number n (current_number s x d here) at) (current_is s x d here).there,
-    ))))
+    )))))
 
 wrote : (b : Byte) (d : RanOp) → IsRun d → (w : WritesIt b d) → (is_ok d.status ≡ true) × (0 < length w.over.asked.bytes) × (is_there d.before.store.tree b.file ≡ true)
 wrote b d run w =

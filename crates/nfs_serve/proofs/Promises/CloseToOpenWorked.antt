@@ -1,6 +1,5 @@
 -- The run of close-to-open, and the server that it refuses, computed.
-use Rattle.std.proofs.Common.{◌≡◌, ℕ, ◌^◌, ◌<◌, List, [], ◌∷◌, ◌++◌, take, append_assoc, refl, sym, ◌∙◌, ap, arith}
-use Rattle.std.proofs.lemmas.Bool.{ltb-true}
+use Rattle.std.proofs.{Common.{◌≡◌, ℕ, ◌^◌, ◌<◌, List, [], ◌∷◌, ◌++◌, take, append_assoc, refl, sym, ◌∙◌, ap, arith}, lemmas.Bool.ltb-true}
 use Rattle.nfs_attrs.specs.Attributes.{values}
 use Rattle.nfs_names.specs.GetAttr.{get_attr}
 use Rattle.nfs_xdr.specs.Spelling.{hyper}
@@ -10,10 +9,10 @@ use Rattle.nfs_results.specs.declared.res.Res.TheVariants as Res
 use Rattle.nfs_files.specs.Written.{bytes_in, GivesIt, Reads}
 use Rattle.nfs_exec.specs.{Runs.Ops.RanOp, Runs.WrittenRun.{WritesIt, AreSpared}}
 use Rattle.nfs_serve.specs.{Step.new_state, Promises.ChangeTells.GetsOf, Promises.CloseToOpen.{TellsChange, Keeps, IsWritten}, Promises.Exchanges.words}
-use Rattle.nfs_serve.specs.Promises.CloseToOpenWorked.{the_change, comes, begins, looks, reads_early, writes, closes, first_open, reads, second_open, records, there, ready}
-use Rattle.nfs_serve.specs.Promises.CloseToOpenWorked.{looked, read_early, written, closed, opened, read_again, IsKept, telling, StaleBytesRefused}
-use Rattle.nfs_serve.specs.{Promises.HeldLock.{came, start, last_of}, Promises.ListsAll.all_ops, Promises.LostReply.{exchange_id, create_session}, Promises.Points.{state_after, ops_of}}
-use Rattle.nfs_serve.specs.Promises.WrittenWorked.{makes, made, byte}
+use Rattle.nfs_serve.specs.Promises.CloseToOpenWorked.{the_change, comes, begins, looks, reads_early, writes, closes, first_open, reads, second_open, records}
+use Rattle.nfs_serve.specs.Promises.CloseToOpenWorked.{there, ready, looked, read_early, written, closed, opened, read_again, IsKept, telling}
+use Rattle.nfs_serve.specs.{Promises.CloseToOpenWorked.StaleBytesRefused, Promises.HeldLock.{came, start, last_of}, Promises.ListsAll.all_ops}
+use Rattle.nfs_serve.specs.{Promises.LostReply.{exchange_id, create_session}, Promises.Points.{state_after, ops_of}, Promises.WrittenWorked.{makes, made, byte}}
 use Rattle.nfs_serve.proofs.{Promises.Computing.computing, Promises.HeldLock.{nothing, three}, Promises.WrittenWorked.{all_spared, wrote, reads_it}}
 
 -- Lists of operations, one behind the other.

@@ -12,9 +12,9 @@ use Rattle.nfs_names.specs.{GetAttr.get_attr, ReadDir.{entry_of, fitting, read_d
 use Rattle.nfs_tree.specs.Files.{root, change_of}
 use Rattle.nfs_exec.specs.{Runs.AttributesTold.TellsValue, Runs.Ops.RanOp}
 use Rattle.nfs_serve.specs.{Promises.HeldLock.last_of, Promises.Points.ops_of, Promises.ChangeWorked.{read_once, gets, got_once}}
-use Rattle.nfs_serve.specs.{Promises.EntriesAlike.{TellsOf, Gets, Lists}, Promises.ListsAll.{Page}}
-use Rattle.nfs_serve.specs.Promises.EntriesWorked.{asked_for, lists, asked, attributes, entry, listing, spelled, told, listing_op, IsToldAlike, TellsOther, EntriesAreRefused}
-use Rattle.nfs_serve.specs.{Promises.ChangeTells.GetsOf, Promises.EntriesWorked.{getting, AttributesAreRefused}}
+use Rattle.nfs_serve.specs.{Promises.EntriesAlike.{TellsOf, Gets, Lists}, Promises.ListsAll.Page}
+use Rattle.nfs_serve.specs.Promises.EntriesWorked.{asked_for, lists, asked, attributes, entry, listing, spelled, told, listing_op, IsToldAlike, TellsOther}
+use Rattle.nfs_serve.specs.{Promises.EntriesWorked.{EntriesAreRefused, getting, AttributesAreRefused}, Promises.ChangeTells.GetsOf}
 use Rattle.nfs_serve.proofs.{Promises.Computing.computing, Promises.HeldLock.{nothing, three}, Promises.LeaseListed.two, Promises.ListsWorked.are_bytes}
 
 abbrev got : RanOp

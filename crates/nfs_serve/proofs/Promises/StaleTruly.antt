@@ -1,5 +1,5 @@
 -- What is answered NFS4ERR_STALE of the current filehandle's object is gone; and a run, computed.
-use Rattle.std.proofs.{Common.{◌≡◌, true, refl, inl, inr}, lemmas.Bool.{cases_Bool, true≢false}}
+use Rattle.std.proofs.{Common.{refl, inl, inr}, lemmas.Bool.{cases_Bool, true≢false}}
 use Rattle.nfs_names.specs.{GetFh.get_fh, Remove.remove, State.is_used}
 use Rattle.nfs_exec.proofs.Runs.WrittenRun.{used_there}
 use Rattle.nfs_serve.specs.{Step.new_state, Promises.Points.reached, Promises.StaleTruly.{StaleIsTrue, IsGone}}

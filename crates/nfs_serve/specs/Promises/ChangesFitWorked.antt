@@ -5,8 +5,9 @@ use Rattle.nfs_tree.specs.Files.{change_of}
 use Rattle.nfs_attrs.specs.Mask.{mask_of}
 use Rattle.nfs_names.specs.Outcome.{is_ok}
 use Rattle.nfs_exec.specs.{Runs.AttributesTold.TellsValue, Runs.Ops.RanOp}
-use Rattle.nfs_serve.specs.{Promises.ChangeSeen.Changes, Promises.ChangeTells.GetsOf, Promises.ChangeWorked.with_change, Promises.EntriesWorked.{asked_for, attributes, getting}}
-use Rattle.nfs_serve.specs.{Promises.HeldLock.last_of, Promises.Points.ops_of, Promises.WrittenWorked.{made, writes}}
+use Rattle.nfs_serve.specs.{Promises.ChangeSeen.Changes, Promises.ChangeTells.GetsOf, Promises.ChangeWorked.with_change}
+use Rattle.nfs_serve.specs.{Promises.EntriesWorked.{asked_for, attributes, getting}, Promises.HeldLock.last_of, Promises.Points.ops_of}
+use Rattle.nfs_serve.specs.Promises.WrittenWorked.{made, writes}
 
 -- the operation in a tree where the file has another change
 abbrev pub at_change : ℕ → RanOp → RanOp

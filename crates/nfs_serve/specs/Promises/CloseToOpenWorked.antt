@@ -6,9 +6,9 @@ use Rattle.nfs_compound.specs.declared.op_num.OpNum.TheVariants as Num
 use Rattle.nfs_results.specs.Results.{done_head}
 use Rattle.nfs_files.specs.Written.{GivesIt, bytes_in}
 use Rattle.nfs_exec.specs.Runs.Ops.{RanOp}
-use Rattle.nfs_serve.specs.{Step.{State, new_state}, Promises.CloseToOpen.{TellsChange, Keeps, IsWritten}}
-use Rattle.nfs_serve.specs.{Promises.Endpoint.Arrival, Promises.Exchanges.words, Promises.HeldLock.{came, in_session, last_of}, Promises.ListsAll.all_ops}
-use Rattle.nfs_serve.specs.{Promises.LostReply.{exchange_id, create_session}, Promises.Points.{state_after, ops_of}, Promises.WrittenWorked.{makes, made, byte}}
+use Rattle.nfs_serve.specs.{Step.{State, new_state}, Promises.CloseToOpen.{TellsChange, Keeps, IsWritten}, Promises.Endpoint.Arrival, Promises.Exchanges.words}
+use Rattle.nfs_serve.specs.{Promises.HeldLock.{came, in_session, last_of}, Promises.ListsAll.all_ops, Promises.LostReply.{exchange_id, create_session}}
+use Rattle.nfs_serve.specs.{Promises.Points.{state_after, ops_of}, Promises.WrittenWorked.{makes, made, byte}}
 use Rattle.nfs_serve.specs.Promises.SeenWrite as seen
 
 -- attribute 3, change
