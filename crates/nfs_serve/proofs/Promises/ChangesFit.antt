@@ -31,8 +31,10 @@ use Rattle.nfs_names.proofs.Effects as names_effects
 use Rattle.nfs_names.proofs.Effected as names_effected
 use Rattle.nfs_opens.specs.{TableInvariants.IsTable, Closing.without_open}
 use Rattle.nfs_files.specs.Operation.{grows}
+use Rattle.nfs_files.specs.SetAttrParts as set_parts
 use Rattle.nfs_files.specs.SetAttr as of_set
 use Rattle.nfs_files.proofs.{WrittenOps.by_found, Effects.{Names, Writes, Resizes, Changes, Closes, Caused}}
+use Rattle.nfs_files.proofs.InSteps as in_steps
 use Rattle.nfs_files.proofs.Effects as files_effects
 use Rattle.nfs_files.proofs.Effected as files_effected
 use Rattle.nfs_files.proofs.Sound as files_sound
@@ -172,13 +174,13 @@ set_low t n now wanted None same is checks low = elim (cases_Bool (of_set.gives_
 
 set_item : (refused : Bool) (s : store.State) (x : Context) (now : Time) (i : Item) → is_set i ≡ true → IsTree s.tree → Low s.tree.objects
     → Low (files.comes_to refused s x now i).state.tree.objects
-unfolding of_set.set_attr
 set_item refused s x now (Operation (Op.SetAttr a)) e is low =
     let P : Outcome → Type 0 = λ o. Low o.state.tree.objects in
     by_delay P (grows s x (Op.SetAttr a) && refused) s x Num.SetAttr (of_set.set_attr s x now a) low
-    (by_found P s x Num.SetAttr (checked (of_set.asked_for s x a) (of_set.last_checks s)) (of_set.was_set s x now a) (λ status. low)
+    (subst P (sym (in_steps.set_attr_is s x now a))
+    (by_found P s x Num.SetAttr (checked (set_parts.asked_for s x a) (set_parts.last_checks s)) (set_parts.was_set s x now a) (λ status. low)
     (λ m granted. set_low s.tree m.node.number now m.wanted m.wanted.size refl is
-    (all_passed (of_set.last_checks s m) (checked_ok (of_set.asked_for s x a) (of_set.last_checks s) m granted).1).1.0 low))
+    (all_passed (set_parts.last_checks s m) (checked_ok (set_parts.asked_for s x a) (set_parts.last_checks s) m granted).1).1.0 low)))
 set_item refused s x now i e is low = absurd (false≢true e)
 
 files_low : (s t : store.State) (x : Context) (op : Op) (r : Res) (e : files_effects.Effect) → is_set (Operation op) ≡ false → IsTable s.opens → Caused s x op r t e → IsTree t.tree
