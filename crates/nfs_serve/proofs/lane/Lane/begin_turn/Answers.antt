@@ -1,9 +1,15 @@
-use Rattle.std.proofs.Common.{◌≡◌, true, false, sym, ◌∙◌}
+use Rattle.std.proofs.Common.{◌≡◌, true, false, sym, ◌∙◌, rules}
 use Rattle.nfs_serve.proofs.Advancing.{Logs-nil}
 use Rattle.nfs_serve.proofs.lane.Lane.begin_turn.Goals as goal
 
 no : true ≡ false → ⊥
 no e = cc
+
+pub returns-then-has_more-clause-told : goal.returns-then-has_more-clause-told
+returns-then-has_more-clause-told g c = search rules
+
+pub returns-clause-told : goal.returns-clause-told
+returns-clause-told g c = search rules
 
 pub returns-then-has_more-clause-logs : goal.returns-then-has_more-clause-logs
 returns-then-has_more-clause-logs g c = Logs-nil _
