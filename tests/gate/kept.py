@@ -121,8 +121,13 @@ class Store:
             shutil.rmtree(old, ignore_errors=True)
 
 
+# what checks were seen to take of the memory that the script plans for one of the whole crate: builds, and rounds of edits
+SHARES = {"proof": 0.6, "edits": 0.35}
+
+
 def with_rounds(rt, tries, store, in_lanes):
-    """Returns what runs the tasks of a script that has one task for all edits of a crate: they are tried in rounds, each a task of its own."""
+    """Returns what runs the tasks of a script that has one task for all edits of a crate: they are tried in rounds, each a task of its own. As much
+    memory is planned for a task as such ones were seen to take: with more a large crate waits until nothing else is left to do."""
     def run(tasks):
         crates = {it.name: it for it in rt.rtlib.crates_below(os.getcwd())}
         came = {}
@@ -130,7 +135,7 @@ def with_rounds(rt, tries, store, in_lanes):
             del tasks[name, "edits"]
             good, bad = rt.edits_of(crates[name])
             came[name] = bad, good, tries.add(tasks, crates[name], good, [], [], None, store)[0]
-        given = in_lanes(tasks)
+        given = in_lanes({key: (waits, lines, needs * SHARES.get(key[1], 1), call) for key, (waits, lines, needs, call) in tasks.items()})
         for name, (bad, good, results) in came.items():
             is_well = given[name, "proof"] and given[name, "tests"]
             given[name, "edits"] = bad, good, [(kind == rt.REFUSED, text) for kind, text in results(given)] if is_well else []
