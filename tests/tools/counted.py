@@ -1,4 +1,6 @@
-"""The numbers of docs/TESTING.md: what each row of its table of numbers counts, by the sources or by tests/least.tsv."""
+"""The numbers of docs/TESTING.md: what each row of its table of numbers counts, by the sources or by tests/least.tsv; and the limits of
+docs/OPERATING.md, by the constants of the sources. As a command it prints how many lines of Python each folder has."""
+import ast
 import re
 import sys
 from pathlib import Path
@@ -7,6 +9,7 @@ TOP = Path(__file__).resolve().parents[2]
 sys.path[:0] = [str(TOP / "tools"), str(TOP / "tests/gate")]
 import nfs4  # noqa: E402
 import rattle  # noqa: E402
+from words import Words  # noqa: E402
 from wrong_servers import WRONG  # noqa: E402
 
 
@@ -78,6 +81,32 @@ COUNTS = {
     "bugs planted to try the gate": lambda: most("tests/gate/selftest"),
 }
 
+# rows of the table of limits, each with its crate, its file and its constant
+LIMITS = {
+    "Reads of one connection": "nfs_serve talking MAX_READS",
+    "Client records": "nfs_clients exchange_id MAX_RECORDS",
+    "Sessions": "nfs_sessions sessions MAX",
+    "Slots of a session": "nfs_sessions channel MAX_SLOTS",
+    "A request or a reply": "nfs_xdr limits MAX_RECORD",
+    "Operations of one request": "nfs_sessions channel MAX_OPERATIONS",
+    "The name of an owner": "nfs_xdr limits OPAQUE_LIMIT",
+    "One READ or WRITE": "nfs_xdr limits MAX_TRANSFER",
+    "Files, directories and links, with the root": "nfs_tree tree MAX_OBJECTS",
+    "A file": "nfs_tree tree MAX_BYTES",
+    "Names of one object": "nfs_tree tree MAX_LINKS",
+    "A name": "nfs_tree tree MAX_NAME",
+    "The text of a symbolic link": "nfs_tree tree MAX_TEXT",
+}
+
+
+def limits(lines):
+    """What is wrong with each row of LIMITS in a table, or None."""
+    told = {what: number.split(" ")[0] for what, number in (re.findall(r"[^|]+", it)[:2] for it in (re.sub(r" *\| *", "|", it) for it in lines[2:]))}
+    for what, place in LIMITS.items():
+        crate, file, name = place.split(" ")
+        number = int(re.search(rf"\bconst {name}: \w+ = ([\d_]+);", rattle.text_of(TOP / f"crates/{crate}/src/{file}.rt"))[1])
+        yield None if told.get(what) == f"{number:,}" else f"{what}: it has {told.get(what)}, and the sources {number:,}"
+
 
 def compared(lines):
     """The lines of the table of numbers as they are to be, and what is wrong with the names of its rows."""
@@ -89,3 +118,28 @@ def compared(lines):
             faults.append(f"nothing counts '{what}'")
         made.append("| " + " | ".join([what, f"{COUNTS[what]():,}" if what in COUNTS else number, *rest]) + " |")
     return made, faults + [f"it has no line for '{what}'" for what in COUNTS if what not in seen]
+
+
+def has_code(text):
+    """How many lines of Python have code: no comment, no blank line, no docstring."""
+    tree, lines = ast.parse(text), text.split("\n")
+    of = lambda it: range(it.lineno, it.end_lineno + 1)
+    words = {at for it in ast.walk(tree) if isinstance(it, ast.Constant) and isinstance(it.value, str) for at in of(it)}
+    docs = {at for it in ast.walk(tree) if isinstance(it, ast.Expr) and isinstance(it.value, ast.Constant) for at in of(it)}
+    return sum(1 for at, it in enumerate(lines, 1) if at not in docs and (at in words or it.strip() and not it.strip().startswith("#")))
+
+
+def python_by_folder():
+    """How many lines of code the scripts and modules of each folder have, in Python."""
+    found = {}
+    for path in (it for folder in ("tools", "tests", "bench", "docs", ".") for it in (TOP.glob("*") if folder == "." else (TOP / folder).rglob("*"))):
+        if path.is_file() and "out" not in path.parts and (path.suffix == ".py" or not path.suffix and re.match(rb"#!.*python", path.read_bytes())):
+            folder = "/".join(path.relative_to(TOP).parts[:-1][:2 if path.is_relative_to(TOP / "tests") else 1])
+            found[folder or "nfs41d"] = found.get(folder or "nfs41d", 0) + has_code(path.read_text(encoding="utf-8"))
+    return found
+
+
+if __name__ == "__main__":
+    Words(__doc__, prog="counted.py").parse_args()
+    found = python_by_folder()
+    print("\n".join([*(f"{it}\t{count}" for it, count in found.items()), f"in all\t{sum(found.values())}"]))
