@@ -43,6 +43,13 @@ def in_cache():
     return os.path.join(os.environ.get("XDG_CACHE_HOME") or os.path.expanduser("~/.cache"), "gondzalif", "proved")
 
 
+def copied(source, to):
+    """A copy of a file, in place of what was there."""
+    if os.path.lexists(to):
+        os.remove(to)
+    shutil.copy2(source, to)
+
+
 def linked(source, to):
     """The same file once more, in place of what was there; it is a copy where the two places are on two file systems."""
     if os.path.lexists(to):
@@ -50,7 +57,7 @@ def linked(source, to):
     try:
         os.link(source, to)
     except OSError:
-        shutil.copy2(source, to)
+        copied(source, to)
 
 
 class Store:
@@ -98,7 +105,8 @@ class Store:
             return False
         os.utime(kept)
         shutil.rmtree(os.path.dirname(crate.rlib), ignore_errors=True)
-        shutil.copytree(kept, f"{crate.folder}/out", copy_function=linked, dirs_exist_ok=True)
+        # (a program is a file of its own, so that whoever asks sees that it was made)
+        shutil.copytree(kept, f"{crate.folder}/out", copy_function=copied if crate.is_program else linked, dirs_exist_ok=True)
         return True
 
     def keep_proof(self, crate):
