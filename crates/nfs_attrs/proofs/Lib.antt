@@ -5,6 +5,7 @@ pub mod Fronts
 pub mod Lengths
 pub mod Values
 pub mod Asking
+pub mod Least
 pub mod Unasked
 pub mod Whole
 pub mod Counted

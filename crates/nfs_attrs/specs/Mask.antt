@@ -1,6 +1,6 @@
 -- Which attributes are asked for, set or reported: bitmap4 (RFC 8881 sections 3.3.7 and 5).
 use Rattle.std.specs.{Prelude.{ℕ, ◌/◌, ◌%◌, ◌==◌, ◌&&◌, ◌||◌, List, [], ◌∷◌, get_or, drop, Bool, false, not, length, bit_and, if◌then◌else◌}, Int.bit_at}
-use Rattle.std.specs.List.{list_any}
+use Rattle.std.specs.List.{list_any, filter, range_with_len}
 use Rattle.nfs_attrs.specs.{Wire.bitmap4, declared.mask.Mask.Mask}
 
 -- the mask of a list of words, of which there may be any number
@@ -46,3 +46,7 @@ word_of_both mask others w = bit_and (get_or mask.words w 0) (get_or others.word
 -- the attributes below 96 of both
 abbrev pub common : Mask → Mask → Mask
 common mask others = record { words = word_of_both mask others 0 ∷ word_of_both mask others 1 ∷ word_of_both mask others 2 ∷ []; beyond = false }
+
+-- the attributes below 96 of a mask, in rising order
+unfoldable pub numbers_of : Mask → List ℕ
+numbers_of mask = filter (has mask) (range_with_len 0 96)

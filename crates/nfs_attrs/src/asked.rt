@@ -6,8 +6,7 @@ ghost use Rattle.nfs_attrs.specs.Mask.{common, spell_mask};
 ghost use Rattle.nfs_attrs.specs.Attributes.{readable};
 ghost use Rattle.nfs_attrs.specs.Asked.{asked_numbers};
 
-use crate::attribute;
-use crate::mask::{Mask, READABLE};
+use crate::mask::{Mask, READABLE, SUPPORTED};
 use std::marker::Model;
 
 /// The attributes that are asked for, decoded once for many objects. Contracts see their mask.
@@ -45,11 +44,10 @@ impl Asked {
     {
         let mut numbers = [0; 31];
         let mut count = 0;
-        for number in attribute::ALL {
-            if mask.has(number) {
-                numbers[count] = number;
-                count += 1;
-            }
+        let mut left = mask.common(&SUPPORTED);
+        while let Some(number) = left.take_least() {
+            numbers[count] = number;
+            count += 1;
         }
         let (front, words) = mask.common(&READABLE).front();
         Asked {

@@ -1,12 +1,12 @@
 //! Which attributes are asked for, set or reported: `bitmap4` (RFC 8881 sections 3.3.7 and 5).
 
-ghost use Rattle.std.specs.Prelude.{◌≡◌, ◌≤◌, ◌%◌, ◌==◌, ◌++◌, ℕ, map, take, drop, length, not, get_or, bit_and};
+ghost use Rattle.std.specs.Prelude.{◌≡◌, ◌≤◌, ◌%◌, ◌==◌, ◌++◌, ◌∷◌, [], ℕ, map, take, drop, length, not, get_or, bit_and, MatchOption};
 ghost use Rattle.std.specs.Int.{w32, from_be_bytes};
 ghost use Rattle.std.specs.List.{list_any, flat_map};
 ghost use Rattle.nfs_xdr.specs.SheetState.{HasRoom, Puts};
 ghost use Rattle.nfs_xdr.specs.Spelling.{number};
 ghost use Rattle.nfs_attrs.specs.Following.{Follows};
-ghost use Rattle.nfs_attrs.specs.Mask.{mask_of, has, asks_set_only, trimmed_words, spell_mask, common, within};
+ghost use Rattle.nfs_attrs.specs.Mask.{mask_of, has, asks_set_only, trimmed_words, spell_mask, common, within, numbers_of};
 
 use crate::attribute;
 use crate::following::{number_follows, numbers_follow};
@@ -136,6 +136,24 @@ impl Mask {
             words: [a & x, b & y, c & z],
             beyond: false,
         }
+    }
+
+    /// Takes the least attribute below 96 out of the mask; none where there is none.
+    pub(crate) fn take_least(&mut self) -> Option<u32>
+        ensures { MatchOption result
+            (numbers_of self.old ≡ [])
+            (λ n. numbers_of self.old ≡ n ∷ numbers_of self.new) }
+    {
+        let index = match self.words {
+            [0, 0, 0] => return None,
+            [0, 0, _] => 2,
+            [0, _, _] => 1,
+            _ => 0,
+        };
+        let word = self.words[index];
+        let bit = word.trailing_zeros();
+        self.words[index] = word & !(1 << bit);
+        Some(32 * index as u32 + bit)
     }
 
     /// Puts the mask: how many words, and the words.

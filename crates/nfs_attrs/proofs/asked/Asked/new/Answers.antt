@@ -1,40 +1,34 @@
-use Rattle.std.proofs.Common.{◌≡◌, ℕ, ◌<◌, ◌++◌, List, ◌∷◌, [], true, false, length, get_or, sym, ap, ◌∙◌, arith}
-use Rattle.std.proofs.{lemmas.List.{take_more_set, take_all, append-nil, length-set}, lemmas.List.Elements.filter_more}
-use Rattle.std.specs.List.{filter}
-use Rattle.nfs_xdr.specs.Spelling.{number}
-use Rattle.nfs_attrs.specs.{Mask.{has, spell_mask}, declared.mask.Mask.Mask}
-use Rattle.nfs_attrs.proofs.{Values.numbers, Asking.asked_of_table}
-use Rattle.nfs_attrs.proofs.asked.Asked.new.Goals.{then-has, else-has}
+use Rattle.std.proofs.Common.{◌≡◌, ◌<◌, ℕ, ◌++◌, List, ◌∷◌, [], take, refl, sym, ap, ◌∙◌, append_assoc, arith}
+use Rattle.std.proofs.lemmas.List.{take_more_set, length-take, length-set}
+use Rattle.nfs_attrs.specs.{Mask.numbers_of, Asked.asked_numbers}
+use Rattle.nfs_attrs.proofs.Least.{numbers_of_supported, has_room}
 use Rattle.nfs_attrs.proofs.asked.Asked.new.Goals as goal
+
+pub loop-number-init : goal.loop-number-init
+loop-number-init c = record {
+  taken = ap numbers_of c.common-left.ensures ∙ numbers_of_supported c.args.mask;
+  few = omega arith;
+  size = refl;
+}
+
+pub bounds-numbers-count : goal.bounds-numbers-count
+bounds-numbers-count c =
+    let front = take c.loop-number.count c.loop-number.numbers in
+    let later = numbers_of c.take_least.new.self in
+    let all : front ++ (c.in-Some.number ∷ later) ≡ asked_numbers c.args.mask = ap (λ (w : List ℕ). front ++ w) (sym c.in-Some.ensures) ∙ c.loop-number.invariant.taken in
+    omega (arith, has_room c.args.mask front later c.in-Some.number all, length-take c.loop-number.count c.loop-number.numbers, c.loop-number.invariant.size)
 
 pub loop-number-preserved : goal.loop-number-preserved
 loop-number-preserved c =
-    let p = has c.args.mask in
-    let i = c.loop-number.number-index in
+    let numbers = c.loop-number.numbers in
     let count = c.loop-number.count in
-    let n = get_or numbers i 0 in
-    let more = filter_more p numbers i 0 c.loop-number-test.true in
-    elim c.if-has.branch [
-      | then-has w ↦ (let asked : p n ≡ true = sym c.has.ensures ∙ w.if-has.true in
-          let room : count < length c.loop-number.numbers = omega (arith, c.loop-number.invariant.few, c.loop-number-test.true, c.loop-number.invariant.size) in
-          record {
-            taken = rw (w.numbers-is, w.count-is, more, asked)
-                (take_more_set c.loop-number.numbers count n room ∙ ap (λ (w : List ℕ). w ++ n ∷ []) c.loop-number.invariant.taken);
-            few = omega (arith, w.count-is, c.loop-number.invariant.few);
-            size = ap length w.numbers-is ∙ length-set c.loop-number.numbers count n ∙ c.loop-number.invariant.size;
-          })
-      | else-has w ↦ (let out : p n ≡ false = sym c.has.ensures ∙ w.if-has.false in
-          record {
-            taken = rw (w.numbers-is, w.count-is, more, out, append-nil) c.loop-number.invariant.taken;
-            few = omega (arith, w.count-is, c.loop-number.invariant.few);
-            size = ap length w.numbers-is ∙ c.loop-number.invariant.size;
-          })
-    ]
-
-pub invariant_of-result : goal.invariant_of-result
-invariant_of-result c = (
-  c.front-words.ensures.words ∙ ap (λ (m : Mask). spell_mask m ++ number 0) c.common.ensures,
-  c.front-words.ensures.few,
-  c.loop-number.invariant.taken ∙ ap (filter (has c.args.mask)) (take_all c.loop-number.number-index numbers (omega (arith, c.loop-number-test.false))) ∙ sym (asked_of_table c.args.mask),
-  omega (arith, c.loop-number.invariant.few),
-)
+    let n = c.in-Some.number in
+    let front = take count numbers in
+    let later = numbers_of c.take_least.new.self in
+    let all : front ++ (n ∷ later) ≡ asked_numbers c.args.mask = ap (λ (w : List ℕ). front ++ w) (sym c.in-Some.ensures) ∙ c.loop-number.invariant.taken in
+    let room : count < 31 = omega (arith, has_room c.args.mask front later n all, length-take count numbers, c.loop-number.invariant.size) in
+    record {
+      taken = ap (λ (w : List ℕ). w ++ later) (take_more_set numbers count n (omega (arith, c.loop-number.invariant.size))) ∙ append_assoc front (n ∷ []) later ∙ all;
+      few = omega arith;
+      size = length-set numbers count n ∙ c.loop-number.invariant.size;
+    }
