@@ -3,7 +3,7 @@ use Rattle.std.proofs.Common.{◌≡◌, ℕ, zero, suc, ◌-◌, ◌+◌, ◌�
 use Rattle.std.proofs.{Common.{◌∙◌, arith}, lemmas.Option.same_Some, lemmas.Bool.{eq-eqb, ne_eqb, false≢true}}
 use Rattle.nfs_xdr.proofs.CodecLaws.{bind_some}
 use Rattle.std.specs.Prelude.{is_some}
-use Rattle.nfs_xdr.specs.Reading.{◌>>=◌, number_at, opaque_at}
+use Rattle.nfs_xdr.specs.{Reading.{◌>>=◌, number_at, opaque_at}, Combinators.in_arm}
 use Rattle.nfs_compound.specs.{declared.op.Op.Op, declared.op.Item.Item, declared.op.Item.TheVariants.{Operation, Fault}, OpCodec.{fault_at, op_at}}
 use Rattle.nfs_compound.specs.{OpNum.op_num, ReadRequest.{is_fault, op_or_fault, item_at, in_front, first_of, items_at, items_left, request_at}}
 
@@ -50,6 +50,13 @@ at_end count i bytes whole le so_far =
     answered : (b : Bool) → is_some (cond {A = Option (List Item)} b (Some []) None) ≡ b
     answered true = refl
     answered false = refl
+
+-- what was passed over could be read
+pub passed_over : (r : Option (Item × List ℕ)) (f : Bool) (rest : List ℕ) → in_arm is_fault r ≡ Some (f, rest) → (x : Item) × (r ≡ Some (x, rest)) × (is_fault x ≡ f)
+passed_over None f rest e = absurd cc
+passed_over (Some x) f rest e =
+    let same : (is_fault x.0, x.1) ≡ (f, rest) = same_Some _ _ e in
+    (x.0, ap (λ (w : List ℕ). Some (x.0, w)) (ap (λ (p : Bool × List ℕ). p.1) same), ap (λ (p : Bool × List ℕ). p.0) same)
 
 -- nothing is left behind a fault
 none_left : (n : ℕ) → items_left n [] ≡ []

@@ -5,7 +5,7 @@ ghost use Rattle.nfs_xdr.specs.Limits.{opaque_limit};
 ghost use Rattle.nfs_compound.specs.Request.{IsRequest, IsGarbage};
 ghost use Rattle.nfs_compound.specs.ReadRequest.{items_at, request_at};
 
-use crate::item::item;
+use crate::item::{item, pass_item};
 use crate::op::Item;
 use nfs_xdr::{Cursor, OPAQUE_LIMIT, Unreadable};
 use std::marker::Model;
@@ -150,10 +150,10 @@ fn is_readable(count: u32, bytes: &[u8]) -> bool
 {
     let mut cursor = Cursor::new(bytes);
     for _ in 0..count {
-        let Some(arg) = item(&mut cursor) else {
+        let Some(is_fault) = pass_item(&mut cursor) else {
             return false;
         };
-        if arg.is_fault() {
+        if is_fault {
             return true;
         }
     }

@@ -1,9 +1,10 @@
 //! Reading what stands at a place: an operation, or the fault that ends the list.
 
-ghost use Rattle.std.specs.Prelude.{◌≡◌, MatchOption, Some, None};
+ghost use Rattle.std.specs.Prelude.{◌≡◌, MatchOption, Some, None, true, false};
 ghost use Rattle.nfs_xdr.specs.Readers.{ReadsPartBy};
+ghost use Rattle.nfs_xdr.specs.Combinators.{in_arm};
 ghost use Rattle.nfs_compound.specs.OpCodec.{op_at, fault_at, flaw};
-ghost use Rattle.nfs_compound.specs.ReadRequest.{item_at};
+ghost use Rattle.nfs_compound.specs.ReadRequest.{item_at, is_fault};
 
 use crate::attributes::{Attributes, Bitmap};
 use crate::file_args::{Commit, Read, SetAttr, Write};
@@ -36,6 +37,43 @@ pub(crate) fn item<'a>(c: &mut Cursor<'a>) -> Option<Item<'a>>
     }
     *c = Cursor::new(&[]);
     Some(fault(number, behind))
+}
+
+/// Passes over what stands at the cursor as [`item`] does, and says only whether it is a fault. `None` where no operation
+/// number can be read.
+pub(crate) fn pass_item(c: &mut Cursor<'_>) -> Option<bool>
+    ensures { MatchOption result
+        (item_at c.old ≡ None)
+        (λ f. in_arm is_fault (item_at c.old) ≡ Some (f, c.new)) }
+{
+    let mut ahead = Cursor::new(c.rest());
+    if pass_common(&mut ahead) {
+        *c = ahead;
+        return Some(false);
+    }
+    let Some(found) = item(c) else {
+        return None;
+    };
+    Some(found.is_fault())
+}
+
+/// Passes over one of the operations that most compounds have, and makes no value of its arguments. Where it says no, it
+/// says nothing of what stands there.
+#[tactic(auto, unfolding(crate::specs::ReadRequest::item_at, crate::specs::OpCodec::op_at))]
+fn pass_common(c: &mut Cursor<'_>) -> bool
+    ensures { result ≡ true → in_arm is_fault (item_at c.old) ≡ Some (false, c.new) }
+{
+    let Ok(number) = c.u32() else {
+        return false;
+    };
+    match OpNum::of(number) {
+        Some(OpNum::GetAttr) => Bitmap::read(c).is_ok(),
+        Some(OpNum::Lookup) => c.opaque(u32::MAX).is_ok(),
+        Some(OpNum::PutFh) => c.opaque(FHSIZE).is_ok(),
+        Some(OpNum::Sequence) => Sequence::pass(c).is_ok(),
+        Some(OpNum::GetFh | OpNum::PutRootFh | OpNum::RestoreFh | OpNum::SaveFh) => true,
+        _ => false,
+    }
 }
 
 /// The arguments of an operation, which stand at the cursor.

@@ -2,7 +2,7 @@
 
 ghost use Rattle.std.specs.Prelude.{◌≡◌, is_some};
 ghost use Rattle.nfs_xdr.specs.Readers.{ReadsPartBy};
-ghost use Rattle.nfs_xdr.specs.Combinators.{in_arm};
+ghost use Rattle.nfs_xdr.specs.Combinators.{in_arm, passed};
 ghost use Rattle.nfs_compound.specs.ArgCodecs.{impl_id, exchange_id_args, protected, create_session_args, sequence_args};
 
 use crate::callback::all_sec_parms;
@@ -162,5 +162,18 @@ impl Sequence {
             highest_slotid,
             cachethis,
         })
+    }
+
+    /// Passes over the arguments of SEQUENCE, with [`Sequence::read`]'s refusals.
+    #[tactic(auto, unfolding(crate::specs::ArgCodecs::sequence_args))]
+    pub(crate) fn pass(c: &mut Cursor<'_>) -> Result<(), Unreadable>
+        ensures { ReadsPartBy (λ u. u) result (passed (sequence_args.read c.old)) c.new }
+    {
+        c.fixed::<16>()?;
+        c.u32()?;
+        c.u32()?;
+        c.u32()?;
+        c.flag()?;
+        Ok(())
     }
 }
