@@ -100,6 +100,7 @@ impl OpNum {
     }
 
     /// The operation that has the number, if this server reads it.
+    #[inline(always)]
     pub fn of(number: u32) -> Option<OpNum>
         ensures { result ≡ op_num number }
     {

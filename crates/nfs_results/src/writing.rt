@@ -30,6 +30,7 @@ pub fn write(res: &Res<'_>, out: &mut Sheet)
 }
 
 #[tactic(auto, using(nfs_xdr::proofs::Putting::putting))]
+#[inline(always)]
 pub(crate) fn put_head(operation: u32, status: Status, out: &mut Sheet)
     requires room { HasRoom out.old (head operation status) }
     ensures { Puts out.old out.new (head operation status) }
