@@ -34,6 +34,7 @@ def to_the_bottom(moved, count):
 Row = collections.namedtuple("Row", "operations turns made compound")
 
 TREE = {
+    "SEQUENCE alone": Row(1, 100_000, in_root, lambda n, count: []),
     "GETATTR by filehandle": Row(1, 100_000, in_root, lambda n, count: [putfh(2 + spread(n, count)), getattr_()]),
     "LOOKUP": Row(1, 100_000, in_root, lambda n, count: [ROOT, lookup(name(spread(n, count)))]),
     "CREATE with REMOVE": Row(1, 100_000, in_root, lambda n, count: [ROOT, create(b"new"), ROOT, remove(b"new")]),
