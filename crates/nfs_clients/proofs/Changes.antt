@@ -91,8 +91,8 @@ taken_unconfirmed t owner is (Some i) e = by t.records refl
 pub pushed : (t u : Roster) (a : Ask) (room kept full : List ClientRecord) (new : ClientRecord) (owner : List ℕ) (id : ℕ) (done : Bool)
     → t ≡ u → IsRoster t → room ≡ t.records → owner ≡ a.owner
     → kept ≡ option_map_or (remove room) (position (is_unconfirmed_of owner) room) room → id ≡ next_id t → done ≡ true
-    → new ≡ record (new_client t a) { id = id } → full ≡ (if done then kept ++ new ∷ [] else kept)
-    → record t { records = full; last = t.last + 1 } ≡ with_new u a
+    → new ≡ record (new_client t a.owner a.verifier a.uid) { id = id } → full ≡ (if done then kept ++ new ∷ [] else kept)
+    → record t { records = full; last = t.last + 1 } ≡ with_new u a.owner a.verifier a.uid
 pushed t u a room kept full new owner id done e is same asked left given there made put =
     let rest : kept ≡ filter (λ c. not (is_unconfirmed_of a.owner c)) t.records =
     left ∙ ap (λ o. option_map_or (remove room) (position (is_unconfirmed_of o) room) room) asked
@@ -101,14 +101,14 @@ pushed t u a room kept full new owner id done e is same asked left given there m
     ap (λ xs. record t { records = xs; last = t.last + 1 }) (put
     ∙ ap (λ v. if v then kept ++ new ∷ [] else kept) there
     ∙ ap (λ c. kept ++ c ∷ []) made
-    ∙ ap (λ xs. xs ++ record (new_client t a) { id = id } ∷ []) rest
-    ∙ ap (λ n. filter (λ c. not (is_unconfirmed_of a.owner c)) t.records ++ record (new_client t a) { id = n } ∷ []) given)
-    ∙ ap (λ (t : Roster). with_new t a) e
+    ∙ ap (λ xs. xs ++ record (new_client t a.owner a.verifier a.uid) { id = id } ∷ []) rest
+    ∙ ap (λ n. filter (λ c. not (is_unconfirmed_of a.owner c)) t.records ++ record (new_client t a.owner a.verifier a.uid) { id = n } ∷ []) given)
+    ∙ ap (λ (t : Roster). with_new t a.owner a.verifier a.uid) e
 
 pub roster_pushed : (t u : Roster) (a : Ask) (room kept full : List ClientRecord) (new : ClientRecord) (owner : List ℕ) (id : ℕ) (done : Bool)
     → t ≡ u → IsRoster t → IsTrue (has_room u a.owner) → room ≡ t.records → owner ≡ a.owner
     → kept ≡ option_map_or (remove room) (position (is_unconfirmed_of owner) room) room → id ≡ next_id t → done ≡ true
-    → new ≡ record (new_client t a) { id = id } → full ≡ (if done then kept ++ new ∷ [] else kept) → IsRoster (record t { records = full; last = t.last + 1 })
+    → new ≡ record (new_client t a.owner a.verifier a.uid) { id = id } → full ≡ (if done then kept ++ new ∷ [] else kept) → IsRoster (record t { records = full; last = t.last + 1 })
 roster_pushed t u a room kept full new owner id done e is can same asked left given there made put =
     subst IsRoster (sym (pushed t u a room kept full new owner id done e is same asked left given there made put)) (roster_new u a (subst IsRoster e is) can)
 

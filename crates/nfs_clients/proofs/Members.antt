@@ -188,28 +188,28 @@ room_few false few a b limit e one free le within = let lt = free e in omega ari
 is_unconfirmed : (owner : List ℕ) (d : ClientRecord) → d.owner ≡ owner → d.confirmed ≡ false → is_unconfirmed_of owner d ≡ true
 is_unconfirmed owner d same mark = rw (bytes_same d.owner owner same, mark) refl
 
-pub roster_new : (t : Roster) (a : Ask) → IsRoster t → has_room t a.owner ≡ true → IsRoster (with_new t a)
+pub roster_new : (t : Roster) (a : Ask) → IsRoster t → has_room t a.owner ≡ true → IsRoster (with_new t a.owner a.verifier a.uid)
 roster_new t a is room =
     let parts = and_parts _ _ room in
     let rest = filter (λ c. not (is_unconfirmed_of a.owner c)) t.records in
     let counter = ltb-true t.last last_counter parts.0 in
     record {
-      rising = IsRising-push the_id (id_of t.instance 1) (next_id t) (next_id (with_new t a)) rest (new_client t a) refl (omega arith)
+      rising = IsRising-push the_id (id_of t.instance 1) (next_id t) (next_id (with_new t a.owner a.verifier a.uid)) rest (new_client t a.owner a.verifier a.uid) refl (omega arith)
           (IsRising-filter the_id (λ c. not (is_unconfirmed_of a.owner c)) (id_of t.instance 1) (next_id t) t.records is.rising);
-      alone = λ c d there there' owner mark. elim (in_push rest (new_client t a) c there) [
-        | inl c_new ↦ elim (in_push rest (new_client t a) d there') [
+      alone = λ c d there there' owner mark. elim (in_push rest (new_client t a.owner a.verifier a.uid) c there) [
+        | inl c_new ↦ elim (in_push rest (new_client t a.owner a.verifier a.uid) d there') [
           | inl d_new ↦ c_new ∙ sym d_new
           | inr d_old ↦
               absurd (still_there t a d d_old (sym owner ∙ ap (λ (c : ClientRecord). c.owner) c_new) (sym mark ∙ ap (λ (c : ClientRecord). c.confirmed) c_new))
         ]
-        | inr c_old ↦ elim (in_push rest (new_client t a) d there') [
+        | inr c_old ↦ elim (in_push rest (new_client t a.owner a.verifier a.uid) d there') [
           | inl d_new ↦
               absurd (still_there t a c c_old (owner ∙ ap (λ (c : ClientRecord). c.owner) d_new) (mark ∙ ap (λ (c : ClientRecord). c.confirmed) d_new))
           | inr d_old ↦ is.alone c d (in_filter (λ c. not (is_unconfirmed_of a.owner c)) t.records c c_old).0
               (in_filter (λ c. not (is_unconfirmed_of a.owner c)) t.records d d_old).0 owner mark
         ]
       ];
-      few = (let long : length (rest ++ new_client t a ∷ []) ≡ length rest + 1 = length-append rest (new_client t a ∷ []) in
+      few = (let long : length (rest ++ new_client t a.owner a.verifier a.uid ∷ []) ≡ length rest + 1 = length-append rest (new_client t a.owner a.verifier a.uid ∷ []) in
           let fits = room_few (is_some (unconfirmed_of t a.owner)) (ltb (length t.records) most_records) (length rest) (length t.records) most_records parts.1
           (length_left (is_unconfirmed_of a.owner) t.records) (ltb-true (length t.records) most_records)
           (length_filter (λ c. not (is_unconfirmed_of a.owner c)) t.records) is.few in omega arith);

@@ -16,11 +16,11 @@ record StaysGone (t : Roster) (id : ℕ) : Type 0 where
   pub given : id < next_id t
   pub gone : client_at t id ≡ None
 
-gone_new : (t : Roster) (a : Ask) (id : ℕ) → StaysGone t id → StaysGone (with_new t a) id
+gone_new : (t : Roster) (a : Ask) (id : ℕ) → StaysGone t id → StaysGone (with_new t a.owner a.verifier a.uid) id
 gone_new t a id is = record {
   given = (let given = is.given in omega arith);
   gone = gone_push the_id id (filter (λ c. not (is_unconfirmed_of a.owner c)) t.records)
-      (new_client t a) (ne_eqb (next_id t) id (λ e. absurd (let given = is.given in omega arith)))
+      (new_client t a.owner a.verifier a.uid) (ne_eqb (next_id t) id (λ e. absurd (let given = is.given in omega arith)))
       (gone_filter the_id id (λ c. not (is_unconfirmed_of a.owner c)) t.records is.gone);
 }
 

@@ -30,11 +30,11 @@ confirmed_is t u owner ys x o e same is x_is =
 -- a record that was added, and what is reported of it
 pub added : (t after : Roster) (owner copy verifier : List ℕ) (flags uid : ℕ) (has_open : Bool) (case : Code) (granted : Exchanged)
     → case ≡ code.Adds → case_seen case ≡ case_of t (asks owner verifier flags uid has_open) → copy ≡ owner
-    → after ≡ with_new t (asks copy verifier 0 uid false) → granted ≡ answer_added t copy
+    → after ≡ with_new t copy verifier uid → granted ≡ answer_added t copy
     → (◌≡◌ {A = Result Exchanged ClientFault} (Ok granted) (exchange t (asks owner verifier flags uid has_open)).answer)
     × (after ≡ (exchange t (asks owner verifier flags uid has_open)).after)
 added t after owner copy verifier flags uid has_open case granted adds is same done answer =
     let now : Adds ≡ case_of t (asks owner verifier flags uid has_open) = sym (ap case_seen adds) ∙ is in (
       ap Ok (answer ∙ ap (answer_added t) same) ∙ ap (λ k. (does t (asks owner verifier flags uid has_open) k).answer) now,
-      done ∙ ap (λ o. with_new t (asks o verifier 0 uid false)) same ∙ ap (λ k. (does t (asks owner verifier flags uid has_open) k).after) now,
+      done ∙ ap (λ o. with_new t o verifier uid) same ∙ ap (λ k. (does t (asks owner verifier flags uid has_open) k).after) now,
     )

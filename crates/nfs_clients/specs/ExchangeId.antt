@@ -80,12 +80,12 @@ abbrev pub case_of : Roster → Ask → Case
 case_of t a = if_room (has_room t a.owner) (case_by a (confirmed_of t a.owner))
 
 -- the record that is added
-abbrev pub new_client : Roster → Ask → ClientRecord
-new_client t a = record {
+abbrev pub new_client : Roster → (owner verifier : List ℕ) → (uid : ℕ) → ClientRecord
+new_client t owner verifier uid = record {
   id = next_id t;
-  owner = a.owner;
-  verifier = a.verifier;
-  uid = a.uid;
+  owner = owner;
+  verifier = verifier;
+  uid = uid;
   confirmed = false;
   number = 1;
   kept = None;
@@ -93,9 +93,9 @@ new_client t a = record {
 }
 
 -- the table with it, in place of the owner's unconfirmed record if there is one
-abbrev pub with_new : Roster → Ask → Roster
-with_new t a = record t {
-  records = filter (λ c. not (is_unconfirmed_of a.owner c)) t.records ++ new_client t a ∷ [];
+abbrev pub with_new : Roster → (owner verifier : List ℕ) → (uid : ℕ) → Roster
+with_new t owner verifier uid = record t {
+  records = filter (λ c. not (is_unconfirmed_of owner c)) t.records ++ new_client t owner verifier uid ∷ [];
   last = t.last + 1;
 }
 
@@ -115,7 +115,7 @@ pub record Did : Type 0 where
 abbrev pub does : Roster → Ask → Case → Did
 does t a (Refuses fault) = record { answer = Err fault; after = t }
 does t a (Stays c) = record { answer = Ok (answer_standing c); after = t }
-does t a Adds = record { answer = Ok (answer_added t a.owner); after = with_new t a }
+does t a Adds = record { answer = Ok (answer_added t a.owner); after = with_new t a.owner a.verifier a.uid }
 
 abbrev pub exchange : Roster → Ask → Did
 exchange t a = does t a (case_of t a)

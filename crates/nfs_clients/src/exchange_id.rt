@@ -174,7 +174,7 @@ impl Clients {
     /// Puts a new record in the place of the owner's unconfirmed one.
     fn add(&mut self, owner: Owner, verifier: [u8; 8], uid: u32) -> Result<Exchanged, AllocError>
         requires { IsTrue (has_room self.old owner) }
-        ensures ok { OnOk result (self.new ≡ with_new self.old (asks owner verifier 0 uid false)) }
+        ensures ok { OnOk result (self.new ≡ with_new self.old owner verifier uid) }
         ensures answer { IfOk result (λ e. e ≡ answer_added self.old owner) }
         ensures err { OnErr result (self.new ≡ self.old) }
     {

@@ -1,5 +1,6 @@
 pub mod LeaseTakenBack
 pub mod Exchanging
+pub mod InSteps
 pub mod Judging
 pub mod Compared
 pub mod Sequencing

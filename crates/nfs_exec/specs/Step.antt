@@ -5,6 +5,7 @@ pub mod ExchangeId
 pub mod CreateSession
 pub mod Destroy
 pub mod Sequence
+pub mod Parts
 pub mod ReclaimComplete
 pub mod Behind
 pub mod Run

@@ -16,7 +16,7 @@ ghost use Rattle.nfs_exec.specs.Step.Compound.{compound, first_item, in_session}
 ghost use Rattle.nfs_exec.specs.Step.View.{Does, AreTables, MayRun, RanIn, CanBear, IsOpened, HasReplyRoom, HasLoneRoom, Answers};
 
 use crate::place::{place_fault, sequence_in};
-use crate::sequence::{Sequenced, accepted, ahead, behind, judge};
+use crate::sequence::{Sequenced, ahead, behind, judge, sequence_ok};
 use crate::tables::Tables;
 use nfs_compound::{Compound, Item, MINOR_VERSION, Op, OpNum, Sequence};
 use nfs_names::Context;
@@ -214,7 +214,7 @@ impl Tables {
     {
         let start = out.len();
         let head = OpenHead::put(args.tag(), out);
-        write(&Res::Sequence(accepted(asked, channel)), out);
+        write(&Res::Sequence(sequence_ok(asked, channel)), out);
         let mut context = Context::new(SessionId::from_bytes(&asked.sessionid).client, who);
         let ran = self.run(alloc, args, &mut context, channel.response, start, now, out);
         head.close(ran.status, ran.count + 1, out);

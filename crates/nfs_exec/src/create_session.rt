@@ -12,8 +12,9 @@ ghost use Rattle.nfs_sessions.specs.Sessions.{create};
 ghost use Rattle.nfs_names.specs.Outcome.{is_delay};
 ghost use Rattle.nfs_exec.specs.Step.Machine.{Machine, or_delay, refuses, machine_of};
 ghost use Rattle.nfs_names.specs.StoreInvariants.{IsStore};
-ghost use Rattle.nfs_exec.specs.Step.CreateSession.{create_session, wish_of, session_made, made_body, channel_of, attrs_of, creates, kept_again, confirmed};
+ghost use Rattle.nfs_exec.specs.Step.CreateSession.{create_session, wish_of, session_made, made_body, channel_of, attrs_of, confirmed};
 ghost use Rattle.nfs_exec.specs.Step.View.{without_left, Does, HasLoneRoom};
+ghost use Rattle.nfs_exec.specs.Step.Parts.{creates, repeated};
 
 use crate::tables::Tables;
 use nfs_clients::{CreateResult, CreateVerdict, Resok};
@@ -181,7 +182,7 @@ fn put_made(asked: &CreateSession<'_>, id: SessionId, out: &mut Sheet) -> Resok
 #[tactic(auto, using(nfs_xdr::proofs::Putting::putting))]
 fn put_kept(kept: &CreateResult, out: &mut Sheet) -> Status
     requires room { HasLoneRoom out.old }
-    ensures { (m : Machine) → Does (kept_again m kept.now) result m out.old out.new }
+    ensures { (m : Machine) → Does (repeated m kept.now) result m out.old out.new }
 {
     match kept {
         CreateResult::Done(body) => {

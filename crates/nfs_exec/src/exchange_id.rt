@@ -14,8 +14,9 @@ ghost use Rattle.nfs_results.specs.declared.res.Res.TheVariants as Res;
 ghost use Rattle.nfs_results.specs.Results.{status_of_result};
 ghost use Rattle.nfs_names.specs.Outcome.{is_delay};
 ghost use Rattle.nfs_exec.specs.Step.Machine.{IsMachine, with_result, or_delay, machine_of};
-ghost use Rattle.nfs_exec.specs.Step.ExchangeId.{exchange_id, granted, owner_has_open};
+ghost use Rattle.nfs_exec.specs.Step.ExchangeId.{exchange_id};
 ghost use Rattle.nfs_exec.specs.Step.View.{settled};
+ghost use Rattle.nfs_exec.specs.Step.Parts.{granted_of, owner_has_open};
 
 use crate::tables::Tables;
 use nfs_clients::{CONFIRMED_R, ClientFault, Exchanged};
@@ -104,7 +105,7 @@ fn refused(fault: ClientFault) -> Res<'static>
 }
 
 fn granted(exchanged: &Exchanged) -> ExchangeIdOk<'static>
-    ensures { result ≡ granted exchanged.now }
+    ensures { result ≡ granted_of exchanged.now }
 {
     ExchangeIdOk {
         clientid: exchanged.id,

@@ -8,7 +8,8 @@ ghost use Rattle.nfs_sessions.specs.Id.{id_of};
 ghost use Rattle.nfs_sessions.specs.SessionSlots.{rpc_head};
 ghost use Rattle.nfs_sessions.specs.Sessions.{session_at};
 ghost use Rattle.nfs_sessions.specs.declared.channel.Channel.{Channel as Granted};
-ghost use Rattle.nfs_exec.specs.Step.Sequence.{Repeats, Runs, highest_at, by_session, slot_fault, fresh_fault, accepted};
+ghost use Rattle.nfs_exec.specs.Step.Sequence.{Repeats, Runs, highest_at, sequence_ok};
+ghost use Rattle.nfs_exec.specs.Step.Parts.{by_session, slot_fault, fresh_fault};
 ghost use Rattle.nfs_exec.specs.Step.View.{sequenced_of};
 
 use nfs_compound::{Compound, Sequence};
@@ -128,8 +129,8 @@ fn fresh_fault(args: &Compound<'_>, size: usize, channel: &Channel) -> Option<St
 }
 
 /// SEQUENCE's result where the request runs: the session's last slot, twice, and no flag.
-pub(crate) fn accepted(asked: &Sequence, channel: &Channel) -> SequenceOk
-    ensures { result ≡ accepted asked.now channel.now }
+pub(crate) fn sequence_ok(asked: &Sequence, channel: &Channel) -> SequenceOk
+    ensures { result ≡ sequence_ok asked.now channel.now }
 {
     let last = channel.slots.saturating_sub(1);
     SequenceOk {

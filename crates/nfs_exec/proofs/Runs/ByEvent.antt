@@ -1,5 +1,5 @@
 -- What an event came to: nothing, an operation that stands alone, or the operations behind a SEQUENCE.
-use Rattle.std.proofs.{Common.{◌≡◌, ℕ, Bool, true, false, cond, eqb, List, [], ◌∷◌, Option, Some, None, refl, inl, inr}, lemmas.Bool.cases_Bool}
+use Rattle.std.proofs.{Common.{◌≡◌, ℕ, Bool, true, false, cond, eqb, List, [], ◌∷◌, Option, Some, None, refl, sym, subst, inl, inr}, lemmas.Bool.cases_Bool}
 use Rattle.std.specs.Prelude.{◌&&◌, is_some}
 use Rattle.nfs_xdr.specs.{Caller.Caller, declared.status.Status.Status, declared.status.Status.TheVariants.{Delay, MinorVersMismatch}}
 use Rattle.nfs_compound.specs.{declared.op.Item.Item, declared.op.Item.TheVariants.Operation, Request.{Request, item_number}}
@@ -13,11 +13,13 @@ use Rattle.nfs_results.specs.declared.res.Res.TheVariants as Res
 use Rattle.nfs_sessions.specs.{Id.id_of, Sessions.{session_at, create, destroyed}, declared.channel.Channel.Channel}
 use Rattle.nfs_names.specs.Outcome.{is_ok}
 use Rattle.nfs_exec.specs.{Step.Machine.{by_fault, Machine, Outcome, refuses, with_result}, Step.Place.item_fault, Step.ExchangeId.exchange_id}
-use Rattle.nfs_exec.specs.Step.CreateSession.{by_verdict, creates, wish_of}
+use Rattle.nfs_exec.specs.Step.CreateSession.{wish_of}
 use Rattle.nfs_exec.specs.{Step.Destroy.{destroy_session, client_fault, client_ended}, Step.Run.{is_here, only}, Step.Sequence.{Sequenced, sequenced}}
 use Rattle.nfs_exec.specs.Step.Compound.{Answered, answers, bare, carried_out, first_item, in_session, by_first, compound}
 use Rattle.nfs_exec.specs.{Step.Laws.{Asks, ran, first_runs, if_runs}, Runs.Ops.{RanOp, ops_in, ops_of, ops_by}}
 use Rattle.nfs_exec.specs.Step.Sequence as sequence
+use Rattle.nfs_exec.proofs.Step.InSteps.{exchange_id_is, create_session_is}
+use Rattle.nfs_exec.specs.Step.Parts.{by_number, creates, exchanged_by}
 
 -- A compound, by what it answered, the operations that it ran, and the SEQUENCE behind which it ran them.
 pub by_answered : (P : Answered → List RanOp → Option Sequence → Type 0) (m : Machine) (r : Request) (who : Caller) (size now : ℕ) (choice : Option ℕ)
@@ -58,7 +60,7 @@ by_compound P m r who size now choice none alone runs =
 -- An operation that stands alone: it leaves the machine as it was, or it is one of four that were carried out.
 pub by_alone : (P : Outcome → Type 0) (m : Machine) (declared : ℕ) (who : Caller) (now : ℕ) (refused : Bool) (i : Item)
     → ((status : Status) (result : List ℕ) → P (record { status = status; result = result; machine = m }))
-    → ((e : ExchangeId) → i ≡ Operation (Op.ExchangeId e) → P (exchange_id m who now e))
+    → ((e : ExchangeId) → i ≡ Operation (Op.ExchangeId e) → P (exchanged_by m who now e))
     → ((c : CreateSession) → i ≡ Operation (Op.CreateSession c) → create_verdict m.clients c.clientid c.sequence who.uid ≡ clients.Runs
     → P (creates m now c (create m.sessions c.clientid (wish_of m c))))
     → ((sessionid : List ℕ) → i ≡ Operation (Op.DestroySession sessionid) → is_some (session_at m.sessions (id_of sessionid)) ≡ true
@@ -71,14 +73,14 @@ by_alone P m declared who now refused i same exchanges creates_it ends goes = by
     by_delay true n o is = same _ _
     by_delay false n o is = is
 
-    by_verdict_is : (c : CreateSession) (v : clients.Verdict) → i ≡ Operation (Op.CreateSession c) → create_verdict m.clients c.clientid c.sequence who.uid ≡ v
-        → P (by_verdict m now refused c v)
-    by_verdict_is c clients.Stale is e = same _ _
-    by_verdict_is c (clients.Again (results.Done body)) is e = same _ _
-    by_verdict_is c (clients.Again (results.Refused status)) is e = same _ _
-    by_verdict_is c clients.Misordered is e = same _ _
-    by_verdict_is c clients.InUse is e = same _ _
-    by_verdict_is c clients.Runs is e =
+    by_number_is : (c : CreateSession) (v : clients.Verdict) → i ≡ Operation (Op.CreateSession c) → create_verdict m.clients c.clientid c.sequence who.uid ≡ v
+        → P (by_number m now refused c v)
+    by_number_is c clients.Stale is e = same _ _
+    by_number_is c (clients.Again (results.Done body)) is e = same _ _
+    by_number_is c (clients.Again (results.Refused status)) is e = same _ _
+    by_number_is c clients.Misordered is e = same _ _
+    by_number_is c clients.InUse is e = same _ _
+    by_number_is c clients.Runs is e =
         let o = creates m now c (create m.sessions c.clientid (wish_of m c)) in by_delay (refused && is_ok o.status) 43 o (creates_it c is e)
 
     by_session : (sessionid : List ℕ) → i ≡ Operation (Op.DestroySession sessionid) → P (destroy_session m sessionid)
@@ -94,8 +96,9 @@ by_alone P m declared who now refused i same exchanges creates_it ends goes = by
 
     carried : (j : Item) → i ≡ j → P (carried_out m who now refused j)
     carried (Operation (Op.ExchangeId e)) is =
-        by_delay (refused && is_ok (exchange_id m who now e).status) 42 (exchange_id m who now e) (exchanges e is)
-    carried (Operation (Op.CreateSession c)) is = by_verdict_is c (create_verdict m.clients c.clientid c.sequence who.uid) is refl
+        by_delay (refused && is_ok (exchange_id m who now e).status) 42 (exchange_id m who now e) (subst P (sym (exchange_id_is m who now e)) (exchanges e is))
+    carried (Operation (Op.CreateSession c)) is =
+        subst P (sym (create_session_is m who now refused c)) (by_number_is c (create_verdict m.clients c.clientid c.sequence who.uid) is refl)
     carried (Operation (Op.DestroySession sessionid)) is = by_session sessionid is
     carried (Operation (Op.DestroyClientId client)) is = by_client client (client_fault m client) is refl
     carried j is = same _ _

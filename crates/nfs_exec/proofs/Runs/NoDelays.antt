@@ -32,13 +32,16 @@ use Rattle.nfs_files.proofs.{Outcomes.for_each, Prompt.{IsPrompt, all_pass, firs
 use Rattle.nfs_files.proofs.PromptFiles.{files_prompt}
 use Rattle.nfs_exec.specs.Step.Machine.{by_fault, Machine, Outcome, is_client, or_delay, refuses as exec_refuses, starts}
 use Rattle.nfs_exec.specs.Step.Behind.{step, on_store, otherwise}
-use Rattle.nfs_exec.specs.Step.CreateSession.{by_verdict, creates, by_created, made_body, wish_of}
-use Rattle.nfs_exec.specs.{Step.Destroy.{destroy_session, has_session, client_fault, client_ended}, Step.ExchangeId.{exchange_id, exchanged, ask_of}}
+use Rattle.nfs_exec.specs.Step.CreateSession.{made_body, wish_of}
+use Rattle.nfs_exec.specs.{Step.Destroy.{destroy_session, has_session, client_fault, client_ended}, Step.ExchangeId.exchange_id}
 use Rattle.nfs_exec.specs.{Step.ReclaimComplete.{reclaim_complete, of_one, of_all}, Step.Run.{in_room, reserve, is_here, behind_here}}
 use Rattle.nfs_exec.specs.{Step.Place.{stands_alone, is_sequence, place_fault, item_fault, status_behind}, Step.Sequence.{compared, Sequenced, sequenced}}
 use Rattle.nfs_exec.specs.{Step.Compound.{carried_out, first_item, bare, renewed, begun, in_session, by_first}, Step.Delayed.NothingDelays}
 use Rattle.nfs_exec.specs.{Step.Laws.{MachineEvent, Expires, Asks, stepped, all_stepped}, Runs.Ops.{RanOp, ops, ops_in, ops_of}}
 use Rattle.nfs_exec.specs.Step.Sequence as sequence
+use Rattle.nfs_exec.specs.Step.Parts as parts
+use Rattle.nfs_exec.proofs.Step.InSteps.{exchange_id_is, create_session_is}
+use Rattle.nfs_exec.specs.Step.Parts.{by_number, creates, by_created, did_exchange, ask_of}
 use Rattle.nfs_exec.proofs.{Step.Behind.{IsKeptByEach, by_step, kept_run}, Runs.KeptByRuns.in_more}
 
 -- One operation behind SEQUENCE.
@@ -123,30 +126,30 @@ first_ops_prompt m r who size now (item ∷ more) d op there is = absurd there
 
 -- SEQUENCE.
 
-refuses_prompt : (o : Option Status) (v : Sequenced) (status : Status) → ((fault : Status) → o ≡ Some fault → is_delay fault ≡ false)
-    → (v ≡ sequence.Refuses status → is_delay status ≡ false) → sequence.unless o v ≡ sequence.Refuses status → is_delay status ≡ false
+refuses_prompt : (o : Option Status) (v : Result Sequenced Status) (status : Status) → ((fault : Status) → o ≡ Some fault → is_delay fault ≡ false)
+    → (sequence.or_refuses v ≡ sequence.Refuses status → is_delay status ≡ false) → parts.past o v ≡ sequence.Refuses status → is_delay status ≡ false
 refuses_prompt None v status fails more e = more e
 refuses_prompt (Some fault) v status fails more e = let same : fault ≡ status = cc in ap is_delay (sym same) ∙ fails fault refl
 
 refuses_as : (fault status : Status) → sequence.Refuses fault ≡ sequence.Refuses status → is_delay fault ≡ false → is_delay status ≡ false
 refuses_as fault status e fails = let same : fault ≡ status = cc in ap is_delay (sym same) ∙ fails
 
-verdict_prompt : (r : Request) (size : ℕ) (s : Sequence) (g : GrantedSlots) (v : Verdict) (status : Status) → sequence.by_verdict r size s g v ≡ sequence.Refuses status
+verdict_prompt : (r : Request) (size : ℕ) (s : Sequence) (g : GrantedSlots) (v : Verdict) (status : Status) → parts.slot_says r size s g v ≡ sequence.Refuses status
     → is_delay status ≡ false
 verdict_prompt r size s g NoSlot status e = refuses_as BadSlot status e refl
 verdict_prompt r size s g Misordered status e = refuses_as SeqMisordered status e refl
 verdict_prompt r size s g FalseRetry status e = refuses_as SeqFalseRetry status e refl
 verdict_prompt r size s g Again status e = absurd cc
 verdict_prompt r size s g Fresh status e =
-    refuses_prompt (sequence.fresh_fault r size g.channel) (sequence.Runs g.channel) status
+    refuses_prompt (parts.fresh_fault r size g.channel) (Ok (sequence.Runs g.channel)) status
     (first_prompt ((nat_lt g.channel.request size, ReqTooBig) ∷ (nat_lt g.channel.operations r.declared, TooManyOps) ∷ []) refl) (λ e. absurd cc) e
 
-by_session_prompt : (r : Request) (who : Caller) (size : ℕ) (s : Sequence) (o : Option Session) (status : Status) → sequence.by_session r who size s o ≡ sequence.Refuses status
+by_session_prompt : (r : Request) (who : Caller) (size : ℕ) (s : Sequence) (o : Option Session) (status : Status) → parts.by_session r who size s o ≡ sequence.Refuses status
     → is_delay status ≡ false
 by_session_prompt r who size s None status e = refuses_as BadSession status e refl
 by_session_prompt r who size s (Some session) status e =
     let g = session.slots in
-    refuses_prompt (sequence.slot_fault s g.channel) (sequence.by_verdict r size s g (judge g s.slotid s.sequenceid who.uid (compared r))) status
+    refuses_prompt (parts.slot_fault s g.channel) (sequence.by_slot r size s g (judge g s.slotid s.sequenceid who.uid (compared r))) status
     (first_prompt ((nat_le g.channel.slots s.slotid, BadSlot) ∷ (nat_le g.channel.slots s.highest_slotid, BadHighSlot) ∷ []) refl)
     (verdict_prompt r size s g (judge g s.slotid s.sequenceid who.uid (compared r)) status) e
 
@@ -186,7 +189,7 @@ room_calm false (Refuses fault) e = e
 room_calm false (Stays c) e = e
 room_calm true v e = e
 
-exchanged_prompt : (m : Machine) (now : ℕ) (a : Ask) (v : Case) → calm_case v ≡ true → is_delay (exchanged m now (does m.clients a v)).status ≡ false
+exchanged_prompt : (m : Machine) (now : ℕ) (a : Ask) (v : Case) → calm_case v ≡ true → is_delay (did_exchange m now (does m.clients a v)).status ≡ false
 exchanged_prompt m now a (Refuses fault) e = not_true (is_delay (fault_status fault)) e
 exchanged_prompt m now a (Stays c) e = refl
 exchanged_prompt m now a Adds e = refl
@@ -195,16 +198,16 @@ exchanged_prompt m now a Adds e = refl
 verdict_kept : (o : Option ClientRecord) (number uid : ℕ) (result : CreateResult) → clients.verdict_by o number uid ≡ clients.Again result
     → (c : ClientRecord) × (o ≡ Some c) × (c.kept ≡ Some result)
 verdict_kept None number uid result e = absurd cc
-verdict_kept (Some c) number uid result e = (c, refl, by_number (number == c.number) (c.uid == uid) (clients.following number == c.number) c.kept e)
+verdict_kept (Some c) number uid result e = (c, refl, by_tests (number == c.number) (c.uid == uid) (clients.following number == c.number) c.kept e)
   where
-    by_number : (here mine before : Bool) (k : Option CreateResult)
+    by_tests : (here mine before : Bool) (k : Option CreateResult)
         → cond here (cond mine clients.Runs clients.InUse) (cond before (option_map_or clients.Again k clients.Misordered) clients.Misordered) ≡ clients.Again result
         → k ≡ Some result
-    by_number true true before k e = absurd cc
-    by_number true false before k e = absurd cc
-    by_number false mine true None e = absurd cc
-    by_number false mine true (Some r) e = let same : r ≡ result = cc in ap Some same
-    by_number false mine false k e = absurd cc
+    by_tests true true before k e = absurd cc
+    by_tests true false before k e = absurd cc
+    by_tests false mine true None e = absurd cc
+    by_tests false mine true (Some r) e = let same : r ≡ result = cc in ap Some same
+    by_tests false mine false k e = absurd cc
 
 abbrev calm_fault : SessionFault → Bool
 calm_fault fault = not (is_delay (session_status fault))
@@ -216,7 +219,7 @@ made_prompt m now c id wish None fails = refl
 made_prompt m now c id wish (Some fault) fails = refused_prompt 43 (session_status fault) (fails fault refl)
 
 created_prompt : (m : Machine) (now : ℕ) (c : CreateSession) (v : clients.Verdict)
-    → ((status : Status) → v ≡ clients.Again (results.Refused status) → is_delay status ≡ false) → is_delay (by_verdict m now false c v).status ≡ false
+    → ((status : Status) → v ≡ clients.Again (results.Refused status) → is_delay status ≡ false) → is_delay (by_number m now false c v).status ≡ false
 created_prompt m now c clients.Stale kept = refused_prompt 43 StaleClientId refl
 created_prompt m now c (clients.Again (results.Done body)) kept = refl
 created_prompt m now c (clients.Again (results.Refused status)) kept = refused_prompt 43 status (kept status refl)
@@ -240,9 +243,11 @@ client_gone_prompt m client (Some fault) fails = refused_prompt 57 fault (fails 
 carried_prompt : (m : Machine) (who : Caller) (now : ℕ) (op : Op) → AreCalm m.clients → is_delay (carried_out m who now false (Operation op)).status ≡ false
 carried_prompt m who now (Op.ExchangeId e) calm =
     let a = ask_of m who e in
-    exchanged_prompt m now a (case_of m.clients a) (room_calm (has_room m.clients a.owner) (case_by a (confirmed_of m.clients a.owner)) (case_prompt a (confirmed_of m.clients a.owner)))
+    ap (λ (o : Outcome). is_delay o.status) (exchange_id_is m who now e)
+    ∙ exchanged_prompt m now a (case_of m.clients a) (room_calm (has_room m.clients a.owner) (case_by a (confirmed_of m.clients a.owner)) (case_prompt a (confirmed_of m.clients a.owner)))
 carried_prompt m who now (Op.CreateSession c) calm =
-    created_prompt m now c (clients.create_verdict m.clients c.clientid c.sequence who.uid) (λ status e.
+    ap (λ (o : Outcome). is_delay o.status) (create_session_is m who now false c)
+    ∙ created_prompt m now c (clients.create_verdict m.clients c.clientid c.sequence who.uid) (λ status e.
     (let (k, at, kept) = verdict_kept (client_at m.clients c.clientid) c.sequence who.uid (results.Refused status) e in
     calm k (find_in (λ (k : ClientRecord). k.id == c.clientid) m.clients.records k at).0 status kept))
 carried_prompt m who now (Op.DestroySession sessionid) calm = session_gone_prompt m sessionid
@@ -294,12 +299,12 @@ calm_refused Sessions.NoSpc c calm status e = ap is_delay (sym (some_refused NoS
 calm_refused Sessions.ServerFault c calm status e = ap is_delay (sym (some_refused ServerFault status e))
 calm_refused Sessions.Memory c calm status e = calm status e
 
-calm_exchanged : (m : Machine) (now : ℕ) (a : Ask) (v : Case) → AreCalm m.clients → AreCalm (exchanged m now (does m.clients a v)).machine.clients
+calm_exchanged : (m : Machine) (now : ℕ) (a : Ask) (v : Case) → AreCalm m.clients → AreCalm (did_exchange m now (does m.clients a v)).machine.clients
 calm_exchanged m now a (Refuses fault) calm = calm
 calm_exchanged m now a (Stays c) calm = calm
 calm_exchanged m now a Adds calm =
-    calm_pushed m.clients (filter (λ c. not (is_unconfirmed_of a.owner c)) m.clients.records) (new_client m.clients a) (m.clients.last + 1)
-    (calm_filtered m.clients (λ c. not (is_unconfirmed_of a.owner c)) calm) (none_kept (new_client m.clients a) refl)
+    calm_pushed m.clients (filter (λ c. not (is_unconfirmed_of a.owner c)) m.clients.records) (new_client m.clients a.owner a.verifier a.uid) (m.clients.last + 1)
+    (calm_filtered m.clients (λ c. not (is_unconfirmed_of a.owner c)) calm) (none_kept (new_client m.clients a.owner a.verifier a.uid) refl)
 
 calm_delayed : (m : Machine) (o : Outcome) (refused : Bool) (n : ℕ) → AreCalm m.clients → AreCalm o.machine.clients → AreCalm (or_delay refused m n o).machine.clients
 calm_delayed m o refused n before after = go (refused && is_ok o.status)
@@ -321,7 +326,7 @@ calm_made m now c t (Ok id) calm =
 calm_made m now c t (Err fault) calm =
     calm_changed m.clients c.clientid (clients.keeps (results.Refused (session_status fault))) (calm_refused fault) calm
 
-calm_created : (m : Machine) (now : ℕ) (refused : Bool) (c : CreateSession) (v : clients.Verdict) → AreCalm m.clients → AreCalm (by_verdict m now refused c v).machine.clients
+calm_created : (m : Machine) (now : ℕ) (refused : Bool) (c : CreateSession) (v : clients.Verdict) → AreCalm m.clients → AreCalm (by_number m now refused c v).machine.clients
 calm_created m now refused c clients.Stale calm = calm
 calm_created m now refused c (clients.Again (results.Done body)) calm = calm
 calm_created m now refused c (clients.Again (results.Refused status)) calm = calm
@@ -340,9 +345,12 @@ calm_destroyed m client (Some fault) calm = calm
 
 calm_carried : (m : Machine) (who : Caller) (now : ℕ) (refused : Bool) (i : Item) → AreCalm m.clients → AreCalm (carried_out m who now refused i).machine.clients
 calm_carried m who now refused (Operation (Op.ExchangeId e)) calm =
-    calm_delayed m (exchange_id m who now e) refused 42 calm (calm_exchanged m now (ask_of m who e) (case_of m.clients (ask_of m who e)) calm)
+    calm_delayed m (exchange_id m who now e) refused 42 calm
+    (subst (λ (o : Outcome). AreCalm o.machine.clients) (sym (exchange_id_is m who now e))
+    (calm_exchanged m now (ask_of m who e) (case_of m.clients (ask_of m who e)) calm))
 calm_carried m who now refused (Operation (Op.CreateSession c)) calm =
-    calm_created m now refused c (clients.create_verdict m.clients c.clientid c.sequence who.uid) calm
+    subst (λ (o : Outcome). AreCalm o.machine.clients) (sym (create_session_is m who now refused c))
+    (calm_created m now refused c (clients.create_verdict m.clients c.clientid c.sequence who.uid) calm)
 calm_carried m who now refused (Operation (Op.DestroySession sessionid)) calm = calm_session m sessionid calm
 calm_carried m who now refused (Operation (Op.DestroyClientId client)) calm = calm_destroyed m client (client_fault m client) calm
 calm_carried m who now refused i calm = calm

@@ -1,5 +1,5 @@
 -- A request that does not name a client leaves it all that it has.
-use Rattle.std.proofs.Common.{◌≡◌, ◌≢◌, ℕ, suc, ◌≤◌, Bool, true, false, cond, not, List, ◌∷◌, Option, Some, None, Result, Ok, Err, refl, sym, ◌∙◌, ap, arith, inl, inr}
+use Rattle.std.proofs.Common.{◌≡◌, ◌≢◌, ℕ, suc, ◌≤◌, Bool, true, false, cond, not, List, ◌∷◌, Option, Some, None, Result, Ok, Err, refl, sym, ◌∙◌, ap, subst, arith, inl, inr}
 use Rattle.std.proofs.lemmas.Bool.{cases_Bool, eqb-true, ne_eqb, eqb-false, and_parts, false≢true}
 use Rattle.std.specs.{Prelude.{◌==◌, ◌&&◌, ◌||◌, filter, find, bytes_eq, is_some, option_map}, Option.option_map_or}
 use Rattle.nfs_xdr.specs.{Caller.Caller, Tables.In, declared.status.Status.Status, declared.status.Status.TheVariants.Delay}
@@ -19,12 +19,14 @@ use Rattle.nfs_sessions.specs.Sessions.{Session, SessionTable, is_session, sessi
 use Rattle.nfs_lease.specs.Renewals.{Book, has_run_out, with_lease, with_renewal, without_lease}
 use Rattle.nfs_names.specs.{Context.begins, Outcome.is_ok}
 use Rattle.nfs_exec.specs.{Step.Machine.{by_fault, Machine, IsMachine, Outcome, or_delay, refuses}, Step.Place.item_fault}
-use Rattle.nfs_exec.specs.Step.ExchangeId.{exchange_id, exchanged, ask_of, without_any_lease}
-use Rattle.nfs_exec.specs.Step.CreateSession.{by_verdict, creates, by_created, made_body, wish_of, without_any_sessions}
+use Rattle.nfs_exec.specs.Step.ExchangeId.{exchange_id, without_any_lease}
+use Rattle.nfs_exec.specs.Step.CreateSession.{made_body, wish_of, without_any_sessions}
 use Rattle.nfs_exec.specs.{Step.Destroy.{destroy_session, client_fault, client_ended}, Step.Run.{run, is_here, behind_here}}
 use Rattle.nfs_exec.specs.{Step.Compound.{carried_out, first_item, renewed, begun, compound}, Step.Expiry.expired}
 use Rattle.nfs_exec.specs.Runs.Own.{sessions_of, IsAsBefore, has_owner, is_named_in}
 use Rattle.nfs_exec.specs.Step.Sequence as sequence
+use Rattle.nfs_exec.proofs.Step.InSteps.{exchange_id_is, create_session_is}
+use Rattle.nfs_exec.specs.Step.Parts.{did_exchange, ask_of, by_number, creates, by_created}
 use Rattle.nfs_exec.proofs.{Runs.ByEvent.by_answered, Step.Behind.{run_leases, run_sessions}, Runs.KeptByRuns.Is}
 use Rattle.nfs_exec.proofs.{Runs.OthersByOps.{known_apart_from, run_apart}, Runs.OthersByRuns.alone_apart}
 use Rattle.nfs_files.proofs.OthersTables.{same, both, clients_gone, filter_changed, filter_pushed}
@@ -155,7 +157,7 @@ delayed client m o refused n done = go (refused && is_ok o.status)
     go false = done
 
 exchange_strange : (client : ℕ) (m : Machine) (k : ClientRecord) (now : ℕ) (a : Ask) (v : Case) → IsRoster m.clients → client_at m.clients client ≡ Some k
-    → has_owner m.clients client a.owner ≡ false → IsAsBefore client m (exchanged m now (does m.clients a v)).machine
+    → has_owner m.clients client a.owner ≡ false → IsAsBefore client m (did_exchange m now (does m.clients a v)).machine
 exchange_strange client m k now a (Refuses fault) is at none = as_it_was client m
 exchange_strange client m k now a (Stays c) is at none = as_it_was client m
 exchange_strange client m k now a Adds is at none =
@@ -163,7 +165,7 @@ exchange_strange client m k now a Adds is at none =
     let stays : not (is_unconfirmed_of a.owner k) ≡ true = ap (λ b. not (b && not k.confirmed)) (others_owner t client k a.owner at none) in
     let gone = option_map (λ (c : ClientRecord). c.id) (unconfirmed_of t a.owner) in
     record {
-      known = find_push_some (λ (c : ClientRecord). c.id == client) (filter (λ c. not (is_unconfirmed_of a.owner c)) t.records) (new_client t a) k
+      known = find_push_some (λ (c : ClientRecord). c.id == client) (filter (λ c. not (is_unconfirmed_of a.owner c)) t.records) (new_client t a.owner a.verifier a.uid) k
           (find_kept (λ (c : ClientRecord). c.id == client) (λ c. not (is_unconfirmed_of a.owner c)) t.records k at stays) ∙ sym at;
       sessions = refl;
       lease = lease_any (with_lease m.leases (next_id t) now) client gone (not_replaced t client k a.owner is at none)
@@ -193,7 +195,7 @@ made_strange client m now c t (Err fault) other stays made = record {
 }
 
 created_strange : (client : ℕ) (m : Machine) (now : ℕ) (refused : Bool) (c : CreateSession) (v : clients.Verdict)
-    → c.clientid ≢ client → leaving m.clients c.clientid ≢ Some client → IsAsBefore client m (by_verdict m now refused c v).machine
+    → c.clientid ≢ client → leaving m.clients c.clientid ≢ Some client → IsAsBefore client m (by_number m now refused c v).machine
 created_strange client m now refused c clients.Stale other stays = as_it_was client m
 created_strange client m now refused c (clients.Again (results.Done body)) other stays = as_it_was client m
 created_strange client m now refused c (clients.Again (results.Refused status)) other stays = as_it_was client m
@@ -227,12 +229,13 @@ destroyed_strange client m gone (Some fault) other = as_it_was client m
 carried_strange : (client : ℕ) (m : Machine) (k : ClientRecord) (who : Caller) (now : ℕ) (refused : Bool) (i : Item) (more : List Item) → IsRoster m.clients
     → client_at m.clients client ≡ Some k → is_named_in client m.clients (i ∷ more) ≡ false → IsAsBefore client m (carried_out m who now refused i).machine
 carried_strange client m k who now refused (Operation (Op.ExchangeId e)) more is at none =
-    delayed client m (exchange_id m who now e) refused 42
-    (exchange_strange client m k now (ask_of m who e) (case_of m.clients (ask_of m who e)) is at none)
+    delayed client m (exchange_id m who now e) refused 42 (subst (λ (o : Outcome). IsAsBefore client m o.machine) (sym (exchange_id_is m who now e))
+    (exchange_strange client m k now (ask_of m who e) (case_of m.clients (ask_of m who e)) is at none))
 carried_strange client m k who now refused (Operation (Op.CreateSession c)) more is at none =
     let parts = neither (c.clientid == client) _ none in
-    created_strange client m now refused c (clients.create_verdict m.clients c.clientid c.sequence who.uid) (eqb-false c.clientid client parts.0)
-    (not_leaving m.clients client c.clientid k is at parts.1)
+    subst (λ (o : Outcome). IsAsBefore client m o.machine) (sym (create_session_is m who now refused c))
+    (created_strange client m now refused c (clients.create_verdict m.clients c.clientid c.sequence who.uid) (eqb-false c.clientid client parts.0)
+    (not_leaving m.clients client c.clientid k is at parts.1))
 carried_strange client m k who now refused (Operation (Op.DestroySession sessionid)) more is at none =
     session_strange client m sessionid (eqb-false (id_of sessionid).client client none)
 carried_strange client m k who now refused (Operation (Op.DestroyClientId gone)) more is at none =

@@ -29,12 +29,14 @@ use Rattle.nfs_files.proofs.Outcomes as files
 use Rattle.nfs_files.proofs.Outcomes.{for_each}
 use Rattle.nfs_exec.specs.{Step.Machine.{by_fault, Machine, Outcome, or_delay, refuses, starts}, Step.Behind.{step, on_store, otherwise}}
 use Rattle.nfs_exec.specs.{Step.Run.{run, in_room, is_here, behind_here}, Step.Place.item_fault, Step.ReclaimComplete.{reclaim_complete, of_one, of_all}}
-use Rattle.nfs_exec.specs.Step.ExchangeId.{exchange_id, ask_of}
-use Rattle.nfs_exec.specs.Step.CreateSession.{by_verdict, creates, by_created, confirmed, made_body, wish_of, without_any_sessions}
+use Rattle.nfs_exec.specs.Step.ExchangeId.{exchange_id}
+use Rattle.nfs_exec.specs.Step.CreateSession.{confirmed, made_body, wish_of, without_any_sessions}
 use Rattle.nfs_exec.specs.{Step.Destroy.{destroy_session, client_fault, client_ended}, Step.Sequence.{Sequenced, sequenced}}
 use Rattle.nfs_exec.specs.Step.Compound.{carried_out, first_item, renewed, begun, bare, Answered, in_session, by_first, compound}
 use Rattle.nfs_exec.specs.{Step.Laws.{MachineEvent, Expires, Asks, stepped, all_stepped}, Runs.OneSession.{asks_of, asks_session, Gives, MakesOne, GivesOne}}
 use Rattle.nfs_exec.specs.Step.Sequence as sequence
+use Rattle.nfs_exec.proofs.Step.InSteps.{exchange_id_is, create_session_is}
+use Rattle.nfs_exec.specs.Step.Parts.{ask_of, by_number, creates, by_created}
 use Rattle.nfs_exec.proofs.{Step.Behind.{by_step, follow_kept}, Step.Creating.length_id, Runs.WhatWasDone.in_room_is, Runs.SlotNumbers.IsCounted}
 use Rattle.nfs_exec.proofs.{Runs.SlotNumbersAlong.counted_all, Runs.SessionNumbers.{After, IsAgain, IsNext, IsCarried, ToldBy, more, after_own, after_carried}}
 use Rattle.nfs_exec.proofs.Runs.SessionNumbers.{carried_case, carried_confirmed, verdict_again, verdict_next, after_again, after_next, not_next, same_kept, next_is_new}
@@ -45,14 +47,14 @@ use Rattle.nfs_exec.proofs.Runs.SessionNumbers.{tells_more, tells_carried, tells
 delayed_after : (P : Machine → Type 0) (m : Machine) (o : Outcome) (refused : Bool) (number : ℕ) → P m → P o.machine → P (or_delay refused m number o).machine
 delayed_after P m o refused number before after = elim (cases_Bool (refused && is_ok o.status)) [ inl here ↦ rw here before | inr other ↦ rw other after ]
 
-by_verdict_after : (P : Machine → Type 0) (m : Machine) (now : ℕ) (refused : Bool) (c : CreateSession) (v : clients.Verdict) → P m
-    → ((t : SessionTable) (r : Result SessionId SessionFault) → P (by_created m now c t r).machine) → P (by_verdict m now refused c v).machine
-by_verdict_after P m now refused c clients.Stale same made = same
-by_verdict_after P m now refused c (clients.Again (results.Done body)) same made = same
-by_verdict_after P m now refused c (clients.Again (results.Refused status)) same made = same
-by_verdict_after P m now refused c clients.Misordered same made = same
-by_verdict_after P m now refused c clients.InUse same made = same
-by_verdict_after P m now refused c clients.Runs same made =
+by_number_after : (P : Machine → Type 0) (m : Machine) (now : ℕ) (refused : Bool) (c : CreateSession) (v : clients.Verdict) → P m
+    → ((t : SessionTable) (r : Result SessionId SessionFault) → P (by_created m now c t r).machine) → P (by_number m now refused c v).machine
+by_number_after P m now refused c clients.Stale same made = same
+by_number_after P m now refused c (clients.Again (results.Done body)) same made = same
+by_number_after P m now refused c (clients.Again (results.Refused status)) same made = same
+by_number_after P m now refused c clients.Misordered same made = same
+by_number_after P m now refused c clients.InUse same made = same
+by_number_after P m now refused c clients.Runs same made =
     let did = create m.sessions c.clientid (wish_of m c) in
     delayed_after P m (creates m now c did) refused 43 same (made did.after did.answer)
 
@@ -112,11 +114,13 @@ module _ (n : ℕ) (P : Roster → Type 0) (held : IsCarried n P) where
   out_carried : (m : Machine) (who : Caller) (now : ℕ) (refused : Bool) (i : Item) → asks_of n (i ∷ []) ≡ false → P m.clients
       → P (carried_out m who now refused i).machine.clients
   out_carried m who now refused (Operation (Op.CreateSession c)) other a =
-      by_verdict_after (λ m. P m.clients) m now refused c (create_verdict m.clients c.clientid c.sequence who.uid) a
-      (λ t r. made_other m now c t r (eqb-false c.clientid n other) a)
+      subst (λ (o : Outcome). P o.machine.clients) (sym (create_session_is m who now refused c))
+      (by_number_after (λ m. P m.clients) m now refused c (create_verdict m.clients c.clientid c.sequence who.uid) a
+      (λ t r. made_other m now c t r (eqb-false c.clientid n other) a))
   out_carried m who now refused (Operation (Op.ExchangeId e)) other a =
       delayed_after (λ m. P m.clients) m (exchange_id m who now e) refused 42 a
-      (carried_case n P held m.clients (ask_of m who e) (case_of m.clients (ask_of m who e)) a)
+      (subst (λ (o : Outcome). P o.machine.clients) (sym (exchange_id_is m who now e))
+      (carried_case n P held m.clients (ask_of m who e) (case_of m.clients (ask_of m who e)) a))
   out_carried m who now refused (Operation (Op.DestroySession sessionid)) other a = ended_carried m sessionid a
   out_carried m who now refused (Operation (Op.DestroyClientId client)) other a =
       destroyed_carried m client (client_fault m client) a
@@ -169,7 +173,7 @@ delay_runs m now c refused next = go (refused && is_ok (created m now c).status)
     go false = inr (record { next = next; is = refl })
 
 verdict_runs : (m : Machine) (who : Caller) (now : ℕ) (refused : Bool) (c : CreateSession) (v : clients.Verdict)
-    → create_verdict m.clients c.clientid c.sequence who.uid ≡ v → (let o = by_verdict m now refused c v in (o.machine ≡ m) ⊎ IsRun m now c o)
+    → create_verdict m.clients c.clientid c.sequence who.uid ≡ v → (let o = by_number m now refused c v in (o.machine ≡ m) ⊎ IsRun m now c o)
 verdict_runs m who now refused c clients.Stale e = inl refl
 verdict_runs m who now refused c clients.Misordered e = inl refl
 verdict_runs m who now refused c clients.InUse e = inl refl
@@ -184,7 +188,8 @@ item_runs m declared who now refused c = go (item_fault declared (Operation (Op.
   where
     go : (f : Option Status) → (let o = by_fault m (op_number Num.CreateSession) f (carried_out m who now refused (Operation (Op.CreateSession c))) in
         (o.machine ≡ m) ⊎ IsRun m now c o)
-    go None = verdict_runs m who now refused c (create_verdict m.clients c.clientid c.sequence who.uid) refl
+    go None = subst (λ (o : Outcome). (o.machine ≡ m) ⊎ IsRun m now c o) (sym (create_session_is m who now refused c))
+        (verdict_runs m who now refused c (create_verdict m.clients c.clientid c.sequence who.uid) refl)
     go (Some status) = inl refl
 
 pub record IsAsked (n : ℕ) (m : Machine) (r : Request) (now : ℕ) (a : Answered) : Type 0 where
@@ -308,7 +313,7 @@ delay_either m now c id behind refused o long each = go (refused && is_ok o.stat
 
 verdict_either : (m : Machine) (who : Caller) (now : ℕ) (refused : Bool) (c : CreateSession) (id behind : List ℕ) (v : clients.Verdict) → length id ≡ 16
     → create_verdict m.clients c.clientid c.sequence who.uid ≡ v
-    → (let o = by_verdict m now refused c v in Tells (id ++ behind) o → IsEither m now c (id ++ behind) o.machine)
+    → (let o = by_number m now refused c v in Tells (id ++ behind) o → IsEither m now c (id ++ behind) o.machine)
 verdict_either m who now refused c id behind clients.Stale long e = λ told. absurd (refused_short StaleClientId id behind long told)
 verdict_either m who now refused c id behind clients.Misordered long e = λ told. absurd (refused_short SeqMisordered id behind long told)
 verdict_either m who now refused c id behind clients.InUse long e = λ told. absurd (refused_short ClidInUse id behind long told)
@@ -331,7 +336,8 @@ item_either m declared who now refused c id behind long = go (item_fault declare
   where
     go : (f : Option Status) → (let o = by_fault m (op_number Num.CreateSession) f (carried_out m who now refused (Operation (Op.CreateSession c))) in
         Tells (id ++ behind) o → IsEither m now c (id ++ behind) o.machine)
-    go None = verdict_either m who now refused c id behind (create_verdict m.clients c.clientid c.sequence who.uid) long refl
+    go None = subst (λ (o : Outcome). Tells (id ++ behind) o → IsEither m now c (id ++ behind) o.machine) (sym (create_session_is m who now refused c))
+        (verdict_either m who now refused c id behind (create_verdict m.clients c.clientid c.sequence who.uid) long refl)
     go (Some status) = λ told. absurd (refused_short status id behind long told)
 
 -- behind a compound's head

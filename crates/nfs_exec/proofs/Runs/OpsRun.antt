@@ -9,7 +9,7 @@ use Rattle.nfs_results.specs.Results.{spell_result, spell_compound_head}
 use Rattle.nfs_sessions.specs.{declared.channel.Channel.Channel, Id.id_of}
 use Rattle.nfs_names.specs.{declared.context.Context.Context, Outcome.is_ok, Context.begins}
 use Rattle.nfs_exec.specs.{Step.Machine.Machine, Step.Behind.Step, Step.Run.{Ran, run, in_room, follow, is_here, behind_here}}
-use Rattle.nfs_exec.specs.{Step.Sequence.{Sequenced, sequenced, accepted}, Step.Compound.{bare, begun, renewed, run_in, in_session, by_first}}
+use Rattle.nfs_exec.specs.{Step.Sequence.{Sequenced, sequenced, sequence_ok}, Step.Compound.{bare, begun, renewed, run_in, in_session, by_first}}
 use Rattle.nfs_exec.specs.Step.Laws.{if_runs, first_runs}
 use Rattle.nfs_exec.specs.Runs.Ops.{RanOp, done, ops, ops_in, ops_of, last_status, results_of, IsRunOf, OpsAreRun, OpsAreRunIn, AnswersAreTheirs}
 use Rattle.nfs_exec.specs.Step.Sequence as sequence
@@ -50,7 +50,7 @@ are_run_in m r who now choice s c more =
 
 abbrev IsTheirs : Request → Sequence → Channel → List RanOp → List ℕ → Type 0
 IsTheirs r s c ds text =
-    text ≡ spell_compound_head (last_status ds) r.tag (suc (length ds)) ++ (spell_result (Res.Sequence (accepted s c)) ++ results_of ds)
+    text ≡ spell_compound_head (last_status ds) r.tag (suc (length ds)) ++ (spell_result (Res.Sequence (sequence_ok s c)) ++ results_of ds)
 
 session_theirs : (m : Machine) (r : Request) (who : Caller) (now : ℕ) (choice : Option ℕ) (t s : Sequence) (more : List Item) (v : Sequenced)
     → if_runs t v ≡ Some s → (c : Channel) × IsTheirs r s c (ops_in m r who now choice t more v) (in_session m r who now choice t more v).text
@@ -62,10 +62,10 @@ session_theirs m r who now choice t s more (sequence.Runs c) e =
     let ran = run_in (renewed m now t) r who now (behind_here choice) t c more in
     let ds = ops_in m r who now choice t more (sequence.Runs c) in (
       c,
-      ap (λ status. spell_compound_head status r.tag (suc ran.count) ++ (spell_result (Res.Sequence (accepted t c)) ++ ran.results)) is.status
-          ∙ (ap (λ n. spell_compound_head (last_status ds) r.tag (suc n) ++ (spell_result (Res.Sequence (accepted t c)) ++ ran.results)) is.count
-          ∙ (ap (λ text. spell_compound_head (last_status ds) r.tag (suc (length ds)) ++ (spell_result (Res.Sequence (accepted t c)) ++ text)) is.results
-          ∙ ap (λ (u : Sequence). spell_compound_head (last_status ds) r.tag (suc (length ds)) ++ (spell_result (Res.Sequence (accepted u c)) ++ results_of ds)) same)),
+      ap (λ status. spell_compound_head status r.tag (suc ran.count) ++ (spell_result (Res.Sequence (sequence_ok t c)) ++ ran.results)) is.status
+          ∙ (ap (λ n. spell_compound_head (last_status ds) r.tag (suc n) ++ (spell_result (Res.Sequence (sequence_ok t c)) ++ ran.results)) is.count
+          ∙ (ap (λ text. spell_compound_head (last_status ds) r.tag (suc (length ds)) ++ (spell_result (Res.Sequence (sequence_ok t c)) ++ text)) is.results
+          ∙ ap (λ (u : Sequence). spell_compound_head (last_status ds) r.tag (suc (length ds)) ++ (spell_result (Res.Sequence (sequence_ok u c)) ++ results_of ds)) same)),
     )
 
 first_theirs : (m : Machine) (r : Request) (who : Caller) (size now : ℕ) (choice : Option ℕ) (s : Sequence) (items : List Item)

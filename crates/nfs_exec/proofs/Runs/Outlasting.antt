@@ -1,28 +1,28 @@
 -- A compound that neither renews a client's lease nor begins it leaves it as it was, or ends it.
 use Rattle.std.proofs.Common.{◌≡◌, ◌⊎◌, ℕ, Bool, true, false, cond, eqb, List, [], ◌∷◌, Option, Some, None, Result, Ok, Err, refl, sym, ◌∙◌, subst, inl, inr}
 use Rattle.std.proofs.lemmas.Bool.{cases_Bool, eqb-false, ne_eqb, false≢true}
-use Rattle.std.specs.{Prelude.{◌&&◌, ◌||◌, ◌==◌, is_some}, Option.option_map_or}
-use Rattle.nfs_xdr.specs.{Caller.Caller, declared.status.Status.Status, declared.status.Status.TheVariants.{Delay, MinorVersMismatch}}
+use Rattle.std.specs.{Prelude.{◌&&◌, ◌||◌, ◌==◌, not, is_some, option_map, ok_or}, Option.option_map_or}
+use Rattle.nfs_xdr.specs.{Caller.Caller, Checks.{first_fault, judged}, declared.status.Status.Status}
+use Rattle.nfs_xdr.specs.declared.status.Status.TheVariants.{Delay, Inval, StaleClientId, MinorVersMismatch}
 use Rattle.nfs_compound.specs.{declared.op.Item.Item, declared.op.Item.TheVariants.Operation, Request.{Request, item_number}}
-use Rattle.nfs_compound.specs.{declared.session_args.CreateSession.CreateSession, declared.session_args.Sequence.Sequence}
+use Rattle.nfs_compound.specs.{declared.session_args.CreateSession.CreateSession, declared.session_args.ExchangeId.ExchangeId}
+use Rattle.nfs_compound.specs.declared.session_args.Sequence.{Sequence}
 use Rattle.nfs_compound.specs.declared.op.Op.TheVariants as Op
-use Rattle.nfs_results.specs.Results.{status_of_result}
-use Rattle.nfs_clients.specs.{declared.exchange_id.Exchanged.Exchanged, declared.exchange_id.ClientFault.ClientFault}
-use Rattle.nfs_clients.specs.ExchangeId.{exchange}
-use Rattle.nfs_clients.specs.declared.created.CreateResult.TheVariants as kept
-use Rattle.nfs_clients.specs.CreateSession as clients
-use Rattle.nfs_sessions.specs.{declared.id.SessionId.SessionId, declared.sessions.SessionFault.SessionFault, Id.id_of}
-use Rattle.nfs_sessions.specs.Sessions.{SessionTable, create, session_at}
+use Rattle.nfs_clients.specs.{declared.created.CreateResult.CreateResult, declared.created.CreateResult.TheVariants.{Done, Refused}, ExchangeId.has_room}
+use Rattle.nfs_clients.specs.{Roster.{ClientRecord, client_at, confirmed_of, unconfirmed_of, next_id}, CreateSession.leaving}
+use Rattle.nfs_slots.specs.Slot.{next_number}
+use Rattle.nfs_sessions.specs.{Id.id_of, Sessions.session_at}
+use Rattle.nfs_opens.specs.Steps.{require, ◌>>=◌, ◌>>◌}
 use Rattle.nfs_lease.specs.Renewals.{Book, with_lease, with_renewal, without_lease}
 use Rattle.nfs_names.specs.{Context.begins, Outcome.is_ok}
-use Rattle.nfs_exec.specs.{Step.Machine.{by_fault, Machine, Outcome, or_delay, refuses}, Step.Place.item_fault}
-use Rattle.nfs_exec.specs.Step.ExchangeId.{exchange_id, leases_behind, without_any_lease, ask_of, answered}
-use Rattle.nfs_exec.specs.Step.CreateSession.{by_verdict, creates, by_created, wish_of}
+use Rattle.nfs_exec.specs.{Step.Machine.{by_fault, Machine, Outcome, or_delay, or_refusal, refuses}, Step.Place.item_fault}
+use Rattle.nfs_exec.specs.Step.ExchangeId.{exchange_id, exchanged, standing, carries_confirmed, without_any_lease}
+use Rattle.nfs_exec.specs.Step.CreateSession.{create_session, session_checks, kept_again, or_kept_refusal, made}
 use Rattle.nfs_exec.specs.{Step.Destroy.{destroy_session, client_fault, client_ended}, Step.Sequence.{Sequenced, sequenced}, Step.Run.{is_here, behind_here}}
 use Rattle.nfs_exec.specs.Step.Compound.{carried_out, first_item, renewed, begun, bare, in_session, by_first, compound}
-use Rattle.nfs_exec.specs.{Step.Laws.{Asks, first_runs, if_runs}, Runs.LockHeld.is_of, Runs.Renewing.{adds, is_new, is_for, renews_alone, renews_or_begins}}
+use Rattle.nfs_exec.specs.{Step.Laws.{Asks, first_runs, if_runs}, Runs.LockHeld.is_of, Runs.Renewing.{adds, is_for, renews_alone, renews_or_begins}}
 use Rattle.nfs_exec.specs.Step.Sequence as sequence
-use Rattle.nfs_exec.proofs.Step.Behind.{run_leases}
+use Rattle.nfs_exec.proofs.{Step.Behind.run_leases, Step.InSteps.for_client}
 
 abbrev pub IsStill : ℕ → Book → Book → Type 0
 IsStill client b left = (left.renewed client ≡ None) ⊎ (left.renewed client ≡ b.renewed client)
@@ -50,17 +50,32 @@ still_any b client (Some gone) = still_without b client gone
 
 -- Outside a session.
 
-exchanged_still : (m : Machine) (now client : ℕ) (v : Result Exchanged ClientFault) → is_ok (status_of_result (answered v)) && adds client v ≡ false
-    → IsStill client m.leases (leases_behind m.leases now v)
-exchanged_still m now client (Err fault) e = inr refl
-exchanged_still m now client (Ok x) e = by_added x.added refl e
+-- a record that is added begins its lease, and one that it replaces loses its own
+added_still : (m : Machine) (now client : ℕ) (o : Option ℕ) → (next_id m.clients == client) ≡ false
+    → IsStill client m.leases (without_any_lease (with_lease m.leases (next_id m.clients) now) o)
+added_still m now client o other =
+    let begun = with_lease m.leases (next_id m.clients) now in
+    after_both client m.leases begun (without_any_lease begun o) (still_lease m.leases client (next_id m.clients) now other) (still_any begun client o)
+
+exchanged_still : (m : Machine) (who : Caller) (now client : ℕ) (e : ExchangeId)
+    → is_ok (exchange_id m who now e).status && is_for client m who (Operation (Op.ExchangeId e)) ≡ false
+    → IsStill client m.leases (exchange_id m who now e).machine.leases
+exchanged_still m who now client e = by_flag (carries_confirmed e) (standing m who e (confirmed_of m.clients e.ownerid))
   where
-    by_added : (added : Bool) → x.added ≡ added → added && (x.id == client) ≡ false
-        → IsStill client m.leases (cond added (without_any_lease (with_lease m.leases x.id now) x.replaced) m.leases)
-    by_added true is e =
-        after_both client m.leases (with_lease m.leases x.id now) (without_any_lease (with_lease m.leases x.id now) x.replaced)
-        (still_lease m.leases client x.id now e) (still_any (with_lease m.leases x.id now) client x.replaced)
-    by_added false is e = inr refl
+    steps : Bool → Result (Option ClientRecord) Status → Outcome
+    steps carried found = or_refusal m 42 (require (not carried) Inval >> (found >>= exchanged m who now e))
+
+    by_room : (room : Bool) → has_room m.clients e.ownerid ≡ room → is_ok (steps false (Ok None)).status && (next_id m.clients == client) ≡ false
+        → IsStill client m.leases (steps false (Ok None)).machine.leases
+    by_room true room none = rw room (added_still m now client (option_map (λ (c : ClientRecord). c.id) (unconfirmed_of m.clients e.ownerid)) (rw room at none))
+    by_room false full none = rw full (inr refl)
+
+    by_flag : (carried : Bool) (found : Result (Option ClientRecord) Status)
+        → is_ok (steps carried found).status && (adds found && (next_id m.clients == client)) ≡ false → IsStill client m.leases (steps carried found).machine.leases
+    by_flag true found none = inr refl
+    by_flag false (Err status) none = inr refl
+    by_flag false (Ok (Some c)) none = inr refl
+    by_flag false (Ok None) none = by_room (has_room m.clients e.ownerid) refl none
 
 delayed_still : (m : Machine) (client : ℕ) (o : Outcome) (refused : Bool) (n : ℕ) (mine : Bool) → (is_ok o.status && mine ≡ false → IsStill client m.leases o.machine.leases)
     → is_ok (or_delay refused m n o).status && mine ≡ false → IsStill client m.leases (or_delay refused m n o).machine.leases
@@ -70,24 +85,45 @@ delayed_still m client o refused n mine still = go (refused && is_ok o.status)
     go true e = inr refl
     go false e = still e
 
-made_still : (m : Machine) (now client : ℕ) (c : CreateSession) (t : SessionTable) (v : Result SessionId SessionFault)
-    → is_ok (by_created m now c t v).status && (c.clientid == client) ≡ false → IsStill client m.leases (by_created m now c t v).machine.leases
-made_still m now client c t (Ok id) e =
-    let gone = without_any_lease m.leases (clients.leaving m.clients c.clientid) in
-    after_both client m.leases gone (with_renewal gone c.clientid now) (still_any m.leases client (clients.leaving m.clients c.clientid))
+made_still : (m : Machine) (now client : ℕ) (c : CreateSession) (fault : Option Status) → (let o = or_kept_refusal m c (judged fault >> Ok (made m now c)) in
+    is_ok o.status && (c.clientid == client) ≡ false → IsStill client m.leases o.machine.leases)
+made_still m now client c None e =
+    let gone = without_any_lease m.leases (leaving m.clients c.clientid) in
+    after_both client m.leases gone (with_renewal gone c.clientid now) (still_any m.leases client (leaving m.clients c.clientid))
     (still_renewal gone client c.clientid now e)
-made_still m now client c t (Err fault) e = inr refl
+made_still m now client c (Some status) e = inr refl
 
-created_still : (m : Machine) (now client : ℕ) (refused : Bool) (c : CreateSession) (v : clients.Verdict)
-    → is_ok (by_verdict m now refused c v).status && (is_new v && (c.clientid == client)) ≡ false → IsStill client m.leases (by_verdict m now refused c v).machine.leases
-created_still m now client refused c clients.Stale e = inr refl
-created_still m now client refused c (clients.Again (kept.Done body)) e = inr refl
-created_still m now client refused c (clients.Again (kept.Refused status)) e = inr refl
-created_still m now client refused c clients.Misordered e = inr refl
-created_still m now client refused c clients.InUse e = inr refl
-created_still m now client refused c clients.Runs e =
-    let did = create m.sessions c.clientid (wish_of m c) in
-    delayed_still m client (creates m now c did) refused 43 (c.clientid == client) (made_still m now client c did.after did.answer) e
+created_still : (m : Machine) (who : Caller) (now client : ℕ) (refused : Bool) (c : CreateSession)
+    → is_ok (create_session m who now refused c).status && is_for client m who (Operation (Op.CreateSession c)) ≡ false
+    → IsStill client m.leases (create_session m who now refused c).machine.leases
+created_still m who now client refused c none = by_client (client_at m.clients c.clientid) none
+  where
+    by_kept : (kept : Option CreateResult) → IsStill client m.leases (or_refusal m 43 (kept_again m kept)).machine.leases
+    by_kept None = inr refl
+    by_kept (Some (Done body)) = inr refl
+    by_kept (Some (Refused status)) = inr refl
+
+    steps : Option ClientRecord → Outcome
+    steps o = or_refusal m 43 (ok_or o StaleClientId >>= for_client m now c who refused)
+
+    by_record : (k : ClientRecord) → is_ok (steps (Some k)).status && ((c.sequence == k.number) && (c.clientid == client)) ≡ false
+        → IsStill client m.leases (steps (Some k)).machine.leases
+    by_record k none = elim (cases_Bool (next_number c.sequence == k.number)) [
+      | inl again ↦ rw again (by_kept k.kept)
+      | inr new ↦ elim (cases_Bool (c.sequence == k.number)) [
+        | inl next ↦ elim (cases_Bool (k.uid == who.uid)) [
+          | inl mine ↦ rw (new, next, mine) (delayed_still m client (or_kept_refusal m c (judged (first_fault (session_checks m c)) >> Ok (made m now c)))
+              refused 43 (c.clientid == client) (made_still m now client c (first_fault (session_checks m c))) (rw (new, next, mine) at none))
+          | inr other ↦ rw (new, next, other) (inr refl)
+        ]
+        | inr none ↦ rw (new, none) (inr refl)
+      ]
+    ]
+
+    by_client : (o : Option ClientRecord) → is_ok (steps o).status && (option_map_or (λ (k : ClientRecord). c.sequence == k.number) o false && (c.clientid == client)) ≡ false
+        → IsStill client m.leases (steps o).machine.leases
+    by_client None none = inr refl
+    by_client (Some k) none = by_record k none
 
 session_still : (m : Machine) (client : ℕ) (sessionid : List ℕ) → IsStill client m.leases (destroy_session m sessionid).machine.leases
 session_still m client sessionid = elim (cases_Bool (is_some (session_at m.sessions (id_of sessionid)))) [
@@ -102,10 +138,9 @@ client_still m client gone (Some fault) = inr refl
 carried_still : (m : Machine) (who : Caller) (now client : ℕ) (refused : Bool) (i : Item)
     → is_ok (carried_out m who now refused i).status && is_for client m who i ≡ false → IsStill client m.leases (carried_out m who now refused i).machine.leases
 carried_still m who now client refused (Operation (Op.ExchangeId e)) none =
-    let v = (exchange m.clients (ask_of m who e)).answer in
-    delayed_still m client (exchange_id m who now e) refused 42 (adds client v) (exchanged_still m now client v) none
+    delayed_still m client (exchange_id m who now e) refused 42 (is_for client m who (Operation (Op.ExchangeId e))) (exchanged_still m who now client e) none
 carried_still m who now client refused (Operation (Op.CreateSession c)) none =
-    created_still m now client refused c (clients.create_verdict m.clients c.clientid c.sequence who.uid) none
+    created_still m who now client refused c none
 carried_still m who now client refused (Operation (Op.DestroySession sessionid)) none = session_still m client sessionid
 carried_still m who now client refused (Operation (Op.DestroyClientId gone)) none =
     client_still m client gone (client_fault m gone)

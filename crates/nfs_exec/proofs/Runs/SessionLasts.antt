@@ -13,10 +13,11 @@ use Rattle.nfs_sessions.specs.SessionSlots.{GrantedSlots}
 use Rattle.nfs_sessions.specs.Sessions.{Session, SessionTable, is_session, session_at, create_unless, create_fault, with_session, with_slots, keep}
 use Rattle.nfs_sessions.specs.SessionSlots as slots
 use Rattle.nfs_names.specs.{Context.begins, Outcome.is_ok}
-use Rattle.nfs_exec.specs.{Step.Machine.{Machine, Outcome}, Step.CreateSession.{by_created, wish_of, without_any_sessions}, Step.Run.{is_here, behind_here}}
+use Rattle.nfs_exec.specs.{Step.Machine.{Machine, Outcome}, Step.CreateSession.{wish_of, without_any_sessions}, Step.Run.{is_here, behind_here}}
 use Rattle.nfs_exec.specs.{Step.Sequence.compared, Step.Compound.{first_item, renewed, begun, in_session, compound}, Step.Laws.Asks}
 use Rattle.nfs_exec.specs.{Runs.LockHeld.{takes_place, replaces}, Runs.SessionLasts.{is_end, ends_session}}
 use Rattle.nfs_exec.specs.Step.Sequence as sequence
+use Rattle.nfs_exec.specs.Step.Parts.{by_created}
 use Rattle.nfs_exec.proofs.{Step.Behind.run_sessions, Runs.ByEvent.{by_answered, by_alone}, Step.AloneKeeps.not_leaving}
 use Rattle.nfs_exec.proofs.Runs.SessionsBehind.{ran_in, told_compound}
 

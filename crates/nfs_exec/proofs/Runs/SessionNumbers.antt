@@ -56,7 +56,7 @@ pub record IsCarried (n : ℕ) (P : Roster → Type 0) : Type 0 where
   pub fewer : (t : Roster) (p : ClientRecord → Bool) → P t → P (record t { records = filter p t.records })
   pub quiet : (t : Roster) (at : ℕ) (f : ClientRecord → ClientRecord) → IsQuiet f → P t → P (with_changed t at f)
   pub other : (t : Roster) (at : ℕ) (result : CreateResult) → at ≢ n → P t → P (with_kept t at result)
-  pub new : (t : Roster) (ask : Ask) → P t → P (with_new t ask)
+  pub new : (t : Roster) (ask : Ask) → P t → P (with_new t ask.owner ask.verifier ask.uid)
 
 pub after_quiet : (n number most at : ℕ) (body : List ℕ) (t : Roster) (f : ClientRecord → ClientRecord) → IsQuiet f → After n number body most t
     → After n number body most (with_changed t at f)
@@ -149,7 +149,7 @@ after_own n number most body t at result a = elim (cases_eq at n) [
     at_most false = let few = a.few in omega arith
 
 -- a new client
-pub after_new : (n number most : ℕ) (body : List ℕ) (t : Roster) (ask : Ask) → After n number body most t → After n number body most (with_new t ask)
+pub after_new : (n number most : ℕ) (body : List ℕ) (t : Roster) (ask : Ask) → After n number body most t → After n number body most (with_new t ask.owner ask.verifier ask.uid)
 after_new n number most body t ask a =
     let p : ClientRecord → Bool = λ c. not (is_unconfirmed_of ask.owner c) in
     let low = a.is.given in
@@ -158,11 +158,11 @@ after_new n number most body t ask a =
       few = a.few;
       is = record {
         given = omega arith;
-        counts = λ c there same. elim (in_push (filter p t.records) (new_client t ask) c there) [
+        counts = λ c there same. elim (in_push (filter p t.records) (new_client t ask.owner ask.verifier ask.uid) c there) [
           | inl new ↦ (let id = ap (λ (c : ClientRecord). c.id) new in absurd (omega arith))
           | inr old ↦ a.is.counts c (in_filter p t.records c old).0 same
         ];
-        keeps = λ c there same none. elim (in_push (filter p t.records) (new_client t ask) c there) [
+        keeps = λ c there same none. elim (in_push (filter p t.records) (new_client t ask.owner ask.verifier ask.uid) c there) [
           | inl new ↦ (let id = ap (λ (c : ClientRecord). c.id) new in absurd (omega arith))
           | inr old ↦ a.is.keeps c (in_filter p t.records c old).0 same none
         ];
@@ -391,11 +391,11 @@ tells_carried n at body X = record {
   quiet = λ t place f quiet is. tells_as n at body X t (with_changed t place f) (was_quiet n place t f quiet) is;
   other = λ t place result other is. tells_as n at body X t (with_kept t place result) (was_other n place t result other) is;
   new = λ t ask is. record {
-    small = λ c there same. elim (in_push (filter (λ c. not (is_unconfirmed_of ask.owner c)) t.records) (new_client t ask) c there) [
+    small = λ c there same. elim (in_push (filter (λ c. not (is_unconfirmed_of ask.owner c)) t.records) (new_client t ask.owner ask.verifier ask.uid) c there) [
       | inl new ↦ (let one = ap (λ (c : ClientRecord). c.number) new in omega arith)
       | inr old ↦ is.small c (in_filter (λ c. not (is_unconfirmed_of ask.owner c)) t.records c old).0 same
     ];
-    told = λ c there same number kept. elim (in_push (filter (λ c. not (is_unconfirmed_of ask.owner c)) t.records) (new_client t ask) c there) [
+    told = λ c there same number kept. elim (in_push (filter (λ c. not (is_unconfirmed_of ask.owner c)) t.records) (new_client t ask.owner ask.verifier ask.uid) c there) [
       | inl new ↦ absurd (let none : None ≡ Some (results.Done body) = ap (λ (c : ClientRecord). c.kept) (sym new) ∙ kept in cc)
       | inr old ↦ is.told c (in_filter (λ c. not (is_unconfirmed_of ask.owner c)) t.records c old).0 same number kept
     ];

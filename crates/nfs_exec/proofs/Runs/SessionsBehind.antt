@@ -12,10 +12,11 @@ use Rattle.nfs_sessions.specs.{declared.channel.Channel.Channel, declared.channe
 use Rattle.nfs_sessions.specs.SessionSlots.{GrantedSlots, judge}
 use Rattle.nfs_sessions.specs.Sessions.{Session, SessionTable, is_session, session_at, create_unless, create_fault, with_session, keep}
 use Rattle.nfs_names.specs.Context.{begins}
-use Rattle.nfs_exec.specs.{Step.Machine.Machine, Step.CreateSession.{by_verdict, by_created, wish_of, without_any_sessions}}
-use Rattle.nfs_exec.specs.{Step.Sequence.{compared, unless, by_session, slot_fault}, Step.Run.{is_here, behind_here}}
+use Rattle.nfs_exec.specs.{Step.Machine.Machine, Step.CreateSession.{wish_of, without_any_sessions}}
+use Rattle.nfs_exec.specs.{Step.Sequence.compared, Step.Run.{is_here, behind_here}}
 use Rattle.nfs_exec.specs.{Step.Compound.{Answered, first_item, renewed, begun, in_session, compound}, Step.Laws.first_runs}
 use Rattle.nfs_exec.specs.Step.Sequence as sequence
+use Rattle.nfs_exec.specs.Step.Parts.{past, by_session, slot_fault, by_created}
 use Rattle.nfs_exec.proofs.{Step.Behind.run_sessions, Runs.ByEvent.{by_answered, by_compound, by_alone}, Runs.SlotNumbers.IsHeld}
 
 -- the SEQUENCE behind which the compound runs
@@ -48,7 +49,7 @@ module _ (P : SessionTable → Type 0) (held : IsHeld P) where
       none_some e = cc
 
 fresh_slot : (r : Request) (size : ℕ) (s : Sequence) (g : GrantedSlots) (c : Channel) (fault : Option Status) (v : Verdict)
-    → unless fault (sequence.by_verdict r size s g v) ≡ sequence.Runs c → v ≡ slot.Fresh
+    → past fault (sequence.by_slot r size s g v) ≡ sequence.Runs c → v ≡ slot.Fresh
 fresh_slot r size s g c (Some status) v e = absurd cc
 fresh_slot r size s g c None slot.Fresh e = refl
 fresh_slot r size s g c None slot.Again e = absurd cc

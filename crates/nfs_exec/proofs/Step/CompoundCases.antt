@@ -8,14 +8,14 @@ use Rattle.nfs_slots.specs.{declared.slot.Verdict.Verdict, declared.slot.Verdict
 use Rattle.nfs_sessions.specs.{SessionSlots.{GrantedSlots, judge}, Sessions.{Session, session_at}, Id.id_of}
 use Rattle.nfs_names.specs.Outcome.{is_delay}
 use Rattle.nfs_exec.specs.Step.Machine.{Machine}
-use Rattle.nfs_exec.specs.Step.Sequence.{compared, Sequenced, Refuses, Repeats, Runs, unless, by_verdict, by_session, slot_fault, sequenced}
+use Rattle.nfs_exec.specs.{Step.Sequence.{compared, Sequenced, Refuses, Repeats, Runs, by_slot, sequenced}, Step.Parts.{past, by_session, slot_fault}}
 use Rattle.nfs_exec.specs.{Step.Run.{only, is_here}, Step.Compound.{Answered, answers, first_item, in_session, by_first, compound}, Step.View.{Does, Answers}}
 use Rattle.nfs_exec.proofs.{Step.Running.{choice_of, chosen}, Step.RepliesKept.closed_one}
 
 -- what is left of the list decides nothing
 
 verdict_same : (r : Request) (xs : List Item) (size : ℕ) (s : Sequence) (g : GrantedSlots) (v : Verdict)
-    → by_verdict (record r { left = xs }) size s g v ≡ by_verdict r size s g v
+    → by_slot (record r { left = xs }) size s g v ≡ by_slot r size s g v
 verdict_same r xs size s g NoSlot = refl
 verdict_same r xs size s g Misordered = refl
 verdict_same r xs size s g FalseRetry = refl
@@ -26,7 +26,7 @@ session_same : (r : Request) (xs : List Item) (who : Caller) (size : ℕ) (s : S
     → by_session (record r { left = xs }) who size s o ≡ by_session r who size s o
 session_same r xs who size s None = refl
 session_same r xs who size s (Some x) =
-    ap (unless (slot_fault s x.slots.channel)) (verdict_same r xs size s x.slots (judge x.slots s.slotid s.sequenceid who.uid (compared r)))
+    ap (past (slot_fault s x.slots.channel)) (verdict_same r xs size s x.slots (judge x.slots s.slotid s.sequenceid who.uid (compared r)))
 
 answer_same : (m : Machine) (r : Request) (xs : List Item) (who : Caller) (now : ℕ) (choice : Option ℕ) (s : Sequence) (more : List Item) (v : Sequenced) →
     in_session m (record r { left = xs }) who now choice s more v ≡ in_session m r who now choice s more v

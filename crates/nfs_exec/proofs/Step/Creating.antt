@@ -17,7 +17,8 @@ use Rattle.nfs_sessions.specs.{declared.sessions.SessionFault.TheVariants.{TooSm
 use Rattle.nfs_sessions.specs.{Sessions.{SessionTable, Created, create, create_unless, create_fault, fault_status}, SessionTables.CreatesOrWants}
 use Rattle.nfs_names.specs.Outcome.{is_delay}
 use Rattle.nfs_exec.specs.Step.Machine.{Machine, Outcome, or_delay, refuses}
-use Rattle.nfs_exec.specs.{Step.CreateSession.{session_made, made_body, by_verdict, by_created, creates, confirmed}, Step.View.Does}
+use Rattle.nfs_exec.specs.{Step.CreateSession.{session_made, made_body, confirmed}, Step.View.Does}
+use Rattle.nfs_exec.specs.Step.Parts.{by_number, by_created, creates}
 
 pub length_id : (id : SessionId) → length (id_bytes id) ≡ 16
 length_id id = length-append (hyper id.client) (hyper id.counter) ∙ omega (arith, length_hyper id.client, length_hyper id.counter)
@@ -138,9 +139,9 @@ refused_session m now c wish clients after Memory s old new did kept status does
 
 -- the call was refused by its number or its caller
 pub refused_call : (m : Machine) (now : ℕ) (refused : Bool) (c : CreateSession) (v w : Verdict) (s t r : Status) (left : Machine) (old new : SheetState) →
-    w ≡ v → by_verdict m now refused c w ≡ refuses m 43 t → s ≡ t → left ≡ m →
-    ((n : Machine) → Does (refuses n 43 s) r n old new) → Does (by_verdict m now refused c v) r left old new
+    w ≡ v → by_number m now refused c w ≡ refuses m 43 t → s ≡ t → left ≡ m →
+    ((n : Machine) → Does (refuses n 43 s) r n old new) → Does (by_number m now refused c v) r left old new
 refused_call m now refused c v w s t r left old new is told status same does =
-    subst (λ (o : Outcome). Does o r left old new) (sym told ∙ ap (by_verdict m now refused c) is)
+    subst (λ (o : Outcome). Does o r left old new) (sym told ∙ ap (by_number m now refused c) is)
     (subst (λ (k : Machine). Does (refuses m 43 t) r k old new) (sym same)
     (subst (λ (u : Status). Does (refuses m 43 u) r m old new) status (does m)))

@@ -1,8 +1,8 @@
 -- Memory refused at a place makes no difference, or cuts the compound there.
 use Rattle.std.proofs.Common.{◌≡◌, ◌⊎◌, ℕ, zero, suc, ◌+◌, ◌≤◌, Bool, true, false, cond, eqb, ltb, List, [], ◌∷◌, ◌++◌, length, take, Option, Some, None}
-use Rattle.std.proofs.{Common.{refl, sym, ◌∙◌, ap, arith, inl, inr}, lemmas.Bool.{cases_Bool, eqb-true, eq-eqb, le-ltb, ltb-false, false≢true}}
+use Rattle.std.proofs.{Common.{refl, sym, ◌∙◌, ap, subst₂, arith, inl, inr}, lemmas.Bool.{cases_Bool, eqb-true, eq-eqb, le-ltb, ltb-false, false≢true}}
 use Rattle.std.proofs.lemmas.List.{append_assoc}
-use Rattle.std.specs.{Prelude.{◌&&◌, ◌||◌, not, nat_lt, slice_get}, Option.{option_map, option_map_or}}
+use Rattle.std.specs.{Prelude.{◌&&◌, ◌||◌, not, nat_lt, slice_get, Result}, Option.{option_map, option_map_or}}
 use Rattle.nfs_xdr.specs.{Caller.Caller, Checks.first_fault, Spelling.{number, opaque}, declared.status.Status.Status}
 use Rattle.nfs_xdr.specs.declared.status.Status.TheVariants.{Nfs4Ok, MinorVersMismatch, Delay, NotOnlyOp, OpNotInSession}
 use Rattle.nfs_compound.specs.{Arguments.arguments, declared.op.Op.Op, declared.op.Item.Item, declared.op.Item.TheVariants.{Operation, Fault}}
@@ -21,12 +21,14 @@ use Rattle.nfs_names.proofs.Faulted.{status_of_refusal}
 use Rattle.nfs_files.specs.Operation as files
 use Rattle.nfs_exec.specs.Step.Machine.{by_fault, Machine, Outcome, or_delay, refuses, with_result}
 use Rattle.nfs_exec.specs.{Step.Place.{item_fault, place_fault, stands_alone, is_sequence}, Step.ExchangeId.exchange_id}
-use Rattle.nfs_exec.specs.Step.CreateSession.{by_verdict, creates, wish_of}
-use Rattle.nfs_exec.specs.Step.Sequence.{compared, Sequenced, sequenced, unless, by_session, slot_fault, accepted}
+use Rattle.nfs_exec.specs.Step.CreateSession.{wish_of}
+use Rattle.nfs_exec.specs.Step.Sequence.{compared, Sequenced, sequenced, or_refuses, sequence_ok}
 use Rattle.nfs_exec.specs.{Step.Behind.{Step, stays, step, on_store, otherwise}, Step.Run.{Ran, run, in_room, reserve, follow, only}}
 use Rattle.nfs_exec.specs.Step.Compound.{Answered, answers, carried_out, first_item, renewed, begun, runs_behind, keeps, in_session, by_first, bare}
 use Rattle.nfs_exec.specs.{Step.Laws.{if_runs, first_runs}, Step.Delayed.{grows, kept_by, with_ok, DelayIsACut}}
 use Rattle.nfs_exec.specs.Step.Sequence as sequence
+use Rattle.nfs_exec.specs.Step.Parts.{past, by_session, slot_fault, by_number, creates}
+use Rattle.nfs_exec.proofs.Step.InSteps.{create_session_is}
 use Rattle.nfs_exec.proofs.Step.RepliesKept.{runs_means}
 
 -- One operation: memory refused makes no difference, or it is refused and nothing changes.
@@ -214,11 +216,11 @@ cut_runs r c who size shorter s (Some session) channel e few short =
     let again : judge g s.slotid s.sequenceid who.uid (compared c) ≡ Fresh = fresh_again (slice_get g.slots s.slotid) s.sequenceid who.uid (compared r) (compared c) fresh in
     let fits : shorter ≤ g.channel.request = (let whole = means.fits in let request = ap (λ (k : Channel). k.request) is in omega arith) in
     let within : c.declared ≤ g.channel.operations = (let whole = means.few in let operations = ap (λ (k : Channel). k.operations) is in omega arith) in
-    by_fault_of (slot_fault s g.channel) (sequence.by_verdict r size s g (judge g s.slotid s.sequenceid who.uid (compared r)))
-    (sequence.by_verdict c shorter s g (judge g s.slotid s.sequenceid who.uid (compared c)))
+    by_fault_of (slot_fault s g.channel) (sequence.by_slot r size s g (judge g s.slotid s.sequenceid who.uid (compared r)))
+    (sequence.by_slot c shorter s g (judge g s.slotid s.sequenceid who.uid (compared c)))
     (rw (again, le-ltb g.channel.request shorter fits, le-ltb g.channel.operations c.declared within) (ap (λ (k : Channel). sequence.Runs k) is)) e
   where
-    by_fault_of : (f : Option Status) (v w : Sequenced) → w ≡ sequence.Runs channel → unless f v ≡ sequence.Runs channel → unless f w ≡ sequence.Runs channel
+    by_fault_of : (f : Option Status) (v w : Result Sequenced Status) → or_refuses w ≡ sequence.Runs channel → past f v ≡ sequence.Runs channel → past f w ≡ sequence.Runs channel
     by_fault_of None v w runs e = runs
     by_fault_of (Some status) v w runs e = absurd cc
 
@@ -253,10 +255,10 @@ IsEither m r who size now place items =
 
 -- SEQUENCE in front answers NFS4_OK
 abbrev behind_it : Machine → Request → Caller → Sequence → Channel → Ran → Answered
-behind_it m r who s channel rest = keeps r who s (answers r (follow (with_result m (Res.Sequence (accepted s channel))) rest))
+behind_it m r who s channel rest = keeps r who s (answers r (follow (with_result m (Res.Sequence (sequence_ok s channel))) rest))
 
 abbrev front : Sequence → Channel → List ℕ
-front s channel = spell_result (Res.Sequence (accepted s channel))
+front s channel = spell_result (Res.Sequence (sequence_ok s channel))
 
 cut_in_run : (m : Machine) (r c : Request) (who : Caller) (shorter now place : ℕ) (s : Sequence) (more : List Item) (channel : Channel) (left : Ran)
     → sequenced m c who shorter s ≡ sequence.Runs channel → c.tag ≡ r.tag
@@ -273,7 +275,7 @@ cut_in_run m r c who shorter now place s more channel left runs tag is ok count 
     } in
     ap (in_session m c who now None s (take place more)) runs
     ∙ ap (λ (t : List ℕ). keeps c who s (answers (tagged t) (runs_behind k (tagged t) who now None s channel (take place more)))) tag
-    ∙ ap (λ (rest : Ran). keeps c who s (answers (tagged r.tag) (follow (with_result k (Res.Sequence (accepted s channel))) rest))) is
+    ∙ ap (λ (rest : Ran). keeps c who s (answers (tagged r.tag) (follow (with_result k (Res.Sequence (sequence_ok s channel))) rest))) is
     ∙ ap (λ (status : Status). keeps c who s (texts status left.count)) ok
     ∙ ap (λ (n : ℕ). keeps c who s (texts Nfs4Ok n)) count
 
@@ -338,7 +340,7 @@ lone : (m : Machine) (n : ℕ) (o : Outcome) → (or_delay true m n o ≡ o) ⊎
 lone m n o = elim (cases_Bool (is_ok o.status)) [ inl ok ↦ inr (rw ok refl, ok) | inr bad ↦ inl (rw bad refl) ]
 
 created_delays : (m : Machine) (now : ℕ) (c : CreateSession) (v : clients.Verdict)
-    → IsLone m (Operation (Op.CreateSession c)) (by_verdict m now true c v) (by_verdict m now false c v)
+    → IsLone m (Operation (Op.CreateSession c)) (by_number m now true c v) (by_number m now false c v)
 created_delays m now c clients.Runs = elim (lone m 43 (creates m now c (create m.sessions c.clientid (wish_of m c)))) [
   | inl same ↦ inl same
   | inr delayed ↦ inr (record { is = delayed.0; wants = λ x. refl; ok = delayed.1 })
@@ -350,7 +352,9 @@ carried_delays m who now (Operation (Op.ExchangeId e)) = elim (lone m 42 (exchan
   | inl same ↦ inl same
   | inr delayed ↦ inr (record { is = delayed.0; wants = λ x. refl; ok = delayed.1 })
 ]
-carried_delays m who now (Operation (Op.CreateSession c)) = created_delays m now c (clients.create_verdict m.clients c.clientid c.sequence who.uid)
+carried_delays m who now (Operation (Op.CreateSession c)) =
+    subst₂ (IsLone m (Operation (Op.CreateSession c))) (sym (create_session_is m who now true c)) (sym (create_session_is m who now false c))
+    (created_delays m now c (clients.create_verdict m.clients c.clientid c.sequence who.uid))
 carried_delays m who now i = inl refl
 
 -- an operation that may stand where so many are declared may stand where fewer are

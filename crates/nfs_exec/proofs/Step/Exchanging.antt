@@ -12,7 +12,8 @@ use Rattle.nfs_lease.specs.Renewals.{Book, with_lease, without_lease}
 use Rattle.nfs_results.specs.declared.res.Res.TheVariants as Res
 use Rattle.nfs_names.specs.{Ending.has_open, Outcome.is_delay}
 use Rattle.nfs_exec.specs.Step.Machine.{Machine, IsMachine, with_result, or_delay}
-use Rattle.nfs_exec.specs.{Step.ExchangeId.{exchange_id, granted, ask_of, owner_has_open, exchanged}, Step.View.settled}
+use Rattle.nfs_exec.specs.Step.View.{settled}
+use Rattle.nfs_exec.specs.Step.Parts.{granted_of, ask_of, owner_has_open, did_exchange, exchanged_by}
 use Rattle.nfs_exec.proofs.Step.LeaseTakenBack.{unleased, taken_back}
 
 -- what the code asks, for the owner's bytes as they were lent
@@ -52,7 +53,7 @@ pub answered_ok : (m : Machine) (who : Caller) (now : ℕ) (e : ExchangeId) (nex
     IsMachine m → client_at m.clients next ≡ None → (m.clients.last < last_counter → next ≡ next_id m.clients) → case_of m.clients (ask_of m who e) ≡ case →
     Ok x ≡ (does m.clients (ask_of m who e) case).answer →
     after ≡ (does m.clients (ask_of m who e) case).after → b ≡ settled (with_lease m.leases next now) next x →
-    with_result (record m { clients = after; leases = b }) (Res.ExchangeId (granted x)) ≡ exchanged m now (does m.clients (ask_of m who e) case)
+    with_result (record m { clients = after; leases = b }) (Res.ExchangeId (granted_of x)) ≡ did_exchange m now (does m.clients (ask_of m who e) case)
 answered_ok m who now e next x after b (Refuses fault) is none value at answer left book = absurd cc
 answered_ok m who now e next x after b (Stays c) is none value at answer left book =
     let same : x ≡ answer_standing c = cc in
@@ -67,7 +68,7 @@ answered_ok m who now e next x after b Adds is none value at answer left book =
 -- the call was refused before anything was made
 pub refused_first : (m : Machine) (who : Caller) (now : ℕ) (e : ExchangeId) (fault : ClientFault) (case : Case) → Err fault ≡ judged (refusal_of case) →
     with_result m (Res.Refused 42 (fault_status fault))
-    ≡ or_delay (is_delay (fault_status fault)) m 42 (exchanged m now (does m.clients (ask_of m who e) case))
+    ≡ or_delay (is_delay (fault_status fault)) m 42 (did_exchange m now (does m.clients (ask_of m who e) case))
 refused_first m who now e fault (Stays c) is = absurd cc
 refused_first m who now e fault Adds is = absurd cc
 refused_first m who now e Inval (Refuses f) is = let same : f ≡ Inval = cc in rw same refl
@@ -80,7 +81,7 @@ refused_first m who now e Memory (Refuses f) is = let same : f ≡ Memory = cc i
 
 -- memory was refused where the call would have been answered
 pub wanted : (m : Machine) (who : Caller) (now : ℕ) (e : ExchangeId) (case : Case) → judged (refusal_of case) ≡ Ok tt →
-    with_result m (Res.Refused 42 (fault_status Memory)) ≡ or_delay true m 42 (exchanged m now (does m.clients (ask_of m who e) case))
+    with_result m (Res.Refused 42 (fault_status Memory)) ≡ or_delay true m 42 (did_exchange m now (does m.clients (ask_of m who e) case))
 wanted m who now e (Refuses f) is = absurd cc
 wanted m who now e (Stays c) is = refl
 wanted m who now e Adds is = refl
@@ -97,7 +98,7 @@ pub refused_last : (m : Machine) (who : Caller) (now : ℕ) (e : ExchangeId) (ne
     ExchangesOrWants m.clients (ask_of m who e) (Err fault) after →
     b ≡ without_lease (with_lease m.leases next now) next →
     with_result (record m { clients = after; leases = b }) (Res.Refused 42 (fault_status fault))
-    ≡ or_delay (is_delay (fault_status fault)) m 42 (exchange_id m who now e)
+    ≡ or_delay (is_delay (fault_status fault)) m 42 (exchanged_by m who now e)
 refused_last m who now e next Memory after b is none judged did book =
     let back : b ≡ m.leases = book ∙ taken_back m.leases next now (unleased m next is none) in
     rw (did.1, back) (wanted m who now e (case_of m.clients (ask_of m who e)) judged)

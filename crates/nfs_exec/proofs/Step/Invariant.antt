@@ -21,12 +21,13 @@ use Rattle.nfs_sessions.specs.Sessions.{Session, SessionTable, is_session, sessi
 use Rattle.nfs_sessions.specs.Sessions as sessions
 use Rattle.nfs_lease.specs.Renewals.{Book, has_run_out, with_lease, with_renewal, without_lease}
 use Rattle.nfs_exec.specs.Step.Machine.{Machine, IsMachine, starts, is_client, is_confirmed}
-use Rattle.nfs_exec.specs.Step.ExchangeId.{ask_of, leases_behind, without_any_lease}
-use Rattle.nfs_exec.specs.{Step.CreateSession.{by_created, confirmed, wish_of, without_any_sessions, without_any_opens}, Step.Destroy.has_session}
+use Rattle.nfs_exec.specs.Step.ExchangeId.{without_any_lease}
+use Rattle.nfs_exec.specs.{Step.CreateSession.{confirmed, wish_of, without_any_sessions, without_any_opens}, Step.Destroy.has_session}
 use Rattle.nfs_exec.specs.{Step.Sequence.sequenced, Step.Compound.{first_item, renewed, begun, run_in, compound}, Step.Expiry.expired}
 use Rattle.nfs_exec.specs.{Step.ReclaimComplete.{reclaim_complete, of_one, of_all}, Step.Behind.{Step, step, on_store, otherwise}}
 use Rattle.nfs_exec.specs.Step.Run.{run, in_room, reserve, is_here, behind_here}
 use Rattle.nfs_exec.specs.Step.Sequence as sequence
+use Rattle.nfs_exec.specs.Step.Parts.{ask_of, leases_behind, by_created}
 use Rattle.nfs_exec.proofs.{Step.Exchanging.room_of, Step.Behind.{by_step, follow_kept}, Runs.ByEvent.{by_compound, by_alone}, Step.RepliesKept.runs_means}
 use Rattle.nfs_exec.proofs.Step.OpensStaying.{open_staying}
 use Rattle.nfs_names.specs.{declared.context.Context.Context, Context.begins, Ending.has_open, declared.node.Node.Node, Checks.current}
@@ -259,16 +260,16 @@ only_some None = refl
 only_some (Some x) = refl
 
 -- what an id names behind a new record
-new_at : (t : Roster) (a : Ask) (n : ℕ) → IsRoster t → client_at (with_new t a) n ≡
+new_at : (t : Roster) (a : Ask) (n : ℕ) → IsRoster t → client_at (with_new t a.owner a.verifier a.uid) n ≡
     (let f = cond (is_id (option_map the_id (unconfirmed_of t a.owner)) n) None (client_at t n) in
-    cond (is_some f) f (cond (eqb (next_id t) n) (Some (new_client t a)) None))
+    cond (is_some f) f (cond (eqb (next_id t) n) (Some (new_client t a.owner a.verifier a.uid)) None))
 new_at t a n is =
     let rest : record_at the_id (filter (λ c. not (is_unconfirmed_of a.owner c)) t.records) n
     ≡ cond (is_id (option_map the_id (unconfirmed_of t a.owner)) n) None (client_at t n) =
     ap (λ xs. record_at the_id xs n) (sym (without_unconfirmed t a.owner is (unconfirmed_of t a.owner) refl))
     ∙ without_is t (option_map the_id (unconfirmed_of t a.owner)) n in
-    at_push the_id n (filter (λ c. not (is_unconfirmed_of a.owner c)) t.records) (new_client t a)
-    ∙ ap (λ (f : Option ClientRecord). cond (is_some f) f (cond (eqb (next_id t) n) (Some (new_client t a)) None)) rest
+    at_push the_id n (filter (λ c. not (is_unconfirmed_of a.owner c)) t.records) (new_client t a.owner a.verifier a.uid)
+    ∙ ap (λ (f : Option ClientRecord). cond (is_some f) f (cond (eqb (next_id t) n) (Some (new_client t a.owner a.verifier a.uid)) None)) rest
 
 new_leased : (b : Book) (id now n : ℕ) (new : ClientRecord) (old : Option ClientRecord) (gone : Bool) →
     is_some (b.renewed n) ≡ is_some old → (n ≡ id → (old ≡ None) × (gone ≡ false)) →
@@ -286,7 +287,7 @@ new_mark id n new (Some c) gone stays mark = rw stays mark
 
 pub of_new : (m : Machine) (a : Ask) (now : ℕ) → IsMachine m → has_room m.clients a.owner ≡ true →
     IsMachine (record m {
-      clients = with_new m.clients a;
+      clients = with_new m.clients a.owner a.verifier a.uid;
       leases = without_any_lease (with_lease m.leases (next_id m.clients) now) (option_map the_id (unconfirmed_of m.clients a.owner));
     })
 of_new m a now is room =
@@ -295,15 +296,15 @@ of_new m a now is room =
     record {
       clients = roster_new t a is.clients room;
       leased = λ n. ap is_some (lease_is (with_lease m.leases (next_id t) now) (option_map the_id o) n)
-          ∙ new_leased m.leases (next_id t) now n (new_client t a) (client_at t n) (is_id (option_map the_id o) n) (is.leased n)
+          ∙ new_leased m.leases (next_id t) now n (new_client t a.owner a.verifier a.uid) (client_at t n) (is_id (option_map the_id o) n) (is.leased n)
           (λ here. (let none : client_at t n ≡ None = ap (client_at t) here ∙ fresh t is.clients in (none, keeps_next t a.owner o n is.clients refl none)))
           ∙ ap is_some (sym (new_at t a n is.clients));
       confirmed = λ s there. (let mark = is.confirmed s there in
-          ap mark_of (new_at t a s.client is.clients) ∙ new_mark (next_id t) s.client (new_client t a) (client_at t s.client)
+          ap mark_of (new_at t a s.client is.clients) ∙ new_mark (next_id t) s.client (new_client t a.owner a.verifier a.uid) (client_at t s.client)
           (is_id (option_map the_id o) s.client) (keeps_confirmed t a.owner o s.client is.clients refl mark) mark);
       opened = λ n holds. (let mark = is.opened n holds in
           ap mark_of (new_at t a n is.clients)
-          ∙ new_mark (next_id t) n (new_client t a) (client_at t n) (is_id (option_map the_id o) n)
+          ∙ new_mark (next_id t) n (new_client t a.owner a.verifier a.uid) (client_at t n) (is_id (option_map the_id o) n)
           (keeps_confirmed t a.owner o n is.clients refl mark) mark);
       table = is.table;
     }

@@ -5,7 +5,7 @@ use Rattle.nfs_xdr.specs.{Caller.Caller, declared.status.Status.Status}
 use Rattle.nfs_compound.specs.{Request.Request, declared.session_args.Sequence.Sequence}
 use Rattle.nfs_slots.specs.declared.slot.Verdict.TheVariants.{Fresh}
 use Rattle.nfs_sessions.specs.{SessionSlots.{GrantedSlots, judge}, Sessions.Session}
-use Rattle.nfs_exec.specs.Step.Sequence.{highest_at, compared, Refuses, by_session, slot_fault, fresh_fault}
+use Rattle.nfs_exec.specs.{Step.Sequence.{highest_at, compared, Refuses}, Step.Parts.{by_session, slot_fault, fresh_fault}}
 
 -- the two slices that the code gives are what is compared
 pub joined : (r : Request) (head tail : List ℕ) → head ≡ take (highest_at r) r.bytes → tail ≡ drop (highest_at r + 4) r.bytes → head ++ tail ≡ compared r

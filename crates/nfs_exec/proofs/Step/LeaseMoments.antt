@@ -10,8 +10,9 @@ use Rattle.nfs_sessions.specs.{declared.id.SessionId.SessionId, declared.session
 use Rattle.nfs_lease.specs.{Renewals.{Book, is_out, has_run_out, with_lease, with_renewal, without_lease}, Queue.IsLatest}
 use Rattle.nfs_lease.proofs.Latest.{latest_lease, latest_renewal, latest_without}
 use Rattle.nfs_exec.specs.{Step.Machine.Machine, Step.Expiry.{expired, leases_kept}, Step.Laws.ExpiryFindsNothing}
-use Rattle.nfs_exec.specs.{Step.ExchangeId.{leases_behind, without_any_lease, ask_of}, Step.CreateSession.{by_created, wish_of, without_any_opens}}
+use Rattle.nfs_exec.specs.{Step.ExchangeId.without_any_lease, Step.CreateSession.{wish_of, without_any_opens}}
 use Rattle.nfs_exec.specs.{Step.Run.{is_here, behind_here}, Step.Compound.{first_item, renewed, begun, compound}}
+use Rattle.nfs_exec.specs.Step.Parts.{by_created, leases_behind, ask_of}
 use Rattle.nfs_names.specs.{Context.begins, State.State, StoreInvariants.IsStore}
 use Rattle.nfs_names.proofs.Staying.{store_staying}
 use Rattle.nfs_exec.proofs.{Step.Behind.run_leases, Runs.ByEvent.{by_compound, by_alone}, Step.AloneKeeps.holds_whoever}

@@ -1,6 +1,6 @@
 -- A request that runs in a session: its room, the head that is closed over its results, and the reply that its slot keeps.
 use Rattle.std.proofs.Common.{◌≡◌, ℕ, suc, ◌+◌, ◌-◌, ◌≤◌, ◌<◌, Bool, true, false, cond, ltb, List, [], ◌∷◌, ◌++◌, length, take, drop, Option, Some, None, refl}
-use Rattle.std.proofs.{Common.{sym, ◌∙◌, ap, subst, arith, inl, inr}, lemmas.Bool.{cases_Bool, ltb-false}}
+use Rattle.std.proofs.{Common.{Result, Ok, sym, ◌∙◌, ap, subst, arith, inl, inr}, lemmas.Bool.{cases_Bool, ltb-false}}
 use Rattle.std.proofs.{lemmas.List.{length-append, length-take, length-drop, append_assoc}, Math.Seq.drop-append_seam}
 use Rattle.nfs_xdr.specs.{Caller.Caller, SheetState.{SheetState, HasRoom, Puts}, declared.status.Status.Status, declared.status.Status.TheVariants.Nfs4Ok}
 use Rattle.nfs_xdr.specs.{Spelling.{number, opaque}, Status.status_number}
@@ -14,7 +14,8 @@ use Rattle.nfs_sessions.specs.{declared.channel.Channel.Channel, SessionSlots.{G
 use Rattle.nfs_sessions.specs.{declared.id.SessionId.SessionId, Id.id_of, SessionTables.MayKeep}
 use Rattle.nfs_names.specs.{Outcome.is_ok, declared.context.Context.Context}
 use Rattle.nfs_exec.specs.Step.Machine.{Machine, Outcome}
-use Rattle.nfs_exec.specs.Step.Sequence.{highest_at, compared, Sequenced, Runs, unless, by_verdict, by_session, slot_fault, fresh_fault, accepted}
+use Rattle.nfs_exec.specs.Step.Sequence.{highest_at, compared, Sequenced, Runs, or_refuses, by_slot, sequence_ok}
+use Rattle.nfs_exec.specs.Step.Parts.{past, slot_says, by_session, slot_fault, fresh_fault}
 use Rattle.nfs_exec.specs.{Step.Run.{Ran, run, in_room, follow, is_here, behind_here}, Step.Compound.renewed, declared.run.Ran.{Ran as Told}}
 use Rattle.nfs_exec.specs.Step.View.{RunsTo, HasReplyRoom}
 use Rattle.nfs_lease.specs.Renewals.{Book, with_renewal}
@@ -30,17 +31,17 @@ pub record IsFresh (r : Request) (who : Caller) (size : ℕ) (s : Sequence) (o :
   pub fits : size ≤ c.request
   pub few : r.declared ≤ c.operations
 
-unless_runs : (f : Option Status) (v : Sequenced) (c : Channel) → unless f v ≡ Runs c → (f ≡ None) × (v ≡ Runs c)
-unless_runs None v c e = (refl, e)
-unless_runs (Some s) v c e = absurd cc
+past_runs : (f : Option Status) (v : Result Sequenced Status) (c : Channel) → past f v ≡ Runs c → (f ≡ None) × (or_refuses v ≡ Runs c)
+past_runs None v c e = (refl, e)
+past_runs (Some s) v c e = absurd cc
 
 fresh_runs : (r : Request) (size : ℕ) (s : Sequence) (g : GrantedSlots) (v : Verdict) (c : Channel)
-    → by_verdict r size s g v ≡ Runs c → (v ≡ Fresh) × (fresh_fault r size g.channel ≡ None) × (g.channel ≡ c)
+    → slot_says r size s g v ≡ Runs c → (v ≡ Fresh) × (fresh_fault r size g.channel ≡ None) × (g.channel ≡ c)
 fresh_runs r size s g NoSlot c e = absurd cc
 fresh_runs r size s g Misordered c e = absurd cc
 fresh_runs r size s g FalseRetry c e = absurd cc
 fresh_runs r size s g Again c e = absurd cc
-fresh_runs r size s g Fresh c e = (let parts = unless_runs (fresh_fault r size g.channel) (Runs g.channel) c e in (refl, parts.0, cc))
+fresh_runs r size s g Fresh c e = (let parts = past_runs (fresh_fault r size g.channel) (Ok (Runs g.channel)) c e in (refl, parts.0, cc))
 
 passed : (a b : Bool) (x y : Status) → cond a (Some x) (cond b (Some y) None) ≡ None → (a ≡ false) × (b ≡ false)
 passed true b x y e = absurd cc
@@ -52,7 +53,7 @@ pub runs_means : (r : Request) (who : Caller) (size : ℕ) (s : Sequence) (o : O
 runs_means r who size s None c e = absurd cc
 runs_means r who size s (Some session) c e =
     let g = session.slots in
-    let at = unless_runs (slot_fault s g.channel) (by_verdict r size s g (judge g s.slotid s.sequenceid who.uid (compared r))) c e in
+    let at = past_runs (slot_fault s g.channel) (by_slot r size s g (judge g s.slotid s.sequenceid who.uid (compared r))) c e in
     let means = fresh_runs r size s g (judge g s.slotid s.sequenceid who.uid (compared r)) c at.1 in
     let tests = passed (ltb g.channel.request size) (ltb g.channel.operations r.declared) _ _ means.1 in
     let request : size ≤ g.channel.request = ltb-false g.channel.request size tests.0 in
@@ -67,8 +68,8 @@ runs_means r who size s (Some session) c e =
     }
 
 -- the bytes of SEQUENCE's result
-pub accepted_long : (s : Sequence) (c : Channel) → length s.sessionid ≡ 16 → length (spell_result (Res.Sequence (accepted s c))) ≤ 44
-accepted_long s c long = length_result (Operation (Op.Sequence s)) (Res.Sequence (accepted s c)) long (refl, tt, tt)
+pub accepted_long : (s : Sequence) (c : Channel) → length s.sessionid ≡ 16 → length (spell_result (Res.Sequence (sequence_ok s c))) ≤ 44
+accepted_long s c long = length_result (Operation (Op.Sequence s)) (Res.Sequence (sequence_ok s c)) long (refl, tt, tt)
 
 -- The head that is closed over the results.
 

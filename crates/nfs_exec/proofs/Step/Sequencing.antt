@@ -1,14 +1,15 @@
 -- What SEQUENCE makes of a number.
 use Rattle.std.proofs.{Common.{◌≡◌, ℕ, Bool, true, false, List, [], ◌∷◌, Option, Some, None, refl, sym, ◌∙◌, ap}, lemmas.Bool.{eqb-true, eq-eqb, true≢false}}
 use Rattle.std.proofs.lemmas.Slice.Eq.{bytes_eq-Decides}
-use Rattle.std.specs.{Prelude.{◌==◌, ◌&&◌, not, nat_le, nat_lt, bytes_eq, slice_get, if◌then◌else◌}, Option.option_map_or}
+use Rattle.std.specs.{Prelude.{Result, Ok, ◌==◌, ◌&&◌, not, nat_le, nat_lt, bytes_eq, slice_get, if◌then◌else◌}, Option.option_map_or}
 use Rattle.nfs_xdr.specs.{Caller.Caller, Checks.first_fault, declared.status.Status.Status}
 use Rattle.nfs_xdr.specs.declared.status.Status.TheVariants.{BadSlot, BadHighSlot, SeqFalseRetry, ReqTooBig, TooManyOps}
 use Rattle.nfs_compound.specs.{declared.session_args.Sequence.Sequence, Request.Request}
 use Rattle.nfs_slots.specs.{Slot.{SlotState, judge_slot, next_number}, declared.slot.Verdict.Verdict}
 use Rattle.nfs_slots.specs.declared.slot.Verdict.TheVariants.{Fresh, Again, FalseRetry, Misordered, NoSlot}
 use Rattle.nfs_sessions.specs.{Id.id_of, SessionSlots.{GrantedSlots, judge}, Sessions.{Session, session_at}}
-use Rattle.nfs_exec.specs.{Step.Machine.Machine, Step.Sequence.{Sequenced, Refuses, Runs, compared, unless, by_verdict, by_session, slot_fault, fresh_fault}}
+use Rattle.nfs_exec.specs.{Step.Machine.Machine, Step.Sequence.{Sequenced, Refuses, Runs, compared, or_refuses, by_slot}}
+use Rattle.nfs_exec.specs.Step.Parts.{past, slot_says, by_session, slot_fault, fresh_fault}
 use Rattle.nfs_exec.specs.Step.Sequencing.{IsOn, TookAnother, NextNumberRuns, FalseRetriesAreTrue}
 
 pub next_runs : NextNumberRuns
@@ -22,18 +23,18 @@ of_two true b x y status apart other e = apart cc
 of_two false true x y status apart other e = other cc
 of_two false false x y status apart other e = cc
 
-refused_by : (f : Option Status) (v : Sequenced) (status : Status) → (f ≡ Some status → ⊥) → unless f v ≡ Refuses status → v ≡ Refuses status
+refused_by : (f : Option Status) (v : Result Sequenced Status) (status : Status) → (f ≡ Some status → ⊥) → past f v ≡ Refuses status → or_refuses v ≡ Refuses status
 refused_by None v status apart e = e
 refused_by (Some x) v status apart e = let same : x ≡ status = cc in absurd (apart (ap (λ (y : Status). let o : Option Status = Some y in o) same))
 
-verdict_is : (r : Request) (size : ℕ) (s : Sequence) (g : GrantedSlots) (v : Verdict) → by_verdict r size s g v ≡ Refuses SeqFalseRetry → v ≡ FalseRetry
+verdict_is : (r : Request) (size : ℕ) (s : Sequence) (g : GrantedSlots) (v : Verdict) → slot_says r size s g v ≡ Refuses SeqFalseRetry → v ≡ FalseRetry
 verdict_is r size s g NoSlot e = absurd cc
 verdict_is r size s g Misordered e = absurd cc
 verdict_is r size s g FalseRetry e = refl
 verdict_is r size s g Again e = absurd cc
 verdict_is r size s g Fresh e =
     let runs : Runs g.channel ≡ Refuses SeqFalseRetry =
-    refused_by (fresh_fault r size g.channel) (Runs g.channel) SeqFalseRetry
+    refused_by (fresh_fault r size g.channel) (Ok (Runs g.channel)) SeqFalseRetry
     (of_two (nat_lt g.channel.request size) (nat_lt g.channel.operations r.declared) ReqTooBig TooManyOps SeqFalseRetry (λ k. cc) (λ k. cc)) e in
     absurd cc
 
@@ -79,7 +80,7 @@ false_in m r who size s None found e = absurd cc
 false_in m r who size s (Some session) found e =
     let g = session.slots in
     let v = judge g s.slotid s.sequenceid who.uid (compared r) in
-    let refused = refused_by (slot_fault s g.channel) (by_verdict r size s g v) SeqFalseRetry
+    let refused = refused_by (slot_fault s g.channel) (by_slot r size s g v) SeqFalseRetry
     (of_two (nat_le g.channel.slots s.slotid) (nat_le g.channel.slots s.highest_slotid) BadSlot BadHighSlot SeqFalseRetry (λ k. cc) (λ k. cc)) e in
     let (x, slot, says) = judged (slice_get g.slots s.slotid) s.sequenceid who.uid (compared r) (verdict_is r size s g v refused) in
     took_another m r who s session x (record { found = found; slot = slot }) says

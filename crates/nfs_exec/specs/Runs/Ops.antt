@@ -7,7 +7,7 @@ use Rattle.nfs_results.specs.declared.res.Res.TheVariants as Res
 use Rattle.nfs_results.specs.Results.{spell_result, spell_compound_head}
 use Rattle.nfs_sessions.specs.{Id.id_of, declared.channel.Channel.Channel}
 use Rattle.nfs_names.specs.{declared.context.Context.Context, Context.begins, Outcome.is_ok}
-use Rattle.nfs_exec.specs.{Step.Machine.Machine, Step.Sequence.{Sequenced, Runs, sequenced, accepted}, Step.Behind.Step}
+use Rattle.nfs_exec.specs.{Step.Machine.Machine, Step.Sequence.{Sequenced, Runs, sequenced, sequence_ok}, Step.Behind.Step}
 use Rattle.nfs_exec.specs.{Step.Run.{Ran, run, in_room, is_here, behind_here}, Step.Compound.{begun, renewed, run_in, compound}}
 use Rattle.nfs_exec.specs.Step.Laws.{MachineEvent, Expires, Asks, ran}
 
@@ -102,4 +102,4 @@ abbrev pub AnswersAreTheirs : Type 0
 AnswersAreTheirs = (m : Machine) (r : Request) (who : Caller) (size now : ℕ) (choice : Option ℕ) (s : Sequence) → ran m (Asks r who size now choice) ≡ Some s
     → (c : Channel) × (let ds = ops_by m (Asks r who size now choice) in
     (compound m r who size now choice).text
-    ≡ spell_compound_head (last_status ds) r.tag (suc (length ds)) ++ (spell_result (Res.Sequence (accepted s c)) ++ results_of ds))
+    ≡ spell_compound_head (last_status ds) r.tag (suc (length ds)) ++ (spell_result (Res.Sequence (sequence_ok s c)) ++ results_of ds))

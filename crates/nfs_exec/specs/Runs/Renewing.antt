@@ -1,28 +1,22 @@
 -- Which events renew a client's lease or begin it (RFC 8881 sections 8.3, 18.35 and 18.36).
-use Rattle.std.specs.Prelude.{ℕ, ◌==◌, ◌&&◌, ◌||◌, Bool, true, false, List, [], ◌∷◌, Option, Result, Ok, Err}
-use Rattle.nfs_xdr.specs.Caller.{Caller}
+use Rattle.std.specs.{Prelude.{ℕ, ◌==◌, ◌&&◌, ◌||◌, Bool, true, false, List, [], ◌∷◌, Option, None, Result, Ok}, Option.option_map_or}
+use Rattle.nfs_xdr.specs.{Caller.Caller, declared.status.Status.Status}
 use Rattle.nfs_compound.specs.{declared.op.Item.Item, declared.op.Item.TheVariants.Operation, Request.Request}
 use Rattle.nfs_compound.specs.declared.op.Op.TheVariants as Op
-use Rattle.nfs_clients.specs.{declared.exchange_id.Exchanged.Exchanged, declared.exchange_id.ClientFault.ClientFault}
-use Rattle.nfs_clients.specs.{CreateSession.{Verdict, Runs, create_verdict}, ExchangeId.exchange}
+use Rattle.nfs_clients.specs.Roster.{ClientRecord, client_at, confirmed_of, next_id}
 use Rattle.nfs_names.specs.Outcome.{is_ok}
-use Rattle.nfs_exec.specs.{Step.Machine.Machine, Step.ExchangeId.ask_of, Step.Run.is_here, Step.Compound.first_item, Step.Laws.{MachineEvent, Expires, Asks}}
+use Rattle.nfs_exec.specs.{Step.Machine.Machine, Step.ExchangeId.standing, Step.Run.is_here, Step.Compound.first_item, Step.Laws.{MachineEvent, Expires, Asks}}
 use Rattle.nfs_exec.specs.Runs.LockHeld.{renews}
 
--- the client's record was added
-abbrev pub adds : ℕ → Result Exchanged ClientFault → Bool
-adds client (Ok x) = x.added && (x.id == client)
-adds client (Err fault) = false
+-- no record stands for it: a new one is added
+abbrev pub adds : Result (Option ClientRecord) Status → Bool
+adds (Ok None) = true
+adds found = false
 
--- its number is the one behind the client's last: a repeat renews nothing
-abbrev pub is_new : Verdict → Bool
-is_new Runs = true
-is_new verdict = false
-
--- a CREATE_SESSION of the client with a new number, or an EXCHANGE_ID that adds its record
+-- A CREATE_SESSION of the client with the number that is expected, as a repeat renews nothing; or an EXCHANGE_ID that adds the client's record.
 abbrev pub is_for : ℕ → Machine → Caller → Item → Bool
-is_for client m who (Operation (Op.ExchangeId e)) = adds client (exchange m.clients (ask_of m who e)).answer
-is_for client m who (Operation (Op.CreateSession c)) = is_new (create_verdict m.clients c.clientid c.sequence who.uid) && (c.clientid == client)
+is_for client m who (Operation (Op.ExchangeId e)) = adds (standing m who e (confirmed_of m.clients e.ownerid)) && (next_id m.clients == client)
+is_for client m who (Operation (Op.CreateSession c)) = option_map_or (λ k. c.sequence == k.number) (client_at m.clients c.clientid) false && (c.clientid == client)
 is_for client m who item = false
 
 -- outside a session, where it answers NFS4_OK

@@ -12,7 +12,7 @@ use Rattle.nfs_lease.specs.Renewals.{with_renewal}
 use Rattle.nfs_sessions.specs.{declared.channel.Channel.Channel, SessionSlots.rpc_head, Id.id_of, Sessions.keep}
 use Rattle.nfs_exec.specs.{Step.Machine.{Machine, Outcome, with_result, refuses, by_fault, or_delay}, Step.Place.item_fault}
 use Rattle.nfs_exec.specs.{Step.ExchangeId.exchange_id, Step.CreateSession.create_session, Step.Destroy.{destroy_session, destroy_client}}
-use Rattle.nfs_exec.specs.Step.Sequence.{Sequenced, Refuses, Repeats, Runs, compared, sequenced, accepted}
+use Rattle.nfs_exec.specs.Step.Sequence.{Sequenced, Refuses, Repeats, Runs, compared, sequenced, sequence_ok}
 use Rattle.nfs_exec.specs.Step.Run.{Ran, run, finished, only, follow, is_here, behind_here}
 
 -- The bytes of the result of a compound, from its status on, and the machine behind it.
@@ -45,7 +45,7 @@ renewed m now s = record m { leases = with_renewal m.leases (id_of s.sessionid).
 
 -- the bytes of a reply with SEQUENCE's result, its RPC head and the head of its compound among them
 abbrev pub begun : Request → Sequence → Channel → ℕ
-begun r s c = rpc_head + length (spell_compound_head Nfs4Ok r.tag 0) + length (spell_result (Res.Sequence (accepted s c)))
+begun r s c = rpc_head + length (spell_compound_head Nfs4Ok r.tag 0) + length (spell_result (Res.Sequence (sequence_ok s c)))
 
 -- what is behind SEQUENCE runs for the session's client, in what the channel lets pass
 abbrev pub run_in : Machine → Request → Caller → ℕ → Option ℕ → Sequence → Channel → List Item → Ran
@@ -53,7 +53,7 @@ run_in m r who now choice s c more = run c.response (begun r s c) now choice m (
 
 -- SEQUENCE answers, and what is behind it runs
 abbrev pub runs_behind : Machine → Request → Caller → ℕ → Option ℕ → Sequence → Channel → List Item → Ran
-runs_behind m r who now choice s c more = follow (with_result m (Res.Sequence (accepted s c))) (run_in m r who now (behind_here choice) s c more)
+runs_behind m r who now choice s c more = follow (with_result m (Res.Sequence (sequence_ok s c))) (run_in m r who now (behind_here choice) s c more)
 
 -- the slot keeps the whole answer
 abbrev pub keeps : Request → Caller → Sequence → Answered → Answered

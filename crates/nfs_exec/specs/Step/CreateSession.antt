@@ -1,19 +1,22 @@
--- CREATE_SESSION (RFC 8881 section 18.36): the table of clients judges its number, the table of sessions what it asks for.
--- What a number came to is kept with its client, and answered again for that number.
-use Rattle.std.specs.Prelude.{ℕ, ◌==◌, not, Bool, List, ◌++◌, Option, Some, None, Result, Ok, Err}
-use Rattle.nfs_xdr.specs.{declared.status.Status.TheVariants.{Nfs4Ok, StaleClientId, SeqMisordered, ClidInUse}, Caller.Caller}
+-- CREATE_SESSION (RFC 8881 section 18.36): a client makes a session, under a number. What the number came to is kept with the client, and answered again for
+-- that number.
+use Rattle.std.specs.Prelude.{ℕ, ◌+◌, ◌==◌, nat_le, not, Bool, List, [], ◌∷◌, ◌++◌, count_by, Option, Some, None, Result, Ok, Err, ok_or, if◌then◌else◌}
+use Rattle.nfs_xdr.specs.{declared.status.Status.Status, Caller.Caller}
+use Rattle.nfs_xdr.specs.declared.status.Status.TheVariants.{Nfs4Ok, StaleClientId, SeqMisordered, ClidInUse, TooSmall, NoSpc, ServerFault}
 use Rattle.nfs_compound.specs.declared.op_num.OpNum.TheVariants as Num
 use Rattle.nfs_compound.specs.{OpNum.op_number, declared.channel_attrs.ChannelAttrs.ChannelAttrs, declared.session_args.CreateSession.CreateSession}
 use Rattle.nfs_results.specs.{declared.res.CreateSessionOk.CreateSessionOk, Parts.parts, Results.done_head}
 use Rattle.nfs_results.specs.declared.res.Res.TheVariants as Res
 use Rattle.nfs_clients.specs.{declared.created.CreateResult.CreateResult, declared.created.CreateResult.TheVariants.{Done, Refused}}
-use Rattle.nfs_clients.specs.CreateSession.{Verdict, Stale, Again, Misordered, InUse, Runs, create_verdict, leaving, with_confirmed, with_kept}
+use Rattle.nfs_clients.specs.{Roster.{ClientRecord, client_at, with_changed}, CreateSession.{leaving, with_confirmed}}
+use Rattle.nfs_slots.specs.Slot.{next_number}
 use Rattle.nfs_sessions.specs.{declared.channel.Channel.Channel, declared.channel.Wish.Wish, declared.id.SessionId.SessionId}
-use Rattle.nfs_sessions.specs.{declared.sessions.SessionFault.SessionFault, Channel.granted, Id.id_bytes}
-use Rattle.nfs_sessions.specs.Sessions.{SessionTable, Created, create, fault_status, without_client}
+use Rattle.nfs_sessions.specs.{Channel.{granted, is_too_small}, Id.id_bytes}
+use Rattle.nfs_sessions.specs.Sessions.{SessionTable, most_sessions, last_counter, stays, with_session, without_client}
+use Rattle.nfs_opens.specs.Steps.{require, in_order, ◌>>=◌, ◌>>◌}
 use Rattle.nfs_lease.specs.Renewals.{with_renewal}
 use Rattle.nfs_names.specs.{State.State, Ending.staying}
-use Rattle.nfs_exec.specs.{Step.Machine.{Machine, Outcome, refuses, or_delay}, Step.ExchangeId.without_any_lease}
+use Rattle.nfs_exec.specs.{Step.Machine.{Machine, Outcome, refuses, or_refusal, or_delay}, Step.ExchangeId.without_any_lease}
 
 -- what is asked for of a channel, and what is answered of one; there is no header padding and no RDMA
 abbrev pub channel_of : ChannelAttrs → Channel
@@ -61,40 +64,57 @@ abbrev pub without_any_opens : State → Option ℕ → State
 without_any_opens s None = s
 without_any_opens s (Some client) = staying (λ c. not (c == client)) s
 
+-- the number is used up: what it came to is kept, and the next one is expected
+abbrev pub keeping : CreateResult → ClientRecord → ClientRecord
+keeping result client = record client { number = next_number client.number; kept = Some result }
+
 -- The record is confirmed, with what its number came to, and its lease renewed; the owner's other confirmed record goes with
 -- its sessions, its lease, its opens and its locks.
-abbrev pub confirmed : Machine → ℕ → ℕ → List ℕ → Machine
+abbrev pub confirmed : Machine → (now client : ℕ) → (body : List ℕ) → Machine
 confirmed m now client body = record {
-  clients = with_kept (with_confirmed m.clients client) client (Done body);
+  clients = with_changed (with_confirmed m.clients client) client (keeping (Done body));
   sessions = without_any_sessions m.sessions (leaving m.clients client);
   leases = with_renewal (without_any_lease m.leases (leaving m.clients client)) client now;
   store = without_any_opens m.store (leaving m.clients client);
 }
 
-abbrev pub by_created : Machine → ℕ → CreateSession → SessionTable → Result SessionId SessionFault → Outcome
-by_created m now c sessions (Ok id) = record {
-  status = Nfs4Ok;
-  result = done_head Num.CreateSession ++ made_body c id;
-  machine = confirmed (record m { sessions = sessions }) now c.clientid (made_body c id);
-}
-by_created m now c sessions (Err fault) =
-    refuses (record m { clients = with_kept m.clients c.clientid (Refused (fault_status fault)) }) (op_number Num.CreateSession) (fault_status fault)
+-- a result that was kept is answered again
+abbrev pub kept_again : Machine → Option CreateResult → Result Outcome Status
+kept_again m (Some (Done body)) = Ok (record { status = Nfs4Ok; result = done_head Num.CreateSession ++ body; machine = m })
+kept_again m (Some (Refused status)) = Err status
+kept_again m None = Err SeqMisordered
 
-abbrev pub creates : Machine → ℕ → CreateSession → Created → Outcome
-creates m now c did = by_created m now c did.after did.answer
+-- what is asked for: the channel, a place among the sessions that stay, and a counter
+abbrev pub session_checks : Machine → CreateSession → List (Bool × Status)
+session_checks m c =
+    (is_too_small (channel_of c.fore_chan_attrs), TooSmall)
+    ∷ (nat_le most_sessions (count_by (stays (leaving m.clients c.clientid)) m.sessions.sessions), NoSpc)
+    ∷ (m.sessions.last == last_counter, ServerFault)
+    ∷ []
 
--- what was kept, answered again
-abbrev pub kept_again : Machine → CreateResult → Outcome
-kept_again m (Done body) = record { status = Nfs4Ok; result = done_head Num.CreateSession ++ body; machine = m }
-kept_again m (Refused status) = refuses m (op_number Num.CreateSession) status
+-- the session is made
+abbrev pub made : Machine → (now : ℕ) → CreateSession → Outcome
+made m now c =
+    let body = made_body c (record { client = c.clientid; counter = m.sessions.last + 1 }) in
+    record {
+      status = Nfs4Ok;
+      result = done_head Num.CreateSession ++ body;
+      machine = confirmed (record m { sessions = with_session m.sessions c.clientid (wish_of m c) }) now c.clientid body;
+    }
 
-abbrev pub by_verdict : Machine → ℕ → Bool → CreateSession → Verdict → Outcome
-by_verdict m now refused c Stale = refuses m (op_number Num.CreateSession) StaleClientId
-by_verdict m now refused c (Again result) = kept_again m result
-by_verdict m now refused c Misordered = refuses m (op_number Num.CreateSession) SeqMisordered
-by_verdict m now refused c InUse = refuses m (op_number Num.CreateSession) ClidInUse
-by_verdict m now refused c Runs = or_delay refused m (op_number Num.CreateSession) (creates m now c (create m.sessions c.clientid (wish_of m c)))
+-- a refusal of what is asked for uses the number up too
+abbrev pub or_kept_refusal : Machine → CreateSession → Result Outcome Status → Outcome
+or_kept_refusal m c (Ok o) = o
+or_kept_refusal m c (Err status) =
+    refuses (record m { clients = with_changed m.clients c.clientid (keeping (Refused status)) }) (op_number Num.CreateSession) status
 
--- a result that is answered again wants no memory
-abbrev pub create_session : Machine → Caller → ℕ → Bool → CreateSession → Outcome
-create_session m who now refused c = by_verdict m now refused c (create_verdict m.clients c.clientid c.sequence who.uid)
+-- A result that is answered again wants no memory.
+abbrev pub create_session : Machine → Caller → (now : ℕ) → (refused : Bool) → CreateSession → Outcome
+create_session m who now refused c = or_refusal m (op_number Num.CreateSession) (do
+  client ← ok_or (client_at m.clients c.clientid) StaleClientId
+  if next_number c.sequence == client.number then kept_again m client.kept else do
+    require (c.sequence == client.number) SeqMisordered
+    require (client.uid == who.uid) ClidInUse
+    Ok (or_delay refused m (op_number Num.CreateSession) (or_kept_refusal m c (do
+      in_order (session_checks m c)
+      Ok (made m now c)))))

@@ -1,58 +1,75 @@
--- EXCHANGE_ID (RFC 8881 section 18.35): the table of clients decides, a record that is added begins its lease, and one that
--- it replaces loses its own.
-use Rattle.std.specs.{Prelude.{ℕ, List, [], ◌∷◌, Bool, true, false, Option, Some, None, Result, Ok, Err, if◌then◌else◌}, Option.option_map_or}
+-- EXCHANGE_ID (RFC 8881 section 18.35; which of its cases there are is this server's profile): a record that stands is answered, or a new one is added.
+use Rattle.std.specs.Prelude.{ℕ, ◌==◌, not, bit_and, bytes_eq, List, [], ◌∷◌, Bool, true, false, Option, Some, None, Result, Ok, option_map, if◌then◌else◌}
+use Rattle.nfs_xdr.specs.{Caller.Caller, declared.status.Status.Status}
+use Rattle.nfs_xdr.specs.declared.status.Status.TheVariants.{Inval, NoEnt, NotSame, Perm, ClidInUse, ServerFault}
 use Rattle.nfs_compound.specs.declared.op_num.OpNum.TheVariants as Num
 use Rattle.nfs_compound.specs.{OpNum.op_number, declared.session_args.ExchangeId.ExchangeId}
 use Rattle.nfs_results.specs.{declared.res.ExchangeIdOk.ExchangeIdOk, declared.res.Res.Res}
-use Rattle.nfs_clients.specs.{declared.exchange_id.Exchanged.Exchanged, declared.exchange_id.ClientFault.ClientFault}
-use Rattle.nfs_clients.specs.{ExchangeId.{Ask, Did, asks, exchange, fault_status}, Roster.confirmed_of}
+use Rattle.nfs_clients.specs.{Roster.{ClientRecord, next_id, confirmed_of, unconfirmed_of}, ExchangeId.{has_room, with_new}}
+use Rattle.nfs_opens.specs.Steps.{require, ◌>>=◌, ◌>>◌}
 use Rattle.nfs_names.specs.Ending.{has_open}
 use Rattle.nfs_lease.specs.Renewals.{Book, with_lease, without_lease}
-use Rattle.nfs_xdr.specs.Caller.{Caller}
-use Rattle.nfs_exec.specs.Step.Machine.{Machine, Outcome, with_result}
+use Rattle.nfs_exec.specs.Step.Machine.{Machine, Outcome, with_result, or_refusal}
+
+-- EXCHGID4_FLAG_CONFIRMED_R, which no call may carry
+abbrev pub carries_confirmed : ExchangeId → Bool
+carries_confirmed e = not (bit_and e.flags 0x8000_0000 == 0)
+
+-- EXCHGID4_FLAG_UPD_CONFIRMED_REC_A
+abbrev pub is_update : ExchangeId → Bool
+is_update e = not (bit_and e.flags 0x4000_0000 == 0)
+
+-- an update bears the verifier of the record, and comes from its user
+abbrev pub updated : Caller → ExchangeId → ClientRecord → Result (Option ClientRecord) Status
+updated who e c = do
+  require (bytes_eq c.verifier e.verifier) NotSame
+  require (c.uid == who.uid) Perm
+  Ok (Some c)
+
+-- The record that the call leaves, by the owner's confirmed one; none where a new one is to be added. A client that has started again, and another user where
+-- no open of the client stands, get a new one.
+abbrev pub standing : Machine → Caller → ExchangeId → Option ClientRecord → Result (Option ClientRecord) Status
+standing m who e None = do
+  require (not (is_update e)) NoEnt
+  Ok None
+standing m who e (Some c) =
+    if is_update e then updated who e c
+    else if c.uid == who.uid then Ok (if bytes_eq c.verifier e.verifier then Some c else None)
+    else do
+      require (not (has_open m.store c.id)) ClidInUse
+      Ok None
 
 -- the text `nfs41d`, by which the server names itself and its scope
 abbrev pub server_name : List ℕ
 server_name = 110 ∷ 102 ∷ 115 ∷ 52 ∷ 49 ∷ 100 ∷ []
 
--- EXCHGID4_FLAG_USE_NON_PNFS, and EXCHGID4_FLAG_CONFIRMED_R where the record is confirmed
-abbrev pub flags_of : Bool → ℕ
-flags_of false = 0x0001_0000
-flags_of true = 0x8001_0000
-
--- the answer, with no state protection and no implementation named
-abbrev pub granted : Exchanged → ExchangeIdOk
-granted x = record {
-  clientid = x.id;
-  sequenceid = x.number;
-  flags = flags_of x.confirmed;
+-- The answer, with no state protection and no implementation named: EXCHGID4_FLAG_USE_NON_PNFS, and EXCHGID4_FLAG_CONFIRMED_R where the record is confirmed.
+abbrev pub granted : (client number : ℕ) → (confirmed : Bool) → ExchangeIdOk
+granted client number confirmed = record {
+  clientid = client;
+  sequenceid = number;
+  flags = if confirmed then 0x8001_0000 else 0x0001_0000;
   minor_id = 0;
   major_id = server_name;
   server_scope = server_name;
 }
 
-abbrev pub answered : Result Exchanged ClientFault → Res
-answered (Ok x) = Res.ExchangeId (granted x)
-answered (Err fault) = Res.Refused (op_number Num.ExchangeId) (fault_status fault)
-
 abbrev pub without_any_lease : Book → Option ℕ → Book
 without_any_lease b None = b
 without_any_lease b (Some client) = without_lease b client
 
-abbrev pub leases_behind : Book → ℕ → Result Exchanged ClientFault → Book
-leases_behind b now (Err fault) = b
-leases_behind b now (Ok x) = if x.added then without_any_lease (with_lease b x.id now) x.replaced else b
+-- A new record begins its lease. The owner's unconfirmed one, which it replaces, loses its own.
+abbrev pub exchanged : Machine → Caller → (now : ℕ) → ExchangeId → Option ClientRecord → Result Outcome Status
+exchanged m who now e (Some c) = Ok (with_result m (Res.ExchangeId (granted c.id c.number true)))
+exchanged m who now e None = do
+  require (has_room m.clients e.ownerid) ServerFault
+  Ok (with_result (record m {
+    clients = with_new m.clients e.ownerid e.verifier who.uid;
+    leases = without_any_lease (with_lease m.leases (next_id m.clients) now) (option_map (λ c. c.id) (unconfirmed_of m.clients e.ownerid));
+  }) (Res.ExchangeId (granted (next_id m.clients) 1 false)))
 
--- an open stands of the client that the owner's confirmed record is
-abbrev pub owner_has_open : Machine → List ℕ → Bool
-owner_has_open m owner = option_map_or (λ c. has_open m.store c.id) (confirmed_of m.clients owner) false
-
--- what the caller asks of the table; who made the client is not looked at
-abbrev pub ask_of : Machine → Caller → ExchangeId → Ask
-ask_of m who e = asks e.ownerid e.verifier e.flags who.uid (owner_has_open m e.ownerid)
-
-abbrev pub exchanged : Machine → ℕ → Did → Outcome
-exchanged m now did = with_result (record m { clients = did.after; leases = leases_behind m.leases now did.answer }) (answered did.answer)
-
-abbrev pub exchange_id : Machine → Caller → ℕ → ExchangeId → Outcome
-exchange_id m who now e = exchanged m now (exchange m.clients (ask_of m who e))
+abbrev pub exchange_id : Machine → Caller → (now : ℕ) → ExchangeId → Outcome
+exchange_id m who now e = or_refusal m (op_number Num.ExchangeId) (do
+  require (not (carries_confirmed e)) Inval
+  found ← standing m who e (confirmed_of m.clients e.ownerid)
+  exchanged m who now e found)

@@ -1,5 +1,5 @@
 -- What stands between two records: the meanings of the server's tables; and what one operation comes to.
-use Rattle.std.specs.{Prelude.{◌≡◌, ℕ, Bool, true, false, ◌&&◌, List, Option, Some, None, is_some, if◌then◌else◌}, Option.option_map_or}
+use Rattle.std.specs.{Prelude.{◌≡◌, ℕ, Bool, true, false, ◌&&◌, List, Option, Some, None, Result, Ok, Err, is_some, if◌then◌else◌}, Option.option_map_or}
 use Rattle.nfs_xdr.specs.{declared.status.Status.Status, declared.status.Status.TheVariants.Delay, Tables.In}
 use Rattle.nfs_results.specs.{declared.res.Res.Res, Results.{status_of_result, spell_result, refusal}}
 use Rattle.nfs_opens.specs.{declared.records.OpenState.OpenState, Table.{clashes_with, as_asked}, TableInvariants.IsTable}
@@ -38,6 +38,11 @@ with_result m r = record { status = status_of_result r; result = spell_result r;
 -- the refusal of an operation, which changes nothing
 abbrev pub refuses : Machine → ℕ → Status → Outcome
 refuses m operation status = with_result m (refusal operation status)
+
+-- The steps of an operation: it is refused, or comes to an outcome.
+abbrev pub or_refusal : Machine → ℕ → Result Outcome Status → Outcome
+or_refusal m operation (Err status) = refuses m operation status
+or_refusal m operation (Ok o) = o
 
 -- an operation is refused with its fault, if it has one, and else comes to an outcome
 abbrev pub by_fault : Machine → ℕ → Option Status → Outcome → Outcome

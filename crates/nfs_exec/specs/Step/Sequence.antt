@@ -1,12 +1,13 @@
 -- SEQUENCE (RFC 8881 sections 2.10.6.1 and 18.46): what it comes to, before anything is run.
-use Rattle.std.specs.Prelude.{ℕ, ◌+◌, ◌-◌, nat_lt, nat_le, List, [], ◌∷◌, ◌++◌, length, take, drop, Option, Some, None}
-use Rattle.nfs_xdr.specs.{Checks.first_fault, Spelling.padding, declared.status.Status.Status}
+use Rattle.std.specs.Prelude.{ℕ, ◌+◌, ◌-◌, nat_lt, nat_le, Bool, List, [], ◌∷◌, ◌++◌, length, take, drop, Result, Ok, Err, ok_or}
+use Rattle.nfs_xdr.specs.{Spelling.padding, declared.status.Status.Status}
 use Rattle.nfs_xdr.specs.declared.status.Status.TheVariants.{BadSession, BadSlot, BadHighSlot, SeqMisordered, SeqFalseRetry, ReqTooBig, TooManyOps}
 use Rattle.nfs_xdr.specs.Caller.{Caller}
 use Rattle.nfs_compound.specs.{declared.session_args.Sequence.Sequence, Request.Request}
 use Rattle.nfs_results.specs.declared.res.SequenceOk.{SequenceOk}
 use Rattle.nfs_slots.specs.{declared.slot.Verdict.Verdict, declared.slot.Verdict.TheVariants.{Fresh, Again, FalseRetry, Misordered, NoSlot}}
-use Rattle.nfs_sessions.specs.{declared.channel.Channel.Channel, Id.id_of, SessionSlots.{GrantedSlots, judge, kept}, Sessions.{Session, session_at}}
+use Rattle.nfs_sessions.specs.{declared.channel.Channel.Channel, Id.id_of, SessionSlots.{GrantedSlots, judge, kept}, Sessions.session_at}
+use Rattle.nfs_opens.specs.Steps.{in_order, ◌>>=◌, ◌>>◌}
 use Rattle.nfs_exec.specs.Step.Machine.{Machine}
 
 -- Where sa_highest_slotid stands in the arguments of a compound that SEQUENCE begins: behind the tag, its padding and 40 bytes, which are the length of
@@ -26,44 +27,39 @@ pub data Sequenced : Type 0 where
   Repeats : (reply : List ℕ) → Sequenced
   Runs : Channel → Sequenced
 
-abbrev pub unless : Option Status → Sequenced → Sequenced
-unless None verdict = verdict
-unless (Some status) verdict = Refuses status
+-- refused at a step, or what the steps come to
+abbrev pub or_refuses : Result Sequenced Status → Sequenced
+or_refuses (Err status) = Refuses status
+or_refuses (Ok verdict) = verdict
 
--- A new request: the size of its record, in bytes, and how many operations it declares.
-abbrev pub fresh_fault : Request → ℕ → Channel → Option Status
-fresh_fault r size c =
-    first_fault ((nat_lt c.request size, ReqTooBig)
-    ∷ (nat_lt c.operations r.declared, TooManyOps)
-    ∷ [])
+-- the slot that is named, and the highest one that the client has in use
+abbrev pub slot_checks : Sequence → Channel → List (Bool × Status)
+slot_checks s c = (nat_le c.slots s.slotid, BadSlot) ∷ (nat_le c.slots s.highest_slotid, BadHighSlot) ∷ []
 
-abbrev pub by_verdict : Request → ℕ → Sequence → GrantedSlots → Verdict → Sequenced
-by_verdict r size s g NoSlot = Refuses BadSlot
-by_verdict r size s g Misordered = Refuses SeqMisordered
-by_verdict r size s g FalseRetry = Refuses SeqFalseRetry
-by_verdict r size s g Again = Repeats (kept g s.slotid)
-by_verdict r size s g Fresh = unless (fresh_fault r size g.channel) (Runs g.channel)
+-- of a new request, the size of its record in bytes, and how many operations it declares
+abbrev pub fresh_checks : Request → (size : ℕ) → Channel → List (Bool × Status)
+fresh_checks r size c = (nat_lt c.request size, ReqTooBig) ∷ (nat_lt c.operations r.declared, TooManyOps) ∷ []
 
-abbrev pub slot_fault : Sequence → Channel → Option Status
-slot_fault s c =
-    first_fault ((nat_le c.slots s.slotid, BadSlot)
-    ∷ (nat_le c.slots s.highest_slotid, BadHighSlot)
-    ∷ [])
-
-abbrev pub by_slots : Request → Caller → ℕ → Sequence → GrantedSlots → Sequenced
-by_slots r who size s g = unless (slot_fault s g.channel) (by_verdict r size s g (judge g s.slotid s.sequenceid who.uid (compared r)))
-
-abbrev pub by_session : Request → Caller → ℕ → Sequence → Option Session → Sequenced
-by_session r who size s None = Refuses BadSession
-by_session r who size s (Some session) = by_slots r who size s session.slots
+-- by what the slot says of the number, of the caller and of what is compared
+abbrev pub by_slot : Request → (size : ℕ) → Sequence → GrantedSlots → Verdict → Result Sequenced Status
+by_slot r size s g NoSlot = Err BadSlot
+by_slot r size s g Misordered = Err SeqMisordered
+by_slot r size s g FalseRetry = Err SeqFalseRetry
+by_slot r size s g Again = Ok (Repeats (kept g s.slotid))
+by_slot r size s g Fresh = do
+  in_order (fresh_checks r size g.channel)
+  Ok (Runs g.channel)
 
 -- what a SEQUENCE of a caller comes to, in a record of so many bytes
-abbrev pub sequenced : Machine → Request → Caller → ℕ → Sequence → Sequenced
-sequenced m r who size s = by_session r who size s (session_at m.sessions (id_of s.sessionid))
+abbrev pub sequenced : Machine → Request → Caller → (size : ℕ) → Sequence → Sequenced
+sequenced m r who size s = or_refuses (do
+  session ← ok_or (session_at m.sessions (id_of s.sessionid)) BadSession
+  in_order (slot_checks s session.slots.channel)
+  by_slot r size s session.slots (judge session.slots s.slotid s.sequenceid who.uid (compared r)))
 
 -- its result, where the request runs: the session's last slot, twice, and no flag
-abbrev pub accepted : Sequence → Channel → SequenceOk
-accepted s c = record {
+abbrev pub sequence_ok : Sequence → Channel → SequenceOk
+sequence_ok s c = record {
   sessionid = s.sessionid;
   sequenceid = s.sequenceid;
   slotid = s.slotid;

@@ -10,7 +10,7 @@ use Rattle.nfs_compound.specs.declared.op.Op.TheVariants as Op
 use Rattle.nfs_lease.specs.Renewals.{has_run_out}
 use Rattle.nfs_slots.specs.{Slot.{SlotState, judge_slot, next_number}, declared.slot.Verdict.TheVariants.Again}
 use Rattle.nfs_sessions.specs.{Id.id_of, Sessions.{Session, session_at}}
-use Rattle.nfs_exec.specs.{Step.Executing.{first_sequence, sequence_of}, Step.Sequence.{compared, Repeats, by_session}, Step.Compound.compound}
+use Rattle.nfs_exec.specs.{Step.Executing.{first_sequence, sequence_of}, Step.Parts.by_session, Step.Sequence.{compared, Repeats}, Step.Compound.compound}
 use Rattle.nfs_exec.specs.Step.Sequence as sequence
 use Rattle.nfs_exec.proofs.Step.Repeating.{repeats}
 use Rattle.nfs_serve.specs.Step.{asked_of, State, Stepped, answered, step}

@@ -7,7 +7,8 @@ use Rattle.nfs_compound.specs.{declared.op.Item.Item, declared.op.Item.TheVarian
 use Rattle.nfs_compound.specs.declared.op.Op.TheVariants as Op
 use Rattle.nfs_slots.specs.Slot.{SlotState, next_number}
 use Rattle.nfs_sessions.specs.{Id.id_of, Sessions.{Session, session_at}}
-use Rattle.nfs_exec.specs.{Step.Executing.{executes, is_alone}, Step.Laws.{first_runs, if_runs}, Step.Machine.Machine, Step.Sequence.{Runs, by_session}}
+use Rattle.nfs_exec.specs.{Step.Executing.{executes, is_alone}, Step.Laws.{first_runs, if_runs}, Step.Machine.Machine}
+use Rattle.nfs_exec.specs.{Step.Parts.by_session, Step.Sequence.Runs}
 use Rattle.nfs_exec.specs.Step.Sequence as sequence
 use Rattle.nfs_rpc.specs.CallHead.{call_of}
 use Rattle.nfs_serve.specs.{Step.State, Promises.Endpoint.{Place, Heading, Arrival, stepped, ran}}

@@ -10,7 +10,7 @@ use Rattle.nfs_compound.specs.declared.session_args.Sequence.{Sequence}
 use Rattle.nfs_compound.specs.declared.op.Op.TheVariants as Op
 use Rattle.nfs_results.specs.Items as results
 use Rattle.nfs_sessions.specs.{declared.channel.Channel.Channel, Id.id_of}
-use Rattle.nfs_exec.specs.{Step.Machine.Machine, Step.Sequence.{Sequenced, Refuses, Repeats, Runs, accepted}, Step.Run.behind_here}
+use Rattle.nfs_exec.specs.{Step.Machine.Machine, Step.Sequence.{Sequenced, Refuses, Repeats, Runs, sequence_ok}, Step.Run.behind_here}
 use Rattle.nfs_exec.specs.{Step.Compound.{renewed, run_in, in_session, by_first, compound}, Step.Laws.{if_runs, first_runs}}
 use Rattle.nfs_exec.specs.Step.Executing.{first_sequence, sequence_of}
 use Rattle.nfs_exec.specs.Step.Sequence as sequence
@@ -38,7 +38,7 @@ answered : (m : Machine) (r : Request) (who : Caller) (now : ℕ) (choice : Opti
 unfolding results.sequence
 answered m r who now choice q more c =
     let rest = run_in (renewed m now q) r who now (behind_here choice) q c more in
-    let ok = accepted q c in
+    let ok = sequence_ok q c in
     let others = spelling.number ok.highest_slotid ++ (spelling.number ok.target_highest_slotid ++ spelling.number ok.status_flags) in
     let body = spelling.fixed q.sessionid ++ (spelling.number q.sequenceid ++ (spelling.number q.slotid ++ others)) in
     let head = spelling.number (status_number rest.status) ++ (spelling.opaque r.tag ++ spelling.number (suc rest.count)) in

@@ -16,10 +16,12 @@ use Rattle.nfs_opens.specs.{declared.records.LockState.LockState, declared.recor
 use Rattle.nfs_names.specs.{Ending.{has_open, table_staying}, Outcome.is_ok}
 use Rattle.nfs_names.specs.State as of_store
 use Rattle.nfs_files.specs.LockTold.{LockTold}
-use Rattle.nfs_exec.specs.{Step.Machine.{by_fault, Machine, IsMachine, refuses}, Step.Place.item_fault}
-use Rattle.nfs_exec.specs.{Step.CreateSession.{without_any_opens, by_created, creates, by_verdict, wish_of}, Step.Run.is_here}
+use Rattle.nfs_exec.specs.{Step.Machine.{by_fault, Machine, IsMachine, Outcome, refuses}, Step.Place.item_fault}
+use Rattle.nfs_exec.specs.{Step.CreateSession.{without_any_opens, wish_of}, Step.Run.is_here}
 use Rattle.nfs_exec.specs.{Step.Compound.{carried_out, first_item, bare, by_first, compound}, Step.Laws.Asks}
 use Rattle.nfs_exec.specs.Runs.LockHeld.{is_of_owner, takes_place, replaces_in, replaces}
+use Rattle.nfs_exec.proofs.Step.InSteps.{create_session_is}
+use Rattle.nfs_exec.specs.Step.Parts.{by_created, creates, by_number}
 use Rattle.nfs_serve.proofs.{Promises.HeldBefore.Holds, Promises.HeldLock.not_so, Promises.HeldTraced.held_staying}
 
 never_both : (b : Bool) → b && false ≡ true → ⊥
@@ -102,8 +104,8 @@ module _ (client : ℕ) (P : Table → Type 0) (had : IsHad client P) (m : Machi
   by_made now c t (Err F.Memory) takes ok holds = absurd (false≢true ok)
 
   by_new : (now : ℕ) (refused : Bool) (c : CreateSession) → takes_place client m.clients (Operation (Op.CreateSession c)) ≡ true
-      → is_ok (by_verdict m now refused c clients.Runs).status ≡ true → P (by_verdict m now refused c clients.Runs).machine.store.opens
-      → (by_verdict m now refused c clients.Runs).machine ≡ m
+      → is_ok (by_number m now refused c clients.Runs).status ≡ true → P (by_number m now refused c clients.Runs).machine.store.opens
+      → (by_number m now refused c clients.Runs).machine ≡ m
   by_new now refused c takes =
       let did = create m.sessions c.clientid (wish_of m c) in
       let o = creates m now c did in
@@ -114,7 +116,7 @@ module _ (client : ℕ) (P : Table → Type 0) (had : IsHad client P) (m : Machi
       ]
 
   by_answer : (now : ℕ) (refused : Bool) (c : CreateSession) (v : clients.Verdict) → takes_place client m.clients (Operation (Op.CreateSession c)) ≡ true
-      → is_ok (by_verdict m now refused c v).status ≡ true → P (by_verdict m now refused c v).machine.store.opens → (by_verdict m now refused c v).machine ≡ m
+      → is_ok (by_number m now refused c v).status ≡ true → P (by_number m now refused c v).machine.store.opens → (by_number m now refused c v).machine ≡ m
   by_answer now refused c clients.Stale takes ok holds = refl
   by_answer now refused c (clients.Again (results.Done body)) takes ok holds = refl
   by_answer now refused c (clients.Again (results.Refused status)) takes ok holds = refl
@@ -129,7 +131,8 @@ module _ (client : ℕ) (P : Table → Type 0) (had : IsHad client P) (m : Machi
     where
       go : (f : Option Status) → (let o = by_fault m (item_number (Operation (Op.CreateSession c))) f (carried_out m who now refused (Operation (Op.CreateSession c))) in
           is_ok o.status ≡ true → P o.machine.store.opens → o.machine ≡ m)
-      go None = by_answer now refused c (create_verdict m.clients c.clientid c.sequence who.uid) takes
+      go None = subst (λ (o : Outcome). is_ok o.status ≡ true → P o.machine.store.opens → o.machine ≡ m) (sym (create_session_is m who now refused c))
+          (by_answer now refused c (create_verdict m.clients c.clientid c.sequence who.uid) takes)
       go (Some status) = λ ok holds. refl
   first_same declared who now refused i takes = absurd (false≢true takes)
 

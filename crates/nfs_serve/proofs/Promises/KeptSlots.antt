@@ -1,7 +1,7 @@
 -- This server keeps the laws of slots.
 use Rattle.std.proofs.Common.{◌≡◌, inl, inr, ℕ, ◌<◌, ◌^◌, suc, Bool, true, false, List, [], ◌∷◌, ◌++◌, length, Option, Some, None, refl, sym, ◌∙◌, ap, subst, arith}
 use Rattle.std.proofs.{lemmas.Bool.{cases_Bool, false≢true}, lemmas.Option.same_Some, lemmas.List.append-nil}
-use Rattle.std.specs.{Prelude.{◌==◌, ◌||◌, not, nat_le, nat_lt, is_some, slice_get, option_map, option_and_then}, Option.option_map_or}
+use Rattle.std.specs.{Prelude.{Result, Ok, ◌==◌, ◌||◌, not, nat_le, nat_lt, is_some, slice_get, option_map, option_and_then}, Option.option_map_or}
 use Rattle.nfs_xdr.specs.{Limits.opaque_limit, Codec.{number, opaque}, Text.IsBytes, Caller.Caller, Checks.first_fault, declared.status.Status.Status}
 use Rattle.nfs_xdr.specs.declared.status.Status.TheVariants.{BadSession, BadSlot, BadHighSlot, SeqMisordered, SeqFalseRetry, ReqTooBig, TooManyOps}
 use Rattle.nfs_xdr.specs.Status.{status_number}
@@ -22,7 +22,8 @@ use Rattle.nfs_sessions.specs.{Id.id_of, SessionSlots.{GrantedSlots, judge, kept
 use Rattle.nfs_sessions.specs.SessionSlots as slots
 use Rattle.nfs_sessions.proofs.TableLemmas.{slots_changed, sessions_filtered}
 use Rattle.nfs_exec.specs.Step.Machine.{Machine}
-use Rattle.nfs_exec.specs.Step.Sequence.{compared, Sequenced, Refuses, Repeats, Runs as RunsIn, unless, by_session, by_verdict, fresh_fault, slot_fault}
+use Rattle.nfs_exec.specs.Step.Sequence.{compared, Sequenced, Refuses, Repeats, Runs as RunsIn, or_refuses, by_slot}
+use Rattle.nfs_exec.specs.Step.Parts.{past, slot_says, slot_fault, fresh_fault, by_session}
 use Rattle.nfs_exec.specs.{Step.Compound.{in_session, by_first, compound}, Step.Laws.{if_runs, first_runs}}
 use Rattle.nfs_exec.specs.Step.Executing.{first_sequence, sequence_of, is_alone, executes}
 use Rattle.nfs_exec.specs.Step.Sequence as sequence
@@ -296,10 +297,10 @@ runs reader mode instance lease s bytes now choice h fits is e does =
 
 -- A refusal of SEQUENCE is none with NFS4_OK.
 
-bad_unless : (fault : Option Status) (v : Sequenced) (status : Status) → ((x : Status) → fault ≡ Some x → IsBad x) → (v ≡ Refuses status → IsBad status)
-    → unless fault v ≡ Refuses status → IsBad status
-bad_unless None v status bad behind e = behind e
-bad_unless (Some x) v status bad behind e = let same : x ≡ status = cc in subst IsBad same (bad x refl)
+bad_past : (fault : Option Status) (v : Result Sequenced Status) (status : Status) → ((x : Status) → fault ≡ Some x → IsBad x)
+    → (or_refuses v ≡ Refuses status → IsBad status) → past fault v ≡ Refuses status → IsBad status
+bad_past None v status bad behind e = behind e
+bad_past (Some x) v status bad behind e = let same : x ≡ status = cc in subst IsBad same (bad x refl)
 
 bad_of_two : (a b : Bool) (x y z : Status) → IsBad x → IsBad y → first_fault ((a, x) ∷ (b, y) ∷ []) ≡ Some z → IsBad z
 bad_of_two true b x y z bad_x bad_y e = subst IsBad (same_Some x z e) bad_x
@@ -309,13 +310,13 @@ bad_of_two false false x y z bad_x bad_y e = absurd cc
 is_refused : (x y : Status) → IsBad x → Refuses x ≡ Refuses y → IsBad y
 is_refused x y bad e = let same : x ≡ y = cc in subst IsBad same bad
 
-bad_verdict : (r : Request) (size : ℕ) (s : Sequence) (g : GrantedSlots) (v : Verdict) (status : Status) → by_verdict r size s g v ≡ Refuses status → IsBad status
+bad_verdict : (r : Request) (size : ℕ) (s : Sequence) (g : GrantedSlots) (v : Verdict) (status : Status) → slot_says r size s g v ≡ Refuses status → IsBad status
 bad_verdict r size s g slot.NoSlot status e = is_refused BadSlot status refl e
 bad_verdict r size s g slot.Misordered status e = is_refused SeqMisordered status refl e
 bad_verdict r size s g slot.FalseRetry status e = is_refused SeqFalseRetry status refl e
 bad_verdict r size s g slot.Again status e = absurd cc
 bad_verdict r size s g slot.Fresh status e =
-    bad_unless (fresh_fault r size g.channel) (RunsIn g.channel) status
+    bad_past (fresh_fault r size g.channel) (Ok (RunsIn g.channel)) status
     (λ x is. bad_of_two (nat_lt g.channel.request size) (nat_lt g.channel.operations r.declared) ReqTooBig TooManyOps x refl refl is) (λ k. absurd cc) e
 
 bad_session : (r : Request) (who : Caller) (size : ℕ) (s : Sequence) (found : Option Session) (status : Status) → by_session r who size s found ≡ Refuses status → IsBad status
@@ -323,20 +324,20 @@ bad_session r who size s None status e = is_refused BadSession status refl e
 bad_session r who size s (Some x) status e =
     let c = x.slots.channel in
     let v = judge x.slots s.slotid s.sequenceid who.uid (compared r) in
-    bad_unless (slot_fault s c) (by_verdict r size s x.slots v) status
+    bad_past (slot_fault s c) (by_slot r size s x.slots v) status
     (λ y is. bad_of_two (nat_le c.slots s.slotid) (nat_le c.slots s.highest_slotid) BadSlot BadHighSlot y refl refl is)
     (bad_verdict r size s x.slots v status) e
 
 -- A repeat.
 
-unless_runs : (fault : Option Status) (c : _) (reply : List ℕ) → unless fault (RunsIn c) ≡ Repeats reply → ⊥
-unless_runs None c reply e = absurd cc
-unless_runs (Some status) c reply e = absurd cc
+past_runs : (fault : Option Status) (c : _) (reply : List ℕ) → past fault (Ok (RunsIn c)) ≡ Repeats reply → ⊥
+past_runs None c reply e = absurd cc
+past_runs (Some status) c reply e = absurd cc
 
 again_slot : (r : Request) (size : ℕ) (s : Sequence) (g : GrantedSlots) (reply : List ℕ) (fault : Option Status) (v : Verdict)
-    → unless fault (by_verdict r size s g v) ≡ Repeats reply → (v ≡ slot.Again) × (reply ≡ kept g s.slotid)
+    → past fault (by_slot r size s g v) ≡ Repeats reply → (v ≡ slot.Again) × (reply ≡ kept g s.slotid)
 again_slot r size s g reply (Some status) v e = absurd cc
-again_slot r size s g reply None slot.Fresh e = absurd (unless_runs (fresh_fault r size g.channel) g.channel reply e)
+again_slot r size s g reply None slot.Fresh e = absurd (past_runs (fresh_fault r size g.channel) g.channel reply e)
 again_slot r size s g reply None slot.Again e = (refl, cc)
 again_slot r size s g reply None slot.FalseRetry e = absurd cc
 again_slot r size s g reply None slot.Misordered e = absurd cc

@@ -1,5 +1,5 @@
 -- No answer to anything but a compound on a session begins with a good SEQUENCE.
-use Rattle.std.proofs.Common.{◌≡◌, inl, inr, ℕ, ◌<◌, ◌≤◌, ◌^◌, Bool, true, false, List, [], ◌∷◌, Option, Some, None, refl, arith}
+use Rattle.std.proofs.Common.{◌≡◌, inl, inr, ℕ, ◌<◌, ◌≤◌, ◌^◌, Bool, true, false, List, [], ◌∷◌, Option, Some, None, refl, sym, subst, arith}
 use Rattle.std.proofs.lemmas.Bool.{cases_Bool, eqb-true, ne_eqb, and_parts, and_right, leb-true}
 use Rattle.std.specs.Prelude.{◌==◌, ◌&&◌, ◌||◌, not, nat_le, nat_lt, IsTrue, Result, Ok, Err, is_some, if◌then◌else◌}
 use Rattle.nfs_xdr.specs.{Limits.opaque_limit, Codec.opaque, Caller.Caller, declared.status.Status.Status}
@@ -19,10 +19,12 @@ use Rattle.nfs_sessions.specs.{declared.id.SessionId.SessionId, declared.session
 use Rattle.nfs_sessions.specs.Sessions.{SessionTable, create, session_at, fault_status}
 use Rattle.nfs_names.specs.Outcome.{is_ok}
 use Rattle.nfs_exec.specs.{Step.Machine.{by_fault, Machine, Outcome, or_delay}, Step.Place.{stands_alone, is_sequence}, Step.View.{CanBear, IsOpened}}
-use Rattle.nfs_exec.specs.Step.ExchangeId.{exchange_id, answered, ask_of}
-use Rattle.nfs_exec.specs.Step.CreateSession.{by_verdict, by_created, wish_of}
+use Rattle.nfs_exec.specs.Step.ExchangeId.{exchange_id}
+use Rattle.nfs_exec.specs.Step.CreateSession.{wish_of}
 use Rattle.nfs_exec.specs.{Step.Destroy.{destroy_session, client_fault, client_ended}, Step.Run.is_here}
 use Rattle.nfs_exec.specs.{Step.Compound.{carried_out, first_item, by_first, compound}, Step.Executing.{first_sequence, sequence_of}}
+use Rattle.nfs_exec.proofs.Step.InSteps.{exchange_id_is, create_session_is}
+use Rattle.nfs_exec.specs.Step.Parts.{answered, ask_of, by_number, by_created}
 use Rattle.nfs_exec.proofs.Step.RefusalsFit.{opened_bears}
 use Rattle.nfs_serve.proofs.{Promises.Reader.sequenced, Promises.Spelled.{IsBad, IsMute, mute_spelled, bare_spelled}}
 
@@ -87,7 +89,7 @@ mute_made : (m : Machine) (now : ℕ) (c : CreateSession) (t : SessionTable) (r 
 mute_made m now c t (Ok id) = record { op = 43; first = 0; rest = _; spelled = refl; op_small = omega arith; first_small = omega arith; other = refl }
 mute_made m now c t (Err fault) = mute_refusal 43 (fault_status fault) (omega arith) refl
 
-mute_created : (m : Machine) (now : ℕ) (refused : Bool) (c : CreateSession) (v : clients.Verdict) → IsMute (by_verdict m now refused c v).result
+mute_created : (m : Machine) (now : ℕ) (refused : Bool) (c : CreateSession) (v : clients.Verdict) → IsMute (by_number m now refused c v).result
 mute_created m now refused c clients.Stale = mute_bad 43 StaleClientId (omega arith) refl
 mute_created m now refused c (clients.Again (result.Done body)) =
     record { op = 43; first = 0; rest = body; spelled = refl; op_small = omega arith; first_small = omega arith; other = refl }
@@ -113,8 +115,11 @@ op_small op = is_op_listing.small (arguments op).op
 
 mute_carried : (m : Machine) (who : Caller) (now : ℕ) (refused : Bool) (op : Op) → IsMute (carried_out m who now refused (Operation op)).result
 mute_carried m who now refused (Op.ExchangeId e) =
-    mute_delayed m refused 42 (exchange_id m who now e) (omega arith) (mute_exchanged (exchange m.clients (ask_of m who e)).answer)
-mute_carried m who now refused (Op.CreateSession c) = mute_created m now refused c (clients.create_verdict m.clients c.clientid c.sequence who.uid)
+    mute_delayed m refused 42 (exchange_id m who now e) (omega arith)
+    (subst (λ (o : Outcome). IsMute o.result) (sym (exchange_id_is m who now e)) (mute_exchanged (exchange m.clients (ask_of m who e)).answer))
+mute_carried m who now refused (Op.CreateSession c) =
+    subst (λ (o : Outcome). IsMute o.result) (sym (create_session_is m who now refused c))
+    (mute_created m now refused c (clients.create_verdict m.clients c.clientid c.sequence who.uid))
 mute_carried m who now refused (Op.DestroySession sessionid) = mute_destroyed m sessionid
 mute_carried m who now refused (Op.DestroyClientId client) = mute_client m client (client_fault m client)
 mute_carried m who now refused op = mute_bad (item_number (Operation op)) NotSupp (op_small op) refl

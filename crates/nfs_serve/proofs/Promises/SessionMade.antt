@@ -12,8 +12,10 @@ use Rattle.nfs_lease.specs.Renewals.{Book, with_renewal}
 use Rattle.nfs_names.specs.Outcome.{is_ok}
 use Rattle.nfs_sessions.specs.{declared.id.SessionId.SessionId, declared.sessions.SessionFault.SessionFault, Sessions.{SessionTable, session_at, create}}
 use Rattle.nfs_exec.specs.{Runs.OneSession.MakesOne, Step.Compound.{bare, by_first, carried_out, compound, first_item}, Step.ExchangeId.without_any_lease}
-use Rattle.nfs_exec.specs.{Step.CreateSession.{by_created, by_verdict, creates, wish_of}, Step.Laws.{Asks}}
+use Rattle.nfs_exec.specs.{Step.CreateSession.wish_of, Step.Laws.{Asks}}
 use Rattle.nfs_exec.specs.{Step.Machine.{Machine, Outcome, by_fault, refuses}, Step.Place.item_fault, Step.Run.is_here}
+use Rattle.nfs_exec.proofs.Step.InSteps.{create_session_is}
+use Rattle.nfs_exec.specs.Step.Parts.{by_created, by_number, creates}
 use Rattle.nfs_exec.proofs.Runs.Renewing.{AtLeast}
 use Rattle.nfs_serve.specs.{Step.{State, new_state}, Promises.Endpoint.Arrival, Promises.Points.{state_after, reached, taken, before, asked_by}}
 use Rattle.nfs_serve.specs.{Promises.SessionStays.{HasSession, StaysThere}, Promises.SessionsOnce.GivesIn}
@@ -40,7 +42,7 @@ module _ (session : SessionId) (m : Machine) (absent : session_at m.sessions ses
       (renewal_least (without_any_lease m.leases (leaving m.clients c.clientid)) c.clientid now)
   by_made c t (Err fault) mine some = same (by_created m now c t (Err fault)).machine refl some
 
-  by_new : (refused : Bool) (c : CreateSession) → c.clientid ≡ n → Renews (by_verdict m now refused c clients.Runs).machine
+  by_new : (refused : Bool) (c : CreateSession) → c.clientid ≡ n → Renews (by_number m now refused c clients.Runs).machine
   by_new refused c mine =
       let did = create m.sessions c.clientid (wish_of m c) in
       let o = creates m now c did in
@@ -49,7 +51,7 @@ module _ (session : SessionId) (m : Machine) (absent : session_at m.sessions ses
         | false ↦ by_made c did.after did.answer mine
       ]
 
-  by_answer : (refused : Bool) (c : CreateSession) (v : clients.Verdict) → c.clientid ≡ n → Renews (by_verdict m now refused c v).machine
+  by_answer : (refused : Bool) (c : CreateSession) (v : clients.Verdict) → c.clientid ≡ n → Renews (by_number m now refused c v).machine
   by_answer refused c clients.Stale mine = same m refl
   by_answer refused c (clients.Again (results.Done body)) mine = same m refl
   by_answer refused c (clients.Again (results.Refused status)) mine = same m refl
@@ -65,7 +67,9 @@ module _ (session : SessionId) (m : Machine) (absent : session_at m.sessions ses
       → Renews (first_item m declared who now refused (Operation (Op.CreateSession c))).machine
   first_renews declared who refused c mine =
       by_place (item_number (Operation (Op.CreateSession c))) (item_fault declared (Operation (Op.CreateSession c)))
-      (carried_out m who now refused (Operation (Op.CreateSession c))) (by_answer refused c (create_verdict m.clients c.clientid c.sequence who.uid) mine)
+      (carried_out m who now refused (Operation (Op.CreateSession c)))
+      (subst (λ (o : Outcome). Renews o.machine) (sym (create_session_is m who now refused c))
+      (by_answer refused c (create_verdict m.clients c.clientid c.sequence who.uid) mine))
 
   create_renews : (r : Request) (who : Caller) (size : ℕ) (choice : Option ℕ) (c : CreateSession) (more : List Item) → r.left ≡ Operation (Op.CreateSession c) ∷ more
       → c.clientid ≡ n → Renews (compound m r who size now choice).machine

@@ -1,5 +1,5 @@
 -- A session that stands is not answered NFS4ERR_BADSESSION.
-use Rattle.std.proofs.Common.{◌≡◌, ℕ, ◌+◌, ◌≤◌, Bool, true, false, cond, List, [], ◌∷◌, ◌++◌, length, Option, Some, None, refl, sym, ◌∙◌, ap}
+use Rattle.std.proofs.Common.{◌≡◌, ℕ, ◌+◌, ◌≤◌, Bool, true, false, cond, List, [], ◌∷◌, ◌++◌, length, Option, Some, None, Result, Ok, refl, sym, ◌∙◌, ap}
 use Rattle.std.proofs.lemmas.Bool.{false≢true}
 use Rattle.std.specs.Prelude.{◌==◌, nat_lt, nat_le, is_some}
 use Rattle.nfs_xdr.specs.{Caller.Caller, Status.status_number, declared.status.Status.Status}
@@ -10,7 +10,8 @@ use Rattle.nfs_slots.specs.declared.slot.Verdict.{Verdict}
 use Rattle.nfs_slots.specs.declared.slot.Verdict.TheVariants as V
 use Rattle.nfs_sessions.specs.{declared.id.SessionId.SessionId, Id.id_of, SessionSlots.{GrantedSlots, judge}, Sessions.{Session, session_at}}
 use Rattle.nfs_exec.specs.{Step.Compound.first_item, Step.Destroy.destroy_session, Step.Machine.{Machine, Outcome, by_fault}, Step.Place.item_fault, Step.Run.is_here}
-use Rattle.nfs_exec.specs.Step.Sequence.{Sequenced, Refuses, Repeats, Runs, unless, fresh_fault, slot_fault, by_verdict, by_slots, by_session, compared}
+use Rattle.nfs_exec.specs.Step.Sequence.{Sequenced, Refuses, Repeats, Runs, or_refuses, by_slot, compared}
+use Rattle.nfs_exec.specs.Step.Parts.{past, slot_says, slot_fault, fresh_fault, by_session}
 use Rattle.nfs_exec.proofs.Step.RefusalsFit.{refused_status}
 use Rattle.nfs_serve.specs.{Step.State, Promises.Endpoint.Arrival, Promises.LockKept.{renews_by}}
 use Rattle.nfs_serve.specs.{Promises.Points.{state_after, reached, taken, before}, Promises.SessionStays.{HasSession, StaysThere}}
@@ -27,29 +28,28 @@ says_bad (Refuses f) = is_bad f
 says_bad (Repeats reply) = false
 says_bad (Runs c) = false
 
-unless_good : (o : Option Status) (v : Sequenced) → ((f : Status) → o ≡ Some f → is_bad f ≡ false) → says_bad v ≡ false → says_bad (unless o v) ≡ false
-unless_good None v good is = is
-unless_good (Some f) v good is = good f refl
+past_good : (o : Option Status) (v : Result Sequenced Status) → ((f : Status) → o ≡ Some f → is_bad f ≡ false)
+    → says_bad (or_refuses v) ≡ false → says_bad (past o v) ≡ false
+past_good None v good is = is
+past_good (Some f) v good is = good f refl
 
-verdict_good : (r : Request) (size : ℕ) (q : Sequence) (g : GrantedSlots) (v : Verdict) → says_bad (by_verdict r size q g v) ≡ false
+verdict_good : (r : Request) (size : ℕ) (q : Sequence) (g : GrantedSlots) (v : Verdict) → says_bad (slot_says r size q g v) ≡ false
 unfolding is_bad
 verdict_good r size q g V.NoSlot = refl
 verdict_good r size q g V.Misordered = refl
 verdict_good r size q g V.FalseRetry = refl
 verdict_good r size q g V.Again = refl
-verdict_good r size q g V.Fresh = unless_good (fresh_fault r size g.channel) (Runs g.channel)
+verdict_good r size q g V.Fresh = past_good (fresh_fault r size g.channel) (Ok (Runs g.channel))
     (are_good is_bad ((nat_lt g.channel.request size, S.ReqTooBig) ∷ (nat_lt g.channel.operations r.declared, S.TooManyOps) ∷ []) refl) refl
 
-slots_good : (r : Request) (who : Caller) (size : ℕ) (q : Sequence) (g : GrantedSlots) → says_bad (by_slots r who size q g) ≡ false
-unfolding is_bad
-slots_good r who size q g =
-    let v = judge g q.slotid q.sequenceid who.uid (compared r) in
-    unless_good (slot_fault q g.channel) (by_verdict r size q g v)
-    (are_good is_bad ((nat_le g.channel.slots q.slotid, S.BadSlot) ∷ (nat_le g.channel.slots q.highest_slotid, S.BadHighSlot) ∷ []) refl) (verdict_good r size q g v)
-
 session_good : (r : Request) (who : Caller) (size : ℕ) (q : Sequence) (o : Option Session) → is_some o ≡ true → says_bad (by_session r who size q o) ≡ false
+unfolding is_bad
 session_good r who size q None e = absurd (false≢true e)
-session_good r who size q (Some s) e = slots_good r who size q s.slots
+session_good r who size q (Some s) e =
+    let g = s.slots in
+    let v = judge g q.slotid q.sequenceid who.uid (compared r) in
+    past_good (slot_fault q g.channel) (by_slot r size q g v)
+    (are_good is_bad ((nat_le g.channel.slots q.slotid, S.BadSlot) ∷ (nat_le g.channel.slots q.highest_slotid, S.BadHighSlot) ∷ []) refl) (verdict_good r size q g v)
 
 -- DESTROY_SESSION
 

@@ -3,7 +3,7 @@ use Rattle.std.specs.Prelude.{List, ℕ}
 use Rattle.nfs_xdr.specs.Caller.{caller}
 use Rattle.nfs_sessions.specs.{Id.id_of, Sessions.session_at}
 use Rattle.nfs_sessions.specs.SessionSlots as slots
-use Rattle.nfs_exec.specs.Step.Sequence.{slot_fault, fresh_fault}
+use Rattle.nfs_exec.specs.Step.Parts.{slot_fault, fresh_fault}
 use Rattle.nfs_exec.proofs.Step.Judging.{joined, refuses_fresh}
 use Rattle.nfs_exec.proofs.sequence.judge.Goals as goal
 

@@ -2,8 +2,9 @@ use Rattle.std.proofs.Common.{◌≡◌, ℕ, Option, Ok, Err, ap, sym, subst, �
 use Rattle.nfs_xdr.specs.declared.status.Status.{Status}
 use Rattle.nfs_sessions.specs.{declared.channel.Wish.Wish, Sessions.create, SessionTables.CreatesOrWants}
 use Rattle.nfs_names.specs.Outcome.{is_delay}
-use Rattle.nfs_exec.specs.{Step.Machine.{or_delay, refuses, machine_of}, Step.CreateSession.{wish_of, channel_of, creates}}
+use Rattle.nfs_exec.specs.{Step.Machine.{or_delay, refuses, machine_of}, Step.CreateSession.{wish_of, channel_of}}
 use Rattle.nfs_exec.specs.Step.View.{Does}
+use Rattle.nfs_exec.specs.Step.Parts.{creates}
 use Rattle.nfs_exec.proofs.Step.Creating.{made, refused_session}
 use Rattle.nfs_exec.proofs.tables.Tables.make_session.Goals as goal
 

@@ -16,15 +16,15 @@ put-head-requires-clause-room c = head_fits c.args.out.now c.tag.result.now c.ta
 pub write-requires-clause-room : goal.write-requires-clause-room
 write-requires-clause-room c = λ arrays.
     (let long = subst (λ (s : SequenceOk). length (spell_result (Res.Sequence s)) ≤ 44)
-    (sym c.accepted.ensures) (accepted_long c.args.asked.now c.args.channel.now c.requires.sessionid) in
+    (sym c.sequence_ok.ensures) (accepted_long c.args.asked.now c.args.channel.now c.requires.sessionid) in
     second_fits c.args.out.now c.put-head.new.out c.tag.result.now
-    (spell_result (Res.Sequence c.accepted.result)) c.tag.ensures.bound c.requires.room c.put-head.ensures.puts long)
+    (spell_result (Res.Sequence c.sequence_ok.result)) c.tag.ensures.bound c.requires.room c.put-head.ensures.puts long)
 
 pub run-ran-requires-clause-fits : goal.run-ran-requires-clause-fits
 run-ran-requires-clause-fits c =
     let long = subst (λ (s : SequenceOk). length (spell_result (Res.Sequence s)) ≤ 44)
-    (sym c.accepted.ensures) (accepted_long c.args.asked.now c.args.channel.now c.requires.sessionid) in
-    run_fits c.args.out.now c.put-head.new.out c.write.new.out c.tag.result.now (spell_result (Res.Sequence c.accepted.result))
+    (sym c.sequence_ok.ensures) (accepted_long c.args.asked.now c.args.channel.now c.requires.sessionid) in
+    run_fits c.args.out.now c.put-head.new.out c.write.new.out c.tag.result.now (spell_result (Res.Sequence c.sequence_ok.result))
     c.len-start.result c.args.channel.now.response c.tag.ensures.bound c.put-head.ensures.puts c.write.ensures long
     c.len-start.ensures.value c.requires.granted.response.0
 
@@ -55,9 +55,9 @@ returns c =
     let first = c.write.new.out in
     let rest = c.run-ran.new.out in
     let limit = c.args.channel.now.response in
-    let text = spell_result (Res.Sequence (Sequence.accepted s c.args.channel.now)) in
+    let text = spell_result (Res.Sequence (Sequence.sequence_ok s c.args.channel.now)) in
     let named : c.tag.result.now ≡ r.tag = c.tag.ensures.value in
-    let same : spell_result (Res.Sequence c.accepted.result) ≡ text = ap (λ (s : SequenceOk). spell_result (Res.Sequence s)) c.accepted.ensures in
+    let same : spell_result (Res.Sequence c.sequence_ok.result) ≡ text = ap (λ (s : SequenceOk). spell_result (Res.Sequence s)) c.sequence_ok.ensures in
     let one : Puts before heads (spell_compound_head Nfs4Ok r.tag 0) =
     subst (λ (t : List ℕ). Puts before heads (spell_compound_head Nfs4Ok t 0)) named c.put-head.ensures.puts in
     let two : Puts heads first text = subst (λ (t : List ℕ). Puts heads first t) same c.write.ensures in
