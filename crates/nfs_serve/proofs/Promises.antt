@@ -18,7 +18,9 @@ pub mod Spelled
 pub mod Replies
 pub mod Mute
 pub mod KeptSlots
+pub mod FirstSaid
 pub mod Good
+pub mod KeptReplies
 pub mod Slotted
 pub mod Computing
 pub mod LostReply

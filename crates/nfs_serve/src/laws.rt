@@ -386,15 +386,16 @@ pub fn wrong_shares_are_refused()
     ensures { SharesRefused }
 {}
 
-/// In every run, while a session's client renews in time, no DESTROY_SESSION of it is answered NFS4_OK and no CREATE_SESSION puts another id in its client's place, neither a
-/// SEQUENCE in the session nor a DESTROY_SESSION of it is answered NFS4ERR_BADSESSION: from the CREATE_SESSION on that made it. And nothing is answered NFS4ERR_EXPIRED.
+/// In every run a reply says NFS4ERR_BADSESSION of a SEQUENCE or a DESTROY_SESSION only where its session was not made, or has ended since: by a DESTROY_SESSION that was
+/// answered NFS4_OK, by a CREATE_SESSION that put another id in its client's place, or with the lease. And nothing is answered NFS4ERR_EXPIRED.
 pub fn sessions_are_denied_truly()
     ensures bad { BadSessionIsTrue }
     ensures expired { NoneIsExpired }
 {}
 
-/// The definitions compute: a client makes a session, and renews in time; where it does not, or destroys the session, it is answered NFS4ERR_BADSESSION, and its stateid is
-/// NFS4ERR_BAD_STATEID. That run meets the premises of `sessions_are_denied_truly`, which refuses a server that forgets the session, and a READ answered NFS4ERR_EXPIRED.
+/// The definitions compute: a client makes a session, and renews in time; where it does not, destroys the session or restarts, the reply says NFS4ERR_BADSESSION, and its
+/// stateid is NFS4ERR_BAD_STATEID. Those runs meet the premises of `sessions_are_denied_truly`, which refuses a server that forgets the session, one whose leases are
+/// shorter than it says, and a READ answered NFS4ERR_EXPIRED.
 pub fn a_session_is_denied()
     ensures left { IsLeft }
     ensures refused { EndsAreRefused }

@@ -25,12 +25,12 @@ nested_sequence id n slot more rest =
 
 -- The text of a compound that runs on a slot: a status, its tag and a count, and behind them SEQUENCE's result, which begins with the session,
 -- the number and the slot of the call.
-record IsAnswered (tag : List ℕ) (q : Sequence) (text : List ℕ) : Type 0 where
-  status : ℕ
-  count : ℕ
-  rest : List ℕ
-  small : status < 2 ^ 32
-  is : text ≡ (spelling.number status ++ (spelling.opaque tag ++ spelling.number count))
+pub record IsAnswered (tag : List ℕ) (q : Sequence) (text : List ℕ) : Type 0 where
+  pub status : ℕ
+  pub count : ℕ
+  pub rest : List ℕ
+  pub small : status < 2 ^ 32
+  pub is : text ≡ (spelling.number status ++ (spelling.opaque tag ++ spelling.number count))
       ++ ((spelling.number 53 ++ spelling.number 0) ++ (spelling.fixed q.sessionid ++ (spelling.number q.sequenceid ++ (spelling.number q.slotid ++ rest))))
 
 answered : (m : Machine) (r : Request) (who : Caller) (now : ℕ) (choice : Option ℕ) (q : Sequence) (more : List Item) (c : Channel)
@@ -67,7 +67,7 @@ answered_items m r who size now choice s [] e = absurd cc
 answered_items m r who size now choice s (Operation (Op.Sequence q) ∷ more) e = answered_verdict m r who now choice q s more (sequence.sequenced m r who size q) e
 answered_items m r who size now choice s (item ∷ more) e = absurd cc
 
-answered_compound : (m : Machine) (r : Request) (who : Caller) (size now : ℕ) (choice : Option ℕ) (s : Sequence)
+pub answered_compound : (m : Machine) (r : Request) (who : Caller) (size now : ℕ) (choice : Option ℕ) (s : Sequence)
     → ran_in m r who size ≡ Some s → IsAnswered r.tag s (compound m r who size now choice).text
 answered_compound m r who size now choice s e = elim (cases_Bool (r.minor == 1)) [
   | inl one ↦ rw one (answered_items m r who size now choice s r.left (rw one at e))

@@ -57,7 +57,7 @@ taken bytes call fits e =
       args = bytes_behind (header.spell t.0) call.args (bytes_behind (number.spell 2) _ (bytes_behind (number.spell 0) _ (bytes_behind (number.spell call.xid) _ whole)));
     }
 
-asked_is : (call : Call) (p : Procedure) (r : Request) → asked_of call p ≡ Some r → request_at call.args ≡ Some r
+pub asked_is : (call : Call) (p : Procedure) (r : Request) → asked_of call p ≡ Some r → request_at call.args ≡ Some r
 asked_is call Procedures.Null r e = absurd cc
 asked_is call Procedures.Compound r e = e
 
@@ -343,7 +343,7 @@ again_slot r size s g reply None slot.FalseRetry e = absurd cc
 again_slot r size s g reply None slot.Misordered e = absurd cc
 again_slot r size s g reply None slot.NoSlot e = absurd cc
 
-again_session : (r : Request) (who : Caller) (size : ℕ) (s : Sequence) (found : Option Session) (reply : List ℕ) → by_session r who size s found ≡ Repeats reply
+pub again_session : (r : Request) (who : Caller) (size : ℕ) (s : Sequence) (found : Option Session) (reply : List ℕ) → by_session r who size s found ≡ Repeats reply
     → (session : Session) × (found ≡ Some session) × (judge session.slots s.slotid s.sequenceid who.uid (compared r) ≡ slot.Again) × (reply ≡ kept session.slots s.slotid)
 again_session r who size s None reply e = absurd cc
 again_session r who size s (Some session) reply e =

@@ -1,13 +1,18 @@
 -- The run of a session that ends, computed.
-use Rattle.std.proofs.Common.{◌+◌, ◌*◌, refl, ap, arith, inl, inr}
-use Rattle.std.specs.Prelude.{◌^◌}
-use Rattle.nfs_sessions.specs.Sessions.{is_session}
+use Rattle.std.proofs.Common.{◌≡◌, ℕ, ◌+◌, ◌*◌, ◌<◌, Bool, true, false, cond, List, [], ◌∷◌, ◌++◌, Some, refl, sym, ◌∙◌, ap, arith, inl, inr}
+use Rattle.std.proofs.lemmas.Bool.{and_parts, false≢true, leb-true, not-true}
+use Rattle.std.specs.Prelude.{◌^◌, ◌&&◌, nat_le, not}
+use Rattle.nfs_xdr.specs.declared.status.Status.TheVariants.{BadSession}
+use Rattle.nfs_compound.specs.{OpNum.op_number, declared.op_num.OpNum.OpNum}
+use Rattle.nfs_compound.specs.declared.op_num.OpNum.TheVariants as Num
+use Rattle.nfs_sessions.specs.{declared.id.SessionId.SessionId, Sessions.is_session}
 use Rattle.nfs_exec.specs.{Runs.OneSession.MakesOne}
-use Rattle.nfs_serve.specs.{Promises.Points.{state_after, before, asked_by}}
-use Rattle.nfs_serve.specs.{Promises.SessionsDenied.{BySequence, ByDestroy, Made}, Promises.SessionStays.{id}}
-use Rattle.nfs_serve.specs.Promises.SessionsDeniedWorked.{known, creates, IsLeft, EndsAreRefused}
+use Rattle.nfs_serve.specs.{Step.{State, step}, Promises.Endpoint.Arrival, Promises.Exchanges.words, Promises.HeldLock.{start, locks, renewal, waits}}
+use Rattle.nfs_serve.specs.{Promises.LockKept.{renews_by, replaces_by}, Promises.Points.{state_after, state_after_all, taken, before, asked_by}, Promises.Seen.accepted_reply}
+use Rattle.nfs_serve.specs.{Promises.SessionsDenied.{SaysFirst, IsBadSession, BySequence, ByDestroy, HasEnded, Made}, Promises.SessionStays.{id, ends_by, forgetful}}
+use Rattle.nfs_serve.specs.Promises.SessionsDeniedWorked.{known, creates, goes_on, too_late, destroys, destroys_again, restarts, hasty, IsLeft, EndsAreRefused}
 use Rattle.nfs_serve.specs.Promises.SessionsOnce as once
-use Rattle.nfs_serve.proofs.{Promises.Computing.computing, Promises.SessionsWorked.given}
+use Rattle.nfs_serve.proofs.{Promises.Computing.computing, Promises.Replies.no_bytes, Promises.SessionsWorked.given}
 
 makes : MakesOne id.client once.id (before known creates).sessions (state_after known creates).machine.sessions
 unfolding computing
@@ -21,20 +26,73 @@ makes = record {
   others = λ s there mine. absurd there;
 }
 
+-- the reply NFS4ERR_BADSESSION, no tag, one operation: this one, NFS4ERR_BADSESSION
+abbrev denial : OpNum → List ℕ
+denial n = words (10052 ∷ 0 ∷ 1 ∷ op_number n ∷ 10052 ∷ [])
+
+said : (n : OpNum) (s : State) (c : Arrival) (xid : ℕ) → xid < 2 ^ 32 → (step s c.bytes c.now c.choice).reply ≡ Some ((accepted_reply xid).bytes ++ denial n)
+    → SaysFirst n BadSession s c
+unfolding computing
+said n s c xid small sent = record {
+  reply = (accepted_reply xid).bytes ++ denial n;
+  sent = sent;
+  answer = record { xid = xid; result = denial n };
+  is = (refl, (small, (tt, (tt, ((omega arith, (omega arith, no_bytes)), tt)))));
+  first = record { value = (10052, ([], 1)); rest = []; stands = refl; fits = (omega arith, ((omega arith, no_bytes), (omega arith, (tt, (tt, tt))))) };
+}
+
+-- So it can be tested: each record comes in time, and ends nothing.
+abbrev lasts : SessionId → (lease last : ℕ) → State → List Arrival → Arrival → Bool
+lasts id lease last s [] d = nat_le (taken s d) (last + lease)
+lasts id lease last s (c ∷ more) d =
+    nat_le (taken s c) (last + lease)
+    && (not (ends_by id s c)
+    && (not (replaces_by id.client s c) && lasts id lease (cond (renews_by id.client s c) (taken s c) last) (state_after s c) more d))
+
+late : (a b : ℕ) → nat_le a b ≡ true → b < a → ⊥
+late a b test past = (let within = leb-true a b test in omega (arith, within, past))
+
+not_ended : (id : SessionId) (lease last : ℕ) (s : State) (records : List Arrival) (d : Arrival) → lasts id lease last s records d ≡ true
+    → HasEnded id lease last s records d → ⊥
+not_ended id lease last s [] d test past = late (taken s d) (last + lease) test past
+not_ended id lease last s (c ∷ more) d test ended =
+    let p = and_parts _ _ test in
+    let q = and_parts _ _ p.1 in
+    let r = and_parts _ _ q.1 in
+    elim ended [
+      | inr later ↦ not_ended id lease (cond (renews_by id.client s c) (taken s c) last) (state_after s c) more d r.1 later
+      | inl here ↦ elim here [
+        | inl past ↦ late (taken s c) (last + lease) p.0 past
+        | inr other ↦ elim other [
+          | inl ends ↦ false≢true (sym (not-true (ends_by id s c) q.0) ∙ ends)
+          | inr replaced ↦ false≢true (sym (not-true (replaces_by id.client s c) r.0) ∙ replaced)
+        ]
+      ]
+    ]
+
+bad_renewal : (s : State) → (step s renewal.bytes renewal.now renewal.choice).reply ≡ Some ((accepted_reply 4).bytes ++ denial Num.Sequence) → IsBadSession id s renewal
+unfolding computing
+bad_renewal s sent = BySequence _ refl refl (said Num.Sequence s renewal 4 (omega arith) sent)
+
 pub is_left : IsLeft
 unfolding computing makes
 is_left = record {
   made = Made 1 once.id (given (7 * 2 ^ 32 + 1) 1 once.id known creates (asked_by known creates) refl refl) makes refl;
-  left = (omega arith, refl, refl, (omega arith, refl, refl, (omega arith, refl, refl, (omega arith, refl, refl, (omega arith, refl, refl, (refl, omega arith))))));
-  run_out = BySequence _ _ refl _ _ refl refl refl;
-  destroyed = BySequence _ _ refl _ _ refl refl refl;
-  again = ByDestroy _ _ refl _ _ refl refl refl;
+  left = not_ended id 90 101 start (locks ∷ waits) goes_on refl;
+  run_out = record { denied = BySequence _ refl refl (said Num.Sequence _ too_late 4 (omega arith) refl); ended = inr (omega arith) };
+  destroyed = record { denied = bad_renewal (state_after_all start (locks ∷ destroys ∷ [])) refl; ended = inr (inl (inr (inl refl))) };
+  again = record {
+    denied = ByDestroy _ _ _ _ refl refl refl refl (said Num.DestroySession _ destroys_again 5 (omega arith) refl);
+    ended = inr (inl (inr (inl refl)));
+  };
+  restarted = record { denied = bad_renewal (state_after_all start (locks ∷ restarts)) refl; ended = inr (inr (inl (inr (inr refl)))) };
   back = refl;
 }
 
 pub ends_are_refused : EndsAreRefused
 unfolding computing
 ends_are_refused = record {
-  forgotten = (omega arith, BySequence _ _ refl _ _ refl refl refl);
+  forgotten = (bad_renewal forgetful refl, λ past. omega (arith, past));
+  early = (bad_renewal hasty refl, λ past. omega (arith, past));
   expired = λ d is. is refl;
 }

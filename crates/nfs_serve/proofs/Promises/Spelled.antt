@@ -41,7 +41,7 @@ refusal_spelled (Accept xid GarbageArgs) = refl
 pub is_front : IsCodec front
 is_front = is_then number _ is_number (is_then (opaque opaque_limit) _ (is_opaque 1024 (omega arith)) (is_then number _ is_number (is_then number number is_number is_number)))
 
-joined : (a b c d r : List ℕ) → (a ++ (b ++ c)) ++ (d ++ r) ≡ (a ++ (b ++ (c ++ d))) ++ r
+pub joined : (a b c d r : List ℕ) → (a ++ (b ++ c)) ++ (d ++ r) ≡ (a ++ (b ++ (c ++ d))) ++ r
 joined a b c d r =
     sym (append_assoc (a ++ (b ++ c)) d r)
     ∙ ap (λ (w : List ℕ). w ++ r) (append_assoc a (b ++ c) d ∙ ap (λ (w : List ℕ). a ++ w) (append_assoc b c d))

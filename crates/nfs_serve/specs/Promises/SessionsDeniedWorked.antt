@@ -1,12 +1,12 @@
 -- A session that ends, worked by hand in words of four bytes over the run of `HeldLock` (RFC 8881 sections 8.3, 18.36, 18.37 and 18.46). Client 1 of instance 7 makes its
 -- session 1 and renews its lease in it in time. Where it is silent, or ends the session, the answer is NFS4ERR_BADSESSION; and no stateid of the client is known then.
-use Rattle.std.specs.Prelude.{◌≡◌, ◌+◌, ◌≤◌, List, [], ◌∷◌}
+use Rattle.std.specs.Prelude.{◌≡◌, List, [], ◌∷◌}
 use Rattle.nfs_xdr.specs.declared.status.Status.TheVariants.{Nfs4Ok, BadStateId}
 use Rattle.nfs_exec.specs.Runs.Ops.{RanOp}
-use Rattle.nfs_serve.specs.{Step.State, Promises.Endpoint.Arrival, Promises.Exchanges.words, Promises.HeldLock.{came, in_session, start, locks, locked, renewal, waits, last_of, statuses}}
+use Rattle.nfs_serve.specs.{Step.State, Promises.Endpoint.Arrival, Promises.Exchanges.words, Promises.HeldLock.{came, in_session, start, locks, renewal, waits, last_of, statuses}}
 use Rattle.nfs_serve.specs.{Promises.HeldOpen.{opened}, Promises.LostReply.{exchange_id, create_session}, Promises.NeverExpired.IsNotExpired}
-use Rattle.nfs_serve.specs.{Promises.Points.{state_after, state_after_all, reached, taken, ops_of}, Promises.SessionStays.{id, forgetful}}
-use Rattle.nfs_serve.specs.Promises.SessionsDenied.{IsBadSession, Stands, LeaveSession}
+use Rattle.nfs_serve.specs.{Promises.Points.{state_after_all, reached, ops_of}, Promises.SessionStays.{id, forgetful}}
+use Rattle.nfs_serve.specs.Promises.SessionsDenied.{IsBadSession, HasEnded, Stands}
 
 -- behind EXCHANGE_ID of `A`, its CREATE_SESSION
 abbrev pub known : State
@@ -21,6 +21,10 @@ goes_on = came 372 9 (in_session 1 4 1 [])
 
 abbrev pub too_late : Arrival
 too_late = came 193 4 (in_session 1 2 1 [])
+
+-- a server whose leases last a second, behind A's LOCK
+abbrev pub hasty : State
+hasty = reached 511 7 1 (came 100 1 (exchange_id 0x4100_0000) ∷ came 101 2 (create_session 1) ∷ locks ∷ [])
 
 -- DESTROY_SESSION of session 1, and once more
 abbrev pub destroys : Arrival
@@ -37,13 +41,24 @@ comes_back = came 200 5 (exchange_id 0x4100_0000) ∷ came 201 6 (create_session
 abbrev pub reads : Arrival
 reads = came 202 7 (in_session 2 1 4 (words (24 ∷ 15 ∷ 1 ∷ 0x6600_0000 ∷ 25 ∷ 1 ∷ 7 ∷ 0 ∷ 1 ∷ 0 ∷ 0 ∷ 8 ∷ [])))
 
--- The runs meet the premises: the session stands as long as it is left; and the answer is NFS4ERR_BADSESSION where the lease has run out, and behind DESTROY_SESSION.
+-- A restarts within its lease: EXCHANGE_ID of the same owner with another verifier, and CREATE_SESSION of the client id 2 that it is given
+abbrev pub restarts : List Arrival
+restarts = came 103 4 (words (0 ∷ 1 ∷ 1 ∷ 42 ∷ 0 ∷ 2 ∷ 1 ∷ 0x4100_0000 ∷ 0 ∷ 0 ∷ 0 ∷ [])) ∷ came 104 5 (create_session 2) ∷ []
+
+-- behind these records, which follow the CREATE_SESSION that made the session, the next one is denied for it; and one of them ended it, or the lease ran out
+pub record IsDenied (between : List Arrival) (d : Arrival) : Type 0 where
+  pub denied : IsBadSession id (state_after_all start between) d
+  pub ended : HasEnded id 90 101 start between d
+
+-- The runs meet the premises: the session was made, and its call is denied where the lease has run out, behind DESTROY_SESSION, and behind the client's restart; and a second
+-- DESTROY_SESSION is.
 pub record IsLeft : Type 0 where
   pub made : Stands id known creates
-  pub left : LeaveSession id 90 101 start (locks ∷ waits) (λ last t. (last ≡ 282) × (taken t goes_on ≤ last + 90))
-  pub run_out : IsBadSession id locked too_late
-  pub destroyed : IsBadSession id (state_after locked destroys) renewal
-  pub again : IsBadSession id (state_after locked destroys) destroys_again
+  pub left : HasEnded id 90 101 start (locks ∷ waits) goes_on → ⊥
+  pub run_out : IsDenied (locks ∷ []) too_late
+  pub destroyed : IsDenied (locks ∷ destroys ∷ []) renewal
+  pub again : IsDenied (locks ∷ destroys ∷ []) destroys_again
+  pub restarted : IsDenied (locks ∷ restarts) renewal
   -- and NFS4ERR_BAD_STATEID where the open is gone with the lease
   pub back : statuses (ops_of (state_after_all opened comes_back) reads) ≡ Nfs4Ok ∷ Nfs4Ok ∷ BadStateId ∷ []
 
@@ -53,7 +68,9 @@ expired d = record d { result = words (25 ∷ 10011 ∷ []) }
 
 -- The promises refuse these.
 pub record EndsAreRefused : Type 0 where
-  -- a server that forgot the session: all that the promise asks for holds of A's first renewal there, and so it is none that this server reaches
-  pub forgotten : LeaveSession id 90 102 forgetful [] (λ last t. (taken t renewal ≤ last + 90) × IsBadSession id t renewal)
+  -- a server that forgot the session denies A's first renewal, where nothing has ended it
+  pub forgotten : IsBadSession id forgetful renewal × (HasEnded id 90 102 forgetful [] renewal → ⊥)
+  -- one whose leases last a second denies it too, where the lease that attribute 10 gives has not run out
+  pub early : IsBadSession id hasty renewal × (HasEnded id 90 102 hasty [] renewal → ⊥)
   -- a READ by the stateid of an open that went with its client's lease is answered NFS4ERR_EXPIRED
   pub expired : (d : RanOp) → IsNotExpired (expired (last_of d (ops_of (state_after_all opened comes_back) reads))) → ⊥
