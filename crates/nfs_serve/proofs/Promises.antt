@@ -79,6 +79,8 @@ pub mod NameStays
 pub mod NameWorked
 pub mod Without
 pub mod NeverStale
+pub mod NeverStaleNames
+pub mod NeverStaleOpens
 pub mod FileStays
 pub mod FileStaysWorked
 pub mod StaleTruly

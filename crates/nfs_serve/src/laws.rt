@@ -401,12 +401,14 @@ pub fn a_session_is_denied()
     ensures refused { EndsAreRefused }
 {}
 
-/// In every run a READ, WRITE, GETATTR or SETATTR is answered NFS4ERR_STALE only where the current filehandle's object has neither a name nor an open.
+/// In every run an operation is answered NFS4ERR_STALE only where the object of the current filehandle, or of the saved one if it looks at that, has neither a name nor an
+/// open; and a PUTFH where that is so of its own object, or another start of the server gave the filehandle.
 pub fn stale_objects_are_gone()
     ensures { StaleIsTrue }
 {}
 
-/// The definitions compute: a file that has no name is stale behind its last CLOSE. `stale_objects_are_gone` refuses a READ that is answered so while the file is open.
+/// The definitions compute: a file that has no name is stale behind its last CLOSE, and so is its filehandle; and one that another start gave is stale.
+/// `stale_objects_are_gone` refuses a READ and a PUTFH that are answered so while the file is open.
 pub fn a_closed_file_is_stale()
     ensures { IsGone }
 {}

@@ -46,23 +46,25 @@ there_some t n there = go (stored_in t.objects n) refl there
     go None e some = absurd (false≢true some)
     go (Some k) e some = (k, e)
 
+pub node_fresh : (s : store.State) (n : ℕ) → is_there s.tree n ≡ true → IsFresh (node_at s (Some n))
+node_fresh s n there =
+    let k = there_some s.tree n there in
+    let is : node_at s (Some n) ≡ Ok (record { number = n; object = k.0.object }) = ap (λ (o : Option Stored). node_as n (option_map (λ (s : Stored). s.object) o)) k.1 in
+    subst IsFresh (sym is) (ok_without is_stale (record { number = n; object = k.0.object }))
+
 current_fresh : (s : store.State) (x : Context) (n : ℕ) → is_there s.tree n ≡ true → x.current ≡ Some n → IsFresh (current s x)
 unfolding current
-current_fresh s x n there at =
-    let k = there_some s.tree n there in
-    let is : node_at s x.current ≡ Ok (record { number = n; object = k.0.object }) =
-    ap (node_at s) at ∙ ap (λ (o : Option Stored). node_as n (option_map (λ (s : Stored). s.object) o)) k.1 in
-    subst IsFresh (sym is) (ok_without is_stale (record { number = n; object = k.0.object }))
+current_fresh s x n there at = subst (λ (o : Option ℕ). IsFresh (node_at s o)) (sym at) (node_fresh s n there)
 
 -- What is answered of it.
 
 pub not_stale : (f : Status) → is_stale f ≡ false → f ≢ Stale
 not_stale f other is = absurd (false≢true (sym other ∙ ap is_stale is))
 
-abbrev Other : Status → List ℕ → store.State → Type 0
+abbrev pub Other : Status → List ℕ → store.State → Type 0
 Other status text s = is_stale status ≡ false
 
-big_other : (d : RanOp) (i : Item) → is_stale (stays d.before d.context i RepTooBig).outcome.status ≡ false
+pub big_other : (d : RanOp) (i : Item) → is_stale (stays d.before d.context i RepTooBig).outcome.status ≡ false
 big_other d i = ap is_stale (refused_status (item_number i) RepTooBig)
 
 -- an operation that uses it
@@ -93,7 +95,7 @@ put_answers s x h n is there =
     let passes : put_fh s x h ≡ outcome.done s (at_object x n) Res.PutFh = rw (is, eq-eqb s.instance s.instance refl, held) refl in
     ap (λ (o : outcome.Outcome). is_stale (status_of_result o.result)) passes
 
-put_other : (d : RanOp) → IsRun d → (n : ℕ) (h : List ℕ) → is_there d.before.store.tree n ≡ true → handle_of h ≡ Some (record { instance = d.before.store.instance; number = n })
+pub put_other : (d : RanOp) → IsRun d → (n : ℕ) (h : List ℕ) → is_there d.before.store.tree n ≡ true → handle_of h ≡ Some (record { instance = d.before.store.instance; number = n })
     → d.item ≡ Operation (Op.PutFh h) → is_stale d.status ≡ false
 put_other d r n h there read is =
     by_item Other d r (Operation (Op.PutFh h)) is (big_other d (Operation (Op.PutFh h))) (put_answers d.before.store d.context h n read there)

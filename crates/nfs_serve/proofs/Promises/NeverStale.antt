@@ -26,7 +26,7 @@ is_stale f = status_number f == status_number S.Stale
 abbrev pub IsFresh : {A : Type 0} → Result A Status → Type 0
 IsFresh v = IsWithout is_stale v
 
-good : (checks : List (Bool × Status)) → all_good is_stale checks ≡ true → AreGood is_stale checks
+pub good : (checks : List (Bool × Status)) → all_good is_stale checks ≡ true → AreGood is_stale checks
 good checks all = are_good is_stale checks all
 
 -- Stateids.
@@ -40,12 +40,12 @@ seat_good s x wanted d ReadBypass = good (seat_checks s x wanted d ReadBypass) r
 seat_good s x wanted d (Open number access) = good (seat_checks s x wanted d (Open number access)) refl
 seat_good s x wanted d (Lock number access) = good (seat_checks s x wanted d (Lock number access)) refl
 
-may_use_fresh : (s : State) (x : Context) (wanted : Share) (given : Stateid) (d : Node) → IsFresh (may_use s x wanted given d)
+pub may_use_fresh : (s : State) (x : Context) (wanted : Share) (given : Stateid) (d : Node) → IsFresh (may_use s x wanted given d)
 may_use_fresh s x wanted given d =
     rw (in_steps.may_use_is s x wanted given d)
     (checked_without is_stale (seat s x given d) (seat_checks s x wanted d) (seat_fresh s x given d) (λ k e. seat_good s x wanted d k))
 
-file_fresh : (v : Result Node Status) → IsFresh v → IsFresh (checked v file_checks)
+pub file_fresh : (v : Result Node Status) → IsFresh v → IsFresh (checked v file_checks)
 file_fresh v is = checked_without is_stale v file_checks is (λ d e. good (file_checks d) refl)
 
 readable_fresh : (s : State) (x : Context) (given : Stateid) (v : Result Node Status) → IsFresh v → IsFresh (readable s x given v)
@@ -64,11 +64,11 @@ fault_fresh F.Inval = refl
 fault_fresh F.BadXdr = refl
 fault_fresh F.BadOwner = refl
 
-read_fresh : {A : Type 0} (v : Result A AttrFault) → IsFresh (map_err fault_status v)
+pub read_fresh : {A : Type 0} (v : Result A AttrFault) → IsFresh (map_err fault_status v)
 read_fresh (Err f) = err_without is_stale (fault_status f) (fault_fresh f)
 read_fresh (Ok a) = ok_without is_stale a
 
-wanted_fresh : (a : Attributes) → IsFresh (attributes_in a)
+pub wanted_fresh : (a : Attributes) → IsFresh (attributes_in a)
 wanted_fresh a = read_fresh (wanted_of a)
 
 sized_fresh : (s : State) (x : Context) (given : Stateid) (d : Node) (o : Option ℕ) → IsFresh (set_parts.sized_by s x given d o)

@@ -1,8 +1,7 @@
 -- An OPEN that was refused by NFS4ERR_ACCESS was not granted all that it wants: of the directory, and of a file that is there.
-use Rattle.std.proofs.Common.{◌≡◌, ℕ, Bool, true, false, not, List, [], ◌∷◌, ◌++◌, Option, Some, None, refl, sym, ◌∙◌, ap, subst, inl, inr}
-use Rattle.std.proofs.lemmas.Bool.{cases_Bool}
+use Rattle.std.proofs.Common.{◌≡◌, ℕ, true, false, not, List, [], ◌∷◌, Option, Some, None, refl, sym, ◌∙◌, ap, subst}
 use Rattle.std.specs.Prelude.{option_map, Ok}
-use Rattle.nfs_xdr.specs.{Checks.first_fault, declared.time.Time.Time, declared.status.Status.Status, declared.status.Status.TheVariants.Access}
+use Rattle.nfs_xdr.specs.{declared.time.Time.Time, declared.status.Status.TheVariants.Access}
 use Rattle.nfs_xdr.specs.declared.status.Status.TheVariants as S
 use Rattle.nfs_compound.specs.{declared.op.Item.TheVariants.Operation, declared.open_args.Open.Open, declared.open_args.OpenClaim.TheVariants.{Null, Fh}}
 use Rattle.nfs_compound.specs.declared.op.Op.TheVariants as Op
@@ -13,7 +12,7 @@ use Rattle.nfs_attrs.specs.{Permissions.{write as to_write, execute as to_execut
 use Rattle.nfs_names.specs.{declared.context.Context.Context, declared.making.Making.Making, declared.node.Node.Node}
 use Rattle.nfs_names.specs.{Checks.{node_as, node_at, no_directory, permits, name_checks, current}, Create.attributes_in, Faults.{status_of, by_tree}}
 use Rattle.nfs_names.specs.{Outcome.checked, State.{State, moment}}
-use Rattle.nfs_names.proofs.{Found.{ok_is, checked_ok, or_fault, first_append}, Ones.by_delay}
+use Rattle.nfs_names.proofs.{Found.{ok_is, checked_ok}, Ones.by_delay}
 use Rattle.nfs_files.specs.Bytes.{file_checks, want_of}
 use Rattle.nfs_files.specs.Open.{access_of, makes, argument_checks, place_checks, absent_checks, there_checks, tree_checks, last_checks}
 use Rattle.nfs_files.specs.OpenParts.{found_by, by_name, by_claim, asked_for}
@@ -24,7 +23,7 @@ use Rattle.nfs_exec.proofs.Runs.OneRun.{IsRun, by_item}
 use Rattle.nfs_serve.specs.Promises.Permitted.{Rights, Right, Writes, Executes, Grants, rights_of, rights_at, has_right, IsAt}
 use Rattle.nfs_serve.proofs.Promises.Granting.{may_write, may_execute, may_ask, rights_here, current_at}
 use Rattle.nfs_serve.proofs.Promises.PermittedNames.{gives, is_access, lets, at_without, current_without, wanted_without, big_other, not_access}
-use Rattle.nfs_serve.proofs.Promises.Without.{IsWithout, AreGood, are_good, err_without, ok_without, by_bool, then_without, checked_without, mapped_without, Answers, answers_without}
+use Rattle.nfs_serve.proofs.Promises.Without.{IsWithout, AreGood, append_good, are_good, by_tree_good, err_without, ok_without, by_bool, then_without, checked_without, mapped_without, Answers, answers_without}
 use Rattle.nfs_files.proofs.InSteps as in_steps
 
 -- The checks of the tree answer otherwise.
@@ -42,24 +41,9 @@ tree_good F.Mlink = refl
 tree_good F.Counter = refl
 tree_good F.Memory = refl
 
-by_tree_good : (checks : List (Bool × TreeFault)) → AreGood is_access (by_tree checks)
-by_tree_good [] f e = absurd cc
-by_tree_good (check ∷ checks) f e = elim (cases_Bool check.0) [
-  | inl fails ↦ (let is : Some (status_of check.1) ≡ Some f = rw fails at e in
-      let same : status_of check.1 ≡ f = cc in ap is_access (sym same) ∙ tree_good check.1)
-  | inr passes ↦ by_tree_good checks f (rw passes at e)
-]
-
-append_good : (a b : List (Bool × Status)) → AreGood is_access a → AreGood is_access b → AreGood is_access (a ++ b)
-append_good a b one other f e = go (first_fault a) refl (sym (first_append a b) ∙ e)
-  where
-    go : (o : Option Status) → first_fault a ≡ o → or_fault o (first_fault b) ≡ Some f → is_access f ≡ false
-    go None at rest = other f rest
-    go (Some g) at rest = (let same : g ≡ f = cc in one f (at ∙ ap (λ g. Some g) same))
-
 last_good : (s : State) (x : Context) (o : Open) (f : _) → AreGood is_access (last_checks s x o f)
-last_good s x o f g e = append_good (_ ∷ by_tree (tree_checks s.tree o f)) (_ ∷ [])
-    (append_good (_ ∷ []) (by_tree (tree_checks s.tree o f)) (are_good is_access (_ ∷ []) refl) (by_tree_good (tree_checks s.tree o f)))
+last_good s x o f g e = append_good is_access (_ ∷ by_tree (tree_checks s.tree o f)) (_ ∷ [])
+    (append_good is_access (_ ∷ []) (by_tree (tree_checks s.tree o f)) (are_good is_access (_ ∷ []) refl) (by_tree_good is_access tree_good (tree_checks s.tree o f)))
     (are_good is_access (_ ∷ []) refl) g e
 
 -- What is found, where all is granted.

@@ -1,17 +1,21 @@
 -- What an operation is refused with is none of some statuses: `bad` says which.
-use Rattle.std.proofs.Common.{◌≡◌, ℕ, Bool, true, false, cond, not, List, [], ◌∷◌, ◌++◌, Option, Some, None, refl, sym, ◌∙◌, ap}
+use Rattle.std.proofs.Common.{◌≡◌, ℕ, Bool, true, false, cond, not, List, [], ◌∷◌, ◌++◌, Option, Some, None, refl, sym, ◌∙◌, ap, inl, inr}
+use Rattle.std.proofs.lemmas.Bool.{cases_Bool}
 use Rattle.std.specs.Prelude.{Result, Ok, Err, ok_or}
 use Rattle.nfs_xdr.specs.{Checks.{first_fault, judged}, declared.status.Status.Status}
 use Rattle.nfs_xdr.specs.declared.status.Status.TheVariants as S
 use Rattle.nfs_compound.specs.{OpNum.op_number, declared.op_num.OpNum.OpNum, declared.stateid.Stateid.Stateid}
 use Rattle.nfs_results.specs.Results.{status_of_result}
-use Rattle.nfs_opens.specs.{declared.judging.Seat.Seat, declared.judging.Seat.TheVariants.{Anonymous, ReadBypass}, declared.judging.Sort.TheVariants.Either}
+use Rattle.nfs_tree.specs.declared.fault.TreeFault.{TreeFault}
+use Rattle.nfs_opens.specs.{declared.judging.Seat.Seat, declared.judging.Seat.TheVariants.{Anonymous, ReadBypass}, declared.judging.Sort.Sort}
+use Rattle.nfs_opens.specs.{declared.judging.Sort.TheVariants.{Either, LockOnly, OpenOnly}, declared.stateid.CurrentSeqid.CurrentSeqid}
 use Rattle.nfs_opens.specs.{declared.stateid.CurrentSeqid.TheVariants.Any, declared.stateid.StateId.StateId}
-use Rattle.nfs_opens.specs.{Judging.{judge_checks, seated, judge_named, judge, named}, StateId.{is_current, with_seqid, is_anonymous, is_bypass}, Table.Table}
+use Rattle.nfs_opens.specs.{Judging.{judge_checks, seated, judge_named, special, judge, named}, StateId.{is_current, with_seqid, is_anonymous, is_bypass}, Table.Table}
 use Rattle.nfs_opens.specs.Steps.{◌>>=◌, ◌>>◌, in_order, require}
 use Rattle.nfs_names.specs.{declared.context.Context.Context, declared.node.Node.Node, Outcome.{Outcome, passed, checked, mapped, answers, or_refusal}}
 use Rattle.nfs_names.specs.State.{State}
-use Rattle.nfs_names.proofs.Faulted.{status_of_refusal}
+use Rattle.nfs_names.specs.Faults.{status_of, by_tree}
+use Rattle.nfs_names.proofs.{Faulted.status_of_refusal, Found.{or_fault, first_append}}
 use Rattle.nfs_files.specs.{Bytes.seat, StateIds.{state_id, meant}, Parts.if_passed}
 use Rattle.nfs_files.proofs.Prompt.{all_pass, first_passes, not_true}
 
@@ -32,6 +36,22 @@ module _ (bad : Status → Bool) where
 
   pub are_good : (checks : List (Bool × Status)) → all_good checks ≡ true → AreGood checks
   are_good checks all f e = not_true (bad f) (first_passes (λ f. not (bad f)) checks all f e)
+
+  -- the tree's own checks, and checks behind others
+  pub by_tree_good : ((f : TreeFault) → bad (status_of f) ≡ false) → (checks : List (Bool × TreeFault)) → AreGood (by_tree checks)
+  by_tree_good other [] f e = absurd cc
+  by_tree_good other (check ∷ checks) f e = elim (cases_Bool check.0) [
+    | inl fails ↦ (let is : Some (status_of check.1) ≡ Some f = rw fails at e in
+        let same : status_of check.1 ≡ f = cc in ap bad (sym same) ∙ other check.1)
+    | inr passes ↦ by_tree_good other checks f (rw passes at e)
+  ]
+
+  pub append_good : (a b : List (Bool × Status)) → AreGood a → AreGood b → AreGood (a ++ b)
+  append_good a b one other f e = go (first_fault a) refl (sym (first_append a b) ∙ e)
+    where
+      go : (o : Option Status) → first_fault a ≡ o → or_fault o (first_fault b) ≡ Some f → bad f ≡ false
+      go None at rest = other f rest
+      go (Some g) at rest = (let same : g ≡ f = cc in one f (at ∙ ap (λ g. Some g) same))
 
   pub err_without : {A : Type 0} (g : Status) → bad g ≡ false → IsWithout {A = A} (Err g)
   err_without g other f e = (let same : g ≡ f = cc in ap bad (sym same) ∙ other)
@@ -105,26 +125,32 @@ module _ (bad : Status → Bool) where
 
 -- Stateids, where neither of the statuses that they are refused with is meant.
 module _ (bad : Status → Bool) (b : bad S.BadStateId ≡ false) (o : bad S.OldStateId ≡ false) where
-  meant_without : (x : Context) (given : Stateid) → IsWithout bad (meant x Any given)
-  meant_without x given =
+  pub meant_without : (x : Context) (form : CurrentSeqid) (given : Stateid) → IsWithout bad (meant x form given)
+  meant_without x form given =
       by_bool bad (is_current (state_id given)) _ _
-      (by_bool bad _ _ _ (err_without bad S.BadStateId b) (ok_without bad (with_seqid Any (state_id x.stateid)))) (ok_without bad (state_id given))
+      (by_bool bad _ _ _ (err_without bad S.BadStateId b) (ok_without bad (with_seqid form (state_id x.stateid)))) (ok_without bad (state_id given))
 
   seated_without : (k : Seat) (f : Option Status) → IsWithout bad (passed k f) → IsWithout bad (seated k f)
   seated_without k None is = is
   seated_without k (Some g) is = is
 
-  named_without : (t : Table) (id : StateId) (client : ℕ) (file : Option ℕ) → IsWithout bad (judge_named client file Either id.seqid (named t id))
-  named_without t id client file = elim (named t id) as (λ k. IsWithout bad (judge_named client file Either id.seqid k)) [
+  special_without : (sort : Sort) (k : Seat) → IsWithout bad (special sort k)
+  special_without Either k = ok_without bad k
+  special_without OpenOnly k = err_without bad S.BadStateId b
+  special_without LockOnly k = err_without bad S.BadStateId b
+
+  named_without : (t : Table) (id : StateId) (client : ℕ) (file : Option ℕ) (sort : Sort) → IsWithout bad (judge_named client file sort id.seqid (named t id))
+  named_without t id client file sort = elim (named t id) as (λ k. IsWithout bad (judge_named client file sort id.seqid k)) [
     | None ↦ err_without bad S.BadStateId b
-    | Some n ↦ (let checks = judge_checks client file Either id.seqid n in
+    | Some n ↦ (let checks = judge_checks client file sort id.seqid n in
         seated_without n.seat (first_fault checks) (passed_without bad n.seat (first_fault checks) (are_good bad checks (rw (b, o) refl))))
   ]
 
-  judge_without : (t : Table) (id : StateId) (client : ℕ) (file : Option ℕ) → IsWithout bad (judge t id client file Either)
-  judge_without t id client file =
-      by_bool bad (is_anonymous id) _ _ (ok_without bad Anonymous) (by_bool bad (is_bypass id) _ _ (ok_without bad ReadBypass) (named_without t id client file))
+  pub judge_without : (t : Table) (id : StateId) (client : ℕ) (file : Option ℕ) (sort : Sort) → IsWithout bad (judge t id client file sort)
+  judge_without t id client file sort =
+      by_bool bad (is_anonymous id) _ _ (special_without sort Anonymous)
+      (by_bool bad (is_bypass id) _ _ (special_without sort ReadBypass) (named_without t id client file sort))
 
   pub seat_without : (s : State) (x : Context) (given : Stateid) (d : Node) → IsWithout bad (seat s x given d)
   unfolding seat
-  seat_without s x given d = then_without bad (meant x Any given) _ (meant_without x given) (λ id e. judge_without s.opens id x.client (Some d.number))
+  seat_without s x given d = then_without bad (meant x Any given) _ (meant_without x Any given) (λ id e. judge_without s.opens id x.client (Some d.number) Either)
