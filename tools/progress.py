@@ -1,17 +1,78 @@
-"""How far the proofs of a program are, and how long they still take: by the minutes of processors that bench/gate measured of each crate, at the pace
-that this run has shown."""
+"""What the tasks of a run of the gate take of the processors; and how far the proofs of a program are, and how long they still take: by the minutes
+that bench/gate measured of each crate, at the pace that this run has shown."""
 
 import csv
 import os
 import sys
 import threading
 import time
+from collections import defaultdict
+from concurrent.futures import Future, ThreadPoolExecutor
 from pathlib import Path
 
 RESULTS = Path(__file__).resolve().parents[1] / "bench/results"
 
+KINDS = ("proof", "tests", "edits")
+
 # the minutes of processors that a run has to have worked off before its own pace is believed
 ENOUGH = 4
+
+
+class InPlace(ThreadPoolExecutor):
+    """Runs what is submitted at once, in the thread that submits it, so that what a command takes counts for whoever waits for it."""
+
+    def submit(self, call, *given):
+        ended = Future()
+        ended.set_result(call(*given))
+        return ended
+
+
+SPENT = threading.local()
+
+
+def spent():
+    """Returns the seconds of processors that the commands which this thread waited for have taken, with those that they waited for."""
+    return getattr(SPENT, "seconds", 0.0)
+
+
+def count_processors(rt):
+    """Has each thread know what its commands take."""
+    rt.rtlib.ThreadPoolExecutor = InPlace
+
+    def waited(pid, options):
+        pid, status, used = os.wait4(pid, options)
+        if pid:
+            SPENT.seconds = spent() + used.ru_utime + used.ru_stime
+        return pid, status
+
+    os.waitpid = waited
+
+
+class Minutes:
+    """What the tasks of a run take."""
+
+    def __init__(self):
+        self.began, self.seconds, self.running, self.ended = time.monotonic(), defaultdict(lambda: defaultdict(float)), {}, []
+
+    def timed(self, key, call):
+        """Returns the call of a task, which notes what it takes of processors."""
+        def run(given, jobs):
+            before, self.running[key] = spent(), time.monotonic()
+            try:
+                return call(given, jobs)
+            finally:
+                self.seconds[key[0]][key[1]] += spent() - before
+                del self.running[key]
+                self.ended += [key[0]] if key[1] == "proof" else []
+
+        return run
+
+    def table(self):
+        """Returns a line for each crate, dearest first, and one for all: minutes of proofs, tests and edits."""
+        of = {name: [took.get(kind, 0.0) / 60 for kind in KINDS] for name, took in self.seconds.items()}
+        lines = [(name, took) for name, took in sorted(of.items(), key=lambda it: -sum(it[1])) if sum(took) > 0.05]
+        lines.append(("in all", [sum(it) for it in zip(*of.values())] or [0.0] * len(KINDS)))
+        return ["minutes of processors: proofs, tests, edits", *("  ".join([f"{name:14}", *(f"{it:6.1f}" for it in took)]) for name, took in lines)]
 
 
 def measured():

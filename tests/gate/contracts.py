@@ -9,45 +9,33 @@ import re
 import rattle
 from edits import public
 from pinned import TESTS, bodies, differs
-from rattle import crates
 
 CALL = re.compile(r"(?:(\w+)(?:::<[^>]*>)?::|(\.)\s*|\b)(\w+)(?=\s*(?:::<|[(),;}]))")
-BROUGHT = re.compile(r"^use (\S+)(?: as (\S+))?$", re.M)
-PRINTED = re.compile(r"[^\s(){},;\[\]⌜⌝]+")
 HEAD = "# The contract of each public function (tests/gate/believed --write): crate, function, clauses that ask, clauses that state, sum of what they lean on.\n"
 
 
 def page(top, promises):
     """The lines of tests/gate/contracts.tsv."""
     lines = []
-    for folder in crates(top):
+    for folder in rattle.crates(top):
+        places = {it: folder / file for file, (source, _) in rattle.tree(folder).items() for it in source.functions}
         for path, it in sorted(public(folder).items()):
             asks = sum(clause.kind != "ensures" for clause in it.clauses)
-            lines.append(f"{folder.name}\t{path}\t{asks}\t{len(it.clauses) - asks}\t{sum_of(promises, folder, it)}\n")
+            needed, _, types = promises.behind({one for clause in it.clauses for one in promises.all.cited_in(places[it], clause)})
+            said = [f"{clause.kind}: {' '.join(clause.text.split())}" for clause in it.clauses]
+            summed = rattle.sum_of([" ".join(it.takes.split()), *said, *promises.all.text_of(needed, types)])[:10]
+            lines.append(f"{folder.name}\t{path}\t{asks}\t{len(it.clauses) - asks}\t{summed}\n")
     return HEAD + "".join(lines)
-
-
-def sum_of(promises, folder, function):
-    """A sum of a contract and of what it leans on."""
-    place = next(folder / file for file, (source, _) in rattle.tree(folder).items() if function in source.functions)
-    needed, _, types = promises.behind({one for it in function.clauses for one in promises.all.cited_in(place, it)})
-    said = [f"{it.kind}: {' '.join(it.text.split())}" for it in function.clauses]
-    return rattle.sum_of([" ".join(function.takes.split()), *said, *promises.all.text_of(needed, types)])[:10]
-
-
-def calls(top):
-    """What is called by code that is none of tests: by its name, who calls it, and the word in front of it."""
-    found = {}
-    for _, source, it in bodies(top):
-        for call in CALL.finditer(source.plain, it.opens, it.closes):
-            found.setdefault(call[3], set()).add((it, call[1] or call[2] or ""))
-    return found
 
 
 def uncalled(top):
     """The public functions that only tests call, as far as names tell."""
-    called = calls(top)
-    for folder in crates(top):
+    # (what is called by code that is none of tests: by its name, who calls it, and the word in front of it)
+    called = {}
+    for _, source, it in bodies(top):
+        for call in CALL.finditer(source.plain, it.opens, it.closes):
+            called.setdefault(call[3], set()).add((it, call[1] or call[2] or ""))
+    for folder in rattle.crates(top):
         for path, it in public(folder).items() if (folder / "src/lib.rt").is_file() and folder.name not in TESTS else ():
             owner = it.owner.name if it.owner else ""
             is_method = re.search(r"\(\s*(?:&\s*)?(?:'\w+\s+)?(?:mut\s+)?self\b", it.takes)
@@ -66,16 +54,13 @@ def faults(top, promises, rows):
     return found + [f"tests/gate/uncalled.tsv: it gives no reason for {it}" for it in told if len(" ".join(told[it]).split()) < 3], len(now) - 1
 
 
-def clauses_of(source):
-    """The clauses of each function of a source that is none of tests, by its block and its name."""
-    return {(it.owner.holder if it.owner else "", it.name): [(one.kind, "".join(one.text.split())) for one in it.clauses] for it in source.functions if not it.is_test}
-
-
 def proved(top):
     """How many functions of the libraries that were built have in the toolchain's own words the contract that is read here, and which have not:
     a library has its sources' heads and clauses as the checker took them, below out/rlib/NAME.rlib/lang/src."""
     same, found = 0, []
-    for folder in crates(top) if (top / "crates.txt").is_file() else ():
+    clauses_of = lambda source: {(it.owner.holder if it.owner else "", it.name): [(one.kind, "".join(one.text.split())) for one in it.clauses]
+                                 for it in source.functions if not it.is_test}
+    for folder in rattle.crates(top):
         built = folder / f"out/rlib/{folder.name}.rlib/lang"
         if (folder / "src/lib.rt").is_file() and not built.is_dir():
             found.append(f"{folder.name}: it was not built, so nothing tells what was proved of it")
@@ -86,35 +71,3 @@ def proved(top):
             found += [f"{folder.name} {file}: {'::'.join(filter(None, it))}: the checker took {told.get(it, 'no such function')}, and not {mine[it]}" for it in wrong]
             same += len(mine) - len(wrong)
     return same, found
-
-
-def named(top, promises, folder):
-    """How many contracts name no more definitions in the checker's own print of them than are found here, and which do: `rt check --generated FOLDER`
-    in the folder of a crate prints each of its contracts with every name behind its module."""
-    same, found = 0, []
-    for crate in crates(top):
-        mine = {}
-        for file, (source, is_test) in rattle.tree(crate).items():
-            for it in source.functions if not is_test else ():
-                cited = {one for clause in it.clauses for one in promises.all.cited_in(crate / file, clause)}
-                mine[rattle.path_of(it, file, crate)] = {str(one) for it in cited if (one := promises.all.at(it))}
-        for path in sorted(folder.glob(f"Rattle-{crate.name}*/**/contracts/**/*.antt")):
-            text = rattle.without_comments(path.read_text(encoding="utf-8"))
-            if "abbrev pub spec " in text:
-                inside = path.with_suffix("").parts
-                function = "::".join(inside[inside.index("contracts") + 1 :])
-                more = printed(promises.all, text) - mine.get(function, set())
-                found += [f"{crate.name} {function}: the checker's print of its contract names {', '.join(sorted(more))} too"] * bool(more)
-                same += not more
-    return same, found
-
-
-def printed(definitions, text):
-    """The definitions that such a print names."""
-    modules, found = {other or path.rpartition(".")[2]: path for path, other in BROUGHT.findall(text)}, set()
-    for word in PRINTED.findall(text):
-        module, _, name = word.partition(".")
-        home = definitions.home_of(modules[module], None)[0] if name and definitions.is_own(modules.get(module, "")) else None
-        if home in definitions.files and (one := definitions.at((home, name.partition(".")[0]))):
-            found.add(str(one))
-    return found

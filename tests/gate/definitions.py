@@ -29,18 +29,11 @@ class Lost(Exception):
 
 
 class Definition:
-    """A definition: its lines of meaning, how many sections with parameters it stands in, and which kind it is of by its first word."""
+    """A definition: its lines of meaning, how many sections with parameters it stands in, and which kind it is of by its first words."""
 
-    def __init__(self, file, name, depth=0):
+    def __init__(self, file, name, line, depth=0):
         self.file, self.name, self.lines, self.depth = file, name, [], depth
-
-    @property
-    def is_record(self):
-        return bool(re.match(r"(?:\w+ )*record ", self.lines[0]))
-
-    @property
-    def is_data(self):
-        return bool(re.match(r"(?:\w+ )*data ", self.lines[0]))
+        self.is_record, self.is_data = (bool(re.match(rf"(?:\w+ )*{it} ", line)) for it in ("record", "data"))
 
     def __str__(self):
         return f"{' '.join(self.file)}.{self.name}"
@@ -54,22 +47,19 @@ class Definitions:
         self.files, self.names, self.imports, self.std = {}, {}, {}, {}
         self.passed = {}  # (what each file passes on, by its names; all names of a file below it by `*`)
         self.clauses, self.declared, self.known_by = {}, {}, {}  # (of each source that was read; the text of each Rust type that is named; what each definition names)
-        lists = {}
+        brought = {}
         for path in sorted(top.glob("crates/*/specs/**/*.antt")):
             crate, _, *inside = path.relative_to(top / "crates").with_suffix("").parts
-            if path.name == "Lib.antt" or path.with_suffix("").is_dir():
-                lists[crate, ".".join(inside).removesuffix("Lib").rstrip(".")] = path
-            else:
-                self.files[crate, ".".join(inside)] = path
-        for file, path in lists.items():
-            self.read_list(file, path)
-        for file, path in self.files.items():
-            self.read(file, path)
-        for file, path in self.files.items():
-            self.imports[file], self.std[file] = self.imports_of(path, imports.of_file(path))
-        for file, path in lists.items():
-            self.imports_of(path, [it for it in imports.of_file(path) if not it.is_all])
-            for below in self.passed.get(file, {}).get("*", ()):
+            is_list = path.name == "Lib.antt" or path.with_suffix("").is_dir()
+            file = crate, ".".join(inside).removesuffix("Lib" * is_list).rstrip(".")
+            text = without_comments(path.read_text(encoding="utf-8"))
+            brought[file] = path, imports.read(text)
+            (self.read_list if is_list else self.read)(file, path, text)
+            self.pass_on(file, brought[file][1])
+        for file, (path, some) in brought.items():
+            is_list = file not in self.files
+            self.imports[file], self.std[file] = self.imports_of(path, [it for it in some if not is_list or not it.is_all])
+            for below in self.passed.get(file, {}).get("*", ()) if is_list else ():
                 self.faults += [f"{self.place(path)}: there is no file {below[1]} to pass on"] * (below not in self.names)
 
     def place(self, path):
@@ -77,30 +67,26 @@ class Definitions:
 
     # Files of definitions.
 
-    def read_list(self, file, path):
+    def read_list(self, file, path, text):
         """Reads a folder's list of files, which may pass names on."""
-        text = without_comments(path.read_text(encoding="utf-8"))
         for line in imports.IMPORT.sub(lambda it: "" if "pub" in it[1].split() else it[0], text).splitlines():
             if line.strip() and not re.fullmatch(r"pub mod \w+\s*", line):
                 self.faults.append(f"{path.relative_to(self.top)}: more than a list of files: {line.strip()}")
-        if some := imports.read(text):
+        if imports.IMPORT.search(text):
             self.names[file] = {}
-            self.pass_on(file, some)
 
     def pass_on(self, file, some):
-        for it in some:
-            if it.is_passed and it.is_all:
-                below = file[0], f"{file[1]}.{it.path}".strip(".")
-                self.passed.setdefault(file, {}).setdefault("*", []).append(below)
-            elif it.is_passed and it.name:
-                self.passed.setdefault(file, {})[it.other] = it
+        for it in (it for it in some if it.is_passed and it.name):
+            passed = self.passed.setdefault(file, {})
+            if it.is_all:
+                passed.setdefault("*", []).append((file[0], f"{file[1]}.{it.path}".strip(".")))
+            else:
+                passed[it.other] = it
 
-    def read(self, file, path):
+    def read(self, file, path, text):
         """Reads the definitions of a file: a line that begins one, those that go on with it, and its equations."""
-        names = self.names[file] = {}
+        self.files[file], names = path, self.names.setdefault(file, {})
         now, depth = None, 0
-        text = without_comments(path.read_text(encoding="utf-8"))
-        self.pass_on(file, imports.read(text))
         self.faults += [f"{self.place(path)}: a module below a file of definitions: {it.strip()}" for it in MODULE.findall(text)]
         text = MODULE.sub("", imports.IMPORT.sub("", text))
         for line in text.splitlines():
@@ -130,7 +116,7 @@ class Definitions:
         head = None if first and first[0] in names and re.match(r"[^:]* = ", line) else HEAD.match(line)
         name = head and (head[2] or head[4])
         if head and (head[1] or name not in names):
-            now = names[name] = Definition(file, name, depth)
+            now = names[name] = Definition(file, name, line, depth)
             # the parts of an operator stand for it too
             names.update({part: now for part in name.split("◌") if part})
             return now
@@ -146,7 +132,8 @@ class Definitions:
             is_own = self.is_own(it.path)
             if not is_own and it.name in ("Unit", "⊤", "ℕ") and it.other != it.name:
                 self.faults.append(f"{place}: another name for a type that everything has: {it.name} as {it.other}")
-            cited = self.led(it, place) if is_own else None
+            home, rest = self.home_of(it.path, place) if is_own else (None, None)
+            cited = self.known(home, rest or it.name, place) if home and (rest or it.name) else home and (home, None)
             if cited:
                 found.setdefault(it.other, set()).add(cited)
             elif it.name:
@@ -155,13 +142,6 @@ class Definitions:
 
     def is_own(self, path):
         return path.startswith("Rattle.") and (self.top / "crates" / path.split(".")[1]).is_dir()
-
-    def led(self, it, place):
-        """Where an import leads, as (file, name) or (file, None); none if to std or, with a fault, to nothing."""
-        home, rest = self.home_of(it.path, place)
-        if home and (rest or it.name):
-            return self.known(home, rest or it.name, place)
-        return (home, None) if home else None
 
     def known(self, home, name, place=None):
         """What a name of a file leads to, as (file, name); none if to std, or to nothing, which is a fault where a place is given."""
@@ -201,13 +181,11 @@ class Definitions:
 
     def type_of(self, crate, path, place):
         for length in range(len(path) - 1, -1, -1):
-            source = self.top / "crates" / crate / "src" / ("/".join(path[:length] or ["lib"]) + ".rt")
-            if source.is_file():
-                read = rattle.read(source)
-                for block in (it for it in read.types if it.name == path[length]):
-                    found = crate, (".".join(path[: length + 1]),)
-                    self.declared[found] = read.declaration(block)
-                    return found
+            read = rattle.source_of(rattle.text_of(self.top / "crates" / crate / "src" / ("/".join(path[:length] or ["lib"]) + ".rt")))
+            for block in (it for it in read.types if it.name == path[length]):
+                found = crate, (".".join(path[: length + 1]),)
+                self.declared[found] = read.declaration(block)
+                return found
         self.faults += [f"{place}: there is no Rust type for {crate} specs: {'.'.join(path)}"] * bool(place)
         return None
 

@@ -41,22 +41,17 @@ class Said:
         a contract. Where a written proof of it names what is gone, only an answer that names nothing of the kind and does not fit, or a goal
         that is false at values which the prover knows, tells that."""
         mine = [(name, is_gone) for folder, name, is_gone in self.errors if folder == function.replace("::", "/")]
-        gone = {name for name, is_gone in mine if is_gone}
+        gone, goals = {name for name, is_gone in mine if is_gone}, self.goals.get(function, [])
         if any(name and name not in gone and not SAFETY.match(name) for name, _ in mine):
             return True
-        open_goals = [(name, is_false) for name, is_false in self.goals.get(function, []) if not SAFETY.match(name)]
-        if gone:
-            return any(is_false for _, is_false in open_goals)
-        return bool(open_goals) or self.is_unproved(function)
-
-    def is_unproved(self, function):
-        """Returns whether the verdict on a function says that it has no proof for a reason of its own beside goals of safety."""
+        open_goals = [is_false for name, is_false in goals if not SAFETY.match(name)]
+        if gone or open_goals:
+            return any(open_goals) if gone else True
+        # (the verdict may say that there is no proof, for a reason of its own beside goals of safety)
         came = self.came.get(function, "")
-        if not came.startswith("no proof: ") or came.startswith("no proof: it calls"):
-            return False
         named = [name for it in UNPROVED.findall(came) for name in re.findall(r"`([^`]+)`", it)]
-        named += [name for name, _ in self.goals.get(function, [])]
-        return not named or any(not SAFETY.match(it) for it in named)
+        is_own = came.startswith("no proof: ") and not came.startswith("no proof: it calls")
+        return is_own and (not [*named, *goals] or any(not SAFETY.match(it) for it in named))
 
     def others(self, functions):
         """Returns which functions beside these are refused, for whatever reason."""
@@ -65,20 +60,6 @@ class Said:
     def proves_beside(self, functions):
         """Returns whether a function beside these is proved."""
         return any(came == "proved" for it, came in self.came.items() if it not in functions)
-
-
-def bodies(file, folder):
-    """The functions of a source of a crate that have a body and are none of tests."""
-    source, is_test = rattle.tree(folder).get(file, (None, True))
-    return [] if is_test else [it for it in source.functions if it.opens >= 0 and not it.is_test]
-
-
-def body_at(file, folder, old):
-    """Returns the path of the function whose body holds the old text, or None."""
-    place = text_of(f"{folder}/{file}").find(old)
-    begins, ends = place + len(old) - len(old.lstrip()), place + len(old.rstrip())
-    some = [it for it in bodies(file, folder) if place >= 0 and it.opens <= begins and ends <= it.closes]
-    return path_of(some[0], file, folder) if some else None
 
 
 def stated(text):
@@ -101,10 +82,13 @@ def changed(rt, edit, folder):
         if line.startswith("file: "):
             file = line.removeprefix("file: ").strip()
         elif line.startswith("old: "):
-            path = body_at(file, folder, line.removeprefix("old: "))
-            if not path:
-                return [], f"this stands in no body of {file}: {line.removeprefix('old: ').strip()[:80]}"
-            paths.add(path)
+            old = line.removeprefix("old: ")
+            place = text_of(f"{folder}/{file}").find(old)
+            begins, ends = place + len(old) - len(old.lstrip()), place + len(old.rstrip())
+            some = [path_of(it, file, folder) for name, _, it in rattle.bodies(folder) if name == file and it.opens <= begins and ends <= it.closes]
+            if place < 0 or not some or not some[0]:
+                return [], f"this stands in no body of {file}: {old.strip()[:80]}"
+            paths.add(some[0])
     texts, why = rt.read_edit(edit, folder)
     if why:
         return [], why
@@ -116,14 +100,6 @@ def changed(rt, edit, folder):
     if wanted and (len(wanted) != len(paths) or any(len(it) != 1 for it in found)):
         return [], f"its list is not of just what it changes: {', '.join(sorted(paths))}"
     return sorted(paths), None
-
-
-def heads(folder):
-    """Yields each function with a body of a crate, but those of its tests, with its file and its path."""
-    for file in rattle.tree(folder):
-        for it in bodies(file, folder):
-            if path := path_of(it, file, folder):
-                yield file, path, it
 
 
 def public(folder):
@@ -166,21 +142,11 @@ def kind_of(function):
     if relations and len(clauses) == 1:
         return relations.pop()
     pinned = {it[1] for it in map(EQUATION.fullmatch, clauses) if it and not re.search(r"\bresult\b|\.new\b|[→⊎⊥]", it[3])}
-    due = {f"{name}.new" for name in re.findall(r"(\w+): &(?:'\w+ )?mut ", function.takes)} | ({"self.new"} if "&mut self" in function.takes else set())
+    due = {f"{name}.new" for name in re.findall(r"(\w+): &(?:'\w+ )?mut |&mut (self)", function.takes) for name in name if name}
     is_given = "result" in pinned or "result.now" in pinned
     return "equations" if clauses and (is_given or "->" not in function.takes) and due <= pinned else None
 
 
 def says(function):
     """Returns whether a clause of the contract speaks of what the function gives or leaves, other than that it is equal to itself."""
-    for clause in ensured(function):
-        one, is_equation, other = clause.partition(" ≡ ")
-        if re.search(r"\bresult\b|\.new\b", clause) and not (is_equation and one.strip() == other.strip()):
-            return True
-    return False
-
-
-def alike(edits):
-    """Returns the edits that say the same as another one."""
-    first = {}
-    return [it for it in edits if first.setdefault("\n".join(sorted(text_of(it).splitlines())), it) != it]
+    return any(re.search(r"\bresult\b|\.new\b", it) and not re.fullmatch(r"\s*(.*?)\s* ≡ \s*\1\s*", it) for it in ensured(function))

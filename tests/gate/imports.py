@@ -3,7 +3,9 @@
 
 A line may bring names of many modules, as `use Rattle.low.specs.{Grid.{area, side as edge}, Lines.all}` does."""
 
+import itertools
 import re
+from collections import namedtuple
 
 import rattle
 
@@ -11,11 +13,8 @@ IMPORT = re.compile(r"^((?:(?:pub|unfoldable)\s+)*)use\s+([^\n]*(?:\n[ \t}][^\n]
 IN_FULL = re.compile(r"(?<![\w.])Rattle\.\w+\.[^\s(){},;\[\]⟦⟧]+")
 
 
-class Import:
+class Import(namedtuple("Import", "path name other is_passed")):
     """What an import brings: the path of a module, the name that is taken of it, if any, by which name, and whether it is passed on."""
-
-    def __init__(self, path, name, other, is_passed):
-        self.path, self.name, self.other, self.is_passed = path, name, other, is_passed
 
     @property
     def is_all(self):
@@ -27,11 +26,8 @@ class Import:
 
 def parts_of(text):
     """The parts of a list between the commas that stand in no braces of it."""
-    parts, depth = [""], 0
-    for it in text:
-        depth += (it == "{") - (it == "}")
-        parts += [""] if it == "," and not depth else []
-        parts[-1] += it if it != "," or depth else ""
+    depths = itertools.accumulate((it == "{") - (it == "}") for it in text)
+    parts = "".join("\n" if it == "," and not depth else it for it, depth in zip(text, depths)).split("\n")
     return [it.strip() for it in parts if it.strip()]
 
 
@@ -59,10 +55,6 @@ def brought(said, is_passed=False):
 def read(text):
     """What the imports of a file bring, whose comments are gone."""
     return [it for marks, said in IMPORT.findall(text) for it in brought(said, "pub" in marks.split())]
-
-
-def of_file(path):
-    return read(rattle.without_comments(path.read_text(encoding="utf-8")))
 
 
 def unused(top):

@@ -12,18 +12,6 @@ from edits import listed
 from rattle import text_of
 
 
-def keeps(rt):
-    """Whether the toolchain's script keeps what passed for later runs on this machine."""
-    return hasattr(rt, "Kept")
-
-
-def prepared(rt):
-    """The toolchain's script, with words for what an edit came to where it has none of its own."""
-    if not keeps(rt):
-        rt.REFUSED, rt.MISSED = "refused", "missed"
-    return rt
-
-
 def rule():
     """Returns a sum of the rules by which edits are judged: what they came to under others does not count."""
     folder = os.path.dirname(os.path.abspath(of_edits.__file__))
@@ -43,21 +31,14 @@ def in_cache():
     return os.path.join(os.environ.get("XDG_CACHE_HOME") or os.path.expanduser("~/.cache"), "gondzalif", "proved")
 
 
-def copied(source, to):
-    """A copy of a file, in place of what was there."""
-    if os.path.lexists(to):
-        os.remove(to)
-    shutil.copy2(source, to)
-
-
-def linked(source, to):
-    """The same file once more, in place of what was there; it is a copy where the two places are on two file systems."""
+def linked(source, to, is_own=False):
+    """The same file once more, in place of what was there; it is a copy where it has to be a file of its own, or the places are on two file systems."""
     if os.path.lexists(to):
         os.remove(to)
     try:
-        os.link(source, to)
+        (shutil.copy2 if is_own else os.link)(source, to)
     except OSError:
-        copied(source, to)
+        shutil.copy2(source, to)
 
 
 class Store:
@@ -106,22 +87,18 @@ class Store:
         os.utime(kept)
         shutil.rmtree(os.path.dirname(crate.rlib), ignore_errors=True)
         # (a program is a file of its own, so that whoever asks sees that it was made)
-        shutil.copytree(kept, f"{crate.folder}/out", copy_function=copied if crate.is_program else linked, dirs_exist_ok=True)
+        shutil.copytree(kept, f"{crate.folder}/out", copy_function=lambda *it: linked(*it, crate.is_program), dirs_exist_ok=True)
         return True
 
     def keep_proof(self, crate):
         """Keeps what the build of a proved crate made: its library, or its programs."""
         if not self.is_untouched(crate):
             return
-        of_crate = f"{self.folder}/proofs/{crate.name}"
+        out, of_crate = f"{crate.folder}/out", f"{self.folder}/proofs/{crate.name}"
         made = f"{of_crate}/making-{os.getpid()}"
-        os.makedirs(made)
-        for name in os.listdir(f"{crate.folder}/out"):
-            path = f"{crate.folder}/out/{name}"
-            if name == "rlib":
-                shutil.copytree(path, f"{made}/{name}", copy_function=linked)
-            elif crate.is_program and name.startswith(crate.name) and os.path.isfile(path):
-                linked(path, f"{made}/{name}")
+        is_made = lambda it: it == "rlib" or crate.is_program and it.startswith(crate.name) and os.path.isfile(f"{out}/{it}")
+        shutil.copytree(out, made, copy_function=linked, ignore=lambda at, names: [it for it in names if at == out and not is_made(it)])
+        os.utime(made)
         shutil.rmtree(f"{of_crate}/{self.key(crate)}", ignore_errors=True)
         os.rename(made, f"{of_crate}/{self.key(crate)}")
         all_kept = sorted((f"{of_crate}/{it}" for it in os.listdir(of_crate)), key=os.path.getmtime)
@@ -163,8 +140,8 @@ class Tries:
     def __init__(self, rt, rounds, store=None):
         """`store` gets the script's own store under "kept"."""
         self.rt, self.rounds, self.store = rt, rounds, {} if store is None else store
-        if not keeps(rt):
-            rt.must_fail_all = rounds.all_of if rounds else None
+        if not hasattr(rt, "Kept"):
+            rt.must_fail_all = rounds and rounds.all_of
             return
         rt.STORE, rt.add_edits = place(rt.STORE), self.add
         of_edit, own = rt.Kept.of_edit, rule()
@@ -177,11 +154,12 @@ class Tries:
         earlier, found = {}, {}
 
         def tried(some, jobs):
-            sum = kept.key(crate) if in_ci or not keeps(self.rt) else self.rt.stamp_of(crate, {})
+            sum = kept.key(crate) if in_ci or not hasattr(self.rt, "Kept") else self.rt.stamp_of(crate, {})
             named = {at: kept.of_edit(edits[at], sum) for at in some}
-            earlier.update((at, it) for at, it in ((at, kept.tried(named[at])) for at in some) if it)
+            earlier.update({at: it for at in some if (it := kept.tried(named[at]))})
             due = [at for at in some if at not in earlier]
-            for at, (is_well, text) in zip(due, self.all_of(crate, [edits[at] for at in due], jobs)):
+            came = self.rounds.all_of(crate, [edits[at] for at in due], ["--jobs", str(jobs)]) if due else []
+            for at, (is_well, text) in zip(due, came):
                 found[at] = self.rt.REFUSED if is_well else self.rt.MISSED, text
                 if is_well and kept.is_untouched(crate):
                     kept.keep_tried(named[at], *found[at])
@@ -198,6 +176,3 @@ class Tries:
 
             tasks[crate.name, "edits", number] = ([(crate.name, "proof")] if in_ci else [], LINES_OF_A_TURN * turns, self.rt.need(crate), call)
         return lambda given: [{**found, **earlier}[at] for at in range(len(edits))], lambda: earlier
-
-    def all_of(self, crate, edits, jobs):
-        return self.rounds.all_of(crate, edits, ["--jobs", str(jobs)]) if edits else []

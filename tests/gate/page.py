@@ -3,72 +3,25 @@
 import itertools
 import re
 import textwrap
+from pathlib import Path
 
 from promises import CALLS, WORKED
-from rattle import text_of
+from rattle import sections_of, text_of
 
 RFC = re.compile(r"RFC (\d+)(?: (?:sections?|appendix) [A-Z\d][\d.]*(?:(?:, (?:and )?| and | to )\d[\d.]*)*(?<![.,]))?")
 ROW = re.compile(r"^\| (.*?) \| ([\d,]+) \| ([\d,]+) \| ([\d,]+) \| ([\d,]+) \| `(\w+)` \|$", re.M)
 
-HEAD = """# What is to be believed
-
-This page is made by `tests/gate/believed --write`. `tests/gate/believed` fails if it does
-not agree with the repository.
-
-A proof says no more than its definitions. So a reader has to read, for each
-promise of [PROMISES.md](PROMISES.md), the definitions that its laws lean on,
-and compare them with the RFCs. Nothing in `proofs/` and no code has to be read.
-
-A law leans on each definition that its contract names, on what the text of that
-definition names, and so on. *Lines of meaning* are the lines of such
-definitions, without imports, comments and blank lines. A contract also speaks
-of Rust types, which are read where they are declared.
-
-A definition is listed once, under the first promise that leans on it. *New*
-lines are those that no promise above leans on. The files of a crate are in the
-order in which they use each other, and each has the RFC sections that its first
-lines name.
-
-A worked example computes a run, or a server that a law refuses. No promise
-rests on it, so it counts for none, and has a row of its own.
-
-The sum is of all that a promise says: of its contracts, of what they lean on,
-and of the Rust types. If it is the one of the day on which you read a promise,
-nothing of it has changed since.
-"""
-PINS = """## Definitions that a law pins
-
-For each of these a law says, for every argument, which value it has, in other
-words. Those words are to be believed. The definition is not, so it is counted
-nowhere, and neither is what it alone leans on.
-"""
-UNMET = """## Premises that no worked example meets
-
-A law with one of these premises can be true because nothing meets the premise.
-No law that is worked out speaks of it. The premises of the other laws are met
-by the worked examples, which compute.
-"""
-REST = """## Files that no promise leans on
-
-A fault in one of these can make a proof fail or a call useless. It cannot make
-a promise say something else. The number is of all lines of the file.
-"""
-GHOSTS = """## What the values of Rust types are
-
-These parts of sources say which value a Rust type has in contracts, and what is
-always true of it. Those that the program's calls show are counted above. A
-number is given if it is not one line.
-"""
+TEXTS = sections_of(Path(__file__).with_name("page.txt"))
 
 
 def wrapped(text, indent=""):
     return textwrap.fill(text, 80, subsequent_indent=indent, break_long_words=False, break_on_hyphens=False)
 
 
-def listed(head, entries):
+def listed(name, entries):
     """A section of entries, if there are any."""
     lines = "".join(wrapped(f"- {it}", "  ") + "\n" for it in entries)
-    return f"{head}\n{lines}" if lines else ""
+    return f"{TEXTS[name]}\n\n{lines}" if lines else ""
 
 
 def grouped(pairs):
@@ -93,21 +46,19 @@ class Page:
 
     def totals(self):
         """What the table at the top says of each promise: its title, lines, new lines, lines of its files, types, and sum."""
-        whole = self.promises.whole()
-        return [self.told_of(it, new) for it, new in [*self.rows[:-1], (whole, whole.needed), self.rows[-1]]]
-
-    def told_of(self, it, new):
-        files = sum(self.whole[file] for file in it.files)
-        return it.title, it.lines, sum(len(one.lines) for one in new), files, len(it.types), it.sum(self.all)
+        whole, lines = self.promises.whole(), lambda some: sum(len(one.lines) for one in some)
+        files = lambda some: sum(self.whole[file] for file in {one.file for one in some})
+        rows = [*self.rows[:-1], (whole, whole.needed), self.rows[-1]]
+        return [(it.title, lines(it.needed), lines(new), files(it.needed), len(it.types), it.sum(self.all)) for it, new in rows]
 
     def text(self):
         # (a file that only passes names on says nothing)
         files = self.in_order({it for it in self.all.files if self.all.names[it]} - self.believed)
         rest = grouped((crate, f"`{name}` {self.whole[crate, name]}") for crate, name in files)
-        parts = [HEAD, self.table(), *(self.section(it, new) for it, new in self.rows)]
-        parts += [listed(PINS, [f"`{pin}` by `laws::{pin.law}`" for pin in self.promises.pinned.values()])]
-        parts += [listed(UNMET, [f"`{it}`: {', '.join(f'`{law}`' for law in laws)}" for it, laws in self.promises.unmet().items()])]
-        parts += [listed(REST, [f"`{crate}`: {', '.join(some)}" for crate, some in rest.items()]), listed(GHOSTS, self.ghosts())]
+        parts = [TEXTS["head"] + "\n", self.table(), *(self.section(it, new) for it, new in self.rows)]
+        parts += [listed("pins", [f"`{pin}` by `laws::{pin.law}`" for pin in self.promises.pinned.values()])]
+        parts += [listed("unmet", [f"`{it}`: {', '.join(f'`{law}`' for law in laws)}" for it, laws in self.promises.unmet().items()])]
+        parts += [listed("rest", [f"`{crate}`: {', '.join(some)}" for crate, some in rest.items()]), listed("ghosts", self.ghosts())]
         text = "\n".join(it for it in parts if it)
         return text + "".join(["\n", *(f"[{label}]: {to}\n" for label, to in sorted(self.links.items()))] if self.links else [])
 
@@ -116,8 +67,8 @@ class Page:
         return "\n".join([*lines, *(f"| {title} | {' | '.join(f'{it:,}' for it in told)} | `{sum_of}` |" for title, *told, sum_of in self.totals())]) + "\n"
 
     def section(self, promise, new):
-        lines = [f"## {promise.title}", "", *(self.calls(promise) if promise.title == CALLS else self.laws(promise)), ""]
-        files = {file: [it for it in self.definitions_of(file) if it in new] for file in self.in_order({it.file for it in new})}
+        lines = [f"## {promise.title}", "", *self.stated(promise), ""]
+        files = {file: [it for it in dict.fromkeys(self.all.names[file].values()) if it in new] for file in self.in_order({it.file for it in new})}
         for crate, entries in grouped((file[0], self.entry(file, some)) for file, some in files.items()).items():
             lines += [f"### {promise.title}: {crate}", "", *entries, ""]
         types = grouped((crate, f"`{path[0]}`") for crate, path in sorted(promise.types))
@@ -125,25 +76,21 @@ class Page:
             lines.append(wrapped("Rust types: " + "; ".join(f"`{crate}` {', '.join(some)}" for crate, some in types.items()) + "."))
         return "\n".join(lines).rstrip("\n") + "\n"
 
-    def calls(self, promise):
-        said = grouped((crate, f"`{name}`") for crate, name in promise.stated)
-        return [wrapped(f"Stated by the contracts of {'; '.join(f'`{crate}`: ' + ', '.join(some) for crate, some in said.items())}.")]
-
-    def laws(self, promise):
-        """What each law of a promise says."""
+    def stated(self, promise):
+        """What states a promise: the calls of the program alone, or laws, each with what it says."""
+        if promise.title == CALLS:
+            said = grouped((crate, f"`{name}`") for crate, name in promise.stated)
+            return [wrapped(f"Stated by the contracts of {'; '.join(f'`{crate}`: ' + ', '.join(some) for crate, some in said.items())}.")]
         lines = ["Stated by", ""] if promise.stated else ["There are none."]
         for crate, name in promise.stated:
             if (crate, name) not in self.promises.laws:
                 lines.append(f"- `{crate}`: `{name}`, by its contract")
                 continue
-            said = [" ".join(it.text.split()) for it in self.promises.contract(crate, name)[0]]
+            said = [" ".join(it.text.split()) for it in self.promises.laws[crate, name][1]]
             is_told = promise.title != WORKED and (crate, name) in self.promises.worked
             of_it = "a worked example, which counts nowhere" if is_told else ", and ".join(f"`{it}`" for it in said)
             lines.append(wrapped(f"- `{crate}`: `laws::{name}`: {of_it}", "  "))
         return lines
-
-    def definitions_of(self, file):
-        return list(dict.fromkeys(self.all.names[file].values()))
 
     def entry(self, file, some):
         path = self.all.files[file]
@@ -164,18 +111,16 @@ class Page:
 
     def in_order(self, files):
         """These files by their crates, and within a crate each after those that it uses."""
-        crates = [*self.promises.order, *sorted({it[0] for it in files} - set(self.promises.order))]
-        found = []
+        crates, found = [*self.promises.order], []
+
         def visit(file, above):
-            if file in found or file in above:
-                return
             used = {home for some in self.all.imports[file].values() for home, _ in some if home[0] == file[0] and home in self.all.files}
-            for it in sorted(used):
-                visit(it, above | {file})
-            found.append(file)
-        for crate in crates:
-            for file in sorted(it for it in self.all.files if it[0] == crate):
-                visit(file, frozenset())
+            for it in sorted(used - above - {*found}):
+                visit(it, above | {it})
+            found.extend({file} - {*found})
+
+        for file in sorted(self.all.files, key=lambda it: (crates.index(it[0]) if it[0] in crates else len(crates), it)):
+            visit(file, {file})
         return [it for it in found if it in files]
 
     def ghosts(self):

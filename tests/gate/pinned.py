@@ -45,19 +45,14 @@ def asks_nothing(word, asked):
 
 def counts(top):
     """How many tests and asserts the sources of each crate have that has any."""
-    found = {}
-    for folder in crates(top):
-        if count := tests_of(folder):
-            found[f"tests of {folder.name}"] = count
-            found[f"asserts of {folder.name}"] = len([*asserts_of(folder)])
-    return found
+    some = [(folder, tests_of(folder)) for folder in crates(top)]
+    return {name: number for folder, count in some if count
+            for name, number in ((f"tests of {folder.name}", count), (f"asserts of {folder.name}", len([*asserts_of(folder)])))}
 
 
 def bodies(top):
     """Each function with a body whose code is none of tests, with its crate's name and its source."""
-    for folder in crates(top):
-        for source, is_test in rattle.tree(folder).values() if folder.name not in TESTS else ():
-            yield from ((folder.name, source, it) for it in source.functions if it.opens >= 0 and not is_test and not it.is_test)
+    return ((folder.name, source, it) for folder in crates(top) if folder.name not in TESTS for _, source, it in rattle.bodies(folder))
 
 
 def wants(top):
@@ -84,21 +79,15 @@ def faults(top, rows):
     found += ["tests/gate/wrong_bodies.txt: its lines are not in order, or one stands there twice"] * (told != sorted(set(told)))
     due = {it[0]: it[1] for it in rows if len(it) > 1 and len(it) == 2 + ("-" in it[1]) and NUMBER.fullmatch(it[1])}
     found += [f"tests/least.tsv: no line of a name and a number, or of a range and its reason: {' '.join(it)}" for it in rows if it[0] not in due]
-    counted = counts(top)
-    for name in sorted({it for it in due if " of " in it} | set(counted)):
-        if counted.get(name, 0) != int(due.get(name, "0")):
-            found.append(f"{name}: {counted.get(name, 0)}, and tests/least.tsv has {due.get(name, 'none')} (tests/gate/believed --pin)")
+    counted = {**{it: 0 for it in due if " of " in it}, **counts(top)}
+    found += [f"{name}: {count}, and tests/least.tsv has {due.get(name, 'none')} (tests/gate/believed --pin)"
+              for name, count in sorted(counted.items()) if count != int(due.get(name, "0"))]
     for folder in crates(top):
         found += [f"{folder.name}: {word}({asked.strip()}) asks nothing" for word, asked in asserts_of(folder) if asks_nothing(word, asked)]
-    return found + of_parts(top, due)
-
-
-def of_parts(top, due):
-    """Where ./test, tests/least.tsv and the scripts of tests/ do not name the same parts."""
-    added = ADDED.findall(text_of(top / "test"))
-    told = [it for it in due if " of " not in it]
+    # (./test, tests/least.tsv and the scripts of tests/ name the same parts)
+    added, told = ADDED.findall(text_of(top / "test")), [it for it in due if " of " not in it]
     scripts = [str(it.relative_to(top)) for it in sorted(top.glob("tests/**/*")) if it.is_file() and not it.suffix and os.access(it, os.X_OK)]
-    found = [f"tests/least.tsv: it says nothing of {it}, which ./test runs" for it in added if it not in told]
+    found += [f"tests/least.tsv: it says nothing of {it}, which ./test runs" for it in added if it not in told]
     found += [f"./test does not run {it}" for it in scripts if it not in [one.split()[0] for one in added]]
     return found + [f"./test does not run {it}, of which tests/least.tsv tells" for it in told if it not in added]
 
@@ -108,9 +97,7 @@ def write(top, log):
     (top / "tests/gate/wrong_bodies.txt").write_text("".join(f"{it}\n" for it in wrong_bodies(top)), encoding="utf-8")
     (top / "tests/gate/wants.tsv").write_text(wants(top), encoding="utf-8")
     path, passed = top / "tests/least.tsv", dict(PART.findall(log))
-    kept = []
-    for it in (it for it in text_of(path).splitlines() if not re.match(r"(?:tests|asserts) of \w+\t", it)):
-        name, _, number = it.partition("\t")
-        kept.append(f"{name}\t{passed[name]}" if name in passed and "-" not in number else it)
-    path.write_text("".join(f"{it}\n" for it in [*kept, *(f"{name}\t{count}" for name, count in counts(top).items())]), encoding="utf-8")
+    text = re.sub(r"^(?:tests|asserts) of \w+\t.*\n", "", text_of(path), flags=re.M)
+    text = re.sub(r"^([^\t\n]+)\t[^-\n]*$", lambda it: f"{it[1]}\t{passed[it[1]]}" if it[1] in passed else it[0], text, flags=re.M)
+    path.write_text(text + "".join(f"{name}\t{count}\n" for name, count in counts(top).items()), encoding="utf-8")
     return 0

@@ -7,12 +7,13 @@ before it in its section, as "`nfs_serve`: `laws::exactly_once`", if that has it
 names come last, and then the worked examples of tests/gate/worked.tsv: they are told with the section that names them and count for none."""
 
 import re
+from collections import Counter
 
 import rattle
 from definitions import Definitions
 from edits import public
 from rattle import crates, rows_of, text_of
-from statements import Statements, bare, groups, is_binder, parts_of_record, split, tokens_of
+from statements import Statements, groups, parts_of_record, premises_of, split, tokens_of
 
 CALLS = "The calls that the program makes"
 OTHERS = "Laws that no promise names"
@@ -27,19 +28,10 @@ WHERE = re.compile(r"^- \*\*Where\.\*\*.*?(?=^- \*\*|\Z)", re.M | re.S)
 
 
 class Promise:
-    """A promise: its title, the laws or calls that state it, as (crate, name), and what their contracts name."""
+    """A promise: its title, the laws or calls that state it, as (crate, name), the texts of their clauses, and what these name."""
 
     def __init__(self, title):
-        self.title, self.stated, self.cited, self.needed, self.types = title, [], set(), set(), set()
-        self.texts = []  # (of the clauses that state it)
-
-    @property
-    def lines(self):
-        return sum(len(it.lines) for it in self.needed)
-
-    @property
-    def files(self):
-        return {it.file for it in self.needed}
+        self.title, self.stated, self.texts, self.cited, self.needed, self.types = title, [], [], set(), set(), set()
 
     def sum(self, definitions):
         """A sum of all that the promise says: of its clauses, of what they lean on, and of the Rust types that these name."""
@@ -49,8 +41,7 @@ class Promise:
 class Pin:
     """A law that pins a definition: what it pins, and what counts in the definition's place."""
 
-    def __init__(self, row):
-        crate, name, law = row
+    def __init__(self, crate, name, law):
         self.crate, self.law = crate, law.removeprefix("laws::")
         self.file, _, self.name = name.rpartition(".")
         self.fields, self.cited = set(), set()
@@ -59,43 +50,30 @@ class Pin:
         return f"{self.crate} {self.file}.{self.name}"
 
 
-def listed(top):
-    """The crates of crates.txt with what each stands on, in its order."""
-    lines = [it for it in text_of(top / "crates.txt").splitlines() if ":" in it and not it.startswith("#")]
-    return {name.strip(): rest.split() for name, _, rest in (it.partition(":") for it in lines)}
-
-
-def read(top):
-    """The promises of a repository."""
-    return Promises(Definitions(top), text_of(top / "docs/PROMISES.md"), [it for it in rows_of(top / "tests/gate/pins.tsv") if len(it) == 3], rows_of(top / "tests/gate/worked.tsv"))
-
-
 def lines_by_crate(top):
     """How many lines of meaning of each crate a repository's promises lean on."""
-    found = {}
-    for one in read(top).whole().needed:
-        found[one.file[0]] = found.get(one.file[0], 0) + len(one.lines)
-    return found
+    return Counter(one.file[0] for one in Promises(top).whole().needed for _ in one.lines)
 
 
 class Promises:
     """The promises of a repository, in the order of docs/PROMISES.md, and what each leans on."""
 
-    def __init__(self, definitions, text, pins, worked):
-        self.all, self.statements, self.faults, self.top = definitions, Statements(definitions), [], definitions.top
-        self.laws, self.pinned = {}, {}  # (sources of each crate's laws by their names; pins by their definitions)
-        self.order, self.judged = listed(self.top), 0  # (how many clauses were judged)
-        for folder in crates(self.top):
+    def __init__(self, top):
+        self.all, self.faults, self.top = Definitions(top), [], top
+        self.statements = Statements(self.all)
+        # (the crates of crates.txt with what each stands on, in its order)
+        self.order = {name.strip(): rest.split() for name, rest in re.findall(r"^([^#:\n][^:\n]*):(.*)$", text_of(top / "crates.txt"), re.M)}
+        self.laws, self.pinned, self.judged = {}, {}, 0  # (each law's source and clauses; pins by their definitions; how many clauses were judged)
+        for folder in crates(top):
             self.find_laws(folder.name)
-        self.faults += [f"{crate} laws::{name}: it states what laws::{other} does" for crate, name, other in self.copies()]
-        self.worked = [(crate, law.removeprefix("laws::")) for crate, law in worked]
+        self.worked = [(crate, law.removeprefix("laws::")) for crate, law in rows_of(top / "tests/gate/worked.tsv")]
         self.faults += [f"tests/gate/worked.tsv: {crate} has no laws::{name}" for crate, name in self.worked if (crate, name) not in self.laws]
-        for it in pins:
-            self.pin(Pin(it))
-        self.promises = [self.of_calls(), *self.of_sections(text)]
+        for it in rows_of(top / "tests/gate/pins.tsv"):
+            self.pin(Pin(*it))
+        self.promises = [self.of_calls(), *self.of_sections(text_of(top / "docs/PROMISES.md"))]
         told = {it for promise in self.promises for it in promise.stated}
-        self.promises.append(self.of_laws(OTHERS, [it for it in self.laws if it not in told]))
-        self.promises.append(self.of_laws(WORKED, [it for it in self.worked if it in self.laws]))
+        self.promises.append(self.take_laws(Promise(OTHERS), [it for it in self.laws if it not in told]))
+        self.promises.append(self.take_laws(Promise(WORKED), [it for it in self.worked if it in self.laws]))
         asked = [self.lean(it) for it in self.promises]
         self.faults += [f"{it}: a part of it is true of everything, or of nothing that there is" for it in sorted(self.whole().needed, key=str) if self.statements.is_hollow(it)]
         self.judge_pins(asked)
@@ -103,32 +81,18 @@ class Promises:
     # Laws, and whether they state anything.
 
     def find_laws(self, crate):
-        for path in self.all.sources(crate):
-            if rattle.module_of(str(path.relative_to(self.top / "crates" / crate)))[:1] == ["laws"]:
-                for it in rattle.read(path).functions:
-                    if it.sees == "pub" and not it.is_test:
-                        self.laws[crate, it.name] = path
-                        self.judge_law(path, it, f"{crate} laws::{it.name}")
-
-    def judge_law(self, path, law, what):
-        """A law takes nothing, asks for nothing and answers nothing, and each of its clauses states something."""
-        some = [it for it in law.clauses if it.kind == "ensures"]
-        self.faults += [f"{what}: it ensures nothing"] * (not some)
-        self.faults += [f"{what}: a law takes and answers nothing, and asks for nothing"] * ("".join(law.takes.split()) != "()" or some != law.clauses)
-        self.must_state(path, some, what)
-
-    def contract(self, crate, name):
-        """The clauses of a law, and its source."""
-        path = self.laws[crate, name]
-        return [it for it in self.all.read_source(path)[0] if it.name == name and not it.owner and it.kind == "ensures"], path
-
-    def copies(self):
-        """The laws that have the words of another one of their crate, with that."""
+        """A law takes nothing, asks for nothing and answers nothing, each of its clauses states something, and no other law of its crate has its words."""
         first = {}
-        for crate, name in self.laws:
-            said = crate, *sorted(" ".join(it.text.split()) for it in self.contract(crate, name)[0])
-            if first.setdefault(said, name) != name:
-                yield crate, name, first[said]
+        for path in self.all.sources(crate):
+            is_of_laws = rattle.module_of(str(path.relative_to(self.top / "crates" / crate)))[:1] == ["laws"]
+            for it in (it for it in rattle.read(path).functions if is_of_laws and it.sees == "pub" and not it.is_test):
+                some, what = [one for one in it.clauses if one.kind == "ensures"], f"{crate} laws::{it.name}"
+                self.laws[crate, it.name] = path, some
+                self.faults += [f"{what}: it ensures nothing"] * (not some)
+                self.faults += [f"{what}: a law takes and answers nothing, and asks for nothing"] * ("".join(it.takes.split()) != "()" or some != it.clauses)
+                self.must_state(path, some, what)
+                other = first.setdefault(tuple(sorted(" ".join(one.text.split()) for one in some)), it.name)
+                self.faults += [f"{what}: it states what laws::{other} does"] * (other != it.name)
 
     def must_state(self, path, clauses, what):
         _, imports, std = self.all.read_source(path)
@@ -143,8 +107,8 @@ class Promises:
         """The promise of the calls of the program: all that its own modules show and the crates on which it stands or, without one, all crates."""
         made = Promise(CALLS)
         programs = [it for it in self.order if self.is_program(it)]
-        crates = [it for program in programs for it in [*self.order[program], program]] or [*self.order]
-        for crate in [it for it in self.order if it in crates]:
+        some = {below for it in programs for below in (*self.order[it], it)} or self.order
+        for crate in (it for it in self.order if it in some):
             shown = self.shown(crate)
             types = set().union(*shown.values())
             for path in self.all.sources(crate):
@@ -154,39 +118,29 @@ class Promises:
                 clauses = [it for it in self.all.read_source(path)[0] if it.is_public and is_shown(it)]
                 self.take(made, crate, path, clauses)
                 made.stated += [(crate, it) for it in dict.fromkeys(str(it) for it in clauses if it.kind != "ghost")]
-                for it in clauses:
-                    self.must_state(path, [it] * (it.kind == "ensures"), f"{crate} {it}")
+                for it in (it for it in clauses if it.kind == "ensures"):
+                    self.must_state(path, [it], f"{crate} {it}")
         self.take_held(made)
         return made
 
     def take_held(self, made):
         """Has the views of types that are shown nowhere state the promise too, where a type that is shown holds them: its own view goes by
         theirs. What only has to hold of them is proved, and states nothing here."""
-        held, ghosts, told = self.held(), self.ghosts(), {it.partition(" ghost: ")[0] for it in made.texts}
+        sources = [(folder.name, path) for folder in crates(self.top) for path in self.all.sources(folder.name)]
+        ghosts = [(crate, path, it) for crate, path in sources for it in self.all.read_source(path)[0] if it.kind == "ghost"]
+        # (the names in the declarations of all types of one name)
+        held = {}
+        for source, it in ((source, it) for source in (rattle.read(path) for _, path in sources) for it in source.types):
+            held.setdefault(it.name, set()).update(re.findall(r"\w+", source.declaration(it)))
+        told = {it.partition(" ghost: ")[0] for it in made.texts}
         reached, due = set(), [it.owner for crate, _, it in ghosts if f"{crate} {it}" in told]
         while due:
             owner = due.pop()
-            if owner not in reached:
-                reached.add(owner)
-                due += held.get(owner, set()) & held.keys()
+            due += held.get(owner, set()) & held.keys() if owner not in reached else ()
+            reached.add(owner)
         for crate, path, it in ghosts:
             if it.owner in reached and it.name in ("Value", "view") and f"{crate} {it}" not in told:
                 self.take(made, crate, path, [it])
-
-    def held(self):
-        """The names in the declarations of the types that the crates' sources declare, by the types' names; of all types of one name."""
-        found = {}
-        for source in map(rattle.read, self.all_sources()):
-            for it in source.types:
-                found.setdefault(it.name, set()).update(re.findall(r"\w+", source.declaration(it)))
-        return found
-
-    def all_sources(self):
-        return [it for folder in crates(self.top) for it in self.all.sources(folder.name)]
-
-    def ghosts(self):
-        """The ghosts of all sources, each with its crate and its source."""
-        return [(self.all.place(path).parts[0], path, it) for path in self.all_sources() for it in self.all.read_source(path)[0] if it.kind == "ghost"]
 
     def is_program(self, crate):
         return (self.top / "crates" / crate / "src/main.rt").is_file()
@@ -195,23 +149,22 @@ class Promises:
         """The sources from which a crate shows something, but its laws, and the names that it shows of each; all of them where it shows the
         module itself, as a program does to itself."""
         src, found = self.top / "crates" / crate / "src", {}
-        lib = src / "lib.rt"
         if self.is_program(crate):
             return {it: set() for it in self.all.sources(crate) if it.stem != "main"}
-        read = rattle.read(lib) if lib.is_file() else None
-        for use in [use for sees, use, _ in read.uses if sees == "pub"] if read else ():
+        read = rattle.source_of(text_of(src / "lib.rt"))
+        for use in [use for sees, use, _ in read.uses if sees == "pub"]:
             name, _, rest = re.sub(r"^(?:crate|self)::", "", use).partition("::")
             if not (src / f"{name}.rt").is_file() or not re.fullmatch(r"[\w ]+|\{[\w ,\s]*\}", rest):
                 self.faults.append(f"{crate}: it cannot be seen what this shows: pub use {use}")
                 continue
             names = [it.partition(" as ")[0].strip() for it in rest.strip("{}").split(",")]
             found.setdefault(src / f"{name}.rt", set()).update(filter(None, names))
-        for name in [name for sees, name, *_ in read.modules if sees == "pub" and name != "laws"] if read else ():
+        for name in [name for sees, name, *_ in read.modules if sees == "pub" and name != "laws"]:
             found.update({it: set() for it in [src / f"{name}.rt", *sorted((src / name).glob("**/*.rt"))]})
         for path in found:
             said = [whole for sees, word, _, whole, owner, _ in rattle.read(path).others if (sees, word, owner) == ("pub", "type", None)]
             self.faults += [f"{crate}: it cannot be seen what this shows: {it}" for it in said]
-        return {**found, lib: set()}
+        return {**found, src / "lib.rt": set()}
 
     def of_sections(self, text):
         """The promises of the sections that name laws."""
@@ -249,14 +202,16 @@ class Promises:
         if len(some) != 1:
             why = f"{', '.join(some)} have such a law: name the crate in front of it" if some else "no crate has such a law"
             self.faults.append(f"docs/PROMISES.md: laws::{name}: {why}")
-        elif (some[0], name) not in made.stated:
-            self.take_law(made, some[0], name)
+        else:
+            self.take_laws(made, [(some[0], name)])
 
-    def take_law(self, made, crate, name):
-        made.stated.append((crate, name))
-        if made.title == WORKED or (crate, name) not in self.worked:
-            clauses, path = self.contract(crate, name)
-            self.take(made, crate, path, clauses)
+    def take_laws(self, made, laws):
+        """Has these laws state the promise; a worked example is told with it, and counts for none."""
+        for law in (it for it in laws if it not in made.stated):
+            made.stated.append(law)
+            if made.title == WORKED or law not in self.worked:
+                self.take(made, law[0], *self.laws[law])
+        return made
 
     def take(self, made, crate, path, clauses):
         """Has these clauses state the promise."""
@@ -278,17 +233,11 @@ class Promises:
         found = [name for word in CODE.findall(text) if (law := LAW.match(word)) for name in re.findall(r"\w+", law[2])]
         return [it for it in dict.fromkeys(found) if it not in told]
 
-    def of_laws(self, title, laws):
-        made = Promise(title)
-        for crate, name in laws:
-            self.take_law(made, crate, name)
-        return made
-
     def unmet(self):
         """The premises of laws that no worked example speaks of, each with the laws that have it."""
         met, found = self.promises[-1].needed, {}
         for crate, name in self.laws.keys() - set(self.worked):
-            premises, (clauses, path) = set(), self.contract(crate, name)
+            premises, (path, clauses) = set(), self.laws[crate, name]
             imports = self.all.read_source(path)[1]
             for it in clauses:
                 self.premises_in(tokens_of(it.text), lambda word: self.statements.found(imports, None, word), set(), premises)
@@ -298,16 +247,12 @@ class Promises:
 
     def premises_in(self, tokens, named, seen, premises):
         """Adds the definitions that the premises of a statement begin with, and those of the definitions that it states."""
-        *front, last = split(bare(tokens), "→")
-        heads = [groups(bare(it))[0] for it in front if it and not is_binder(it)]
-        premises.update(one for it in heads if len(it) == 1 and (one := named(it[0])))
-        for sign in "×⊎":
-            if len(parts := split(bare(last), sign)) > 1:
-                for it in parts:
-                    self.premises_in(it, named, seen, premises)
-                return
-        words = groups(bare(last))
-        one = named(words[0][0]) if words and len(words[0]) == 1 else None
+        _, front, last = premises_of(tokens)
+        premises.update(one for it in map(groups, front) if it and len(it[0]) == 1 and (one := named(it[0][0])))
+        parts, words = next((some for sign in "×⊎" if len(some := split(last, sign)) > 1), []), groups(last)
+        for it in parts:
+            self.premises_in(it, named, seen, premises)
+        one = named(words[0][0]) if words and len(words[0]) == 1 and not parts else None
         if one and one not in seen and not one.is_data:
             seen.add(one)
             within = self.statements.scope(one.file)[0]
@@ -318,13 +263,12 @@ class Promises:
 
     def lean(self, made):
         """Finds what a promise leans on. A pin counts for it where it asks for no field that the pin's law leaves open; returns those that do not."""
-        asked = {}
-        while True:
+        asked, new = {}, True
+        while new:
             made.needed, made.passed, made.types = self.behind(made.cited, asked)
             new = {one: why for one in made.passed if (why := self.asked_of(one, made.needed))}
-            if not new:
-                return asked
             asked.update(new)
+        return asked
 
     def behind(self, cited, asked=()):
         """These definitions and what they name in turn, with what a law names in place of those that it pins; the pinned ones; and the types."""
@@ -343,21 +287,17 @@ class Promises:
 
     def pin(self, pin):
         """Takes the words that a law has in a definition's place, if it pins it."""
-        one, path = self.all.at(((pin.crate, pin.file), pin.name)), self.laws.get((pin.crate, pin.law))
+        one, (path, clauses) = self.all.at(((pin.crate, pin.file), pin.name)), self.laws.get((pin.crate, pin.law), (None, ()))
         if not one or not path:
             self.faults.append(f"{pin}: there is no such definition, or no public laws::{pin.law}")
             return
         imports = self.all.read_source(path)[1]
         fields, beside, leant = set(), set(), set()
-        for clause in self.all.read_source(path)[0]:
-            if clause.name != pin.law or not clause.is_public or clause.kind != "ensures":
-                continue
-            pinned = self.statements.pinned_by(one, clause.text, imports)
-            if pinned:
-                fields.add(pinned.field)
-                beside |= {(it.file, it.name) for it in pinned.statements}
-                for text in pinned.words:
-                    leant |= self.all.named_in(pinned.statements[-1], text) if pinned.statements else self.all.cited(text, imports, None, self.all.place(path))
+        for field, words, stated in filter(None, (self.statements.pinned_by(one, it.text, imports) for it in clauses)):
+            fields.add(field)
+            beside |= {(it.file, it.name) for it in stated}
+            for text in words:
+                leant |= self.all.named_in(stated[-1], text) if stated else self.all.cited(text, imports, None, self.all.place(path))
         if not fields:
             self.faults.append(f"{pin}: laws::{pin.law} is no equation or equivalence of it with other words, for every argument")
         elif one in {self.all.at(it) for it in leant} | self.behind(leant)[0]:

@@ -32,6 +32,11 @@ def rows_of(path):
     return [line.split("\t") for line in text_of(path).splitlines() if line.strip() and not line.startswith("#")]
 
 
+def sections_of(path):
+    """The sections of a text by their names, each behind a line `== NAME`."""
+    return {name: text.strip("\n") for name, text in re.findall(r"^== ([^\n]+)\n(.*?)(?=^== |\Z)", text_of(path), re.M | re.S)}
+
+
 def crates(top):
     """The folders of a repository's crates."""
     return sorted(it.parent for it in Path(top).glob("crates/*/src"))
@@ -63,20 +68,19 @@ def blank(text):
 
 def without_comments(text, at=0, in_braces=False):
     """A text of antt without its comments, as long as it was; in braces up to where those close that are open there, and that place."""
-    parts, depth, begun = [], 1, at
+    parts, depth, begun, ends = [], 1, at, len(text)
     while it := ANTT.search(text, at):
-        end = it.end()
-        if it[0] in "{}":
-            depth += 1 if it[0] == "{" else -1
-        elif it[0][0] != '"':
-            end = nested(text, end, "{-", "-}") if it[0] == "{-" else end
-            parts += [text[begun : it.start()], blank(text[it.start() : end])]
-            begun = end
-        at = end
+        at = it.end()
+        depth += (it[0] == "{") - (it[0] == "}")
+        if it[0].startswith(("{-", "--")):
+            at = nested(text, at, "{-", "-}") if it[0] == "{-" else at
+            parts += [text[begun : it.start()], blank(text[it.start() : at])]
+            begun = at
         if in_braces and not depth:
-            return "".join([*parts, text[begun : end - 1]]), end - 1
-    parts.append(text[begun:])
-    return ("".join(parts), len(text)) if in_braces else "".join(parts)
+            ends = at - 1
+            break
+    parts.append(text[begun:ends])
+    return ("".join(parts), ends) if in_braces else "".join(parts)
 
 
 def plain_of(text):
@@ -135,18 +139,10 @@ class Function:
     def __init__(self, name, sees, owner, attributes, is_test):
         self.name, self.sees, self.owner, self.attributes, self.is_test = name, sees, owner, attributes, is_test
         self.clauses, self.takes, self.opens, self.closes = [], "", -1, -1
-
-    @property
-    def is_public(self):
-        return self.sees == "pub" or bool(self.owner) and (self.owner.kind == "trait" or bool(self.owner.trait))
+        self.is_public = sees == "pub" or bool(owner) and (owner.kind == "trait" or bool(owner.trait))
 
     def __str__(self):
         return f"{self.owner.name}::{self.name}" if self.owner else self.name
-
-
-@functools.cache
-def source_of(text):
-    return Source(text)
 
 
 class Source:
@@ -188,38 +184,36 @@ class Source:
             else:
                 at = self.other(" ".join(head["word"].split()), head, owner, is_tests, attributes)
 
-    def stop(self, at, signs):
-        """The next place of one of these signs that stands in no brackets that open behind a place."""
-        while (it := re.compile(rf"[({{\[{re.escape(signs)}]").search(self.plain, at)) and it[0] not in signs:
-            at = self.end_of(it.start()) + 1
-        return it.start() if it else len(self.plain)
-
     def other(self, word, head, owner, is_test, attributes):
         """Reads an item that is no function; returns where it ends."""
         sees, name, begun = " ".join((head["pub"] or "").split()), head["name"] or "", head.start()
         has_block = word in ("impl", "trait", "mod", *TYPES) or word.endswith("!")
-        opens = self.stop(head.end("word"), "{;" if has_block else ";")
+        # (the next of these signs that stands in no brackets which open behind the word)
+        at, signs = head.end("word"), "{;" if has_block else ";"
+        while (it := re.compile(rf"[({{\[{signs}]").search(self.plain, at)) and it[0] not in signs:
+            at = self.end_of(it.start()) + 1
+        opens = it.start() if it else len(self.plain)
         is_block = self.plain.startswith("{", opens)
         ends = self.end_of(opens) if is_block else opens
-        said, whole = self.plain[begun:opens], self.plain[begun : ends + 1]
+        said = " ".join(self.plain[head.end("word") : opens].split())
         if word in ("impl", "trait", *TYPES):
-            made = Block(word, name, said, begun, opens, ends, is_test)
+            made = Block(word, name, self.plain[begun:opens], begun, opens, ends, is_test)
             self.blocks.append(made)
             if word in ("impl", "trait") and is_block:
                 self.items(opens + 1, ends, made, is_test)
             else:
                 self.ghosts += self.clauses_in(opens, ends, made.name, is_test)
         elif word == "ghost use":
-            self.ghost_uses.append(" ".join(self.plain[head.end("word") : opens].split()))
+            self.ghost_uses.append(said)
         elif word == "use":
-            self.uses.append((sees, " ".join(self.plain[head.end("word") : opens].split()), is_test))
+            self.uses.append((sees, said, is_test))
         elif word == "mod":
             self.modules.append((sees, name, is_block, is_test, attributes))
             self.items(opens + 1, ends, None, is_test) if is_block else None
         elif word == "ghost":
             self.ghosts += self.clauses_in(begun, ends, owner.name if owner else "", is_test)
         else:
-            self.others.append((sees, word, name, whole, owner, is_test))
+            self.others.append((sees, word, name, self.plain[begun : ends + 1], owner, is_test))
         return ends + 1
 
     def clauses_in(self, at, end, owner, is_test):
@@ -236,21 +230,17 @@ class Source:
     def function(self, head, owner, attributes, is_test):
         """Reads a function; returns where it ends."""
         made = Function(head["name"], " ".join((head["pub"] or "").split()), owner, attributes, is_test)
-        at, signs, first = head.end(), re.compile(r"\b(?:requires|ensures|ghost)\b|[({\[;]"), -1
-        while it := signs.search(self.plain, at):
-            if it[0] in "([":
-                at = self.end_of(it.start()) + 1
-            elif it[0] in "{;":
-                break
-            else:
-                clause = CLAUSE.match(self.plain, it.start())
-                first = it.start() if first < 0 else first
-                at = self.end_of(clause.end()) + 1 if clause else it.end()
-                if clause:
+        at, signs, first = head.end(), re.compile(r"\b(?:requires|ensures|ghost)\b|[({\[;]"), None
+        while (it := signs.search(self.plain, at)) and it[0] not in "{;":
+            at = self.end_of(it.start()) + 1 if it[0] in "([" else it.end()
+            if it[0] not in "([":
+                first = first or it.start()
+                if clause := CLAUSE.match(self.plain, it.start()):
+                    at = self.end_of(clause.end()) + 1
                     said = self.plain[clause.end() + 1 : at - 1]
                     made.clauses.append(Clause(clause[1], said, made.name, owner.name if owner else "", made.is_public))
         ends = it.start() if it else len(self.plain)
-        made.takes = self.plain[head.end() : first if first >= 0 else ends]
+        made.takes = self.plain[head.end() : first or ends]
         if it and it[0] == "{":
             made.opens, made.closes = ends + 1, self.end_of(ends)
             ends = made.closes
@@ -278,11 +268,16 @@ def hidden(source, is_root):
             yield f"names that are passed on: {sees} use {use}"
         elif sees and "*" in use:
             yield f"names that are passed on unseen: {sees} use {use}"
-    elsewhere = [f"mod {name}" for _, name, is_block, *_ in source.modules if is_block]
-    elsewhere += [f"#[{it}]" for it in source.attributes if re.match(r"path\b", it)]
-    elsewhere += [f"{word} {name}" for _, word, name, *_ in source.others if word in ("macro_rules!", "include!")]
-    yield from (f"text that stands elsewhere, or a module written into a source: {it}" for it in elsewhere)
+    for it in (
+        *(f"mod {name}" for _, name, is_block, *_ in source.modules if is_block),
+        *(f"#[{it}]" for it in source.attributes if re.match(r"path\b", it)),
+        *(f"{word} {name}" for _, word, name, *_ in source.others if word in ("macro_rules!", "include!")),
+    ):
+        yield f"text that stands elsewhere, or a module written into a source: {it}"
     yield from (f"the trait's default {it.name} is no function of a type" for it in source.functions if it.opens >= 0 and it.owner and it.owner.kind == "trait")
+
+
+source_of = functools.cache(Source)
 
 
 def read(path):
@@ -314,17 +309,19 @@ def module_of(file):
     return [it for it in file.removeprefix("src/").removesuffix(".rt").split("/") if it not in ("lib", "main")]
 
 
-def home_of(name, file, folder):
-    """Returns the file of the crate that declares the type: this one or, if it does not, the only one that does; or None."""
-    homes = [it for it, (source, _) in tree(folder).items() if any(block.name == name for block in source.blocks if block.kind in TYPES)]
-    return file if file in homes else homes[0] if len(homes) == 1 else None
-
-
 def path_of(function, file, folder):
     """Returns the path of a function as the prover prints it below the crate, or None."""
     block = function.owner
     if not block:
         return "::".join([*module_of(file), function.name])
-    # a method has its type's module before it, wherever its block stands; one of a trait has the block's
-    home = file if block.trait or block.kind == "trait" else home_of(block.name, file, folder)
+    # a method has the module before it that declares its type, wherever its block stands, if one alone does; one of a trait has the block's
+    is_here = block.trait or block.kind == "trait"
+    homes = [] if is_here else [it for it, (source, _) in tree(folder).items() if any(one.name == block.name for one in source.blocks if one.kind in TYPES)]
+    home = file if is_here or file in homes else homes[0] if len(homes) == 1 else None
     return "::".join([*module_of(home), block.holder, function.name]) if home else None
+
+
+def bodies(folder):
+    """Each function of a crate that has a body and is none of tests, with its file and its source."""
+    for file, (source, is_test) in tree(folder).items():
+        yield from ((file, source, it) for it in source.functions if it.opens >= 0 and not is_test and not it.is_test)

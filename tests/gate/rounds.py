@@ -9,7 +9,7 @@
   them too: what that adds is that the tests' own code is safe and returns.
 - tests/gate/kept.py keeps what was proved and what these rounds came to, for later runs on this machine.
 
-The closing lines tell how many minutes of processors the proofs, the tests and the edits of each crate took."""
+The closing lines tell how many minutes of processors the proofs, the tests and the edits of each crate took (tools/progress.py)."""
 
 import contextlib
 import hashlib
@@ -19,18 +19,16 @@ import shutil
 import subprocess
 import tempfile
 import threading
-import time
 from collections import defaultdict
-from concurrent.futures import Future, ThreadPoolExecutor
+from pathlib import Path
 
 import kept as for_later
 import pinned
 import progress
 from built import Build
 from edits import Said, changed, listed
+from progress import spent
 from rattle import text_of
-
-KINDS = {"proof": "proofs", "tests": "tests", "edits": "edits"}
 
 # the memory that tests under run-time checks take at most, in bytes
 MEMORY_OF_TESTS = 2_000_000_000
@@ -52,13 +50,7 @@ class Rounds:
         ended. A library is built, which is checked just so, but offers no files for the proofs that are left open: a third of the time.
         Where it is given, no function is read but those of only and what they call."""
         rtlib = self.rt.rtlib
-        with tempfile.TemporaryDirectory(prefix="rt-edit-") as room:
-            for part in rtlib.PARTS:
-                if os.path.isdir(f"{crate.folder}/{part}"):
-                    shutil.copytree(f"{crate.folder}/{part}", f"{room}/{part}")
-            for path, text in texts.items():
-                with open(f"{room}/{path}", "w", encoding="utf-8") as it:
-                    it.write(text)
+        with laid_out(crate.folder, rtlib.PARTS, texts) as room:
             verb, to = ("check", []) if crate.is_program or only else ("build", ["-o", f"{room}/{crate.name}.rlib"])
             to += [word for function in sorted(only) for word in ("--only", function)]
             words = [rtlib.RATTLE, verb, *crate.words(flags, keeps=False), *(["--incremental", kept] if kept else []), *to]
@@ -95,40 +87,30 @@ class Rounds:
         """Returns the edits in rounds, each with the texts that its edits together make. Those that change most come first, so that a later
         round has few."""
         rounds, of_each = [], {it: set(changed(self.rt, it, crate.folder)[0]) for it in edits}
-        for edit in sorted(edits, key=lambda it: -len(of_each[it])):
-            functions = of_each[edit]
-            for one in rounds:
-                if one["functions"].isdisjoint(functions) and self.join(crate, one, edit, functions):
-                    break
-            else:
-                one = {"edits": [], "functions": set(), "texts": {}}
-                self.join(crate, one, edit, functions)
-                rounds.append(one)
+        for edit, functions in sorted(of_each.items(), key=lambda it: -len(it[1])):
+            if not any(it["functions"].isdisjoint(functions) and self.join(crate, it, edit, functions) for it in rounds):
+                rounds.append({"edits": [], "functions": set(), "texts": {}})
+                self.join(crate, rounds[-1], edit, functions)
         return [(it["edits"], it["texts"]) for it in rounds]
 
     def join(self, crate, one, edit, functions):
         """Adds the edit to a round, if its old texts still stand there once; returns whether it did."""
-        with tempfile.TemporaryDirectory(prefix="rt-round-") as room:
-            shutil.copytree(f"{crate.folder}/src", f"{room}/src")
-            for path, text in one["texts"].items():
-                with open(f"{room}/{path}", "w", encoding="utf-8") as it:
-                    it.write(text)
+        with laid_out(crate.folder, ["src"], one["texts"]) as room:
             texts, why = self.rt.read_edit(edit, room)
-        if why and one["edits"]:
-            return False
-        one["texts"].update(texts or {})
-        one["edits"].append(edit)
-        one["functions"].update(functions)
-        return True
+        is_joined = not why or not one["edits"]
+        if is_joined:
+            one["texts"].update(texts or {})
+            one["edits"].append(edit)
+            one["functions"].update(functions)
+        return is_joined
 
     def round_of(self, crate, edits, texts, flags, kept):
         """Tries the edits of a round together, and again alone those that are not seen to be refused there."""
         of_each = {it: changed(self.rt, it, crate.folder)[0] for it in edits}
-        with_it, before = {function for some in of_each.values() for function in some}, spent()
+        with_it, before = set().union(*of_each.values()), spent()
         with copied(kept) as copy:
             ran = self.checked(crate, texts, flags, copy, with_it)
-        took = f"{(spent() - before) / 60:.1f} minutes of processors"
-        print(f"a round of {crate.name}: {len(edits)} edits, {len(with_it)} functions, {took}", flush=True)
+        print(f"a round of {crate.name}: {len(edits)} edits, {len(with_it)} functions, {(spent() - before) / 60:.1f} minutes of processors", flush=True)
         lines = ran.stdout.rstrip("\n").split("\n")
         is_read = ran.returncode == 1 and lines[-1].startswith("only=") and not self.rt.rtlib.STALE.search(ran.stdout)
         is_read = is_read and not any(self.rt.unread(it, texts) for it in lines)
@@ -146,11 +128,10 @@ class Rounds:
     def planned(self, crate, edits):
         """Returns the edits of a crate in rounds, by their numbers, with how many turns each has. Those that cannot be applied are with the
         first."""
-        unfit = [at for at, it in enumerate(edits) if changed(self.rt, it, crate.folder)[1]]
-        rounds = self.rounds_of(crate, [it for at, it in enumerate(edits) if at not in unfit])
-        first, *others = [[edits.index(it) for it in some] for some, _ in rounds] or [[]]
-        turns = lambda some: sum(text_of(edits[at]).count("\nold: ") for at in some)
-        return [(it, turns(it)) for it in [[*first, *unfit], *others] if it]
+        unfit = [it for it in edits if changed(self.rt, it, crate.folder)[1]]
+        first, *others = [some for some, _ in self.rounds_of(crate, [it for it in edits if it not in unfit])] or [[]]
+        turns = lambda some: sum(text_of(it).count("\nold: ") for it in some)
+        return [([edits.index(it) for it in some], turns(some)) for some in [[*first, *unfit], *others] if some]
 
     def all_of(self, crate, edits, flags):
         """Tries edits of a crate in rounds, each over a copy of what was kept, where the crate itself is proved over that: a check without
@@ -174,7 +155,7 @@ class Rounds:
             if crate.name not in self.starts:
                 # (where nothing was kept, the check without any edit fills the folder)
                 kept = self.kept.get(crate.name) or tempfile.mkdtemp(prefix="rt-edits-")
-                self.starts[crate.name] = kept, self.is_this_run or self.is_proved(crate, flags, kept)
+                self.starts[crate.name] = kept, self.is_this_run or not self.checked(crate, {}, flags, kept).returncode
             return self.starts[crate.name]
 
     def forget(self, crate):
@@ -185,12 +166,19 @@ class Rounds:
     def is_unchanged(self, crate, flags, kept):
         """Returns whether the crate is proved over what this run kept: a round showed it, or a check without any edit does, once."""
         with self.alone_in[crate.name]:
-            if not self.unchanged.get(crate.name):
-                self.unchanged[crate.name] = self.is_proved(crate, flags, kept)
+            self.unchanged[crate.name] = self.unchanged.get(crate.name) or not self.checked(crate, {}, flags, kept).returncode
             return self.unchanged[crate.name]
 
-    def is_proved(self, crate, flags, kept):
-        return not self.checked(crate, {}, flags, kept).returncode
+
+@contextlib.contextmanager
+def laid_out(folder, parts, texts):
+    """Gives a copy of these parts of a crate's folder with these texts in place of its own, for as long as it is wanted."""
+    with tempfile.TemporaryDirectory(prefix="rt-edit-") as room:
+        for part in (it for it in parts if os.path.isdir(f"{folder}/{it}")):
+            shutil.copytree(f"{folder}/{part}", f"{room}/{part}")
+        for path, text in texts.items():
+            Path(room, path).write_text(text, encoding="utf-8")
+        yield room
 
 
 def ran_in(folder, words):
@@ -248,14 +236,12 @@ def unpacked(rt, crate, path):
         return path
     archive = f"{crate.rlib}/toolchain/checked.a"
     pack = [f"{rt.KIT}/toolchain/bin/llvm-ar"]
-    listed = subprocess.run([*pack, "t", archive], stdin=subprocess.DEVNULL, stdout=subprocess.PIPE, text=True, errors="replace")
-    names = [it for it in listed.stdout.splitlines() if "/" not in it]
-    head = subprocess.run([*pack, "p", archive, *names[:1]], stdin=subprocess.DEVNULL, stdout=subprocess.PIPE, text=True, errors="replace")
-    build = re.search(r"^--@ kernel (\S+)$", head.stdout, re.MULTILINE)
+    names = [it for it in ran_in(path, [*pack, "t", archive]).stdout.splitlines() if "/" not in it]
+    build = re.search(r"^--@ kernel (\S+)$", ran_in(path, [*pack, "p", archive, *names[:1]]).stdout, re.MULTILINE)
     if names and build:
         folder = f"{path}/{build[1].replace('/', '_')}"
         os.makedirs(folder, exist_ok=True)
-        subprocess.run([*pack, "x", archive, *names], cwd=folder, stdin=subprocess.DEVNULL)
+        ran_in(folder, [*pack, "x", archive, *names])
     return path
 
 
@@ -298,73 +284,6 @@ def tests_of(rt, crate, store):
     return passed
 
 
-def keep_own(rt, room, names):
-    """Returns copies of what the developer's own checks of the crates kept, by the crates' names; with no name, of all."""
-    kept = {}
-    for crate in rt.rtlib.crates_below(os.getcwd()):
-        own = f"{crate.folder}/out/incremental"
-        if os.path.isdir(own) and (not names or crate.name in names):
-            kept[crate.name] = shutil.copytree(own, f"{room}/{crate.name}")
-    return kept
-
-
-class InPlace(ThreadPoolExecutor):
-    """Runs what is submitted at once, in the thread that submits it, so that what a command takes counts for whoever waits for it."""
-
-    def submit(self, call, *given):
-        ended = Future()
-        ended.set_result(call(*given))
-        return ended
-
-
-SPENT = threading.local()
-
-
-def spent():
-    """Returns the seconds of processors that the commands which this thread waited for have taken, with those that they waited for."""
-    return getattr(SPENT, "seconds", 0.0)
-
-
-def count_processors(rt):
-    """Has each thread know what its commands take."""
-    rt.rtlib.ThreadPoolExecutor = InPlace
-
-    def waited(pid, options):
-        pid, status, used = os.wait4(pid, options)
-        if pid:
-            SPENT.seconds = spent() + used.ru_utime + used.ru_stime
-        return pid, status
-
-    os.waitpid = waited
-
-
-class Minutes:
-    """What the tasks of a run take."""
-
-    def __init__(self):
-        self.began, self.seconds, self.running, self.ended = time.monotonic(), defaultdict(lambda: defaultdict(float)), {}, []
-
-    def timed(self, key, call):
-        """Returns the call of a task, which notes what it takes of processors."""
-        def run(given, jobs):
-            before, self.running[key] = spent(), time.monotonic()
-            try:
-                return call(given, jobs)
-            finally:
-                self.seconds[key[0]][key[1]] += spent() - before
-                del self.running[key]
-                self.ended += [key[0]] if key[1] == "proof" else []
-
-        return run
-
-    def table(self):
-        """Returns a line for each crate, dearest first, and one for all: minutes of proofs, tests and edits."""
-        of = {name: [took.get(kind, 0.0) / 60 for kind in KINDS] for name, took in self.seconds.items()}
-        lines = [(name, took) for name, took in sorted(of.items(), key=lambda it: -sum(it[1])) if sum(took) > 0.05]
-        lines.append(("in all", [sum(took[at] for took in of.values()) for at in range(len(KINDS))]))
-        return ["minutes of processors: proofs, tests, edits", *("  ".join([f"{name:14}", *(f"{it:6.1f}" for it in took)]) for name, took in lines)]
-
-
 def of_some(rt, words):
     """Has a script that takes no names for `ci` run it of the crates that are named and of those below them; returns the words that it takes."""
     names, crates_of, look = words[1:], rt.crates_of, rt.rtlib.stop_on_unread
@@ -386,12 +305,13 @@ def of_some(rt, words):
 def run(rt, words):
     """Runs the toolchain's command with these words, and returns its status. The word `program` in the place of `ci` has the program proved and
     built, and nothing beside it."""
-    count_processors(rt)
+    progress.count_processors(rt)
     is_program = words[0] == "program"
-    minutes, in_lanes, store = Minutes(), rt.in_lanes, {}
+    minutes, in_lanes, store = progress.Minutes(), rt.in_lanes, {}
     in_lanes = progress.program_alone(rt, in_lanes, minutes) if is_program else in_lanes
     own = None
-    if not for_later.keeps(rt):
+    # (a script that keeps nothing for later runs has no `Kept`)
+    if not hasattr(rt, "Kept"):
         own = store["kept"] = for_later.Store(rt, for_later.in_cache(), "--anew" not in words)
         words = of_some(rt, [it for it in words if it != "--anew"])
     tasks_of = lambda tasks: in_order(rt, tasks, lambda: store.get("kept"))
@@ -401,7 +321,10 @@ def run(rt, words):
     # (by this name the toolchain's script removes the folder of a run that was killed)
     with tempfile.TemporaryDirectory(prefix=f"rt-copy-{os.getpid()}-") as room:
         is_ci = words[0] != "must-fail"
-        kept = keep_all(rt, room, own) if is_ci else keep_own(rt, room, words[1:])
+        # (to try edits alone, what the developer's own checks of these crates kept)
+        tried = [] if is_ci else [it for it in rt.rtlib.crates_below(os.getcwd()) if not words[1:] or it.name in words[1:]]
+        own_of = {it.name: f"{it.folder}/out/incremental" for it in tried}
+        kept = keep_all(rt, room, own) if is_ci else {name: shutil.copytree(it, f"{room}/{name}") for name, it in own_of.items() if os.path.isdir(it)}
         rounds = Rounds(rt, kept, is_ci, lambda crate: unpacked(rt, crate, f"{room}/{crate.name}"))
         tries = for_later.Tries(rt, rounds, store)
         rt.in_lanes = for_later.with_rounds(rt, tries, own, timed) if own else timed

@@ -8,7 +8,6 @@ A law pins a definition if a clause of it is, for all arguments and without a pr
 definition at these arguments with words that do not lean on it. Where a definition gives a record, clauses of the law may pin it field by field."""
 
 import re
-from typing import NamedTuple
 
 TOKEN = re.compile(r"[(){}\[\],;⟦⟧]|[^\s(){}\[\],;⟦⟧]+")
 OPENS, CLOSES = {"(": ")", "{": "}", "[": "]", "⟦": "⟧"}, {")", "}", "]", "⟧"}
@@ -82,29 +81,24 @@ def premises_of(tokens):
     return names, premises, bare(last)
 
 
-def is_sum(left, sign, right):
-    """Whether a relation says no more than that a sum is at least a part of it."""
-    less, more = (left, right) if sign in ("≤", "<") else (right, left)
-    return sign in ("≤", "≥") and (less == ["0"] or more[: len(less) + 1] == [*less, "+"] or more[-len(less) - 1 :] == ["+", *less])
+def relation(tokens, signs):
+    """The first of these signs that relates two texts, and those; or none."""
+    return next(((sign, *map(bare, sides)) for sign in signs if len(sides := split(tokens, sign)) == 2), ("", [], []))
 
 
 def is_always(tokens):
     """Whether a relation says no more than that something is itself, or that a sum is at least a part of it."""
-    for sign in REFLEXIVE:
-        if len(sides := split(tokens, sign)) == 2:
-            left, right = map(bare, sides)
-            return left == right or is_sum(left, sign, right)
-    return False
+    sign, left, right = relation(tokens, REFLEXIVE)
+    less, more = (right, left) if sign == "≥" else (left, right)
+    is_sum = less == ["0"] or more[: len(less) + 1] == [*less, "+"] or more[-len(less) - 1 :] == ["+", *less]
+    return bool(sign) and (left == right or sign in "≤≥" and is_sum)
 
 
 def is_absurd(tokens):
     """Whether a relation says that something is above itself."""
-    for sign in ("≡", "≢", "<", "≤"):
-        if len(sides := split(tokens, sign)) == 2:
-            left, right = map(bare, sides)
-            is_more = lambda more, less: more[:-1] == [*less, "+"] and re.fullmatch("[1-9]\\d*", more[-1])
-            return bool(sign in "≢<" and left == right or sign in "≡<≤" and is_more(left, right) or sign == "≡" and is_more(right, left))
-    return False
+    sign, left, right = relation(tokens, "≡≢<≤")
+    is_more = lambda more, less: more[:-1] == [*less, "+"] and bool(re.fullmatch("[1-9]\\d*", more[-1]))
+    return bool(sign) and (sign in "≢<" and left == right or sign in "≡<≤" and is_more(left, right) or sign == "≡" and is_more(right, left))
 
 
 def equations(one):
@@ -135,14 +129,6 @@ def constructors(one):
     return [tokens_of(it.replace(" ∶ ", " : ")) for it in found[2::2]]
 
 
-class Pinned(NamedTuple):
-    """What a clause pins: the name of a field, or "" for the whole; the words in its place; and the definitions that state it, by their names, of
-    which the last has the words in its file: in the law's own source where there is none."""
-    field: str
-    words: list
-    statements: list
-
-
 class Statements:
     """What statements over a repository's definitions come to."""
 
@@ -153,7 +139,7 @@ class Statements:
 
     def states(self, text, imports, std):
         """Whether a clause of a source states anything."""
-        return self.says(tokens_of(text), (lambda word: self.found(imports, None, word), std, frozenset()), frozenset(), ())
+        return self.says(tokens_of(text), (lambda word: self.found(imports, None, word), std, frozenset()), (), ())
 
     def found(self, imports, own, word):
         """The definition that a word stands for, if any."""
@@ -170,8 +156,8 @@ class Statements:
 
     @staticmethod
     def types_in(one):
-        """The types of a record's fields, or the texts of a definition's equations."""
-        return [*parts_of_record(one)[1].values()] if one.is_record else [right for _, right in equations(one)]
+        """The types of a record's fields or of a data type's constructors, or the texts of a definition's equations."""
+        return [*parts_of_record(one)[1].values()] if one.is_record else constructors(one) if one.is_data else [right for _, right in equations(one)]
 
     def says(self, tokens, scope, seen, known):
         """Whether a type can be empty as far as its text tells, where these are known to hold."""
@@ -193,9 +179,9 @@ class Statements:
             return all(self.says(it, scope, seen, known) for it in some)
         if len(parts := split(tokens, "×")) > 1:
             return any(self.says(it, scope, seen, known) for it in parts if not is_binder(it))
-        if any(len(split(tokens, sign)) == 2 for sign in REFLEXIVE):
+        if relation(tokens, REFLEXIVE)[0]:
             return not is_always(tokens) and not self.is_closed(tokens, (*scope[:2], () if known else scope[2]))
-        return self.applies(groups(tokens), scope, seen, known)
+        return self.applies(tokens, scope, seen, known)
 
     def is_closed(self, tokens, scope):
         """Whether only std, and variables that the clause binds, have a word in a text: it is proved, or refuted, whatever the project says."""
@@ -215,28 +201,26 @@ class Statements:
         one = scope[0](tokens[0]) if tokens and "→" not in tokens and "⊎" not in tokens else None
         if not one or one in seen:
             return False
-        within, seen = self.scope(one.file), (*seen, one)
-        if one.is_data:
-            return not constructors(one)
         some = self.types_in(one)
-        return (one.is_record or len(some) == 1) and any(self.is_never(it, within, seen) for it in some)
+        if one.is_data:
+            return not some
+        return (one.is_record or len(some) == 1) and any(self.is_never(it, self.scope(one.file), (*seen, one)) for it in some)
 
     def is_hollow(self, one):
         """Whether a part of a definition is true of everything, or has a premise that nothing meets."""
-        return any(self.has_hollow(it, self.scope(one.file)) for it in (constructors(one) if one.is_data else self.types_in(one)))
+        return any(self.has_hollow(it, self.scope(one.file)) for it in self.types_in(one))
 
     def has_hollow(self, tokens, scope):
         _, premises, last = premises_of(tokens)
         parts = [it for sign in "×⊎" for some in [split(last, sign)] if len(some) > 1 for it in some if not is_binder(it)]
         return any(self.is_never(it, scope, ()) for it in premises) or any(self.has_hollow(it, scope) for it in parts) or not parts and is_always(last)
 
-    def applies(self, found, scope, seen, known):
+    def applies(self, tokens, scope, seen, known):
         """The same of a name with its arguments."""
-        head, *arguments = found
-        one = scope[0](head[0]) if len(head) == 1 else None
-        if one:
+        head, *arguments = groups(tokens)
+        if len(head) == 1 and (one := scope[0](head[0])):
             return self.unfolds(one, arguments, seen)
-        if head[0] in VALUES or head != ["⊥"] and self.is_closed([it for some in found for it in some], (*scope[:2], ())):
+        if head[0] in VALUES or head != ["⊥"] and self.is_closed(tokens, (*scope[:2], ())):
             return False
         under = [it[1:-1] for it in arguments if it[:2] == ["(", "λ"]]
         return any(self.says(it, scope, seen, known) for it in under) if under else True
@@ -245,7 +229,7 @@ class Statements:
         """The same of a definition at its arguments, of which is known only which are alike."""
         if one in seen:
             return False
-        seen, scope = seen | {one}, self.scope(one.file)
+        seen, scope = (*seen, one), self.scope(one.file)
         given = [["‹" + " ".join(bare(it)) + "›"] for it in arguments if it[0] != "{"]
         if one.is_record:
             names, fields = parts_of_record(one)
@@ -253,7 +237,9 @@ class Statements:
         if one.is_data:
             names = bound([it for some in groups(tokens_of(" ".join(one.lines).partition(" where")[0])) if is_binder(some) for it in some])
             return all(self.asks(put(it, dict(zip(names, given))), scope, seen) for it in constructors(one))
-        return any(self.says(put(right, named_by(left, given)), scope, seen, ()) for left, right in equations(one))
+        # (what the names of an equation stand for at these arguments)
+        names = lambda left: {it[0]: arg for it, arg in zip((it for it in left if it[0] != "{"), given) if len(it) == 1}
+        return any(self.says(put(right, names(left)), scope, seen, ()) for left, right in equations(one))
 
     def asks(self, tokens, scope, seen):
         """Whether a constructor can only be of some values: it has a premise that states something, or is of special arguments."""
@@ -265,7 +251,8 @@ class Statements:
     # Whether a law pins a definition.
 
     def pinned_by(self, one, text, imports):
-        """What a clause of a law pins of a definition, or none."""
+        """What a clause of a law pins of a definition, or none: the name of a field, or "" for the whole; the words in its place; and the definitions
+        that state it, by their names, of which the last has the words in its file: in the law's own source where there is none."""
         statements, tokens, named = [], tokens_of(text), lambda word: self.found(imports, None, word)
         while len(alone := groups(bare(tokens))) == 1 and len(alone[0]) == 1 and (said := named(alone[0][0])) and said != one:
             some = [*equations(said)]
@@ -276,20 +263,18 @@ class Statements:
         names, premises, last = premises_of(tokens)
         # (a law may be of fewer arguments than a definition that has more in front of these)
         is_whole = "{" not in one.lines[0] and not one.depth and all(self.is_domain(it, named, names) for it in premises)
-        sign = next((it for it in ("↔", "≡") if len(split(last, it)) == 2), None) if is_whole else None
-        sides = split(last, sign) if sign else []
-        for subject, other in (sides, sides[::-1]) if sign else ():
-            field = self.is_at_all(one, bare(subject), named, names)
+        sign, *sides = relation(last, "↔≡")
+        for subject, other in (sides, sides[::-1]) if sign and is_whole else ():
+            field = self.is_at_all(one, subject, named, names)
             if field is None and sign == "↔":
-                field = self.is_equation_of(one, bare(subject), named, names)
+                field = self.is_equation_of(one, subject, named, names)
             if field is not None:
-                return Pinned(field, [" ".join(other), " ".join(word for part in split(bare(tokens), "→")[:-1] for word in part)], statements)
+                return field, [" ".join(other), " ".join(word for part in split(bare(tokens), "→")[:-1] for word in part)], statements
         return None
 
     def is_domain(self, premise, named, names):
-        head, *rest = groups(premise)
-        it = named(head[0]) if len(head) == 1 else None
-        return bool(it) and (*it.file, it.name) in DOMAINS and len(rest) == 1 and len(rest[0]) == 1 and rest[0][0] in names
+        it = named(premise[0])
+        return len(premise) == 2 and premise[1] in names and bool(it) and (*it.file, it.name) in DOMAINS
 
     def is_at_all(self, one, side, named, names):
         """The field, or "" for the whole, where a side is the definition at arguments that are bound names, each another; else None."""
@@ -303,11 +288,10 @@ class Statements:
 
     def is_equation_of(self, one, side, named, names):
         """The same where a side says that the definition's value is one that is bound too, bare or behind a constructor."""
-        sides = split(side, "≡")
-        for subject, value in (sides, sides[::-1]) if len(sides) == 2 else ():
-            field, last = self.is_at_all(one, bare(subject), named, names), groups(bare(value))[-1]
-            is_new = len(last) == 1 and last[0] in names and last[0] not in subject
-            if field is not None and is_new and groups(bare(value))[:-1] in ([], [["Some"]]):
+        sign, *sides = relation(side, "≡")
+        for subject, value in (sides, sides[::-1]) if sign else ():
+            field, (*constructor, last) = self.is_at_all(one, subject, named, names), value
+            if field is not None and last in names and last not in subject and constructor in ([], ["Some"]):
                 return field
         return None
 
@@ -319,9 +303,3 @@ def put(tokens, given):
         first, dot, rest = it.partition(".")
         found += [*given[first], *([dot + rest] if rest else [])] if first in given else [it]
     return found
-
-
-def named_by(patterns, given):
-    """What the names of an equation stand for at these arguments."""
-    explicit = [it for it in patterns if it[0] != "{"]
-    return {it[0]: arg for it, arg in zip(explicit, given) if len(it) == 1}

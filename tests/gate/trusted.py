@@ -23,15 +23,6 @@ def named(top, crate):
     return found - OWN - {crate}
 
 
-def blocks(text):
-    """The paragraphs of a document that speak of what is trusted, in their own words or in those of their heading."""
-    heading = ""
-    for it in re.split(r"\n\s*\n", text):
-        heading = it if it.startswith("#") else heading
-        if re.search(r"\btrusted\b", it + heading, re.I):
-            yield it
-
-
 def faults(top, order):
     """Where crates.txt, the sources and the documents do not agree on the libraries of the kit."""
     crates = {it.name for it in rattle.crates(top)}
@@ -42,6 +33,10 @@ def faults(top, order):
     libraries = {it for below in (*order.values(), *used.values()) for it in below} - crates
     found += [f"crates.txt: no source names {it}" for it in sorted(libraries - set().union(*used.values()))]
     for name in ("README.md", "docs/PROMISES.md") if libraries else ():
-        told = {it for block in blocks(rattle.text_of(top / name)) for it in CODE.findall(block)}
+        told, heading = set(), ""
+        # (the paragraphs that speak of what is trusted, in their own words or in those of their heading)
+        for block in re.split(r"\n\s*\n", rattle.text_of(top / name)):
+            heading = block if block.startswith("#") else heading
+            told.update(CODE.findall(block) if re.search(r"\btrusted\b", block + heading, re.I) else ())
         found += [f"{name}: {it} is of the kit, and not among what is trusted" for it in sorted(libraries - told)]
     return found
