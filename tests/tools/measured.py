@@ -1,5 +1,5 @@
 """Of which commit the measurements are: each file of bench/results names its commit, and one that is old is in the table of docs/PERFORMANCE.md
-that says so and why."""
+that says so and why. And the tables of pages that show what was measured."""
 import re
 import subprocess
 import sys
@@ -12,6 +12,39 @@ import results  # noqa: E402
 RESULTS = TOP / "bench/results"
 # so many commits after it a measurement is old
 MOST = 50
+# which columns a table shows, by its mark
+WANTED = re.compile(r" of (?P<of>\w+)(?: by (?P<by>\w+))?(?: with(?P<only>(?: \w+=\w+)+))?(?: to (?P<to>\d))?")
+
+
+def shown(word, digits=0):
+    """A number as a document has it, rounded to so many digits if they are given; other words as they are."""
+    try:
+        number = float(word)
+    except ValueError:
+        return word
+    if digits:
+        return f"{float(f'{number:.{digits - 1}e}'):,.10g}"
+    return f"{number:.1f}" if "." in word and abs(number) < 1_000 else f"{number:,.0f}"
+
+
+def cells(line):
+    return [it.strip() for it in line.strip().strip("|").split("|")]
+
+
+def table_of(mark, head, rows):
+    """The lines of a table with this mark and head as the results give them, or None where the mark does not say which."""
+    wanted = WANTED.fullmatch(mark)
+    if not wanted or not rows or wanted["of"] not in rows[0] or (wanted["by"] and wanted["by"] not in rows[0]):
+        return None
+    only, heads, key = dict(it.split("=") for it in (wanted["only"] or "").split()), cells(head), next(iter(rows[0]))
+    digits, found = int(wanted["to"] or 0), {}
+    for row in (it for it in rows if all(it.get(name) == value for name, value in only.items())):
+        found.setdefault(row[key], {})[row[wanted["by"]] if wanted["by"] else ""] = row[wanted["of"]]
+    columns = list(dict.fromkeys(it for values in found.values() for it in values))
+    heads = [heads[0], *(map(shown, columns) if wanted["by"] else heads[1:2])]
+    lines = [heads, *([shown(name) if wanted["by"] else name, *(shown(values.get(it, ""), digits) for it in columns)] for name, values in found.items())]
+    made = ["| " + " | ".join(it) + " |" for it in lines]
+    return [made[0], "|" + "---|" * len(heads), *made[1:]]
 
 
 def commits_of(path):
