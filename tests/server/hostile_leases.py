@@ -1,6 +1,7 @@
 """What tests/server/hostile does to the leases of good clients: others send records that take long, and a client that renews in time is to lose nothing."""
 import contextlib
 import functools
+import itertools
 import statistics
 import threading
 import time
@@ -56,6 +57,13 @@ class Attack:
         self.lasted = is_there and self.came > 0
 
 
+def notes(name, goods, lost, waits):
+    """Figures of an attack: how many good clients there were, how many lost something, and how long they waited."""
+    found.extend((name, figure, value) for figure, value in (
+        ("good clients", goods), ("who lost something", lost), ("wait in the middle, seconds", f"{statistics.median(waits):.2f}"),
+        ("longest wait, seconds", f"{max(waits):.1f}")))
+
+
 def renewed_in_time(name, lease, phases, goods=6):
     """Good clients, each of which renews at 0.7 of a lease behind the reply to its last renewal, at as many phases. `phases` gives functions that
     begin attacks on a server, each with the seconds that they last. All goods keep what they hold."""
@@ -73,8 +81,7 @@ def renewed_in_time(name, lease, phases, goods=6):
         waits = sorted(wait for one in good for wait in one.waits) or [0]
         print(f"{name}: good clients waited {1e3 * statistics.median(waits):.1f} ms in the middle and {1e3 * waits[-1]:.1f} at most, {len(waits)} times")
         lost = [f"{n}: {one.shown()}" for n, one in enumerate(good) if not one.stood()]
-        found.extend((name, figure, value) for figure, value in (
-            ("good clients", goods), ("who lost something", len(lost)), ("longest wait, seconds", f"{waits[-1]:.1f}")))
+        notes(name, goods, len(lost), waits)
         judge(f"{name}: of {goods} clients that renew in time none loses anything", not lost, lost)
 
 
@@ -90,23 +97,44 @@ def between_lock_owners(lease=4, owners=30_000, last=20, seconds=(9, 9)):
     renewed_in_time(f"leases of {lease} s beside LOCKTs between {owners} owners", lease, phases)
 
 
+def renames_below(server, makes, depth, connections):
+    """So many attacks, each of 60 RENAMEs at the bottom of a chain of directories: 60 directories with an entry each, from one place to another and
+    back."""
+    last, before = chain(makes, b"d", depth)
+
+    def attack(n):
+        names = [b"%d of %d" % (one, n) for one in range(60)]
+        makes.does_all([], [step for name in names for step in (at(last), create(name), create(b"entry"))], 60)
+        moves = [rename(name, name) for name in names]
+        return lambda: Attack(server, b"renames %d" % n, [at(last), SAVE, at(before), *moves], [at(before), SAVE, at(last), *moves])
+
+    return [attack(n) for n in range(connections)]
+
+
 def below_many_directories(lease=4, depth=20_000, connections=8, seconds=(9, 9)):
     """60 RENAMEs at the bottom of a chain of directories, over all connections but two and then over those two."""
     def phases(server, stack):
-        makes = stack.enter_context(Peer(server, b"makes"))
-        last, before = chain(makes, b"d", depth)
-
-        def attack(n):
-            """60 directories with an entry each, from the one to the other and back."""
-            names = [b"%d of %d" % (one, n) for one in range(60)]
-            makes.does_all([], [step for name in names for step in (at(last), create(name), create(b"entry"))], 60)
-            moves = [rename(name, name) for name in names]
-            return lambda: Attack(server, b"renames %d" % n, [at(last), SAVE, at(before), *moves], [at(before), SAVE, at(last), *moves])
-
-        attacks = [attack(n) for n in range(connections)]
+        attacks = renames_below(server, stack.enter_context(Peer(server, b"makes")), depth, connections)
         return [(attacks[2:], seconds[0]), (attacks[:2], seconds[1])]
 
     renewed_in_time(f"leases of {lease} s beside RENAMEs {depth} directories down", lease, phases)
+
+
+def asks_below_many_directories(depth=20_000, counts=(1, 14), seconds=9):
+    """A good client that asks all the time, beside such RENAMEs over one connection, and over as many as there are places."""
+    with Served(30) as server, Good(server, 0.01) as good:
+        with Peer(server, b"makes") as makes:
+            attacks = iter(renames_below(server, makes, depth, sum(counts)))
+        for count in counts:
+            name, begun = f"RENAMEs {depth} directories down over {count} connection{'s' * (count > 1)}", len(good.waits)
+            with contextlib.ExitStack() as stack:
+                started = [stack.enter_context(attack()) for attack in itertools.islice(attacks, count)]
+                time.sleep(seconds)
+            waits = good.waits[begun:] or [seconds]
+            judge(f"{name}: all go on to the end", all(attack.lasted for attack in started), [it.came for it in started])
+            print(f"{name}: the good client waited {1e3 * statistics.median(waits):.1f} ms in the middle and {1e3 * max(waits):.1f} at most, {len(waits)} times")
+            notes(name, 1, int(good.fault is not None), waits)
+        judge(f"RENAMEs {depth} directories down: the good client is told what is right, and its lock stands", good.stood(), good.shown())
 
 
 def one_attacker():
@@ -153,7 +181,9 @@ def calls_without_a_session(count=2_000):
             with server.connect(f"127.0.{n // 20_000 + 1}.1") as stream:
                 stream.sendall(null(n))
                 right += received(stream, 28) == null_reply(n)
-        print(f"{name}: they took {time.monotonic() - begun:.0f} s, and {server.seconds():.0f} of a processor")
+        took = time.monotonic() - begun, server.seconds()
+        print(f"{name}: they took {took[0]:.0f} s, and {took[1]:.0f} of a processor")
+        found.extend((name, figure, f"{value:.0f}") for figure, value in zip(("seconds", "of a processor"), took))
         judge(f"{name}: each is answered", right == count, right)
         with Peer(server, b"later") as later:
             judge(f"{name}: a client behind them is served", bool(later.asks()))
@@ -180,5 +210,6 @@ LONG = {
     "leases of 90 s beside LOCKTs": functools.partial(between_lock_owners, lease=90, owners=100_000, last=58, seconds=(60, 140)),
     "leases of 10 s beside LOCKTs": functools.partial(between_lock_owners, lease=10, owners=100_000, last=58, seconds=(30, 30)),
     "leases of 10 s beside RENAMEs": functools.partial(below_many_directories, lease=10, depth=60_000, connections=9, seconds=(30, 30)),
+    "waits beside RENAMEs": functools.partial(asks_below_many_directories, depth=60_000, seconds=20),
     "a million NULL calls": functools.partial(calls_without_a_session, count=1_000_000),
 }
