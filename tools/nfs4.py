@@ -115,9 +115,15 @@ def shown_mask(mask):
 
 
 def meant_mask(word):
+    """The mask that names or numbers of attributes mean, with commas between; a number is itself, and `-` is none."""
     if isinstance(word, int):
         return word
-    return 0 if word == "-" else sum(1 << (ATTRIBUTE_NUMBERS[w] if w in ATTRIBUTE_NUMBERS else int(w, 0)) for w in word.split(","))
+    if word == "-":
+        return 0
+    try:
+        return sum(1 << (ATTRIBUTE_NUMBERS[w] if w in ATTRIBUTE_NUMBERS else int(w, 0)) for w in word.split(","))
+    except ValueError as fault:
+        raise Unreadable(f"'{word}' is no mask: names or numbers of attributes with commas between, or -") from fault
 
 
 class Reader:
