@@ -2,6 +2,7 @@
 (RFC 8881 section 18, RFC 5662), scripts of `nfs41d replay` and what it puts out. Fields have the words of tshark's dissector,
 where it has them. An operation is described once, by a function that is called with a reader or with a writer."""
 import functools
+import operator
 import re
 import struct
 import sys
@@ -52,13 +53,13 @@ ATTRIBUTES |= {int(number): (name, kind) for number, name, kind in re.findall(
 # tshark's words of the others, which stand in masks; their values are shown as they came.
 OTHERS = {int(number): name for number, name in re.findall(
     r"(\d+) (\w+)",
-    "12 ACL 13 ACLSupport 14 Archive 15 CanSetTime 16 Case_Insensitive 17 Case_Preserving 18 Chown_Restricted 21 Files_Avail 22 Files_Free "
-    "23 Files_Total 24 FS_Locations 25 Hidden 26 Homogeneous 32 MimeType 34 No_Trunc 38 Quota_Avail_Hard 39 Quota_Avail_Soft 40 Quota_Used "
-    "41 RawDev 42 Space_Avail 43 Space_Free 44 Space_Total 46 System 49 Time_Backup 50 Time_Create 51 Time_Delta 56 Dir_Notif_Delay 58 DACL "
-    "59 SACL 60 Change_Policy 61 FS_Status 62 FS_Layout_Type 63 Layout_hint 64 Layout_type 65 Layout_blksize 66 Layout_alignment "
-    "67 FS_Locations_info 68 MDS_Threshold 69 Retention_Get 70 Retention_Set 71 RetentEvt_Get 72 RetentEvt_Set 73 Retention_Hold "
-    "74 Mode_Set_Masked 76 FS_Charset_Cap 77 Clone_Block_Size 78 Space_Freed 79 Change_Attr_Type 80 Security_Label 81 Mode_Umask "
-    "82 Xattr_Support 83 Offline 84 Time_Deleg_Access 85 Time_Deleg_Modify")}
+    "12 ACL 24 FS_Locations 25 Hidden 32 MimeType 38 Quota_Avail_Hard 39 Quota_Avail_Soft 40 Quota_Used 46 System 49 Time_Backup 56 "
+    "Dir_Notif_Delay 58 DACL 59 SACL 60 Change_Policy 61 FS_Status 63 Layout_hint 64 Layout_type 66 Layout_alignment 67 FS_Locations_info 68 "
+    "MDS_Threshold 69 Retention_Get 70 Retention_Set 71 RetentEvt_Get 72 RetentEvt_Set 73 Retention_Hold 74 Mode_Set_Masked 76 FS_Charset_Cap "
+    "77 Clone_Block_Size 78 Space_Freed 79 Change_Attr_Type 80 Security_Label 81 Mode_Umask 82 Xattr_Support 83 Offline 84 Time_Deleg_Access "
+    "85 Time_Deleg_Modify")}
+# The numbers of a value's kind, as struct has them.
+FORMS = {"n": ">I", "b": ">I", "N": ">Q", "d": ">II", "f": ">QQ", "t": ">QI", "s": ">QI"}
 WORDS = OTHERS | {number: name for number, (name, _) in ATTRIBUTES.items()}
 ATTRIBUTE_NUMBERS = {name: number for number, name in WORDS.items()}
 
@@ -197,15 +198,7 @@ class Reader:
         self.note(name, "{" + ";".join(words) + "}" if plain else f"raw:{shown_mask(value)}:{count}:0x{values.hex()}")
 
     def value(self, kind):
-        if kind == "n":
-            return str(self.number())
-        if kind == "N":
-            return str(int.from_bytes(self.take(8), "big"))
-        if kind == "b":
-            value = self.number()
-            if value > 1:
-                raise Unreadable("no bool")
-            return str(value)
+        """The word of an attribute's value, by the letter of its kind."""
         if kind == "o":
             return shown(self.opaque())
         if kind == "M":
@@ -213,16 +206,18 @@ class Reader:
             if count != (value.bit_length() + 31) // 32:
                 raise Unreadable("mask")
             return shown_mask(value)
-        if kind == "d":
-            return f"{self.number()}.{self.number()}"
         if kind == "A":
             return "+".join(str(self.number()) for _ in range(min(self.number(), len(self.data)))) or "-"
         if kind == "s" and (how := self.number()) != 1:
             if how:
                 raise Unreadable("time")
             return "now"
-        long, short = struct.unpack(">QQ" if kind == "f" else ">QI", self.take(16 if kind == "f" else 12))
-        return f"{long}.{short}" if kind == "f" else f"{long}.{short:09}" if short < 10**9 else f"{long}+{short}"
+        first, *rest = struct.unpack(FORMS[kind], self.take(struct.calcsize(FORMS[kind])))
+        if kind == "b" and first > 1:
+            raise Unreadable("no bool")
+        if kind in "st":
+            return f"{first}.{rest[0]:09}" if rest[0] < 10**9 else f"{first}+{rest[0]}"
+        return ".".join(map(str, [first, *rest]))
 
     def many(self, name, one):
         for _ in range(self.u32(name)):
@@ -311,173 +306,49 @@ class Writer:
 
     def value(self, name, kind, text):
         """The value of an attribute, by the letter of its kind."""
-        if kind in "nb":
-            is_octal = text.startswith("0") and text.isdigit()
-            self.data += u32(number_of(name, f"0o{text}" if is_octal else text))
-        elif kind == "N":
-            self.data += u64(number_of(name, text, 64))
-        elif kind == "o":
+        if kind == "o":
             self.put_bytes(meant(text))
         elif kind == "M":
             self.put_mask(meant_mask(text))
-        elif kind == "d":
-            self.data += struct.pack(">II", *(int(part) for part in text.split(".")))
         elif kind == "A":
             parts = [int(part) for part in text.split("+")] if text != "-" else []
-            self.data += struct.pack(f">{1 + len(parts)}I", len(parts), *parts)
-        elif text == "now":
+            self.data += u32(len(parts), *parts)
+        elif kind == "s" and text == "now":
             self.data += u32(0)
         else:
-            if kind == "s":
-                self.data += u32(1)
-            pair = re.fullmatch(r"([0-9]+)[.+]([0-9]+)", text)
-            if not pair:
-                raise Unreadable(f"{name}:{text} is not two numbers with a point or a plus between them")
-            long, short = number_of(name, int(pair[1]), 64), number_of(name, int(pair[2]), 64 if kind == "f" else 32)
-            self.data += u64(long) + (u64(short) if kind == "f" else u32(short))
+            is_octal = kind in "nb" and text.startswith("0") and text.isdigit()
+            words = [f"0o{text}" if is_octal else text]
+            if len(FORMS[kind]) > 2:
+                pair = re.fullmatch(r"([0-9]+)[.+]([0-9]+)", text)
+                if not pair:
+                    raise Unreadable(f"{name}:{text} is not two numbers with a point or a plus between them")
+                words = map(int, pair.groups())
+            numbers = [number_of(name, word, 8 * struct.calcsize(size)) for word, size in zip(words, FORMS[kind][1:])]
+            self.data += (u32(1) if kind == "s" else b"") + struct.pack(FORMS[kind], *numbers)
 
     def many(self, name, one):
         for _ in range(self.u32(name)):
             one(self)
 
 
-# Arguments and results of each operation, for a reader or a writer `c`.
+# Arguments and results of each operation. An item is spelled NAME:KIND or NAME:KIND=DEFAULT: n is a number of four bytes and N one of eight, x and X
+# the same shown in hexadecimal, o bytes, M a mask, F attributes, and a number is that many bytes.
 
-def state_owner(c):
-    c.u64("clientid", style="0x{:x}")
-    c.bytes_("owner")
-
-
-def byte_range(c):
-    c.u64("offset")
-    c.u64("length")
+KINDS = {"n": ("u32", "{}"), "N": ("u64", "{}"), "x": ("u32", "0x{:x}"), "X": ("u64", "0x{:x}"), "o": ("bytes_",), "M": ("mask",), "F": ("attributes",)}
 
 
-def channel(side):
-    def attributes(c):
-        for word, default in (("hdr_pad_size", 0), ("max_req_size", 66_560), ("max_resp_size", 66_560), ("max_resp_size_cached", 66_560),
-                              ("max_ops", 64), ("max_reqs", 16)):
-            c.u32(f"{side}_{word}", default)
-        c.many(f"{side}_rdma_ird", lambda c: c.u32(f"{side}_ird"))
-    return attributes
-
-
-def create(c):
-    kind = c.u32("type", 2)
-    if kind == 5:
-        c.bytes_("linkdata")
-    elif kind in (3, 4):
-        c.u32("specdata1")
-        c.u32("specdata2")
-    c.bytes_("name")
-    c.attributes("attrs")
-
-
-def lock(c):
-    c.u32("locktype", 2)
-    c.u32("reclaim")
-    byte_range(c)
-    if c.u32("new_lock_owner"):
-        c.u32("open_seqid")
-        c.fixed("StateID", 16)
-        c.u32("lock_seqid")
-        state_owner(c)
-    else:
-        c.fixed("StateID", 16)
-        c.u32("lock_seqid")
-
-
-def open_(c):
-    c.u32("seqid")
-    c.u32("share_access", 1)
-    c.u32("share_deny")
-    state_owner(c)
-    if c.u32("open_type"):
-        mode = c.u32("create_mode")
-        if mode > 3:
-            raise Unreadable("create mode")
-        if mode >= 2:
-            c.fixed("verifier", 8)
-        if mode != 2:
-            c.attributes("attrs")
-    claim = c.u32("claim_type")
-    if claim in (2, 5):
-        c.fixed("delegate_stateid", 16)
-    if claim == 1:
-        c.u32("delegation_type")
-    if claim in (0, 2, 3):
-        c.bytes_("name")
-    if claim > 6:
-        raise Unreadable("claim")
-
-
-def exchange_id(c):
-    c.fixed("verifier", 8)
-    c.bytes_("owner")
-    c.u32("eia_flags", style="0x{:x}")
-    if c.u32("eia_state_protect"):
-        raise Unreadable("state protection")
-    c.many("eia_client_impl_id", implementation)
-
-
-def implementation(c):
-    c.bytes_("domain")
-    c.bytes_("name")
-    c.u64("seconds")
-    c.u32("nseconds")
-
-
-def create_session(c):
-    c.u64("clientid", style="0x{:x}")
-    c.u32("seqid", 1)
-    c.u32("csa_flags", style="0x{:x}")
-    channel("fore")(c)
-    channel("back")(c)
-    c.u32("cb_program", style="0x{:x}")
-    c.many("cb_sec", callback)
-
-
-def callback(c):
-    flavor = c.u32("flavor")
-    if flavor == 1:
-        c.u32("stamp")
-        c.bytes_("machine_name")
-        c.u32("uid")
-        c.u32("gid")
-        c.many("gids", lambda c: c.u32("auxiliary_gid"))
-    elif flavor == 6:
-        c.u32("service")
-        c.bytes_("handle_from_server")
-        c.bytes_("handle_from_client")
-    elif flavor:
-        raise Unreadable("flavor")
-
-
-def sequence(c):
-    c.fixed("sessionid", 16)
-    c.u32("seqid")
-    c.u32("slot_id")
-    c.u32("high_slot_id")
-    c.u32("cache_this")
-
-
-KINDS = {"n": "u32", "N": "u64", "o": "bytes_", "M": "mask", "F": "attributes"}
-
-
-def item_of(item):
-    """The item of a spelling `name:kind`; a function is itself."""
-    if callable(item):
-        return item
-    name, kind = item.split(":")
-    if kind in KINDS:
-        call = KINDS[kind]
-        return lambda c: getattr(c, call)(name)
-    return lambda c: c.fixed(name, int(kind))
+def item_of(word):
+    """What reads or writes the item of a spelling, called with a reader or a writer."""
+    name, kind, default = re.fullmatch(r"(\w+):(\w+)=?(\d*)", word).groups()
+    if kind.isdigit():
+        return operator.methodcaller("fixed", name, int(kind))
+    call, *style = KINDS[kind]
+    return operator.methodcaller(call, name, *([int(default or 0), *style] if style else []))
 
 
 def in_turn(*items):
-    """The items of these spellings, one behind the other."""
-    made = [item_of(item) for item in items]
+    """Items one behind the other: texts of spellings, and what reads or writes others."""
+    made = [one for item in items for one in ([item] if callable(item) else map(item_of, item.split()))]
 
     def all_(c):
         for item in made:
@@ -485,83 +356,95 @@ def in_turn(*items):
     return all_
 
 
-CHANGE = ("atomic:n", "changeid_before:N", "changeid_after:N")
-ARGUMENTS = {
-    "ACCESS": in_turn("access:n"), "CLOSE": in_turn("seqid:n", "StateID:16"), "COMMIT": in_turn("offset:N", "count:n"), "CREATE": create,
-    "GETATTR": in_turn("attr_mask:M"), "GETFH": in_turn(), "LINK": in_turn("name:o"), "LOCK": lock,
-    "LOCKT": in_turn("locktype:n", byte_range, state_owner), "LOCKU": in_turn("locktype:n", "seqid:n", "StateID:16", byte_range),
-    "LOOKUP": in_turn("name:o"), "LOOKUPP": in_turn(), "NVERIFY": in_turn("attrs:F"), "OPEN": open_,
-    "OPEN_DOWNGRADE": in_turn("StateID:16", "seqid:n", "share_access:n", "share_deny:n"), "PUTFH": in_turn("FileHandle:o"),
-    "PUTPUBFH": in_turn(), "PUTROOTFH": in_turn(), "READ": in_turn("StateID:16", "offset:N", "count:n"),
-    "READDIR": in_turn("cookie:N", "cookie_verf:8", "dircount:n", "maxcount:n", "attr_mask:M"), "READLINK": in_turn(),
-    "REMOVE": in_turn("name:o"), "RENAME": in_turn("name:o", "newname:o"), "RESTOREFH": in_turn(), "SAVEFH": in_turn(),
-    "SETATTR": in_turn("StateID:16", "attrs:F"), "VERIFY": in_turn("attrs:F"), "WRITE": in_turn("StateID:16", "offset:N", "stable:n", "data:o"),
-    "EXCHANGE_ID": exchange_id, "CREATE_SESSION": create_session, "DESTROY_SESSION": in_turn("sessionid:16"),
-    "FREE_STATEID": in_turn("StateID:16"), "SECINFO_NO_NAME": in_turn("style:n"), "SEQUENCE": sequence,
-    "TEST_STATEID": lambda c: c.many("num_stateids", lambda c: c.fixed("StateID", 16)),
-    "DESTROY_CLIENTID": lambda c: c.u64("clientid", style="0x{:x}"), "RECLAIM_COMPLETE": in_turn("one_fs:n"),
-}
+def many(count, *items):
+    """A number, and so many times these items."""
+    return operator.methodcaller("many", count, in_turn(*items))
 
 
-def opened(c):
-    in_turn("StateID:16", *CHANGE, "result_flags:n", "attr_mask:M", delegation)(c)
+def by(number, behind, otherwise=None):
+    """A number, and the items that are behind it for its value; a value that has none is refused if there is nothing otherwise."""
+    number_, name = item_of(number), number.partition(":")[0]
+    behind, otherwise = {value: in_turn(items) for value, items in behind.items()}, otherwise and in_turn(otherwise)
+
+    def all_(c):
+        items = behind.get(value := number_(c), otherwise)
+        if items is None:
+            raise Unreadable(f"{name} {value}")
+        items(c)
+    return all_
 
 
-def delegation(c):
-    """What OPEN gives beside the open (open_delegation4): this profile's server gives none."""
-    kind = c.u32("delegation_type")
-    if kind > 3:
-        raise Unreadable("delegation")
-    if kind in (1, 2):
-        in_turn("delegation_stateid:16", "delegation_recall:n")(c)
-    if kind == 2:
-        in_turn(*(["limit_size:N"] if c.u32("limit_by", 1) == 1 else ["limit_blocks:n", "limit_block_size:n"]))(c)
-    if kind in (1, 2):
-        in_turn("ace_type:n", "ace_flags:n", "ace_mask:n", "ace_who:o")(c)
-    elif kind == 3 and c.u32("why_none") in (1, 2):
-        c.u32("will_tell")
+def channel(side):
+    sizes = "hdr_pad_size:n max_req_size:n=66560 max_resp_size:n=66560 max_resp_size_cached:n=66560 max_ops:n=64 max_reqs:n=16"
+    return in_turn(" ".join(f"{side}_{it}" for it in sizes.split()), many(f"{side}_rdma_ird", f"{side}_ird:n"))
+
+
+STATE_OWNER, BYTE_RANGE, CHANGE = "clientid:X owner:o", "offset:N length:N", "atomic:n changeid_before:N changeid_after:N"
+IMPLEMENTATION = "domain:o name:o seconds:N nseconds:n"
+DEVICE, WITH_STATE = "specdata1:n specdata2:n", "StateID:16 lock_seqid:n"
+CREATED = by("create_mode:n", {0: "attrs:F", 1: "attrs:F", 2: "verifier:8", 3: "verifier:8 attrs:F"})
+CLAIMED = by("claim_type:n", {0: "name:o", 1: "delegation_type:n", 2: "delegate_stateid:16 name:o", 3: "name:o", 4: "", 5: "delegate_stateid:16", 6: ""})
+CALLBACK = by("flavor:n", {0: "", 1: in_turn("stamp:n machine_name:o uid:n gid:n", many("gids", "auxiliary_gid:n")),
+                           6: "service:n handle_from_server:o handle_from_client:o"})
+ARGUMENTS = {name: in_turn(items) for name, items in {
+    "ACCESS": "access:n", "CLOSE": "seqid:n StateID:16", "COMMIT": "offset:N count:n",
+    "CREATE": in_turn(by("type:n=2", {3: DEVICE, 4: DEVICE, 5: "linkdata:o"}, in_turn()), "name:o attrs:F"),
+    "GETATTR": "attr_mask:M", "GETFH": "", "LINK": "name:o",
+    "LOCK": in_turn("locktype:n=2 reclaim:n", BYTE_RANGE, by("new_lock_owner:n", {0: WITH_STATE}, in_turn("open_seqid:n", WITH_STATE, STATE_OWNER))),
+    "LOCKT": in_turn("locktype:n", BYTE_RANGE, STATE_OWNER), "LOCKU": in_turn("locktype:n seqid:n StateID:16", BYTE_RANGE),
+    "LOOKUP": "name:o", "LOOKUPP": "", "NVERIFY": "attrs:F",
+    "OPEN": in_turn("seqid:n share_access:n=1 share_deny:n", STATE_OWNER, by("open_type:n", {0: ""}, CREATED), CLAIMED),
+    "OPEN_DOWNGRADE": "StateID:16 seqid:n share_access:n share_deny:n", "PUTFH": "FileHandle:o", "PUTPUBFH": "", "PUTROOTFH": "",
+    "READ": "StateID:16 offset:N count:n", "READDIR": "cookie:N cookie_verf:8 dircount:n maxcount:n attr_mask:M", "READLINK": "",
+    "REMOVE": "name:o", "RENAME": "name:o newname:o", "RESTOREFH": "", "SAVEFH": "", "SETATTR": "StateID:16 attrs:F", "VERIFY": "attrs:F",
+    "WRITE": "StateID:16 offset:N stable:n data:o",
+    "EXCHANGE_ID": in_turn("verifier:8 owner:o eia_flags:x", by("eia_state_protect:n", {0: ""}), many("eia_client_impl_id", IMPLEMENTATION)),
+    "CREATE_SESSION": in_turn("clientid:X seqid:n=1 csa_flags:x", channel("fore"), channel("back"), "cb_program:x", many("cb_sec", CALLBACK)),
+    "DESTROY_SESSION": "sessionid:16", "FREE_STATEID": "StateID:16", "SECINFO_NO_NAME": "style:n",
+    "SEQUENCE": "sessionid:16 seqid:n slot_id:n high_slot_id:n cache_this:n", "TEST_STATEID": many("num_stateids", "StateID:16"),
+    "DESTROY_CLIENTID": "clientid:X", "RECLAIM_COMPLETE": "one_fs:n",
+}.items()}
+
+# What OPEN gives beside the open (open_delegation4): this profile's server gives none.
+RECALLED, ACE = "delegation_stateid:16 delegation_recall:n", "ace_type:n ace_flags:n ace_mask:n ace_who:o"
+LIMITED = by("limit_by:n=1", {1: "limit_size:N"}, in_turn("limit_blocks:n limit_block_size:n"))
+DELEGATION = by("delegation_type:n", {0: "", 1: in_turn(RECALLED, ACE), 2: in_turn(RECALLED, LIMITED, ACE),
+                                      3: by("why_none:n", {1: "will_tell:n", 2: "will_tell:n"}, in_turn())})
+# One way to prove who calls (secinfo4); behind RPCSEC_GSS its mechanism stands.
+FLAVOR = by("flavor:n", {6: "oid:o qop:n service:n"}, in_turn())
+ENTRY = in_turn("cookie:N name:o attrs:F")
 
 
 def listed(c):
     c.fixed("cookie_verf", 8)
     while c.u32("value_follows"):
-        c.u64("cookie")
-        c.bytes_("name")
-        c.attributes("attrs")
+        ENTRY(c)
     c.u32("eof")
 
 
-def exchanged(c):
-    c.u64("clientid", style="0x{:x}")
-    c.u32("seqid")
-    c.u32("eir_flags", style="0x{:x}")
-    if c.u32("eir_state_protect"):
-        raise Unreadable("state protection")
-    c.u64("minor_id")
-    c.bytes_("major_id")
-    c.bytes_("scope")
-    c.many("eir_server_impl_id", implementation)
+RESULTS = {name: in_turn(items) for name, items in {
+    "ACCESS": "supported:n access_rights:n", "CLOSE": "StateID:16", "COMMIT": "verifier:8", "CREATE": in_turn(CHANGE, "attr_mask:M"),
+    "GETATTR": "attrs:F", "GETFH": "FileHandle:o", "LINK": CHANGE, "LOCK": "StateID:16", "LOCKU": "StateID:16",
+    "OPEN": in_turn("StateID:16", CHANGE, "result_flags:n attr_mask:M", DELEGATION), "OPEN_DOWNGRADE": "StateID:16", "READ": "eof:n data:o",
+    "READDIR": listed, "READLINK": "linkdata:o", "REMOVE": CHANGE,
+    "RENAME": "source_atomic:n source_before:N source_after:N target_atomic:n target_before:N target_after:N",
+    "WRITE": "count:n committed:n verifier:8",
+    "EXCHANGE_ID": in_turn("clientid:X seqid:n eir_flags:x", by("eir_state_protect:n", {0: ""}), "minor_id:N major_id:o scope:o",
+                           many("eir_server_impl_id", IMPLEMENTATION)),
+    "CREATE_SESSION": in_turn("sessionid:16 seqid:n csr_flags:x", channel("fore"), channel("back")), "SECINFO_NO_NAME": many("flavors", FLAVOR),
+    "SEQUENCE": "sessionid:16 seqid:n slot_id:n high_slot_id:n target_high_slot_id:n status_flags:n",
+    "TEST_STATEID": many("num_results", "StateID_status:n"),
+}.items()}
+MASK_SET, LOCK_DENIED, NOTHING = in_turn("attr_mask:M"), in_turn(BYTE_RANGE, "locktype:n", STATE_OWNER), in_turn()
 
 
-def flavor(c):
-    """One way to prove who calls (secinfo4); behind RPCSEC_GSS its mechanism stands."""
-    if c.u32("flavor") == 6:
-        in_turn("oid:o", "qop:n", "service:n")(c)
-
-
-RESULTS = {
-    "ACCESS": in_turn("supported:n", "access_rights:n"), "CLOSE": in_turn("StateID:16"), "COMMIT": in_turn("verifier:8"),
-    "CREATE": in_turn(*CHANGE, "attr_mask:M"), "GETATTR": in_turn("attrs:F"), "GETFH": in_turn("FileHandle:o"), "LINK": in_turn(*CHANGE),
-    "LOCK": in_turn("StateID:16"), "LOCKU": in_turn("StateID:16"), "OPEN": opened, "OPEN_DOWNGRADE": in_turn("StateID:16"),
-    "READ": in_turn("eof:n", "data:o"), "READDIR": listed, "READLINK": in_turn("linkdata:o"), "REMOVE": in_turn(*CHANGE),
-    "RENAME": in_turn("source_atomic:n", "source_before:N", "source_after:N", "target_atomic:n", "target_before:N", "target_after:N"),
-    "WRITE": in_turn("count:n", "committed:n", "verifier:8"), "EXCHANGE_ID": exchanged,
-    "CREATE_SESSION": lambda c: (c.fixed("sessionid", 16), c.u32("seqid"), c.u32("csr_flags", style="0x{:x}"), channel("fore")(c), channel("back")(c)),
-    "SECINFO_NO_NAME": lambda c: c.many("flavors", flavor),
-    "SEQUENCE": in_turn("sessionid:16", "seqid:n", "slot_id:n", "high_slot_id:n", "target_high_slot_id:n", "status_flags:n"),
-    "TEST_STATEID": lambda c: c.many("num_results", lambda c: c.u32("StateID_status")),
-}
-LOCK_DENIED = in_turn(byte_range, "locktype:n", state_owner)
+def behind(name, status):
+    """What a result has behind its status, which is a number."""
+    if name == "SETATTR":
+        return MASK_SET
+    if status == 10_010 and name in ("LOCK", "LOCKT"):
+        return LOCK_DENIED
+    return RESULTS.get(name, NOTHING) if status == 0 else NOTHING
 
 
 def read_operation(c):
@@ -579,12 +462,7 @@ def read_result(c):
     """A result of a reply: its name, status and fields."""
     name, status = OPERATIONS.get(c.number(), "OP?"), c.number()
     c.fields = []
-    if name == "SETATTR":
-        c.mask("attr_mask")
-    elif status == 0 and name in RESULTS:
-        RESULTS[name](c)
-    elif status == 10_010 and name in ("LOCK", "LOCKT"):
-        LOCK_DENIED(c)
+    behind(name, status)(c)
     return name, STATUSES.get(status, str(status)), c.fields
 
 
@@ -625,13 +503,7 @@ def status_number(status):
 def write_result(name, status, fields=()):
     """The bytes of a result: its status is a word or a number, and its fields are those that the operation has under it."""
     number = status_number(status)
-    if name == "SETATTR":
-        items = in_turn("attr_mask:M")
-    elif number == 10_010 and name in ("LOCK", "LOCKT"):
-        items = LOCK_DENIED
-    else:
-        items = RESULTS.get(name, in_turn()) if number == 0 else in_turn()
-    return u32(NUMBERS[name], number) + written(f"a result of {name}", items, fields)
+    return u32(NUMBERS[name], number) + written(f"a result of {name}", behind(name, number), fields)
 
 
 def write_reply(xid, status, tag, results):
