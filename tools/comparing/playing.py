@@ -6,15 +6,16 @@ from dataclasses import dataclass, field
 
 import nfs4
 
-from . import repairs, rules
-from .circumstances import ALONE, Circumstances
-from .differences import Difference, When
-from .flights import READ_ONLY, Flights
+from . import rules
+from .circumstances import ALONE
+from .differences import Difference
+from .flights import Flights
 from .looks import Looks
 from .reference import LEASE, T0
-from .results import CHANNEL, CUT, Cursor, Results
+from .replies import Replies
+from .results import CHANNEL
 from .server import Answer, Silence
-from .symbols import BASE, Turn
+from .symbols import BASE
 from .twin import Twin
 from .wording import Unbound, Wording
 
@@ -61,7 +62,6 @@ class Play(Flights, Wording):
         self.windows, self.sent, self.edited, self.owners = {}, {}, set(), {}
         self.xid, self.moment, self.skew = 0x100, T0, 0.0
         self.looks = Looks(self)
-        self.circumstances = Circumstances(self)
         self.forks = []  # the last flights that another order may explain as well
 
     # the run
@@ -225,7 +225,7 @@ class Play(Flights, Wording):
         self.windows[self.moment] = self.window(*sent.window)
         self.asked(sent)
         self.outcome.log.append(sent)
-        self.compare(sent)
+        Replies(self, sent).compare()
 
     def asked(self, sent):
         sent.mine = sent.mine or self.record(sent, 0, granted(sent.server))
@@ -254,169 +254,12 @@ class Play(Flights, Wording):
                 return operations[:at] if at > 1 else []
         return operations
 
-    # comparing
-
     def found(self, difference):
         if difference.verdict == "deviation" and not difference.section:
             rules.verdict(difference)
         self.outcome.differences.append(difference)
         if self.want and difference.key == self.want.key and rules.is_as_strong(difference, self.want.verdict):
             self.outcome.stopped = self.outcome.stopped or "found"
-
-    def compare(self, sent):
-        """One call's replies."""
-        mine, theirs, step = sent.reference, sent.server, sent.step
-        self.form(sent)
-        if mine is None or mine.kind != theirs.kind:
-            self.parted(sent)
-            return
-        if mine.kind != "compound":
-            return
-        kept = step.again or (step.sequence and step.sequence.get("seqid") == Turn(0))
-        if theirs.tag != step.tag and (not kept or step.again):
-            self.found(Difference("COMPOUND", "tag", "that of the call", "none" if theirs.tag == "0x" else "another", step.id, when=When.KEPT if kept else None))
-        if theirs.results and theirs.status != theirs.results[-1][1]:
-            self.found(Difference("COMPOUND", "status", "the last result's", "another", step.id))
-        if mine.status != theirs.status and not (mine.results and theirs.results):
-            self.found(Difference("COMPOUND", "status without results", mine.status, theirs.status, step.id))
-        self.count_slot(sent)
-        if not self.is_the_same(sent):
-            self.in_turn(sent)
-
-    def is_the_same(self, sent):
-        """Both repeats are, byte for byte, the replies that were compared the first time."""
-        first = self.sent.get(sent.step.again)
-        return bool(first and first.reference and first.got[4:] == sent.got[4:] and first.reference.data[4:] == sent.reference.data[4:])
-
-    def form(self, sent):
-        """What is wrong with the reply by itself, and with a kept one beside the first."""
-        theirs, step = sent.server, sent.step
-        if theirs.dirty:
-            self.found(Difference("RPC", "padding", "zeros", "other bytes", step.id, section="RFC 4506 section 3"))
-        if theirs.fault:
-            self.found(Difference("RPC", "form of the reply", "can be read", theirs.fault, step.id))
-        first = self.sent.get(step.again)
-        if first and first.got and theirs.results and theirs.results[0][1] == "OK" and first.server.results[:1] and first.server.results[0][1] == "OK":
-            kept = first.operations[0].get("cache_this", "0") != "0"
-            if first.got[4:] != sent.got[4:] and (kept or theirs.results[-1][1] != "RETRY_UNCACHED_REP"):
-                self.found(Difference("SEQUENCE", "kept reply", "that of the first time", self.how_it_differs(first, sent), step.id))
-
-    @staticmethod
-    def how_it_differs(first, sent):
-        old, new = first.server, sent.server
-        for (name, status, fields), (name2, status2, fields2) in zip(old.results, new.results):
-            if (name, status) != (name2, status2):
-                return f"{name} {status} is {name2} {status2}"
-            if fields != fields2:
-                return f"another result of {name}"
-        return "another number of results" if len(old.results) != len(new.results) else "other bytes"
-
-    def parted(self, sent):
-        mine, theirs = (("none" if answer is None else f"compound {answer.status}" if answer.kind == "compound" else answer.kind)
-                        for answer in (sent.reference, sent.server))
-        self.found(Difference("RPC", "kind of reply", mine, theirs, sent.step.id))
-        if mine == "compound BADXDR" and theirs == "accepted 4":
-            self.undo(sent)  # the two have not parted but for the slot
-            return
-        self.outcome.stopped = "kind of reply"
-
-    def undo(self, sent):
-        self.reference.undo()
-        self.edited.add(sent.step.id)
-
-    def count_slot(self, sent):
-        sequence = sent.step.sequence
-        done = sent.server.results[:1] and sent.server.results[0][1] == "OK"
-        if sequence and done and not sent.step.again and sequence.get("seqid") == Turn(1):
-            key = sequence.get("sessionid"), sequence.get("slot_id", "0")
-            self.twin.slots[key] = self.twin.slots.get(key, 0) + 1
-
-    def in_turn(self, sent):
-        """The results one behind the other, up to the first whose statuses differ."""
-        cursor, step = Cursor(), sent.step
-        for at, op in enumerate(sent.operations):
-            mine, theirs = (answer.results[at] if at < len(answer.results) else None for answer in (sent.reference, sent.server))
-            if mine is None and theirs is None:
-                return
-            a, b = ("none" if result is None else result[1] for result in (mine, theirs))
-            name = (mine or theirs)[0] if op.name == "bytes" else op.name
-            self.outcome.counts[name, a] = self.outcome.counts.get((name, a), 0) + 1
-            if {a, b} & {"TOOSMALL", "NOSPC"}:
-                self.twin.refused.add(op.get("clientid"))
-            if mine and theirs and mine[0] != theirs[0] and not (mine[0] == "PUTFH" and theirs[0] in ("PUTROOTFH", "PUTPUBFH")):
-                self.found(Difference(name, "operation of the result", mine[0], theirs[0], step.id, at))
-                self.outcome.stopped = "another operation"
-                return
-            if a != b:
-                self.statuses(sent, op, name, at, a, b, cursor)
-                return
-
-            def differ(what, left, right, when=None, name=name, at=at):
-                self.found(Difference(name, what, left, right, step.id, at, when=when))
-
-            Results(self, step, cursor, differ).compare(op, a, mine[2], theirs[2])
-            if a != "OK" or self.outcome.stopped == CUT:
-                return
-
-    # statuses that differ
-
-    def statuses(self, sent, op, name, at, a, b, cursor):
-        if a in ("OP_NOT_IN_SESSION", "NOT_ONLY_OP") and b == "none":
-            name = "COMPOUND"
-        difference = Difference(name, "status", a, b, sent.step.id, at, when=self.circumstances.of(sent, op, a, b, cursor))
-        rules.verdict(difference)
-        if difference.verdict == "deviation" and b not in ("OK", "none") and a != "OK" and at and not sent.step.again and self.also_fails(sent, at, b):
-            difference.verdict, difference.section = "allowed", "15.1"
-            difference.why, difference.looked_up = "another check that fails as well, by the reference; the order of checks is open", False
-        self.found(difference)
-        self.together(sent, at, a, b, difference)
-
-    def also_fails(self, sent, at, status):
-        step = sent.step
-        plain = [(op.name, self.lowered_then(sent, op)) for op in sent.operations[:at + 1]]
-        if any(name == "bytes" for name, _ in plain):
-            return False
-        asked = repairs.Asked(sent.xid, (step.uid, step.gid, step.gids), plain, at, sent.moment)
-        return repairs.also_fails(self.reference, asked, status)
-
-    def lowered_then(self, sent, op):
-        """The fields as they were sent to the reference: the slot was counted since."""
-        fields = self.lowered(op, 0)
-        if op is not sent.operations[0] or op.name != "SEQUENCE":
-            return fields
-        number = nfs4.Call(sent.mine).operations[0][1]
-        return [(key, dict(number)["seqid"] if key == "seqid" else word) for key, word in fields]
-
-    def together(self, sent, at, a, b, difference):
-        """Brings the two together again behind different statuses of operation `at`."""
-        step = sent.step
-        sequence = step.sequence
-        if sequence and at == 0 and (step.again or sequence.get("seqid") == Turn(0)) or step.again and sent.reference.results[0][1] == "OK":
-            return  # a kept reply, given or not
-        if a == "OK" and at == 0:
-            self.undo(sent)
-        elif b != "OK" and a != "OK":
-            return  # both refused: nothing changed
-        elif a == "OK" and sequence and not step.again:
-            self.take_back(sent, at)
-        elif b == "OK" and all(op.name in READ_ONLY for op in sent.operations[at:]):
-            self.edited.add(step.id)
-        else:
-            self.outcome.stopped = f"the two have parted at {difference}"
-            if a != "OK":
-                key = difference.operation, a
-                self.server.avoid[key] = self.server.avoid.get(key, 0) + 1
-
-    def take_back(self, sent, at):
-        """The reference runs what stands before operation `at`, and no more."""
-        self.undo(sent)
-        key = sent.step.sequence.get("sessionid"), sent.step.sequence.get("slot_id", "0")
-        self.twin.slots[key] -= sent.step.sequence.get("seqid") == Turn(1)
-        try:
-            record = self.record(sent, 0, operations=sent.operations[:at])
-        finally:
-            self.twin.slots[key] += sent.step.sequence.get("seqid") == Turn(1)
-        self.reference.call(record, sent.moment)
 
 
 class Given:
