@@ -49,62 +49,67 @@ def wrong(name, what):
     return add
 
 
+def made(name, what, **ways):
+    """Adds a row whose class has these methods."""
+    WRONG[name] = what, type("Made", (Wrong,), ways)
+
+
 def in_calls(name, what, operations, change):
-    """A table's row that changes the fields (a dictionary) of some operations of calls."""
-    class InCalls(Wrong):
-        def call(self, call):
-            for at, (op, fields) in enumerate(call.operations):
-                if op in operations:
-                    call.operations[at] = op, changed(fields, change)
-    WRONG[name] = what, InCalls
+    """A row that changes the fields (a dictionary) of some operations of calls."""
+    def call(self, call):
+        for at, (op, fields) in enumerate(call.operations):
+            if op in operations:
+                call.operations[at] = op, changed(fields, change)
+    made(name, what, call=call)
+
+
+def in_results(name, what, operations, change, statuses=("NFS4_OK",)):
+    """One that changes some results, each a list of operation, status and fields."""
+    def reply(self, call, results):
+        for result in results:
+            if result[0] in operations and result[1] in statuses:
+                change(result)
+    made(name, what, reply=reply)
 
 
 def in_replies(name, what, operations, change, statuses=("NFS4_OK",)):
     """One that changes the fields of some results."""
-    class InReplies(Wrong):
-        def reply(self, call, results):
-            for result in results:
-                if result[0] in operations and result[1] in statuses:
-                    result[2] = changed(result[2], change)
-    WRONG[name] = what, InReplies
+    in_results(name, what, operations, lambda result: result.append(changed(result.pop(), change)), statuses)
 
 
 def statuses(name, what, operations, old, new):
     """One that answers another status."""
-    class Statuses(Wrong):
-        def reply(self, call, results):
-            for result in results:
-                if result[0] in operations and result[1] == old:
-                    result[1] = new
-                    result[2] = result[2] if result[0] == "SETATTR" else []
-    WRONG[name] = what, Statuses
+    def change(result):
+        result[1:] = new, result[2] if result[0] == "SETATTR" else []
+    in_results(name, what, operations, change, (old,))
 
 
 def attributes(name, what, operations, attribute, change):
     """One that changes an attribute in replies."""
-    def all_of(fields):
-        return [(key, in_word(word, attribute, change) if key == "attrs" else word) for key, word in fields]
+    in_results(name, what, operations, lambda result: result.append(
+        [(key, in_word(word, attribute, change) if key == "attrs" else word) for key, word in result.pop()]))
 
-    class Attributes(Wrong):
-        def reply(self, call, results):
-            for result in results:
-                if result[0] in operations:
-                    result[2] = all_of(result[2])
-    WRONG[name] = what, Attributes
+
+def listing(name, what, change):
+    """One that changes the list of the entries of READDIR, each its fields."""
+    def in_fields(result):
+        fields, starts = result[2], [i for i, (key, _) in enumerate(result[2]) if key == "cookie"]
+        entries = change([fields[i - 1:i + 3] for i in starts])
+        result[2] = [fields[0], *(field for entry in entries for field in entry), ("value_follows", "0"), fields[-1]]
+    in_results(name, what, {"READDIR"}, in_fields)
 
 
 def instead(name, what, operation, other, result):
     """One that runs another operation in the place of one, and answers as if it had run the first."""
-    class Instead(Wrong):
-        def call(self, call):
-            call.operations[:] = [other if op[0] == operation else op for op in call.operations]
+    def call(self, call):
+        call.operations[:] = [other if op[0] == operation else op for op in call.operations]
 
-        def reply(self, call, results):
-            for at, (name, _) in enumerate(call.operations[:len(results)]):
-                if name == operation:
-                    good = results[at][1] == "NFS4_OK"
-                    results[at] = [operation, results[at][1], result if good else []]
-    WRONG[name] = what, Instead
+    def reply(self, call, results):
+        for at, (name, _) in enumerate(call.operations[:len(results)]):
+            if name == operation:
+                good = results[at][1] == "NFS4_OK"
+                results[at] = [operation, results[at][1], result if good else []]
+    made(name, what, call=call, reply=reply)
 
 
 def changed(fields, change):
@@ -186,16 +191,8 @@ instead("no savefh", "SAVEFH does nothing", "SAVEFH", ("GETFH", []), [])
 instead("verify passes", "VERIFY always passes", "VERIFY", ("GETFH", []), [])
 
 
-@wrong("everybody is root", "the caller's uid is not looked at")
-class Root(Wrong):
-    def call(self, call):
-        call.uid = 0
-
-
-@wrong("groups do not count", "the groups of the credential beside its own do not count")
-class Groups(Wrong):
-    def call(self, call):
-        call.gids = []
+made("everybody is root", "the caller's uid is not looked at", call=lambda self, call: setattr(call, "uid", 0))
+made("groups do not count", "the groups of the credential beside its own do not count", call=lambda self, call: setattr(call, "gids", []))
 
 
 @wrong("size is not set", "SETATTR of a size does nothing, and says that it did")
@@ -352,43 +349,12 @@ statuses("same is not same", "NVERIFY of equal attributes passes", {"NVERIFY"}, 
 statuses("lockt sees nothing", "LOCKT sees no lock", {"LOCKT"}, "NFS4ERR_DENIED", "NFS4_OK")
 statuses("bad session is stale", "an unknown session is an unknown client", {"SEQUENCE"}, "NFS4ERR_BADSESSION", "NFS4ERR_STALE_CLIENTID")
 statuses("no such slot is misordered", "a slot that is not there is misordered", {"SEQUENCE"}, "NFS4ERR_BADSLOT", "NFS4ERR_SEQ_MISORDERED")
-
-
-@wrong("test_stateid knows all", "TEST_STATEID finds each stateid good")
-class KnowsAll(Wrong):
-    def reply(self, call, results):
-        for result in results:
-            if result[0] == "TEST_STATEID":
-                result[2] = [(key, "0" if key == "StateID_status" else word) for key, word in result[2]]
-
-
-class Listing(Wrong):
-    """Wrong about the entries of READDIR: `change` gets a list of them, each its fields."""
-
-    def reply(self, call, results):
-        for result in results:
-            if result[0] == "READDIR" and result[1] == "NFS4_OK":
-                fields, starts = result[2], [i for i, (key, _) in enumerate(result[2]) if key == "cookie"]
-                entries = self.change([fields[i - 1:i + 3] for i in starts])
-                result[2] = [fields[0], *(field for entry in entries for field in entry), ("value_follows", "0"), fields[-1]]
-
-
-@wrong("readdir loses the last", "READDIR leaves the last entry out")
-class LosesLast(Listing):
-    def change(self, entries):
-        return entries[:-1]
-
-
-@wrong("readdir twice", "READDIR gives the first entry twice")
-class GivesTwice(Listing):
-    def change(self, entries):
-        return entries[:1] + entries
-
-
-@wrong("readdir without attributes", "READDIR gives no attributes")
-class NoAttributes(Listing):
-    def change(self, entries):
-        return [[(key, "{}" if key == "attrs" else word) for key, word in entry] for entry in entries]
+in_results("test_stateid knows all", "TEST_STATEID finds each stateid good", {"TEST_STATEID"}, lambda result: result.append(
+    [(key, "0" if key == "StateID_status" else word) for key, word in result.pop()]))
+listing("readdir loses the last", "READDIR leaves the last entry out", lambda entries: entries[:-1])
+listing("readdir twice", "READDIR gives the first entry twice", lambda entries: entries[:1] + entries)
+listing("readdir without attributes", "READDIR gives no attributes",
+        lambda entries: [[(key, "{}" if key == "attrs" else word) for key, word in entry] for entry in entries])
 
 
 @wrong("another verifier", "each WRITE has another verifier")
@@ -408,22 +374,9 @@ class Padding(Wrong):
         return reply[:at] + b"\x55" * rest + reply[at + rest:]
 
 
-@wrong("no tag", "the reply has no tag")
-class NoTag(Wrong):
-    def call(self, call):
-        call.tag = b""
-
-
-@wrong("all is well", "the compound's status is NFS4_OK whatever its last result has")
-class AllWell(Wrong):
-    def finish(self, call, reply):
-        return reply[:24] + bytes(4) + reply[28:]
-
-
-@wrong("a byte behind", "four bytes stand behind the last result")
-class Behind(Wrong):
-    def finish(self, call, reply):
-        return reply + bytes(4)
+made("no tag", "the reply has no tag", call=lambda self, call: setattr(call, "tag", b""))
+made("all is well", "the compound's status is NFS4_OK whatever its last result has", finish=lambda self, call, reply: reply[:24] + bytes(4) + reply[28:])
+made("a byte behind", "four bytes stand behind the last result", finish=lambda self, call, reply: reply + bytes(4))
 
 
 class Proxy:
