@@ -7,14 +7,13 @@ import sys
 import time
 from pathlib import Path
 
-from wire import (LEASE, SEQUENCE, TOP, Script, compound, create_session, exchange_id, exchanged, marked, replayed, replies, result, results, sequence,
+from wire import (LEASE, TOP, Script, compound, create_session, exchange_id, exchanged, marked, replayed, replies, result, results, sequence,
                   session_created, session_id)
 import cases
 from cases import judge
 import lines
 from comparing.shrinking import fewer
 
-BADSESSION = 10052
 # how long a play that fails is made small, and where it is kept, which git ignores
 SECONDS, KEPT = 60, TOP / "out"
 
@@ -205,7 +204,7 @@ class Clients(Play):
     def is_there(self, client):
         """Whether the client has its session for a compound, which renews its lease; else it is told that it has none, and mounts."""
         if client.counter is None:
-            self.arrive(compound([sequence(client.session, client.number + 1)]), results(result(SEQUENCE, BADSESSION)))
+            self.arrive(compound([sequence(client.session, client.number + 1)]), results(result("SEQUENCE", "BADSESSION")))
             self.mount(client)
             return False
         client.number += 1

@@ -17,12 +17,8 @@ INSTANCE = 7
 LEASE = 90
 ALL_ONES = 2**64 - 1
 
-CLOSE, CREATE, GETATTR, LINK, LOCK, LOCKT, LOCKU, LOOKUP = map(NUMBERS.get, "CLOSE CREATE GETATTR LINK LOCK LOCKT LOCKU LOOKUP".split())
-OPEN, OPEN_DOWNGRADE, PUTFH, PUTROOTFH, READ, READDIR = map(NUMBERS.get, "OPEN OPEN_DOWNGRADE PUTFH PUTROOTFH READ READDIR".split())
-REMOVE, RENAME, SAVEFH, SETATTR, WRITE, EXCHANGE_ID = map(NUMBERS.get, "REMOVE RENAME SAVEFH SETATTR WRITE EXCHANGE_ID".split())
-CREATE_SESSION, DESTROY_SESSION, FREE_STATEID = map(NUMBERS.get, "CREATE_SESSION DESTROY_SESSION FREE_STATEID".split())
-SEQUENCE, TEST_STATEID, DESTROY_CLIENTID = map(NUMBERS.get, "SEQUENCE TEST_STATEID DESTROY_CLIENTID".split())
-
+# the numbers of statuses by their words
+STATUS = {word.partition("_")[2]: number for word, number in nfs4.STATUS_NUMBERS.items()}
 ANONYMOUS = bytes(16)
 # the state whose stateid the operation before it gave (RFC 8881 section 16.2.3.1.2)
 CURRENT = u32(1, 0, 0, 0)
@@ -163,9 +159,9 @@ def destroy_client(client):
     return op("DESTROY_CLIENTID", clientid=number_of(client))
 
 
-def result(operation, status, body=b""):
-    """A result of an operation by its number, with the bytes of what comes under that status."""
-    return u32(operation, status) + body
+def result(operation, status="OK", body=b""):
+    """A result of an operation, with the bytes of what comes under that status."""
+    return u32(NUMBERS[operation], STATUS[status]) + body
 
 
 def results(*parts):

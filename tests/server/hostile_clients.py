@@ -9,9 +9,8 @@ import time
 import wire
 from caller import SLOTS, Client, Wrong
 from program import waits_for
-from wire import (GET_HANDLE, HERE, LOCKT, LOCKU, PUT_ROOT, PUTFH, READ, SAVE, SECONDS, TEST_STATEID, create, create_session,
-                  destroy_session, exchange_id, filehandle, nfs4, op, opaque, open_file, putfh, read, rename, reply, result, results, sequence, sequenced,
-                  test_stateids, u32, u64, write)
+from wire import (GET_HANDLE, HERE, PUT_ROOT, SAVE, SECONDS, create, create_session, destroy_session, exchange_id, filehandle, nfs4, op, opaque,
+                  open_file, putfh, read, rename, reply, result, results, sequence, sequenced, test_stateids, u32, u64, write)
 
 DENIED = 10_010
 # sessions that many clients make are of small channels, so that no figure is of memory that the system gives
@@ -120,8 +119,8 @@ class Good:
                               test_stateids([self.opened, self.locked]), lock_test(5, b"another"))
         held = u64(0, 10) + u32(2) + u64(peer.id) + opaque(b"good locker")
         return record, reply(peer.xid, results(
-            sequenced(peer.session, peer.numbers[0], 0), result(PUTFH, 0), result(READ, 0, u32(1) + opaque(self.TEXT)),
-            result(TEST_STATEID, 0, u32(2, 0, 0)), result(LOCKT, DENIED, held)))
+            sequenced(peer.session, peer.numbers[0], 0), result("PUTFH"), result("READ", "OK", u32(1) + opaque(self.TEXT)),
+            result("TEST_STATEID", "OK", u32(2, 0, 0)), result("LOCKT", "DENIED", held)))
 
     def round(self):
         record, wanted = self.asked()
@@ -165,7 +164,7 @@ class Good:
         except (OSError, Wrong) as fault:
             self.fault = fault
             return False
-        return told.endswith(u32(LOCKU, 0) + u32(2) + self.locked[4:])
+        return told.endswith(result("LOCKU") + u32(2) + self.locked[4:])
 
     def shown(self):
         return f"{len(self.waits)} rounds, {self.fault!r}"
