@@ -1,5 +1,5 @@
-"""Operations among many things, as scripts of `nfs41d replay`: what bench/tree and bench/opens time, and bench/instructions counts."""
-import collections
+"""Operations among many things, as scripts of `nfs41d replay`, which bench/instructions measures."""
+import typing
 
 import scripts
 from scripts import CLOSE, ROOT, SAVEFH, calls, close_of, create, getattr_, lock, lookup, open_file, putfh, read, readdir, remove, rename
@@ -30,29 +30,36 @@ def to_the_bottom(moved, count):
     return [*there, SAVEFH, ROOT, rename(moved, moved)]
 
 
-# how many operations a compound has and how often it is sent, how an object is made, and the compound of a number among so many objects
-Row = collections.namedtuple("Row", "operations turns made compound")
+class Row(typing.NamedTuple):
+    """An operation that is measured: its script among so many things with so many turns, how many turns are timed (none: it comes once, and to each of
+    the things), and how many operations a turn has."""
+    title: str
+    script: typing.Callable
+    turns: int = 20_000
+    operations: int = 1
 
-TREE = {
-    "SEQUENCE alone": Row(1, 100_000, in_root, lambda n, count: []),
-    "GETATTR by filehandle": Row(1, 100_000, in_root, lambda n, count: [putfh(2 + spread(n, count)), getattr_()]),
-    "LOOKUP": Row(1, 100_000, in_root, lambda n, count: [ROOT, lookup(name(spread(n, count)))]),
-    "CREATE with REMOVE": Row(1, 100_000, in_root, lambda n, count: [ROOT, create(b"new"), ROOT, remove(b"new")]),
-    "RENAME": Row(2, 50_000, in_root, lambda n, count: [
-        ROOT, SAVEFH, rename(name(spread(n, count)), b"new"), rename(b"new", name(spread(n, count)))]),
+
+def of_tree(title, turns, compound, operations=1, made=in_root):
+    """A row of compounds among objects, each made so: the compound of a number among so many."""
+    def script(count, turned):
+        moved = [[ROOT, create(b"empty")], [ROOT, create(b"full"), create(b"entry")], [putfh(1 + count), create(b"inner"), create(b"entry")]]
+        return calls((count, made), (len(moved), lambda n: moved[n]), (turned, lambda n: compound(n, count)))
+    return Row(title, script, turns, operations)
+
+
+TREE = (
+    of_tree("SEQUENCE alone", 100_000, lambda n, count: []),
+    of_tree("GETATTR by filehandle", 100_000, lambda n, count: [putfh(2 + spread(n, count)), getattr_()]),
+    of_tree("LOOKUP", 100_000, lambda n, count: [ROOT, lookup(name(spread(n, count)))]),
+    of_tree("CREATE with REMOVE", 100_000, lambda n, count: [ROOT, create(b"new"), ROOT, remove(b"new")]),
+    of_tree("RENAME", 50_000, lambda n, count: [ROOT, SAVEFH, rename(name(spread(n, count)), b"new"), rename(b"new", name(spread(n, count)))], 2),
     # a page of about 100 entries, the last of the directory
-    "READDIR, a page at the end": Row(1, 5_000, in_root, lambda n, count: [ROOT, readdir(2 + count - 100, 8_192)]),
-    "RENAME to the bottom and back": Row(1, 100, below_another, lambda n, count: to_the_bottom(b"empty", count)),
-    "RENAME to the bottom and back, with an entry": Row(1, 100, below_another, lambda n, count: to_the_bottom(b"full", count)),
-    "RENAME at the bottom, of one with an entry": Row(2, 1_000, below_another, lambda n, count: [
-        putfh(1 + count), SAVEFH, rename(b"inner", b"other"), rename(b"other", b"inner")]),
-}
-
-
-def of_tree(count, turns, row):
-    """The script of a row among so many objects, with so many turns."""
-    moved = [[ROOT, create(b"empty")], [ROOT, create(b"full"), create(b"entry")], [putfh(1 + count), create(b"inner"), create(b"entry")]]
-    return b"".join(calls((count, row.made), (len(moved), lambda n: moved[n]), (turns, lambda n: row.compound(n, count))))
+    of_tree("READDIR, a page at the end", 5_000, lambda n, count: [ROOT, readdir(2 + count - 100, 8_192)]),
+    of_tree("RENAME to the bottom and back", 100, lambda n, count: to_the_bottom(b"empty", count), made=below_another),
+    of_tree("RENAME to the bottom and back, with an entry", 100, lambda n, count: to_the_bottom(b"full", count), made=below_another),
+    of_tree("RENAME at the bottom, of one with an entry", 1_000,
+            lambda n, count: [putfh(1 + count), SAVEFH, rename(b"inner", b"other"), rename(b"other", b"inner")], 2, below_another),
+)
 
 
 def file_name(n):
@@ -132,15 +139,17 @@ def end(files, times):
         yield scripts.create_session(2)
 
 
-# a title, the script, few and many things, and how often the operation is measured: a client ends once, with all that it has open
-OPENS = (("READ by the anonymous stateid", read_each, (1_000, 8_000), 20_000),
-         ("OPEN and CLOSE of a new file, REMOVE", open_new, (1_000, 8_000), 20_000),
-         ("OPEN and CLOSE of a file that is open", open_again, (1_000, 16_000), 20_000),
-         ("OPEN of a new file, CLOSE of the oldest open", close_oldest, (1_000, 16_000), 20_000),
-         ("OPEN, LOCK and CLOSE of a new file, REMOVE", close_locked, (1_000, 16_000), 20_000),
-         ("OPEN, LOCK of a new file, CLOSE of the oldest locked", close_oldest_locked, (1_000, 16_000), 20_000),
-         ("OPEN and CLOSE of a file that as many owners have open", open_shared, (1_000, 16_000), 20_000),
-         ("OPEN for writing of one that as many have for reading", write_shared, (1_000, 16_000), 20_000),
-         ("READ of one that as many have open for writing", read_shared, (1_000, 16_000), 20_000),
-         ("OPEN, LOCK and CLOSE of one that as many have locked", lock_shared, (1_000, 16_000), 20_000),
-         ("the end of a client, for each open of a removed file", end, (1_000, 8_000), None))
+ROWS = (
+    *TREE,
+    Row("READ by the anonymous stateid", read_each),
+    Row("OPEN and CLOSE of a new file, REMOVE", open_new),
+    Row("OPEN and CLOSE of a file that is open", open_again),
+    Row("OPEN of a new file, CLOSE of the oldest open", close_oldest),
+    Row("OPEN, LOCK and CLOSE of a new file, REMOVE", close_locked),
+    Row("OPEN, LOCK of a new file, CLOSE of the oldest locked", close_oldest_locked),
+    Row("OPEN and CLOSE of a file that as many owners have open", open_shared),
+    Row("OPEN for writing of one that as many have for reading", write_shared),
+    Row("READ of one that as many have open for writing", read_shared),
+    Row("OPEN, LOCK and CLOSE of one that as many have locked", lock_shared),
+    Row("the end of a client, for each open of a removed file", end, 0),
+)
