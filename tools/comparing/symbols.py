@@ -66,6 +66,11 @@ class Op:
         return replace(self, fields=[(key, changes.get(key, word)) for key, word in self.fields])
 
 
+def do(operation, /, **fields):
+    """The operation with these fields."""
+    return Op(operation, list(fields.items()))
+
+
 @dataclass
 class Step:
     """One COMPOUND of a caller. `again` is the id of the step that it repeats byte for byte; steps of one `flight` that is not 0 are sent
