@@ -1,4 +1,5 @@
 """The client of NFS version 4.1 that tests, measurements and tools/load are, whose calls and replies are those of nfs4.py; and streams of records."""
+import collections
 import socket
 import struct
 
@@ -40,31 +41,19 @@ class Stream:
     """The records that come over a socket, each in one fragment or more."""
 
     def __init__(self, source):
-        self.source, self.kept = source, b""
-
-    def has(self, size):
-        """Waits for so many bytes; Cut, with how many came, where the stream ends before."""
-        try:
-            while len(self.kept) < size:
-                piece = self.source.recv(65_536)
-                if not piece:
-                    raise Cut(len(self.kept))
-                self.kept += piece
-        except ConnectionResetError:
-            raise Cut(len(self.kept)) from None
+        self.source, self.records, self.whole = source, nfs4.Records(nfs4.LAST), collections.deque()
 
     def next(self):
-        """The next record, without its marks."""
-        whole, end, mark = b"", 0, 0
-        while not mark & nfs4.LAST:
-            at = end + 4
-            self.has(at)
-            mark = int.from_bytes(self.kept[end:at], "big")
-            end = at + (mark & ~nfs4.LAST)
-            self.has(end)
-            whole += self.kept[at:end]
-        self.kept = self.kept[end:]
-        return whole
+        """The next record, without its marks; Cut, with how many of its bytes came, where the stream ends before."""
+        while not self.whole:
+            try:
+                piece = self.source.recv(65_536)
+            except ConnectionResetError:
+                piece = b""
+            if not piece:
+                raise Cut(len(self.records.whole) + len(self.records.kept))
+            self.whole += self.records.feed(piece)
+        return self.whole.popleft()
 
 
 class Client:

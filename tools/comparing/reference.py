@@ -3,7 +3,6 @@ remembered; each of these is a run anew, over all calls. In between one run goes
 import os
 import select
 import shlex
-import struct
 import subprocess
 import tempfile
 from pathlib import Path
@@ -39,16 +38,13 @@ class Reference:
         self.control = Client(lambda conn, record: self.call(record, self.now))
         self.control.open()
         self.base = self.control.base("base")
-        self.spare = {"dir": self.control.base("spare"), "file": self.made_file(), "link": self.made_link()}
+        self.spare = {"dir": self.control.base("spare"), "file": self.made("OPEN", share_access="3", owner="spare", open_type="1", attrs="{Mode:511}", name="file"),
+                      "link": self.made("CREATE", type="5", linkdata="text", name="link")}
         self.begun = list(self.history), self.control.number, self.control.xid
 
-    def made_file(self):
-        made = self.control.in_session([("PUTROOTFH", []), ("OPEN", [("share_access", "3"), ("owner", "spare"), ("open_type", "1"), ("attrs", "{Mode:511}"),
-                                                                    ("name", "file")]), ("GETFH", [])])
-        return dict(made.results[-1][2])["FileHandle"]
-
-    def made_link(self):
-        made = self.control.in_session([("PUTROOTFH", []), ("CREATE", [("type", "5"), ("linkdata", "text"), ("name", "link")]), ("GETFH", [])])
+    def made(self, operation, /, **fields):
+        """What an operation makes in the root: its filehandle."""
+        made = self.control.in_session([("PUTROOTFH", []), (operation, fields.items()), ("GETFH", [])])
         return dict(made.results[-1][2])["FileHandle"]
 
     def begin(self):
@@ -93,8 +89,8 @@ class Reference:
         output, error = ran.communicate(b"".join(entries))
         if ran.returncode:
             raise NoReference(f"{self.command[0]} ended with status {ran.returncode}: {error.decode(errors='replace').strip()}")
-        last = last_reply(output)
-        return last if last[:4] == xid else None
+        *_, (_, last) = [(0, None), *nfs4.replies(output)]
+        return last if last and last[:4] == xid else None
 
 
 def started(command):
@@ -168,13 +164,3 @@ def entry(record, moment):
 
 def entry_of(marked, moment, conn):
     return b"".join(nfs4.entry(moment, conn, marked[at:at + nfs4.MOST_PIECE]) for at in range(0, len(marked), nfs4.MOST_PIECE))
-
-
-def last_reply(output):
-    """The last reply of what replay put out; the marks before it are stepped over."""
-    at, last = 0, b""
-    while at < len(output):
-        size = struct.unpack_from(">I", output, at + 4)[0] & ~nfs4.LAST
-        last = output[at + 8:at + 8 + size]
-        at += 8 + size
-    return last
