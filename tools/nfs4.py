@@ -158,13 +158,9 @@ class Reader:
     def note(self, name, word):
         self.fields.append((name, word))
 
-    def u32(self, name, default=0, style="{}"):
-        value = self.number()
-        self.note(name, style.format(value))
-        return value
-
-    def u64(self, name, default=0, style="{}"):
-        value = int.from_bytes(self.take(8), "big")
+    def uint(self, name, size=4, default=0, style="{}"):
+        """A number of so many bytes."""
+        value = int.from_bytes(self.take(size), "big")
         self.note(name, style.format(value))
         return value
 
@@ -220,7 +216,7 @@ class Reader:
         return ".".join(map(str, [first, *rest]))
 
     def many(self, name, one):
-        for _ in range(self.u32(name)):
+        for _ in range(self.uint(name)):
             one(self)
 
 
@@ -261,14 +257,9 @@ class Writer:
     def put_bytes(self, data):
         self.data += opaque(data)
 
-    def u32(self, name, default=0, style=None):
-        value = number_of(name, self.next(name, default))
-        self.data += value.to_bytes(4, "big")
-        return value
-
-    def u64(self, name, default=0, style=None):
-        value = number_of(name, self.next(name, default), 64)
-        self.data += value.to_bytes(8, "big")
+    def uint(self, name, size=4, default=0, style=None):
+        value = number_of(name, self.next(name, default), 8 * size)
+        self.data += value.to_bytes(size, "big")
         return value
 
     def fixed(self, name, size):
@@ -327,14 +318,15 @@ class Writer:
             self.data += (u32(1) if kind == "s" else b"") + struct.pack(FORMS[kind], *numbers)
 
     def many(self, name, one):
-        for _ in range(self.u32(name)):
+        for _ in range(self.uint(name)):
             one(self)
 
 
 # Arguments and results of each operation. An item is spelled NAME:KIND or NAME:KIND=DEFAULT: n is a number of four bytes and N one of eight, x and X
 # the same shown in hexadecimal, o bytes, M a mask, F attributes, and a number is that many bytes.
 
-KINDS = {"n": ("u32", "{}"), "N": ("u64", "{}"), "x": ("u32", "0x{:x}"), "X": ("u64", "0x{:x}"), "o": ("bytes_",), "M": ("mask",), "F": ("attributes",)}
+KINDS = {"o": "bytes_", "M": "mask", "F": "attributes"}
+NUMBER_KINDS = {"n": (4, "{}"), "N": (8, "{}"), "x": (4, "0x{:x}"), "X": (8, "0x{:x}")}
 
 
 def item_of(word):
@@ -342,8 +334,10 @@ def item_of(word):
     name, kind, default = re.fullmatch(r"(\w+):(\w+)=?(\d*)", word).groups()
     if kind.isdigit():
         return operator.methodcaller("fixed", name, int(kind))
-    call, *style = KINDS[kind]
-    return operator.methodcaller(call, name, *([int(default or 0), *style] if style else []))
+    if kind in KINDS:
+        return operator.methodcaller(KINDS[kind], name)
+    size, style = NUMBER_KINDS[kind]
+    return operator.methodcaller("uint", name, size, int(default or 0), style)
 
 
 def in_turn(*items):
@@ -417,9 +411,9 @@ ENTRY = in_turn("cookie:N name:o attrs:F")
 
 def listed(c):
     c.fixed("cookie_verf", 8)
-    while c.u32("value_follows"):
+    while c.uint("value_follows"):
         ENTRY(c)
-    c.u32("eof")
+    c.uint("eof")
 
 
 RESULTS = {name: in_turn(items) for name, items in {

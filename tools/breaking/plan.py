@@ -98,7 +98,7 @@ def fields_of(operation):
     found = []
     for chosen in range(7):
         c = nfs4.Writer([])
-        c.u32 = lambda name, default=0, style=None, c=c, chosen=chosen: (c.names.append(name), min(chosen, 6))[1]
+        c.uint = lambda name, size=4, default=0, style=None, c=c, chosen=chosen: (c.names.append(name), min(chosen, 6))[1]
         try:
             nfs4.ARGUMENTS[operation](c)
         except nfs4.Unreadable:
