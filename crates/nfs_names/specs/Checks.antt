@@ -7,7 +7,7 @@ use Rattle.nfs_attrs.specs.{declared.permission.Want.Want, Permissions.may}
 use Rattle.nfs_opens.specs.Steps.{◌>>=◌}
 use Rattle.nfs_names.specs.{declared.context.Context.Context, declared.context.Saved.Saved, declared.node.Node.Node, declared.node.Pair.Pair, State.State}
 
--- A filehandle is wanted and there is none, or its object is gone (RFC 8881 sections 15.1.2.5 and 15.1.2.9).
+-- A filehandle is wanted and there is none, or its object is gone (RFC 8881 sections 15.1.2.5 and 15.1.2.7).
 abbrev pub node_as : ℕ → Option Object → Result Node Status
 node_as n None = Err Stale
 node_as n (Some o) = Ok (record { number = n; object = o })

@@ -5,12 +5,17 @@ use Rattle.nfs_xdr.specs.SheetState.{SheetState, Puts}
 use Rattle.nfs_rpc.specs.declared.refusal.Refusal.{Refusal}
 use Rattle.nfs_rpc.specs.declared.refusal.Refusal.TheVariants as Refusals
 use Rattle.nfs_serve.specs.{declared.form.Form.Form, declared.form.Form.TheVariants.{Tagged, Plain}, declared.form.Outcome.Outcome}
-use Rattle.nfs_serve.specs.{declared.form.Outcome.TheVariants.{Reply, Silent}, Step.{State, Stepped}, Run.spell_reply, Server.KeptServer}
+use Rattle.nfs_serve.specs.{declared.form.Outcome.TheVariants.{Reply, Silent}, Step.{State, Stepped}, Run.spell_reply, Server.{KeptServer, state_of}}
+use Rattle.nfs_exec.specs.Step.Machine.{KeptTables}
 
 -- what lasts from one record to the next, and the reply that is lent
 pub record EngineModel : Type 0 where
   pub kept : KeptServer
   pub reply : List ℕ
+
+-- the state that tables are at a moment
+abbrev pub at_moment : KeptTables → ℕ → State
+at_moment world moment = state_of (record { world = world; moment = moment })
 
 -- whether a refusal of a call is answered
 abbrev pub outcome_of : Refusal → Outcome

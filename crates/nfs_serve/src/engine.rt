@@ -8,11 +8,11 @@ ghost use Rattle.nfs_exec.specs.Step.Expiry.{expired};
 ghost use Rattle.nfs_exec.specs.Step.Held.{held};
 ghost use Rattle.nfs_exec.specs.Step.Machine.{IsMachine, HasNoClashes, machine_of};
 ghost use Rattle.nfs_rpc.specs.CallHead.{call_of};
-ghost use Rattle.nfs_serve.specs.Step.{State, step, new_state, reply_to, by_procedure, with_arguments};
+ghost use Rattle.nfs_serve.specs.Step.{step, new_state, reply_to, by_procedure, with_arguments};
 ghost use Rattle.nfs_serve.specs.Run.{one_fragment, spell_reply};
 ghost use Rattle.nfs_serve.specs.Server.{IsAnswer, state_of};
 ghost use Rattle.nfs_lease.specs.Queue.{IsLatest};
-ghost use Rattle.nfs_serve.specs.Engine.{PutsReply, PutsAnswer, outcome_of, in_form, spell_lent};
+ghost use Rattle.nfs_serve.specs.Engine.{PutsReply, PutsAnswer, at_moment, outcome_of, in_form, spell_lent};
 ghost use Rattle.nfs_serve.specs.Ends.{Writes};
 ghost use Rattle.nfs_serve.specs.Script.{last_moment};
 
@@ -180,8 +180,7 @@ fn put_record(alloc: Global, world: &mut World, bytes: &[u8], now: u64, out: &mu
     requires now { now ≤ last_moment }
     requires latest { IsLatest (machine_of world.old).leases now }
     requires room { length out.old.bytes + 70000 ≤ out.old.room }
-    ensures answer { let before : State = record { machine = machine_of world.old; moment = now } in
-        (choice : Option ℕ) × PutsAnswer result (reply_to before (length bytes.now) choice (call_of bytes.now)) out.old out.new (record { machine = machine_of world.new; moment = now }) }
+    ensures answer { (choice : Option ℕ) × PutsAnswer result (reply_to (at_moment world.old now) (length bytes.now) choice (call_of bytes.now)) out.old out.new (at_moment world.new now) }
     ensures latest { IsLatest (machine_of world.new).leases now }
 {
     match Call::read(bytes) {
@@ -210,8 +209,7 @@ fn put_answer(
     requires now { now ≤ last_moment }
     requires latest { IsLatest (machine_of world.old).leases now }
     requires room { length out.old.bytes + 70000 ≤ out.old.room }
-    ensures answer { let before : State = record { machine = machine_of world.old; moment = now } in
-        (choice : Option ℕ) × PutsReply (by_procedure before (view.call call.now) size choice call.now.procedure) out.old out.new (record { machine = machine_of world.new; moment = now }) }
+    ensures answer { (choice : Option ℕ) × PutsReply (by_procedure (at_moment world.old now) (view.call call.now) size choice call.now.procedure) out.old out.new (at_moment world.new now) }
     ensures latest { IsLatest (machine_of world.new).leases now }
 {
     match call.procedure {
@@ -234,8 +232,7 @@ fn put_compound(
     requires now { now ≤ last_moment }
     requires latest { IsLatest (machine_of world.old).leases now }
     requires room { length out.old.bytes + 70000 ≤ out.old.room }
-    ensures answer { let before : State = record { machine = machine_of world.old; moment = now } in
-        (choice : Option ℕ) × PutsReply (with_arguments before (view.call call.entry) size choice (request_at call.entry.args.now)) out.old out.new (record { machine = machine_of world.new; moment = now }) }
+    ensures answer { (choice : Option ℕ) × PutsReply (with_arguments (at_moment world.old now) (view.call call.entry) size choice (request_at call.entry.args.now)) out.old out.new (at_moment world.new now) }
     ensures latest { IsLatest (machine_of world.new).leases now }
 {
     match Compound::open(call.args) {
