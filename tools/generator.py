@@ -1,4 +1,5 @@
-"""The generator of tools/load: its program in C, which is compiled where it is first used, and the file of calls that it reads."""
+"""The generator of tools/load: its program in C, which is compiled where it is first used as others of the tests are, and the file of calls that it
+reads."""
 import hashlib
 import os
 import shutil
@@ -13,20 +14,20 @@ SOURCE = Path(__file__).resolve().parent / "load.c"
 FLAGS = ["-O3", "-Wall"]
 
 
-def compiled():
-    """The program of tools/load.c, which is compiled if the cache has none of this source."""
+def compiled(source=SOURCE):
+    """The program of a file in C, of tools/load.c if no other is given, which is compiled if the cache has none of this source."""
     cache = Path(os.environ.get("XDG_CACHE_HOME") or "~/.cache").expanduser() / "gondzalif"
-    program = cache / f"load-{hashlib.sha256(SOURCE.read_bytes() + repr(FLAGS).encode()).hexdigest()[:16]}"
+    program = cache / f"{source.stem}-{hashlib.sha256(source.read_bytes() + repr(FLAGS).encode()).hexdigest()[:16]}"
     if program.exists():
         return program
     compiler = next(filter(shutil.which, filter(None, (os.environ.get("CC"), "cc", "gcc", "clang"))), None)
     if compiler is None:
         raise Wrong("there is no C compiler (CC, cc, gcc and clang were looked for)")
     cache.mkdir(parents=True, exist_ok=True)
-    made = cache / f"load-{os.getpid()}"
-    ran = subprocess.run([compiler, *FLAGS, "-o", made, SOURCE], capture_output=True, text=True, check=False)
+    made = cache / f"{source.stem}-{os.getpid()}"
+    ran = subprocess.run([compiler, *FLAGS, "-o", made, source], capture_output=True, text=True, check=False)
     if ran.returncode:
-        raise Wrong(f"{compiler} does not compile {SOURCE}: {ran.stderr.strip()[:300]}")
+        raise Wrong(f"{compiler} does not compile {source}: {ran.stderr.strip()[:300]}")
     made.rename(program)
     return program
 

@@ -5,10 +5,15 @@ import itertools
 import statistics
 import threading
 import time
+from pathlib import Path
 
 from cases import judge
+from generator import compiled
 from hostile_clients import SLOTS, Good, Peer, Served, Wrong, at, chain, lock_first, lock_more, lock_test, repeated
+from program import ran
 from wire import CURRENT, SAVE, create, null, null_reply, received, rename
+
+HERE = Path(__file__).resolve().parent
 
 # what the attacks with large numbers came to: of each, figures by their names
 found = []
@@ -171,16 +176,29 @@ def idle_for_long():
         judge(f"{name}: the lock of a client that is gone is free", status == "NFS4_OK", status)
 
 
-def calls_without_a_session(count=2_000):
+def by_turns(server, count):
+    """How many of so many connections, one after the other, bring a NULL call that is answered."""
+    right = 0
+    for n in range(count):
+        # (an address has some 28,000 ports for this, and each stays taken for a minute)
+        with server.connect(f"127.0.{n // 20_000 + 1}.1") as stream:
+            stream.sendall(null(n))
+            right += received(stream, 28) == null_reply(n)
+    return right
+
+
+def by_knocks(server, count):
+    """The same, by a program in C."""
+    status, told, _ = ran(compiled(HERE / "knock.c"), server.port, count, seconds=3_600)
+    return int(told) if not status else -1
+
+
+def calls_without_a_session(count=2_000, calls=by_turns):
     """Connections with a NULL call each, more than the program is to serve: they end nothing, and the next client is served."""
     name = f"NULL on each of {count} connections"
     with Served(connections=20) as server:
-        right, begun = 0, time.monotonic()
-        for n in range(count):
-            # (an address has some 28,000 ports for this, and each stays taken for a minute)
-            with server.connect(f"127.0.{n // 20_000 + 1}.1") as stream:
-                stream.sendall(null(n))
-                right += received(stream, 28) == null_reply(n)
+        begun = time.monotonic()
+        right = calls(server, count)
         took = time.monotonic() - begun, server.seconds()
         print(f"{name}: they took {took[0]:.0f} s, and {took[1]:.0f} of a processor")
         found.extend((name, figure, f"{value:.0f}") for figure, value in zip(("seconds", "of a processor"), took))
@@ -211,5 +229,5 @@ LONG = {
     "leases of 10 s beside LOCKTs": functools.partial(between_lock_owners, lease=10, owners=100_000, last=58, seconds=(30, 30)),
     "leases of 10 s beside RENAMEs": functools.partial(below_many_directories, lease=10, depth=60_000, connections=9, seconds=(30, 30)),
     "waits beside RENAMEs": functools.partial(asks_below_many_directories, depth=60_000, seconds=20),
-    "a million NULL calls": functools.partial(calls_without_a_session, count=1_000_000),
+    "a million NULL calls": functools.partial(calls_without_a_session, count=1_000_000, calls=by_knocks),
 }
