@@ -16,9 +16,9 @@ fault_status (Fault.Replay fault) = stop_status fault.number
 fault_status Fault.Accept = 3
 fault_status Fault.Flush = 3
 
-abbrev pub status_of : {U : Type 0} → Result U Fault → ℕ
-status_of (Ok u) = 0
-status_of (Err fault) = fault_status fault
+abbrev pub exit_status_of : {U : Type 0} → Result U Fault → ℕ
+exit_status_of (Ok u) = 0
+exit_status_of (Err fault) = fault_status fault
 
 -- a command line that is none, or for which there is no memory
 abbrev pub IsOfCommandLine : Fault → Type 0

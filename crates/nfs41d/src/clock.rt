@@ -3,8 +3,8 @@
 ghost use Rattle.std.specs.Prelude.{◌≡◌, ◌≤◌, ◌<◌, ◌+◌, ◌-◌, ◌/◌, ◌%◌, ◌^◌, ℕ, List, Option, [], ◌∷◌, None, min, max};
 ghost use Rattle.nfs_serve.specs.Script.{last_moment};
 ghost use Rattle.nfs_serve.specs.Told.{Told, Sweep, Turn, Moment, Late, Logs};
-ghost use Rattle.nfs_pace.specs.Paced.{second, risen, begins, begins_turn, is_late, starts, takes, tells};
-ghost use Rattle.nfs41d.specs.Readings.{Reads, Takes};
+ghost use Rattle.nfs_pace.specs.Paced.{second, risen, begins, begins_turn, starts, tells};
+ghost use Rattle.nfs41d.specs.Readings.{Reads, Takes, Looks};
 
 use nfs_pace::{MICROS, Paced};
 use nfs_serve::{Clock, LAST_MOMENT};
@@ -112,7 +112,7 @@ impl<S: Readings> Clock for PacedClock<S> {
     /// Whether the turn has lasted for 2 ms at what is read now.
     fn is_late(&mut self) -> bool
         ensures { Logs None None (Late result ∷ []) × (read : ℕ) × Takes (S.reads self.old.readings) (S.reads self.new.readings) self.old.at read
-            × (self.new.at ≡ takes self.old.at read) × (result ≡ is_late self.old.at read) × (self.new.longest ≡ max self.old.longest (read - self.old.at.read)) }
+            × Looks self.old.at self.old.longest read self.new.at self.new.longest result }
     {
         let before = self.at.read();
         let read = self.readings.micros().unwrap_or(before);

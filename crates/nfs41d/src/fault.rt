@@ -73,7 +73,7 @@ pub fn told<W: Write>(fault: &Fault, w: &mut W) -> u8
 
 /// Tells the fault, if there is one, and answers the status with which the process ends: 0 where there is none.
 pub fn status<W: Write>(ran: Result<(), Fault>, w: &mut W) -> ExitCode
-    ensures { exit_status result ≡ ends.status_of ran }
+    ensures { exit_status result ≡ ends.exit_status_of ran }
 {
     match ran {
         Ok(()) => ExitCode::SUCCESS,

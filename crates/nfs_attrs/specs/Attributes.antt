@@ -50,7 +50,7 @@ attributes =
     ∷ read_only 1 uint32 (λ a o. type_number o.kind)  -- type
     ∷ read_only 2 uint32 (λ a o. 0)  -- fh_expire_type: never
     ∷ read_only 3 uint64 (λ a o. o.change)  -- change
-    ∷ read_write 4 uint64 (λ a o. o.size) (λ s. is_some s.size)  -- size
+    ∷ read_write 4 uint64 (λ a o. a.size) (λ s. is_some s.size)  -- size
     ∷ read_only 5 bool (λ a o. true)  -- link_support
     ∷ read_only 6 bool (λ a o. true)  -- symlink_support
     ∷ read_only 7 bool (λ a o. false)  -- named_attr
@@ -69,7 +69,7 @@ attributes =
     ∷ read_only 35 uint32 (λ a o. a.links)  -- numlinks
     ∷ read_write 36 (opaque most) (λ a o. decimal o.owner) (λ s. is_some s.owner)  -- owner
     ∷ read_write 37 (opaque most) (λ a o. decimal o.group) (λ s. is_some s.group)  -- owner_group
-    ∷ read_only 45 uint64 (λ a o. o.size)  -- space_used
+    ∷ read_only 45 uint64 (λ a o. a.size)  -- space_used
     ∷ read_only 47 nfstime4 (λ a o. o.access)  -- time_access
     ∷ write_only 48 (λ s. is_some s.access)  -- time_access_set
     ∷ read_only 52 nfstime4 (λ a o. o.metadata)  -- time_metadata
@@ -93,11 +93,8 @@ value_at [] n a o = []
 value_at (line ∷ lines) n a o = if n == line.number then value_of line.value a o else value_at lines n a o
 
 -- the values that a mask asks for, one behind the other; nothing for what cannot be read
-abbrev pub values_in : List Attribute → Mask → About → Object → List ℕ
-values_in lines asked a o = flat_map (λ line. if has asked line.number then value_of line.value a o else []) lines
-
 unfoldable pub values : Mask → About → Object → List ℕ
-values asked a o = values_in attributes asked a o
+values asked a o = flat_map (λ line. if has asked line.number then value_of line.value a o else []) attributes
 
 -- What GETATTR and READDIR report (fattr4): the mask of the attributes that are asked for and can be read, and their values.
 abbrev pub spell_attrs : Mask → About → Object → List ℕ

@@ -1,5 +1,5 @@
 -- Which attributes are asked for, set or reported: bitmap4 (RFC 8881 sections 3.3.7 and 5).
-use Rattle.std.specs.{Prelude.{ℕ, ◌/◌, ◌%◌, ◌==◌, ◌&&◌, ◌||◌, List, [], ◌∷◌, get_or, drop, Bool, false, not, length, bit_and, if◌then◌else◌}, Int.bit_at}
+use Rattle.std.specs.{Prelude.{ℕ, ◌/◌, ◌%◌, ◌==◌, ◌&&◌, ◌||◌, List, [], ◌∷◌, get_or, drop, Bool, false, not, length, map, bit_and, if◌then◌else◌}, Int.bit_at}
 use Rattle.std.specs.List.{list_any, filter, range_with_len}
 use Rattle.nfs_attrs.specs.{Wire.bitmap4, declared.mask.Mask.Mask}
 
@@ -15,13 +15,11 @@ has mask n = bit_at (get_or mask.words (n / 32) 0) (n % 32) == 1
 abbrev pub asks_set_only : Mask → Bool
 asks_set_only mask = has mask 48 || has mask 54
 
-abbrev pub before_zero : ℕ → List ℕ → List ℕ
-before_zero word words = if word == 0 && length words == 0 then [] else word ∷ words
-
 -- the words up to the last that is not zero
 abbrev pub without_last_zeros : List ℕ → List ℕ
 without_last_zeros [] = []
-without_last_zeros (word ∷ words) = before_zero word (without_last_zeros words)
+without_last_zeros (word ∷ words) =
+    let rest : List ℕ = without_last_zeros words in if word == 0 && length rest == 0 then [] else word ∷ rest
 
 -- the words in which a mask is written
 abbrev pub trimmed_words : Mask → List ℕ
@@ -30,22 +28,16 @@ trimmed_words mask = without_last_zeros mask.words
 abbrev pub spell_mask : Mask → List ℕ
 spell_mask mask = (bitmap4 (trimmed_words mask)).bytes
 
--- each bit of a word is one of another
-abbrev pub word_within : ℕ → ℕ → Bool
-word_within word other = bit_and word other == word
-
 -- each attribute of the first is one of the second
 abbrev pub within : Mask → Mask → Bool
 within mask others =
-    not mask.beyond && word_within (get_or mask.words 0 0) (get_or others.words 0 0) && word_within (get_or mask.words 1 0) (get_or others.words 1 0)
-    && word_within (get_or mask.words 2 0) (get_or others.words 2 0)
-
-abbrev pub word_of_both : Mask → Mask → ℕ → ℕ
-word_of_both mask others w = bit_and (get_or mask.words w 0) (get_or others.words w 0)
+    not mask.beyond && bit_and (get_or mask.words 0 0) (get_or others.words 0 0) == get_or mask.words 0 0
+    && bit_and (get_or mask.words 1 0) (get_or others.words 1 0) == get_or mask.words 1 0
+    && bit_and (get_or mask.words 2 0) (get_or others.words 2 0) == get_or mask.words 2 0
 
 -- the attributes below 96 of both
 abbrev pub common : Mask → Mask → Mask
-common mask others = record { words = word_of_both mask others 0 ∷ word_of_both mask others 1 ∷ word_of_both mask others 2 ∷ []; beyond = false }
+common mask others = record { words = map (λ w. bit_and (get_or mask.words w 0) (get_or others.words w 0)) (0 ∷ 1 ∷ 2 ∷ []); beyond = false }
 
 -- the attributes below 96 of a mask, in rising order
 unfoldable pub numbers_of : Mask → List ℕ

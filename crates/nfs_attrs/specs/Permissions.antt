@@ -30,8 +30,8 @@ abbrev pub execute : Want
 execute = record { read = false; write = false; execute = true }
 
 -- to change a directory's entries
-abbrev pub change : Want
-change = record { read = false; write = true; execute = true }
+abbrev pub change_entries : Want
+change_entries = record { read = false; write = true; execute = true }
 
 -- The bits of ACCESS (RFC 8881 section 18.1): READ 1, LOOKUP 2, MODIFY 4, EXTEND 8, DELETE 16, EXECUTE 32.
 abbrev pub supported_access : FileType → ℕ
@@ -42,16 +42,10 @@ supported_access Link = 0x2d
 abbrev pub bits_if : Bool → ℕ → ℕ
 bits_if granted bits = if granted then bits else 0
 
-abbrev pub on_directory : Object → Caller → ℕ
-on_directory o who = bits_if (may o who read) 1 + bits_if (may o who execute) 2 + bits_if (may o who change) 0x1c
-
-abbrev pub on_other : Object → Caller → ℕ
-on_other o who = bits_if (may o who read) 1 + bits_if (may o who write) 0xc + bits_if (may o who execute) 0x20
-
 abbrev pub granted_access : FileType → Object → Caller → ℕ
-granted_access Regular o who = on_other o who
-granted_access Directory o who = on_directory o who
-granted_access Link o who = on_other o who
+granted_access Regular o who = bits_if (may o who read) 1 + bits_if (may o who write) 0xc + bits_if (may o who execute) 0x20
+granted_access Directory o who = bits_if (may o who read) 1 + bits_if (may o who execute) 2 + bits_if (may o who change_entries) 0x1c
+granted_access Link o who = bits_if (may o who read) 1 + bits_if (may o who write) 0xc + bits_if (may o who execute) 0x20
 
 abbrev pub judge_access : Object → Caller → ℕ → Access
 judge_access o who asked = record { supported = bit_and asked (supported_access o.kind); granted = bit_and asked (granted_access o.kind o who) }

@@ -7,9 +7,9 @@ use Rattle.nfs_attrs.specs.{declared.set_time.SetTime.SetTime, declared.set_time
 use Rattle.nfs_attrs.specs.{declared.wanted.AttrFault.AttrFault, declared.wanted.AttrFault.TheVariants.{AttrNotSupp, Inval, BadXdr, BadOwner}}
 
 -- the number that a text names, where there is a text
-abbrev pub named : Option (List ℕ) → Option ℕ
-named None = None
-named (Some text) = owner_of text
+abbrev pub owner_in : Option (List ℕ) → Option ℕ
+owner_in None = None
+owner_in (Some text) = owner_of text
 
 abbrev pub names_nobody : Option (List ℕ) → Bool
 names_nobody None = false
@@ -31,7 +31,7 @@ judged_settings given None = Err BadXdr
 judged_settings given (Some s) =
     if names_nobody s.owner || names_nobody s.group then Err BadOwner
     else if overflows s.access || overflows s.modify || exceeds s.mode then Err Inval
-    else Ok (record { size = s.size; mode = s.mode; owner = named s.owner; group = named s.group; access = s.access; modify = s.modify; mask = given })
+    else Ok (record { size = s.size; mode = s.mode; owner = owner_in s.owner; group = owner_in s.group; access = s.access; modify = s.modify; mask = given })
 
 -- The checks in their order: an attribute that the server does not have, one that cannot be set, values that are cut,
 -- malformed or followed by others, an owner or group that is no number, a number that is too large.
@@ -41,8 +41,8 @@ read_attrs given values =
     else if not (within given settable) then Err Inval
     else judged_settings given (settings_of given values)
 
-abbrev pub fault_status : AttrFault → Status
-fault_status AttrNotSupp = S.AttrNotSupp
-fault_status Inval = S.Inval
-fault_status BadXdr = S.BadXdr
-fault_status BadOwner = S.BadOwner
+abbrev pub attr_fault_status : AttrFault → Status
+attr_fault_status AttrNotSupp = S.AttrNotSupp
+attr_fault_status Inval = S.Inval
+attr_fault_status BadXdr = S.BadXdr
+attr_fault_status BadOwner = S.BadOwner

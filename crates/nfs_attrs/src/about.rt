@@ -5,6 +5,8 @@
 pub struct About {
     /// The object's number.
     pub number: u64,
+    /// How many bytes it has.
+    pub size: u64,
     /// How many names it has.
     pub links: u32,
     /// The instance of the server.

@@ -13,7 +13,6 @@ const FILE: Object = Object {
     owner: 1000,
     group: 50,
     change: 7,
-    size: 9,
     access: Time {
         seconds: -1,
         nanoseconds: 5,
@@ -31,6 +30,7 @@ const FILE: Object = Object {
 
 const ABOUT: About = About {
     number: 12,
+    size: 9,
     links: 3,
     instance: 11,
     lease: 90,
@@ -47,7 +47,6 @@ fn object(kind: FileType, mode: u32, owner: u32, group: u32) -> Object {
         owner,
         group,
         change: 1,
-        size: 0,
         access: at,
         metadata: at,
         modify: at,
@@ -163,6 +162,7 @@ fn writes_what_is_asked(rt: HostRuntime) -> Result<(), Fail> {
     let directory = object(FileType::Directory, 493, 0, 0);
     let about = About {
         number: 2,
+        size: 0,
         links: 1,
         instance: 7,
         lease: 90,

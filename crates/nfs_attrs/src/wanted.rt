@@ -50,7 +50,7 @@ pub enum AttrFault {
 impl AttrFault {
     /// The status that the operation answers.
     pub fn status(self) -> Status
-        ensures { result ≡ reading.fault_status self }
+        ensures { result ≡ reading.attr_fault_status self }
     {
         match self {
             AttrFault::AttrNotSupp => Status::AttrNotSupp,
@@ -151,7 +151,7 @@ fn settings_of<'a>(given: &Mask, values: &'a [u8]) -> Option<Settings<'a>>
 
 /// The number that the text names, where there is a text.
 fn named(text: Option<&[u8]>) -> Option<u32>
-    ensures { result ≡ reading.named (view.lent text.entry) }
+    ensures { result ≡ reading.owner_in (view.lent text.entry) }
 {
     owner_of(text?)
 }

@@ -1,10 +1,10 @@
 -- What a write or a removal at the place of a record does to the table, in the value that was opened.
-use Rattle.std.proofs.Common.{◌≡◌, ℕ, ◌+◌, Bool, true, not, List, [], ◌∷◌, ◌++◌, length, set, get_or, Option, Some, None, Result, refl, sym, ◌∙◌, ap, subst}
+use Rattle.std.proofs.Common.{◌≡◌, ℕ, Bool, true, not, List, [], ◌∷◌, ◌++◌, length, set, get_or, Option, Some, None, Result, refl, sym, ◌∙◌, ap, subst}
 use Rattle.std.proofs.{Common.IsTrue, lemmas.List.Quantifiers.position-Some}
 use Rattle.std.specs.{Prelude.{◌==◌, if◌then◌else◌, find, filter, position, option_map}, List.remove, Result.result_ok, Ordering.nat_cmp, Option.option_map_or}
 use Rattle.std.specs.List.Sorted.{IsSearchInRange, IsBinarySearchResult}
 use Rattle.nfs_xdr.proofs.{Lists.{position_finds, position_nowhere}, Tables.{searched, written, unwritten, removed, position_is, without_none}}
-use Rattle.nfs_clients.specs.Roster.{ClientRecord, Roster, IsRoster, id_of, next_id, client_at, is_unconfirmed_of, with_changed, without}
+use Rattle.nfs_clients.specs.Roster.{ClientRecord, Roster, IsRoster, first_id, next_id, client_at, is_unconfirmed_of, with_changed, without}
 use Rattle.nfs_clients.specs.{ExchangeId.{Ask, has_room, with_new, new_client}, CreateSession.{with_confirmed, confirms, leaving, without_any}}
 use Rattle.nfs_clients.proofs.Members.{the_id, IsMild, roster_changed, roster_without, roster_confirmed, roster_new, without_unconfirmed}
 
@@ -15,7 +15,7 @@ place_in t n = position (λ c. c.id == n) t.records
 pub searched_place : (t u : Roster) (n : ℕ) (xs : List ClientRecord) (r : Result ℕ ℕ) (o : Option ℕ) → t ≡ u → IsRoster t → xs ≡ t.records
     → IsSearchInRange r (length xs) → IsBinarySearchResult (λ c. nat_cmp (the_id c) n) xs r → o ≡ result_ok r → o ≡ place_in u n
 searched_place t u n xs r o e is same within found given =
-    given ∙ searched the_id (id_of t.instance 1) (next_id t) n xs r (rw same is.rising) within found
+    given ∙ searched the_id (first_id t) (next_id t) n xs r (rw same is.rising) within found
     ∙ ap (position (λ c. c.id == n)) same ∙ ap (λ (t : Roster). place_in t n) e
 
 -- what stands there
@@ -31,7 +31,7 @@ pub changed_view : (f : ClientRecord → ClientRecord) (t u : Roster) (n i : ℕ
 changed_view f t u n i x y e is at read made =
     ap (λ y. record t { records = set t.records i y }) made
     ∙ ap (λ xs. record t { records = xs })
-    (written the_id (id_of t.instance 1) (next_id t) n f t.records i x is.rising (ap (λ (t : Roster). place_in t n) e ∙ sym at) read)
+    (written the_id (first_id t) (next_id t) n f t.records i x is.rising (ap (λ (t : Roster). place_in t n) e ∙ sym at) read)
     ∙ ap (λ (t : Roster). with_changed t n f) e
 
 pub changed_roster : (f : ClientRecord → ClientRecord) (t u : Roster) (n i : ℕ) (x y : ClientRecord) → IsMild f → t ≡ u
@@ -47,7 +47,7 @@ pub removed_view : (t u : Roster) (n i : ℕ) (ys : List ClientRecord) → t ≡
     → Some i ≡ place_in u n → ys ≡ remove t.records i → record t { records = ys } ≡ without u n
 removed_view t u n i ys e is at left =
     ap (λ xs. record t { records = xs })
-    (left ∙ removed the_id (id_of t.instance 1) (next_id t) n t.records i is.rising (ap (λ (t : Roster). place_in t n) e ∙ sym at))
+    (left ∙ removed the_id (first_id t) (next_id t) n t.records i is.rising (ap (λ (t : Roster). place_in t n) e ∙ sym at))
     ∙ ap (λ (t : Roster). without t n) e
 
 pub removed_roster : (t u : Roster) (n i : ℕ) (ys : List ClientRecord) → t ≡ u → IsRoster t
@@ -83,8 +83,8 @@ taken_unconfirmed t owner is (Some i) e = by t.records refl
     by (x ∷ xs) some =
         let first = position-Some (is_unconfirmed_of owner) t.records i x e in
         let d : ClientRecord = get_or t.records i x in
-        removed the_id (id_of t.instance 1) (next_id t) d.id t.records i is.rising
-        (position_is the_id (id_of t.instance 1) (next_id t) d.id t.records i x is.rising first.0 refl)
+        removed the_id (first_id t) (next_id t) d.id t.records i is.rising
+        (position_is the_id (first_id t) (next_id t) d.id t.records i x is.rising first.0 refl)
         ∙ without_unconfirmed t owner is (Some d) (position_finds (is_unconfirmed_of owner) t.records i x e)
 
 -- the table that the code has left
@@ -92,13 +92,14 @@ pub pushed : (t u : Roster) (a : Ask) (room kept full : List ClientRecord) (new 
     → t ≡ u → IsRoster t → room ≡ t.records → owner ≡ a.owner
     → kept ≡ option_map_or (remove room) (position (is_unconfirmed_of owner) room) room → id ≡ next_id t → done ≡ true
     → new ≡ record (new_client t a.owner a.verifier a.uid) { id = id } → full ≡ (if done then kept ++ new ∷ [] else kept)
-    → record t { records = full; last = t.last + 1 } ≡ with_new u a.owner a.verifier a.uid
+    → record t { records = full; last = id } ≡ with_new u a.owner a.verifier a.uid
 pushed t u a room kept full new owner id done e is same asked left given there made put =
     let rest : kept ≡ filter (λ c. not (is_unconfirmed_of a.owner c)) t.records =
     left ∙ ap (λ o. option_map_or (remove room) (position (is_unconfirmed_of o) room) room) asked
     ∙ ap (λ (xs : List ClientRecord). option_map_or (remove xs) (position (is_unconfirmed_of a.owner) xs) xs) same
     ∙ taken_unconfirmed t a.owner is (position (is_unconfirmed_of a.owner) t.records) refl in
-    ap (λ xs. record t { records = xs; last = t.last + 1 }) (put
+    ap (λ n. record t { records = full; last = n }) given
+    ∙ ap (λ xs. record t { records = xs; last = next_id t }) (put
     ∙ ap (λ v. if v then kept ++ new ∷ [] else kept) there
     ∙ ap (λ c. kept ++ c ∷ []) made
     ∙ ap (λ xs. xs ++ record (new_client t a.owner a.verifier a.uid) { id = id } ∷ []) rest
@@ -108,7 +109,7 @@ pushed t u a room kept full new owner id done e is same asked left given there m
 pub roster_pushed : (t u : Roster) (a : Ask) (room kept full : List ClientRecord) (new : ClientRecord) (owner : List ℕ) (id : ℕ) (done : Bool)
     → t ≡ u → IsRoster t → IsTrue (has_room u a.owner) → room ≡ t.records → owner ≡ a.owner
     → kept ≡ option_map_or (remove room) (position (is_unconfirmed_of owner) room) room → id ≡ next_id t → done ≡ true
-    → new ≡ record (new_client t a.owner a.verifier a.uid) { id = id } → full ≡ (if done then kept ++ new ∷ [] else kept) → IsRoster (record t { records = full; last = t.last + 1 })
+    → new ≡ record (new_client t a.owner a.verifier a.uid) { id = id } → full ≡ (if done then kept ++ new ∷ [] else kept) → IsRoster (record t { records = full; last = id })
 roster_pushed t u a room kept full new owner id done e is can same asked left given there made put =
     subst IsRoster (sym (pushed t u a room kept full new owner id done e is same asked left given there made put)) (roster_new u a (subst IsRoster e is) can)
 

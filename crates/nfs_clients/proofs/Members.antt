@@ -3,15 +3,20 @@ use Rattle.std.proofs.Common.{◌≡◌, ℕ, ◌+◌, ◌<◌, ◌≤◌, Bool,
 use Rattle.std.proofs.Common.{◌∙◌, ap, subst, arith, inl, inr, length-append}
 use Rattle.std.proofs.{lemmas.Bool.{cases_Bool, cases_eq, ne_eqb, eq-eqb, ltb-true, and_parts, false≢true}, lemmas.Slice.Eq.bytes_eq-Decides}
 use Rattle.std.proofs.lemmas.List.{length-map}
-use Rattle.std.specs.Prelude.{◌==◌, if◌then◌else◌, find, filter, is_some, ◌||◌, bytes_eq, option_map}
-use Rattle.nfs_xdr.specs.Tables.{In}
+use Rattle.std.specs.Prelude.{◌==◌, if◌then◌else◌, find, filter, is_some, ◌||◌, bytes_eq, option_map, option_and_then}
+use Rattle.nfs_xdr.specs.Tables.{IsRising, In}
 use Rattle.nfs_xdr.proofs.Lists.{in_filter, in_push, in_map, find_in, none_in, map_same, filter_in, filter_all, length_filter, length_left}
 use Rattle.nfs_xdr.proofs.Tables.{IsRising-push, IsRising-map, IsRising-filter, in_once, at_of_in, at_above}
+use Rattle.nfs_xdr.specs.Numbers.{next_number}
 use Rattle.nfs_clients.specs.declared.created.CreateResult.{CreateResult}
-use Rattle.nfs_clients.specs.Roster.{ClientRecord, Roster, IsRoster, id_of, next_id, client_at, is_unconfirmed_of, unconfirmed_of, with_changed, without}
-use Rattle.nfs_clients.specs.{Roster.{most_records, last_counter}, ExchangeId.{Ask, has_room, with_new, new_client}}
-use Rattle.nfs_clients.specs.CreateSession.{following, uses_up, keeps, with_kept, is_other_confirmed_of, leaving, leaving_by, without_any, confirms}
+use Rattle.nfs_clients.specs.Roster.{ClientRecord, Roster, IsRoster, first_id, next_id, client_at, is_unconfirmed_of, unconfirmed_of, with_changed, without}
+use Rattle.nfs_clients.specs.{Roster.{most_records, counter_of, last_counter}, ExchangeId.{Ask, has_room, with_new, new_client}}
+use Rattle.nfs_clients.specs.CreateSession.{uses_up, keeps, with_kept, is_other_confirmed_of, leaving, without_any, confirms}
 use Rattle.nfs_clients.specs.CreateSession.{with_confirmed}
+
+-- the record that a client's confirmation removes
+abbrev pub leaving_by : Roster → Option ClientRecord → Option ℕ
+leaving_by t found = option_and_then (λ c. option_map (λ d. d.id) (find (is_other_confirmed_of c) t.records)) found
 
 abbrev pub the_id : ClientRecord → ℕ
 the_id c = c.id
@@ -21,10 +26,9 @@ change_at n f c = if c.id == n then f c else c
 
 pub roster_filter : (t : Roster) (p : ClientRecord → Bool) → IsRoster t → IsRoster (record t { records = filter p t.records })
 roster_filter t p is = record {
-  rising = IsRising-filter the_id p (id_of t.instance 1) (next_id t) t.records is.rising;
+  rising = IsRising-filter the_id p (first_id t) (next_id t) t.records is.rising;
   alone = λ c d a b owner mark. is.alone c d (in_filter p t.records c a).0 (in_filter p t.records d b).0 owner mark;
   few = (let le = length_filter p t.records in let few = is.few in omega arith);
-  counter = is.counter;
   instance = is.instance;
 }
 
@@ -36,7 +40,7 @@ pub record IsMild (f : ClientRecord → ClientRecord) : Type 0 where
 
 pub mild_map : (f : ClientRecord → ClientRecord) → IsMild f → (t : Roster) → IsRoster t → IsRoster (record t { records = map f t.records })
 mild_map f mild t is = record {
-  rising = IsRising-map the_id f mild.id (id_of t.instance 1) (next_id t) t.records is.rising;
+  rising = IsRising-map the_id f mild.id (first_id t) (next_id t) t.records is.rising;
   alone = λ c d a b owner mark.
       (let x = in_map f t.records c a in let y = in_map f t.records d b in
       let one : x.0 ≡ y.0 = is.alone x.0 y.0 x.1 y.1
@@ -44,7 +48,6 @@ mild_map f mild t is = record {
       (sym (mild.mark x.0) ∙ ap (λ (c : ClientRecord). c.confirmed) (sym x.2) ∙ mark ∙ ap (λ (c : ClientRecord). c.confirmed) y.2 ∙ mild.mark y.0) in
       x.2 ∙ ap f one ∙ sym y.2);
   few = (let same = length-map t.records f in let few = is.few in omega arith);
-  counter = is.counter;
   instance = is.instance;
 }
 
@@ -74,15 +77,15 @@ roster_without_any t (Some n) is = roster_without t n is
 
 pub mild_keeps : (result : CreateResult) → IsMild (keeps result)
 mild_keeps result = record {
-  id = λ c. elim (uses_up result) as (λ v. (cond v (record c { number = following c.number; kept = Some result }) c).id ≡ c.id) [ true ↦ refl | false ↦ refl ];
-  owner = λ c. elim (uses_up result) as (λ v. (cond v (record c { number = following c.number; kept = Some result }) c).owner ≡ c.owner)
+  id = λ c. elim (uses_up result) as (λ v. (cond v (record c { number = next_number c.number; kept = Some result }) c).id ≡ c.id) [ true ↦ refl | false ↦ refl ];
+  owner = λ c. elim (uses_up result) as (λ v. (cond v (record c { number = next_number c.number; kept = Some result }) c).owner ≡ c.owner)
       [ true ↦ refl | false ↦ refl ];
-  mark = λ c. elim (uses_up result) as (λ v. (cond v (record c { number = following c.number; kept = Some result }) c).confirmed ≡ c.confirmed)
+  mark = λ c. elim (uses_up result) as (λ v. (cond v (record c { number = next_number c.number; kept = Some result }) c).confirmed ≡ c.confirmed)
       [ true ↦ refl | false ↦ refl ];
 }
 
 pub keeps_used : (result : CreateResult) (c : ClientRecord) → uses_up result ≡ true
-    → record c { number = following c.number; kept = Some result } ≡ keeps result c
+    → record c { number = next_number c.number; kept = Some result } ≡ keeps result c
 keeps_used result c up = rw up refl
 
 pub not_kept : (t : Roster) (n : ℕ) (result : CreateResult) → uses_up result ≡ false → t ≡ with_kept t n result
@@ -114,7 +117,7 @@ only_one_left t n is x y a b here owner mark =
     ]
   where
     it_is : client_at t n ≡ Some x
-    it_is = ap (client_at t) (sym here) ∙ at_of_in the_id (id_of t.instance 1) (next_id t) t.records x is.rising a
+    it_is = ap (client_at t) (sym here) ∙ at_of_in the_id (first_id t) (next_id t) t.records x is.rising a
 
     by_found : (o : Option ClientRecord) → find (is_other_confirmed_of x) t.records ≡ o → (y.id ≡ x.id → ⊥) → y.id ≡ n
     by_found None e other =
@@ -141,7 +144,7 @@ alone_confirmed : (t : Roster) (n : ℕ) → IsRoster t
 alone_confirmed t n is only x y a b owner mark =
     elim (cases_eq x.id n) [
       | inl x_is ↦ elim (cases_eq y.id n) [
-        | inl y_is ↦ ap (change_at n confirms) (in_once the_id (id_of t.instance 1) (next_id t) t.records x y is.rising a b (x_is ∙ sym y_is))
+        | inl y_is ↦ ap (change_at n confirms) (in_once the_id (first_id t) (next_id t) t.records x y is.rising a b (x_is ∙ sym y_is))
         | inr y_not ↦ absurd (y_not
             (only x y a b x_is (sym (rw (eq-eqb x.id n x_is, ne_eqb y.id n y_not) at owner)) (sym (rw (eq-eqb x.id n x_is, ne_eqb y.id n y_not) at mark))))
       ]
@@ -160,14 +163,13 @@ roster_confirmed t n is =
     let only = λ (x y : ClientRecord) (a : In x rest.records) (b : In y rest.records) (here : x.id ≡ n) (owner : y.owner ≡ x.owner) (mark : y.confirmed ≡ true).
     only_one_left t n is x y (in_left t (leaving t n) x a) b here owner mark in
     record {
-      rising = IsRising-map the_id (change_at n confirms) (confirmed_id n) (id_of rest.instance 1) (next_id rest) rest.records is'.rising;
+      rising = IsRising-map the_id (change_at n confirms) (confirmed_id n) (first_id rest) (next_id rest) rest.records is'.rising;
       alone = λ c d a b owner mark.
           (let x = in_map (change_at n confirms) rest.records c a in let y = in_map (change_at n confirms) rest.records d b in
           x.2 ∙ alone_confirmed rest n is' only x.0 y.0 x.1 y.1
           (ap (λ (c : ClientRecord). c.owner) (sym x.2) ∙ owner ∙ ap (λ (c : ClientRecord). c.owner) y.2)
           (ap (λ (c : ClientRecord). c.confirmed) (sym x.2) ∙ mark ∙ ap (λ (c : ClientRecord). c.confirmed) y.2) ∙ sym y.2);
       few = (let same = length-map rest.records (change_at n confirms) in let few = is'.few in omega arith);
-      counter = is'.counter;
       instance = is'.instance;
     }
 
@@ -179,7 +181,7 @@ not_true false e = refl
 
 -- no record has the next id
 pub fresh : (t : Roster) → IsRoster t → client_at t (next_id t) ≡ None
-fresh t is = at_above the_id (id_of t.instance 1) (next_id t) (next_id t) t.records is.rising (omega arith)
+fresh t is = at_above the_id (first_id t) (next_id t) (next_id t) t.records is.rising (omega arith)
 
 room_few : (some few : Bool) (a b limit : ℕ) → (some || few) ≡ true → (some ≡ true → a < b) → (few ≡ true → b < limit) → a ≤ b → b ≤ limit → a + 1 ≤ limit
 room_few true few a b limit e one free le within = let lt = one refl in omega arith
@@ -192,10 +194,12 @@ pub roster_new : (t : Roster) (a : Ask) → IsRoster t → has_room t a.owner �
 roster_new t a is room =
     let parts = and_parts _ _ room in
     let rest = filter (λ c. not (is_unconfirmed_of a.owner c)) t.records in
-    let counter = ltb-true t.last last_counter parts.0 in
+    let counter = ltb-true (counter_of t.last) last_counter parts.0 in
+    let same : first_id t ≡ first_id (with_new t a.owner a.verifier a.uid) = omega arith in
     record {
-      rising = IsRising-push the_id (id_of t.instance 1) (next_id t) (next_id (with_new t a.owner a.verifier a.uid)) rest (new_client t a.owner a.verifier a.uid) refl (omega arith)
-          (IsRising-filter the_id (λ c. not (is_unconfirmed_of a.owner c)) (id_of t.instance 1) (next_id t) t.records is.rising);
+      rising = subst (λ low. IsRising the_id low (with_new t a.owner a.verifier a.uid).records (next_id (with_new t a.owner a.verifier a.uid))) same
+          (IsRising-push the_id (first_id t) (next_id t) (next_id (with_new t a.owner a.verifier a.uid)) rest (new_client t a.owner a.verifier a.uid) refl (omega arith)
+          (IsRising-filter the_id (λ c. not (is_unconfirmed_of a.owner c)) (first_id t) (next_id t) t.records is.rising));
       alone = λ c d there there' owner mark. elim (in_push rest (new_client t a.owner a.verifier a.uid) c there) [
         | inl c_new ↦ elim (in_push rest (new_client t a.owner a.verifier a.uid) d there') [
           | inl d_new ↦ c_new ∙ sym d_new
@@ -213,8 +217,7 @@ roster_new t a is room =
           let fits = room_few (is_some (unconfirmed_of t a.owner)) (ltb (length t.records) most_records) (length rest) (length t.records) most_records parts.1
           (length_left (is_unconfirmed_of a.owner) t.records) (ltb-true (length t.records) most_records)
           (length_filter (λ c. not (is_unconfirmed_of a.owner c)) t.records) is.few in omega arith);
-      counter = omega arith;
-      instance = is.instance;
+      instance = (let small = is.instance in omega arith);
     }
   where
     still_there : (t : Roster) (a : Ask) (d : ClientRecord)
@@ -240,5 +243,5 @@ without_unconfirmed t owner is (Some d) e =
           (not_true c.confirmed p.1 ∙ sym (not_true d.confirmed q.1)) in
           eq-eqb c.id d.id (ap the_id one) ∙ sym passes)
       | inr fails ↦ ne_eqb c.id d.id (λ same. false≢true (sym fails
-          ∙ ap (is_unconfirmed_of owner) (in_once the_id (id_of t.instance 1) (next_id t) t.records c d is.rising there found.0 same) ∙ found.1)) ∙ sym fails
+          ∙ ap (is_unconfirmed_of owner) (in_once the_id (first_id t) (next_id t) t.records c d is.rising there found.0 same) ∙ found.1)) ∙ sym fails
     ]

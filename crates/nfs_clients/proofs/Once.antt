@@ -89,6 +89,5 @@ in_order = λ instance changes within. order_all (no_clients instance) changes (
   rising = omega arith;
   alone = λ c d a b owner mark. absurd a;
   few = omega arith;
-  counter = omega arith;
-  instance = within;
+  instance = omega arith;
 })

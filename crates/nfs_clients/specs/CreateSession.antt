@@ -1,14 +1,11 @@
 -- CREATE_SESSION's number and what is kept under it; what a confirmation removes (RFC 8881 section 18.36;
 -- which refusals use a number up is this server's profile).
-use Rattle.std.specs.Prelude.{ℕ, ◌+◌, ◌%◌, ◌^◌, ◌==◌, ◌&&◌, not, Bool, true, false, Option, Some, None, find, option_map, option_and_then, if◌then◌else◌}
+use Rattle.std.specs.Prelude.{ℕ, ◌==◌, ◌&&◌, not, Bool, true, false, Option, Some, None, find, option_map, option_and_then, if◌then◌else◌}
 use Rattle.std.specs.Option.{option_map_or}
 use Rattle.nfs_xdr.specs.{declared.status.Status.Status, declared.status.Status.TheVariants.{TooSmall, NoSpc, ServerFault}}
+use Rattle.nfs_xdr.specs.Numbers.{next_number}
 use Rattle.nfs_clients.specs.{Roster.{ClientRecord, Roster, client_at, is_confirmed_of, with_changed, without}, declared.created.CreateResult.CreateResult}
 use Rattle.nfs_clients.specs.declared.created.CreateResult.TheVariants.{Done, Refused}
-
--- numbers go round behind 2^32 - 1
-abbrev pub following : ℕ → ℕ
-following number = (number + 1) % 2 ^ 32
 
 -- what a call comes to by its number and its caller
 pub data Verdict : Type 0 where
@@ -23,7 +20,7 @@ abbrev pub verdict_by : Option ClientRecord → ℕ → ℕ → Verdict
 verdict_by None number uid = Stale
 verdict_by (Some c) number uid =
     if number == c.number then (if c.uid == uid then Runs else InUse)
-    else if following number == c.number then option_map_or Again c.kept Misordered
+    else if next_number number == c.number then option_map_or Again c.kept Misordered
     else Misordered
 
 abbrev pub create_verdict : Roster → ℕ → ℕ → ℕ → Verdict
@@ -42,7 +39,7 @@ uses_up (Refused status) = status_uses_up status
 
 -- the record with the result of its expected number
 abbrev pub keeps : CreateResult → ClientRecord → ClientRecord
-keeps result c = if uses_up result then record c { number = following c.number; kept = Some result } else c
+keeps result c = if uses_up result then record c { number = next_number c.number; kept = Some result } else c
 
 abbrev pub with_kept : Roster → ℕ → CreateResult → Roster
 with_kept t id result = with_changed t id (keeps result)
@@ -52,11 +49,8 @@ abbrev pub is_other_confirmed_of : ClientRecord → ClientRecord → Bool
 is_other_confirmed_of c d = is_confirmed_of c.owner d && not (d.id == c.id)
 
 -- the record that a client's confirmation removes
-abbrev pub leaving_by : Roster → Option ClientRecord → Option ℕ
-leaving_by t found = option_and_then (λ c. option_map (λ d. d.id) (find (is_other_confirmed_of c) t.records)) found
-
 abbrev pub leaving : Roster → ℕ → Option ℕ
-leaving t id = leaving_by t (client_at t id)
+leaving t id = option_and_then (λ c. option_map (λ d. d.id) (find (is_other_confirmed_of c) t.records)) (client_at t id)
 
 abbrev pub without_any : Roster → Option ℕ → Roster
 without_any t None = t

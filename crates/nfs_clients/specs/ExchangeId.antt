@@ -1,23 +1,23 @@
 -- EXCHANGE_ID: the cases in the order in which they are judged, the answer, and the table behind it (RFC 8881 section 18.35;
 -- the cases are this server's profile).
-use Rattle.std.specs.Prelude.{ℕ, ◌+◌, ◌==◌, ◌&&◌, ◌||◌, not, nat_lt, Bool, true, false, List, [], ◌∷◌, ◌++◌, length, Option, Some, None, Result, Ok, Err}
+use Rattle.std.specs.Prelude.{ℕ, ◌==◌, ◌&&◌, ◌||◌, not, nat_lt, Bool, true, false, List, [], ◌∷◌, ◌++◌, length, Option, Some, None, Result, Ok, Err}
 use Rattle.std.specs.Prelude.{filter, option_map, is_some, unwrap_or, bytes_eq, bit_and}
 use Rattle.nfs_xdr.specs.{declared.status.Status.Status, Checks.first_fault}
 use Rattle.nfs_xdr.specs.declared.status.Status.TheVariants as status
-use Rattle.nfs_clients.specs.Roster.{ClientRecord, Roster, most_records, last_counter, next_id, is_unconfirmed_of, confirmed_of, unconfirmed_of}
+use Rattle.nfs_clients.specs.Roster.{ClientRecord, Roster, most_records, counter_of, last_counter, next_id, is_unconfirmed_of, confirmed_of, unconfirmed_of}
 use Rattle.nfs_clients.specs.declared.exchange_id.ClientFault.{ClientFault}
 use Rattle.nfs_clients.specs.declared.exchange_id.ClientFault.TheVariants.{Inval, NoEnt, NotSame, Perm, ClidInUse, ServerFault, Memory}
 use Rattle.nfs_clients.specs.declared.exchange_id.Exchanged.{Exchanged}
 
 -- the status that a fault is answered with
-abbrev pub fault_status : ClientFault → Status
-fault_status Inval = status.Inval
-fault_status NoEnt = status.NoEnt
-fault_status NotSame = status.NotSame
-fault_status Perm = status.Perm
-fault_status ClidInUse = status.ClidInUse
-fault_status ServerFault = status.ServerFault
-fault_status Memory = status.Delay
+abbrev pub client_fault_status : ClientFault → Status
+client_fault_status Inval = status.Inval
+client_fault_status NoEnt = status.NoEnt
+client_fault_status NotSame = status.NotSame
+client_fault_status Perm = status.Perm
+client_fault_status ClidInUse = status.ClidInUse
+client_fault_status ServerFault = status.ServerFault
+client_fault_status Memory = status.Delay
 
 -- what the call asks, and whether an open stands of the client that the owner's confirmed record is
 pub record Ask : Type 0 where
@@ -68,7 +68,7 @@ case_by a (Some c) =
 
 -- a record can be added: ids are left, and it takes the place of the owner's unconfirmed one or finds one free
 abbrev pub has_room : Roster → List ℕ → Bool
-has_room t owner = nat_lt t.last last_counter && (is_some (unconfirmed_of t owner) || nat_lt (length t.records) most_records)
+has_room t owner = nat_lt (counter_of t.last) last_counter && (is_some (unconfirmed_of t owner) || nat_lt (length t.records) most_records)
 
 -- where there is no room, a new record is refused and nothing else
 abbrev pub if_room : Bool → Case → Case
@@ -96,7 +96,7 @@ new_client t owner verifier uid = record {
 abbrev pub with_new : Roster → (owner verifier : List ℕ) → (uid : ℕ) → Roster
 with_new t owner verifier uid = record t {
   records = filter (λ c. not (is_unconfirmed_of owner c)) t.records ++ new_client t owner verifier uid ∷ [];
-  last = t.last + 1;
+  last = next_id t;
 }
 
 -- what is reported of a record that is added

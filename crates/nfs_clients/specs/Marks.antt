@@ -5,12 +5,9 @@ use Rattle.nfs_clients.specs.Roster.{ClientRecord, Roster, client_at, with_chang
 abbrev pub has_client : Roster → ℕ → Bool
 has_client t id = is_some (client_at t id)
 
-abbrev pub is_reclaimed : Option ClientRecord → Bool
-is_reclaimed found = option_map_or (λ c. c.reclaimed) found false
-
 -- the client has declared its reclaim complete
 abbrev pub has_reclaimed : Roster → ℕ → Bool
-has_reclaimed t id = is_reclaimed (client_at t id)
+has_reclaimed t id = option_map_or (λ c. c.reclaimed) (client_at t id) false
 
 abbrev pub with_reclaimed : Roster → ℕ → Roster
 with_reclaimed t id = with_changed t id (λ c. record c { reclaimed = true })

@@ -1,5 +1,5 @@
 -- The client records, and the ids that they get (RFC 8881 section 2.4; ids and limits are this server's profile).
-use Rattle.std.specs.Prelude.{◌≡◌, ℕ, ◌+◌, ◌*◌, ◌^◌, ◌<◌, ◌≤◌, ◌&&◌, not, Bool, List, [], length, Option, find, bytes_eq}
+use Rattle.std.specs.Prelude.{◌≡◌, ℕ, ◌+◌, ◌*◌, ◌/◌, ◌%◌, ◌^◌, ◌<◌, ◌≤◌, ◌&&◌, not, Bool, List, [], length, Option, find, bytes_eq}
 use Rattle.nfs_xdr.specs.Tables.{IsRising, record_at, without_record, with_record, In}
 use Rattle.nfs_clients.specs.declared.created.CreateResult.{CreateResult}
 
@@ -15,10 +15,9 @@ pub record ClientRecord : Type 0 where
   pub kept : Option CreateResult
   pub reclaimed : Bool
 
--- the records in rising order of their ids, the first four bytes of each id, and the last four of the last one given, 0 before the first
+-- the records in rising order of their ids, and the last id that was given, or before the first one the instance with the counter 0
 pub record Roster : Type 0 where
   pub records : List ClientRecord
-  pub instance : ℕ
   pub last : ℕ
 
 -- how many records there are at most
@@ -33,13 +32,21 @@ last_counter = 0xffff_ffff
 abbrev pub id_of : ℕ → ℕ → ℕ
 id_of instance counter = instance * 2 ^ 32 + counter
 
+-- the counter of an id is its last four bytes
+abbrev pub counter_of : ℕ → ℕ
+counter_of id = id % 2 ^ 32
+
+-- the first id that is given in the instance of the last one
+abbrev pub first_id : Roster → ℕ
+first_id t = id_of (t.last / 2 ^ 32) 1
+
 -- the id of the record that is added next
 abbrev pub next_id : Roster → ℕ
-next_id t = id_of t.instance (t.last + 1)
+next_id t = t.last + 1
 
 -- the table of a new server
 abbrev pub no_clients : ℕ → Roster
-no_clients instance = record { records = []; instance = instance; last = 0 }
+no_clients instance = record { records = []; last = id_of instance 0 }
 
 -- the record of an id
 abbrev pub client_at : Roster → ℕ → Option ClientRecord
@@ -66,10 +73,9 @@ without t id = record t { records = without_record (λ c. c.id) t.records id }
 abbrev pub with_changed : Roster → ℕ → (ClientRecord → ClientRecord) → Roster
 with_changed t id change = record t { records = with_record (λ c. c.id) t.records id change }
 
--- What holds of every table. Ids rise and were all given out; no owner has two confirmed records, nor two unconfirmed ones.
+-- What holds of every table. Ids rise and were all given out; no owner has two confirmed records, nor two unconfirmed ones; the instance has four bytes.
 pub record IsRoster (t : Roster) : Type 0 where
-  pub rising : IsRising (λ c. c.id) (id_of t.instance 1) t.records (next_id t)
+  pub rising : IsRising (λ c. c.id) (first_id t) t.records (next_id t)
   pub alone : (c d : ClientRecord) → In c t.records → In d t.records → c.owner ≡ d.owner → c.confirmed ≡ d.confirmed → c ≡ d
   pub few : length t.records ≤ most_records
-  pub counter : t.last ≤ last_counter
-  pub instance : t.instance < 2 ^ 32
+  pub instance : t.last / 2 ^ 32 < 2 ^ 32

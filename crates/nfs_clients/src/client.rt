@@ -1,8 +1,9 @@
 //! One client record (RFC 8881 section 2.4).
 
 ghost use Rattle.std.specs.Prelude.{◌≡◌, false, true, None, Some};
+ghost use Rattle.nfs_xdr.specs.Numbers.{next_number};
 ghost use Rattle.nfs_clients.specs.Roster.{is_confirmed_of, is_unconfirmed_of};
-ghost use Rattle.nfs_clients.specs.CreateSession.{confirms, following};
+ghost use Rattle.nfs_clients.specs.CreateSession.{confirms};
 ghost use Rattle.nfs_clients.specs.ExchangeId.{answer_standing};
 
 use crate::created::CreateResult;
@@ -99,7 +100,7 @@ impl Client {
 
     /// The expected number is used up by this result.
     pub(crate) fn keep(&mut self, created: CreateResult)
-        ensures { self.new ≡ record self.old { number = following self.old.number; kept = Some created } }
+        ensures { self.new ≡ record self.old { number = next_number self.old.number; kept = Some created } }
     {
         self.number = self.number.wrapping_add(1);
         self.kept = Some(created);

@@ -2,7 +2,7 @@
 
 ghost use Rattle.std.specs.Prelude.{◌≡◌, ◌<◌, ◌==◌, length, position, None};
 ghost use Rattle.std.specs.Option.{option_copied};
-ghost use Rattle.nfs_clients.specs.Roster.{next_id, no_clients, client_at, without, last_counter};
+ghost use Rattle.nfs_clients.specs.Roster.{next_id, no_clients, client_at, without, counter_of, last_counter};
 ghost use Rattle.nfs_clients.specs.Marks.{has_client};
 
 use crate::client::Client;
@@ -13,9 +13,8 @@ use std::marker::Model;
 #[derive(Drop)]
 pub struct Clients {
     pub(crate) records: Vec<Client>,
-    pub(crate) instance: u32,
-    /// The last counter that was given, 0 before the first.
-    pub(crate) last: u32,
+    /// The last id that was given; before the first the instance, and behind it the counter 0.
+    pub(crate) last: u64,
 }
 
 impl Model for Clients {
@@ -23,9 +22,9 @@ impl Model for Clients {
 
     ghost Value = { Roster };
 
-    ghost view = { λ t. record { records = t.records.items; instance = t.instance; last = t.last } };
+    ghost view = { λ t. record { records = t.records.items; last = t.last } };
 
-    ghost invariant = { λ t. IsRoster (record { records = t.records.items; instance = t.instance; last = t.last }) };
+    ghost invariant = { λ t. IsRoster (record { records = t.records.items; last = t.last }) };
 }
 
 impl Clients {
@@ -36,8 +35,7 @@ impl Clients {
     {
         Clients {
             records: Vec::new(alloc),
-            instance,
-            last: 0,
+            last: u64::from(instance) << 32,
         }
     }
 
@@ -51,10 +49,10 @@ impl Clients {
     /// The id of the record that `exchange` would add: the instance, and behind it the counter.
     /// No record has it. Where each counter was given none is added, and the number says nothing.
     pub fn next_id(&self) -> u64
-        ensures value { self.now.last < last_counter → result ≡ next_id self.now }
+        ensures value { counter_of self.now.last < last_counter → result ≡ next_id self.now }
         ensures fresh { client_at self.now result ≡ None }
     {
-        (u64::from(self.instance) << 32).wrapping_add(u64::from(self.last) + 1)
+        self.last.wrapping_add(1)
     }
 
     /// Whether there is a record of this id.

@@ -5,7 +5,7 @@ ghost use Rattle.std.specs.Option.{option_copied, option_map_or};
 ghost use Rattle.std.specs.List.{remove};
 ghost use Rattle.nfs_xdr.specs.Checks.{judged};
 ghost use Rattle.nfs_clients.specs.Roster.{confirmed_of, unconfirmed_of, is_unconfirmed_of, is_confirmed_of};
-ghost use Rattle.nfs_clients.specs.ExchangeId.{asks, case_of, case_by, has_room, with_new, answer_added, fault_status};
+ghost use Rattle.nfs_clients.specs.ExchangeId.{asks, case_of, case_by, has_room, with_new, answer_added, client_fault_status};
 ghost use Rattle.nfs_clients.specs.Calls.{exchange_fault, ExchangesOrWants};
 ghost use Rattle.nfs_clients.specs.Seen.{case_seen};
 ghost use Rattle.nfs_clients.specs.declared.exchange_id.ClientFault.TheVariants.{Memory};
@@ -47,7 +47,7 @@ pub enum ClientFault {
 impl ClientFault {
     /// The status that EXCHANGE_ID answers: the fault's own, and NFS4ERR_DELAY for want of memory.
     pub fn status(self) -> Status
-        ensures { result ≡ fault_status self }
+        ensures { result ≡ client_fault_status self }
     {
         match self {
             ClientFault::Inval => Status::Inval,
@@ -167,7 +167,7 @@ impl Clients {
     fn has_room(&self, owner: &Name) -> bool
         ensures { result ≡ has_room self.now owner.now }
     {
-        self.last < u32::MAX
+        self.last % 0x1_0000_0000 < u64::from(u32::MAX)
             && (self.records.len() < MAX_RECORDS || unconfirmed_in(&self.records, owner).is_some())
     }
 
@@ -184,7 +184,7 @@ impl Clients {
         self.records
             .push(Client::new(id, owner, verifier, uid))
             .unwrap();
-        self.last += 1;
+        self.last = id;
         Ok(Exchanged {
             id,
             number: 1,

@@ -1,8 +1,8 @@
 //! Who a client is: the table that decides whose state is whose.
 //!
-//! Contracts see a `Clients` as a `Roster`: the client records in rising order of their ids, the
-//! server's instance, and the counter of the last id. An owner has at most one confirmed and one
-//! unconfirmed record, the table has at most 1,024, and an id is never given twice.
+//! Contracts see a `Clients` as a `Roster`: the client records in rising order of their ids, and
+//! the last id that was given. An owner has at most one confirmed and one unconfirmed record, the
+//! table has at most 1,024, and an id is never given twice.
 //!
 //! ```text
 //! let asked = clients.exchange(alloc, owner, verifier, flags, uid, has_open)?;   // EXCHANGE_ID

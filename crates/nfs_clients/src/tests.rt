@@ -25,8 +25,7 @@ fn stands(count: u32, number: u32) -> Result<Exchanged, ClientFault> {
 fn the_last_id_is_given_and_none_behind_it(rt: HostRuntime) -> Result<(), Fail> {
     let mut clients = Clients {
         records: Vec::new(rt.alloc()),
-        instance: 7,
-        last: u32::MAX - 1,
+        last: id(u32::MAX - 1),
     };
     for (owner, want) in [
         (b"A", Ok(id(u32::MAX))),

@@ -21,3 +21,4 @@ pub mod Repeating
 pub mod Instances
 pub mod Delayed
 pub mod DelayedOpen
+pub mod Terms

@@ -1,27 +1,28 @@
 //! A compound over the tables (RFC 8881 sections 2.10.6.4 and 16.2).
 
-ghost use Rattle.std.specs.Prelude.{◌≡◌, ◌≤◌, ◌<◌, ◌^◌, ℕ, Option, length};
+ghost use Rattle.std.specs.Prelude.{◌≡◌, ◌≤◌, ◌<◌, ◌^◌, ◌∷◌, ℕ, Option, length};
 ghost use Rattle.nfs_xdr.specs.Caller.{caller};
 ghost use Rattle.nfs_xdr.specs.Tables.{In};
 ghost use Rattle.nfs_xdr.specs.Limits.{opaque_limit};
 ghost use Rattle.nfs_compound.specs.declared.op.Item.{Item};
 ghost use Rattle.nfs_compound.specs.declared.op.Item.TheVariants.{Operation};
+ghost use Rattle.nfs_compound.specs.declared.op.Op.TheVariants as Op;
 ghost use Rattle.nfs_lease.specs.Queue.{IsLatest};
 ghost use Rattle.nfs_sessions.specs.SessionTables.{IsGranted};
 ghost use Rattle.nfs_names.specs.StoreInvariants.{IsStore};
 ghost use Rattle.nfs_names.specs.Outcome.{is_delay};
 ghost use Rattle.nfs_exec.specs.Step.Machine.{IsMachine, machine_of};
 ghost use Rattle.nfs_exec.specs.Step.Sequence.{Runs, sequenced};
-ghost use Rattle.nfs_exec.specs.Step.Compound.{compound, first_item, in_session};
+ghost use Rattle.nfs_exec.specs.Step.Compound.{compound, first_item, in_session, by_first};
 ghost use Rattle.nfs_exec.specs.Step.View.{Does, AreTables, MayRun, RanIn, CanBear, IsOpened, HasReplyRoom, HasLoneRoom, Answers};
 
 use crate::place::{place_fault, sequence_in};
 use crate::sequence::{Sequenced, ahead, behind, judge, sequence_ok};
 use crate::tables::Tables;
-use nfs_compound::{Compound, Item, MINOR_VERSION, Op, OpNum, Sequence};
+use nfs_compound::{ChannelAttrs, Compound, Item, MINOR_VERSION, Op, OpNum, Sequence};
 use nfs_names::Context;
 use nfs_results::{OpenHead, Res, write, write_compound_head};
-use nfs_sessions::{Channel, SessionId};
+use nfs_sessions::SessionId;
 use nfs_xdr::{Sheet, Status, Who};
 use std::alloc::Global;
 
@@ -143,8 +144,8 @@ impl Tables {
         requires latest { IsLatest (machine_of self.old).leases now }
         requires room { HasReplyRoom out.old }
         ensures answer { (choice : Option ℕ)
-            × Answers (in_session (machine_of self.old) args.old (caller who.now) now choice asked.now args.old.left
-            (sequenced (machine_of self.old) args.old (caller who.now) size asked.now)) out.old out.new (machine_of self.new) }
+            × Answers (by_first (machine_of self.old) args.old (caller who.now) size now choice (Operation (Op.Sequence asked.now) ∷ args.old.left))
+            out.old out.new (machine_of self.new) }
         ensures store { IsStore (machine_of self.new).store }
     {
         match judge(&self.sessions, asked, args, who, size) {
@@ -163,7 +164,7 @@ impl Tables {
         &mut self,
         alloc: Global,
         asked: &Sequence,
-        channel: &Channel,
+        channel: &ChannelAttrs,
         args: &mut Compound<'_>,
         who: &Who<'_>,
         now: u64,
@@ -203,7 +204,7 @@ impl Tables {
         &mut self,
         alloc: Global,
         asked: &Sequence,
-        channel: &Channel,
+        channel: &ChannelAttrs,
         args: &mut Compound<'_>,
         who: &Who<'_>,
         now: u64,
@@ -216,7 +217,15 @@ impl Tables {
         let head = OpenHead::put(args.tag(), out);
         write(&Res::Sequence(sequence_ok(asked, channel)), out);
         let mut context = Context::new(SessionId::from_bytes(&asked.sessionid).client, who);
-        let ran = self.run(alloc, args, &mut context, channel.response, start, now, out);
+        let ran = self.run(
+            alloc,
+            args,
+            &mut context,
+            channel.maxresponsesize,
+            start,
+            now,
+            out,
+        );
         head.close(ran.status, ran.count + 1, out);
     }
 }

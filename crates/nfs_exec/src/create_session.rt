@@ -8,19 +8,18 @@ ghost use Rattle.nfs_clients.specs.CreateSession as clients;
 ghost use Rattle.nfs_compound.specs.declared.op_num.OpNum.TheVariants as Num;
 ghost use Rattle.nfs_results.specs.Results.{done_head};
 ghost use Rattle.nfs_lease.specs.Queue.{IsLatest};
-ghost use Rattle.nfs_sessions.specs.Sessions.{create};
 ghost use Rattle.nfs_names.specs.Outcome.{is_delay};
-ghost use Rattle.nfs_exec.specs.Step.Machine.{Machine, or_delay, refuses, machine_of};
+ghost use Rattle.nfs_exec.specs.Step.Machine.{Machine, with_refusal, machine_of};
 ghost use Rattle.nfs_names.specs.StoreInvariants.{IsStore};
-ghost use Rattle.nfs_exec.specs.Step.CreateSession.{create_session, wish_of, session_made, made_body, channel_of, attrs_of, confirmed};
+ghost use Rattle.nfs_exec.specs.Step.CreateSession.{create_session, session_made, made_body, confirmed};
 ghost use Rattle.nfs_exec.specs.Step.View.{without_left, Does, HasLoneRoom};
-ghost use Rattle.nfs_exec.specs.Step.Parts.{creates, repeated};
+ghost use Rattle.nfs_exec.specs.Step.Parts.{by_number, repeated};
 
 use crate::tables::Tables;
 use nfs_clients::{CreateResult, CreateVerdict, Resok};
-use nfs_compound::{ChannelAttrs, CreateSession, OpNum};
+use nfs_compound::{CreateSession, OpNum};
 use nfs_results::{CreateSessionOk, Res, write, write_done_head};
-use nfs_sessions::{Channel, SessionId, Wish};
+use nfs_sessions::{SessionId, Wish, granted};
 use nfs_xdr::{Sheet, Status, Who};
 use std::alloc::Global;
 
@@ -69,9 +68,7 @@ impl Tables {
         requires latest { IsLatest (machine_of self.old).leases now }
         requires store { IsStore (machine_of self.old).store }
         requires room { HasLoneRoom out.old }
-        ensures { Does (or_delay (is_delay result) (machine_of self.old) (op_number Num.CreateSession)
-            (creates (machine_of self.old) now asked.now (create self.old.sessions asked.now.clientid (wish_of (machine_of self.old) asked.now))))
-            result (machine_of self.new) out.old out.new }
+        ensures { Does (by_number (machine_of self.old) now (is_delay result) asked.now clients.Runs) result (machine_of self.new) out.old out.new }
     {
         let client = asked.clientid;
         let leaving = self.clients.leaving(client);
@@ -118,38 +115,12 @@ impl Tables {
 
 /// What is asked for of a session.
 fn wish(asked: &CreateSession<'_>, leaving: Option<u64>) -> Wish
-    ensures { result ≡ record { fore = channel_of asked.now.fore_chan_attrs; back = channel_of asked.now.back_chan_attrs; leaving = leaving } }
+    ensures { result ≡ record { fore = asked.now.fore_chan_attrs; back = asked.now.back_chan_attrs; leaving = leaving } }
 {
     Wish {
-        fore: channel_of(&asked.fore_chan_attrs),
-        back: channel_of(&asked.back_chan_attrs),
+        fore: asked.fore_chan_attrs,
+        back: asked.back_chan_attrs,
         leaving,
-    }
-}
-
-fn channel_of(attrs: &ChannelAttrs) -> Channel
-    ensures { result ≡ channel_of attrs.now }
-{
-    Channel {
-        request: attrs.maxrequestsize,
-        response: attrs.maxresponsesize,
-        cached: attrs.maxresponsesize_cached,
-        operations: attrs.maxoperations,
-        slots: attrs.maxrequests,
-    }
-}
-
-fn attrs_of(channel: Channel) -> ChannelAttrs
-    ensures { result ≡ attrs_of channel }
-{
-    ChannelAttrs {
-        headerpadsize: 0,
-        maxrequestsize: channel.request,
-        maxresponsesize: channel.response,
-        maxresponsesize_cached: channel.cached,
-        maxoperations: channel.operations,
-        maxrequests: channel.slots,
-        rdma_ird: None,
     }
 }
 
@@ -161,7 +132,7 @@ fn session_made(asked: &CreateSession<'_>, id: SessionId) -> CreateSessionOk
         sessionid: id.to_bytes(),
         sequence: asked.sequence,
         flags: 0,
-        fore_chan_attrs: attrs_of(channel_of(&asked.fore_chan_attrs).granted()),
+        fore_chan_attrs: granted(&asked.fore_chan_attrs),
         back_chan_attrs: asked.back_chan_attrs,
     }
 }
@@ -198,7 +169,7 @@ fn put_kept(kept: &CreateResult, out: &mut Sheet) -> Status
 #[tactic(auto, using(nfs_xdr::proofs::Putting::putting))]
 fn put_refusal(status: Status, out: &mut Sheet) -> Status
     requires room { HasLoneRoom out.old }
-    ensures { (m : Machine) → Does (refuses m (op_number Num.CreateSession) status) result m out.old out.new }
+    ensures { (m : Machine) → Does (with_refusal m (op_number Num.CreateSession) status) result m out.old out.new }
 {
     out.put_u32(OpNum::CreateSession.number());
     out.put_u32(status.number());

@@ -6,15 +6,15 @@ ghost use Rattle.nfs_compound.specs.OpNum.{op_number};
 ghost use Rattle.nfs_compound.specs.declared.op_num.OpNum.TheVariants as Num;
 ghost use Rattle.nfs_compound.specs.declared.op.Item.TheVariants.{Operation};
 ghost use Rattle.nfs_compound.specs.declared.op.Op.TheVariants as Op;
-ghost use Rattle.nfs_clients.specs.ExchangeId.{fault_status};
+ghost use Rattle.nfs_clients.specs.ExchangeId.{client_fault_status};
 ghost use Rattle.nfs_lease.specs.Renewals.{leases_of};
 ghost use Rattle.nfs_lease.specs.Queue.{IsLatest};
 ghost use Rattle.nfs_results.specs.MayAnswer.{MayAnswer};
 ghost use Rattle.nfs_results.specs.declared.res.Res.TheVariants as Res;
 ghost use Rattle.nfs_results.specs.Results.{status_of_result};
 ghost use Rattle.nfs_names.specs.Outcome.{is_delay};
-ghost use Rattle.nfs_exec.specs.Step.Machine.{IsMachine, with_result, or_delay, machine_of};
-ghost use Rattle.nfs_exec.specs.Step.ExchangeId.{exchange_id};
+ghost use Rattle.nfs_exec.specs.Step.Machine.{IsMachine, with_result, machine_of};
+ghost use Rattle.nfs_exec.specs.Step.Compound.{carried_out};
 ghost use Rattle.nfs_exec.specs.Step.View.{settled};
 ghost use Rattle.nfs_exec.specs.Step.Parts.{granted_of, owner_has_open};
 
@@ -42,8 +42,7 @@ impl Tables {
         requires machine { IsMachine (machine_of self.old) }
         requires latest { IsLatest (machine_of self.old).leases now }
         ensures outcome { with_result (machine_of self.new) result
-            ≡ or_delay (is_delay (status_of_result result)) (machine_of self.old) (op_number Num.ExchangeId)
-            (exchange_id (machine_of self.old) (caller who.now) now asked.now) }
+            ≡ carried_out (machine_of self.old) (caller who.now) now (is_delay (status_of_result result)) (Operation (Op.ExchangeId asked.now)) }
         ensures size { MayAnswer (Operation (Op.ExchangeId asked.now)) result }
     {
         let (owner, verifier, flags) = (asked.ownerid.bytes(), asked.verifier, asked.flags);
@@ -96,7 +95,7 @@ fn settle(leases: &mut Leases, next: u64, exchanged: &Exchanged)
 }
 
 fn refused(fault: ClientFault) -> Res<'static>
-    ensures { result ≡ Res.Refused (op_number Num.ExchangeId) (fault_status fault) }
+    ensures { result ≡ Res.Refused (op_number Num.ExchangeId) (client_fault_status fault) }
 {
     Res::Refused {
         operation: OpNum::ExchangeId.number(),

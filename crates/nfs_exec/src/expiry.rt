@@ -17,7 +17,7 @@ impl Tables {
         ensures machine { machine_of self.new ≡ expired now (machine_of self.old) }
         ensures store { IsStore (machine_of self.new).store }
     {
-        while let Some(client) = self.leases.next_out(now) {
+        while let Some(client) = self.leases.next_out(u64::from(self.store.lease), now) {
             self.drop_client(client);
         }
         self.store.kept();
@@ -27,7 +27,7 @@ impl Tables {
     fn drop_client(&mut self, client: u64)
         requires { IsStore (machine_of self.old).store }
         ensures machine { machine_of self.new ≡ without_client (machine_of self.old) client }
-        ensures standing { standing self.new.leases + (if is_some ((leases_of self.old.leases).renewed client) then 1 else 0) ≡ standing self.old.leases }
+        ensures standing { standing self.new.leases + (if is_some (leases_of self.old.leases client) then 1 else 0) ≡ standing self.old.leases }
         ensures store { IsStore (machine_of self.new).store }
     {
         self.clients.remove(client);

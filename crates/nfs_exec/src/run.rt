@@ -9,7 +9,7 @@ ghost use Rattle.nfs_results.specs.Largest.{largest};
 ghost use Rattle.nfs_results.specs.Results.{spell_result};
 ghost use Rattle.nfs_results.specs.ResultCodec.{IsBounded};
 ghost use Rattle.nfs_names.specs.StoreInvariants.{IsStore};
-ghost use Rattle.nfs_sessions.specs.SessionSlots.{rpc_head};
+ghost use Rattle.nfs_sessions.specs.Channel.{rpc_head};
 ghost use Rattle.nfs_names.specs.Outcome.{is_delay};
 ghost use Rattle.nfs_exec.specs.Step.Machine.{with_result, machine_of};
 ghost use Rattle.nfs_exec.specs.Step.Place.{status_behind};

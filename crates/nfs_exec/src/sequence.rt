@@ -5,16 +5,16 @@ ghost use Rattle.nfs_xdr.specs.Caller.{caller};
 ghost use Rattle.nfs_xdr.specs.Limits.{most_record};
 ghost use Rattle.nfs_sessions.specs.SessionTables.{IsGranted};
 ghost use Rattle.nfs_sessions.specs.Id.{id_of};
-ghost use Rattle.nfs_sessions.specs.SessionSlots.{rpc_head};
+ghost use Rattle.nfs_sessions.specs.Channel.{rpc_head};
 ghost use Rattle.nfs_sessions.specs.Sessions.{session_at};
-ghost use Rattle.nfs_sessions.specs.declared.channel.Channel.{Channel as Granted};
+ghost use Rattle.nfs_compound.specs.declared.channel_attrs.ChannelAttrs.{ChannelAttrs as Granted};
 ghost use Rattle.nfs_exec.specs.Step.Sequence.{Repeats, Runs, highest_at, sequence_ok};
 ghost use Rattle.nfs_exec.specs.Step.Parts.{by_session, slot_fault, fresh_fault};
 ghost use Rattle.nfs_exec.specs.Step.View.{sequenced_of};
 
-use nfs_compound::{Compound, Sequence};
+use nfs_compound::{ChannelAttrs, Compound, Sequence};
 use nfs_results::SequenceOk;
-use nfs_sessions::{Channel, SessionId, Sessions};
+use nfs_sessions::{SessionId, Sessions};
 use nfs_slots::Verdict;
 use nfs_xdr::{Status, Who};
 
@@ -26,7 +26,7 @@ pub(crate) enum Sequenced<'a> {
     /// The request is a repeat, and this reply was kept: at most 66,536 bytes.
     Repeats(&'a [u8]),
     /// The request is new, and runs in a session of this channel.
-    Runs(Channel),
+    Runs(ChannelAttrs),
 }
 
 /// Judges a SEQUENCE of a caller, in a record of `size` bytes. The checks in their order: NFS4ERR_BADSESSION,
@@ -45,14 +45,14 @@ pub(crate) fn judge<'a>(
     ensures granted { (c : Granted) → sequenced_of result ≡ Runs c → IsGranted c }
 {
     let id = SessionId::from_bytes(&asked.sessionid);
-    let Some(slots) = sessions.slots(&id) else {
+    let Some(session) = sessions.session(&id) else {
         return Sequenced::Refuses(Status::BadSession);
     };
-    let channel = slots.channel();
+    let channel = session.channel();
     if let Some(status) = slot_fault(asked, &channel) {
         return Sequenced::Refuses(status);
     }
-    let verdict = slots.judge(
+    let verdict = session.judge(
         asked.slotid,
         asked.sequenceid,
         who.uid,
@@ -63,7 +63,7 @@ pub(crate) fn judge<'a>(
         Verdict::NoSlot => Sequenced::Refuses(Status::BadSlot),
         Verdict::Misordered => Sequenced::Refuses(Status::SeqMisordered),
         Verdict::FalseRetry => Sequenced::Refuses(Status::SeqFalseRetry),
-        Verdict::Again => Sequenced::Repeats(slots.kept(asked.slotid)),
+        Verdict::Again => Sequenced::Repeats(session.kept(asked.slotid)),
         Verdict::Fresh => match fresh_fault(args, size, &channel) {
             Some(status) => Sequenced::Refuses(status),
             None => Sequenced::Runs(channel),
@@ -103,36 +103,36 @@ pub(crate) fn behind<'a>(args: &Compound<'a>) -> &'a [u8]
 }
 
 /// Why a SEQUENCE names a slot that its session does not have.
-fn slot_fault(asked: &Sequence, channel: &Channel) -> Option<Status>
+fn slot_fault(asked: &Sequence, channel: &ChannelAttrs) -> Option<Status>
     ensures { result ≡ slot_fault asked.now channel.now }
 {
-    if asked.slotid >= channel.slots {
+    if asked.slotid >= channel.maxrequests {
         return Some(Status::BadSlot);
     }
-    if asked.highest_slotid >= channel.slots {
+    if asked.highest_slotid >= channel.maxrequests {
         return Some(Status::BadHighSlot);
     }
     None
 }
 
 /// Why a new request is not run.
-fn fresh_fault(args: &Compound<'_>, size: usize, channel: &Channel) -> Option<Status>
+fn fresh_fault(args: &Compound<'_>, size: usize, channel: &ChannelAttrs) -> Option<Status>
     ensures { result ≡ fresh_fault args.now size channel.now }
 {
-    if size > channel.request as usize {
+    if size > channel.maxrequestsize as usize {
         return Some(Status::ReqTooBig);
     }
-    if args.declared() > channel.operations {
+    if args.declared() > channel.maxoperations {
         return Some(Status::TooManyOps);
     }
     None
 }
 
 /// SEQUENCE's result where the request runs: the session's last slot, twice, and no flag.
-pub(crate) fn sequence_ok(asked: &Sequence, channel: &Channel) -> SequenceOk
+pub(crate) fn sequence_ok(asked: &Sequence, channel: &ChannelAttrs) -> SequenceOk
     ensures { result ≡ sequence_ok asked.now channel.now }
 {
-    let last = channel.slots.saturating_sub(1);
+    let last = channel.maxrequests.saturating_sub(1);
     SequenceOk {
         sessionid: asked.sessionid,
         sequenceid: asked.sequenceid,

@@ -42,7 +42,7 @@ impl Tables {
         Ok(Tables {
             clients: Clients::new(alloc, instance),
             sessions: Sessions::new(alloc),
-            leases: Leases::new(alloc, u64::from(lease))?,
+            leases: Leases::new(alloc)?,
             store: Store::new(alloc, root_mode, FIRST, instance, lease)?,
         })
     }

@@ -3,12 +3,12 @@ use Rattle.std.proofs.{Common.{◌≡◌, ◌⊎◌, true, false, Option, Some, 
 use Rattle.std.specs.Prelude.{Err}
 use Rattle.nfs_tree.specs.{declared.fault.TreeFault.TreeFault, Files.Files, Calls.{does_unless, DoesOrWants}}
 use Rattle.nfs_tree.specs.declared.fault.TreeFault.TheVariants as F
-use Rattle.nfs_names.specs.{Faults.status_of, Outcome.is_delay}
+use Rattle.nfs_names.specs.{Faults.tree_fault_status, Outcome.is_delay}
 use Rattle.nfs_names.proofs.Faulted.{Wants, Other}
 
 -- a refusal of the tree leaves it, whatever would have been answered
 refused_as : {A : Type 0} (t : Files) (a : A) (after new : Files) (f : TreeFault) → new ≡ t
-    → is_delay (status_of f) ≡ false → DoesOrWants t true (does_unless t (Some f) a after) (Err f) new
+    → is_delay (tree_fault_status f) ≡ false → DoesOrWants t true (does_unless t (Some f) a after) (Err f) new
 refused_as t a after new F.NoEnt same e = (refl, same)
 refused_as t a after new F.Exist same e = (refl, same)
 refused_as t a after new F.NotDir same e = (refl, same)

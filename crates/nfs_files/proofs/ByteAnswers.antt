@@ -16,7 +16,7 @@ use Rattle.nfs_files.proofs.InSteps.{commit_is, read_is, write_is}
 
 -- a write verifier has 8 bytes
 verifier_length : (s : State) → length (write_verifier s) ≡ 8
-verifier_length s = omega (arith, length-append (number s.instance) (replicate 4 0), length_number s.instance)
+verifier_length s = omega (arith, length-append (number s.opens.instance) (replicate 4 0), length_number s.opens.instance)
 
 given_most : (count : ℕ) → given count ≤ 65536
 given_most count = elim (cases_Bool (nat_lt 65536 count)) [ inl most ↦ rw most (omega arith) | inr few ↦ rw few (ltb-false _ _ few) ]

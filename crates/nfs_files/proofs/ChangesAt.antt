@@ -5,8 +5,8 @@ use Rattle.std.specs.{Prelude.{◌==◌, option_map, is_some, if◌then◌else�
 use Rattle.nfs_xdr.specs.declared.time.Time.{Time}
 use Rattle.nfs_xdr.proofs.Lists.{find_in, find_past, find_push_some}
 use Rattle.nfs_tree.specs.{declared.sets.Sets.Sets, declared.stored.Stored.Stored, Object.{modified, no_sets}}
-use Rattle.nfs_tree.specs.Files.{Files, stored_in, is_there, change_of, change_at, with_changed, with_entries_changed, with_links_changed, named}
-use Rattle.nfs_tree.specs.{Create.{New, with_new, new_object, data_of}, Names.{with_link, without_name, Move, replaced_object, with_moved}, Bytes.with_bytes}
+use Rattle.nfs_tree.specs.Files.{Files, stored_in, is_there, change_of, change_at, with_changed, with_entries_changed, with_links_changed, number_named}
+use Rattle.nfs_tree.specs.{Create.{New, with_new, new_object}, Names.{with_link, without_name, Move, replaced_object, with_moved}, Bytes.with_bytes}
 use Rattle.nfs_tree.proofs.Objects.{keeps_changed, stored_map}
 use Rattle.nfs_names.specs.State.{State, is_used, without_unused}
 
@@ -78,7 +78,7 @@ new_at t d name new sets now change at =
     record {
       object = is.object;
       there = find_push_some (λ (s : Stored). s.number == d) (with_entries_changed d now t.objects)
-          (record { number = t.last_object + 1; object = new_object now new sets; bytes = data_of new }) is.object is.there;
+          (record { number = t.last_object + 1; object = new_object now new sets; bytes = new.bytes }) is.object is.there;
       is = is.is;
     }
 
@@ -86,9 +86,9 @@ pub link_at : (t : Files) (n d : ℕ) (name : List ℕ) (now : Time) (change : �
 link_at t n d name now change other at =
     at_other d n now no_sets (with_entries_changed d now t.objects) (change + 1) other (at_here d now (modified now no_sets) t.objects change at)
 
-pub without_at : (t : Files) (d : ℕ) (name : List ℕ) (now : Time) (change : ℕ) → named t d name ≢ d → At d t.objects change → At d (without_name t d name now).objects (change + 1)
+pub without_at : (t : Files) (d : ℕ) (name : List ℕ) (now : Time) (change : ℕ) → number_named t d name ≢ d → At d t.objects change → At d (without_name t d name now).objects (change + 1)
 without_at t d name now change other at =
-    at_other d (named t d name) now no_sets (with_entries_changed d now t.objects) (change + 1) other (at_here d now (modified now no_sets) t.objects change at)
+    at_other d (number_named t d name) now no_sets (with_entries_changed d now t.objects) (change + 1) other (at_here d now (modified now no_sets) t.objects change at)
 
 -- both directories of a move, of which neither is what is replaced
 module _ (t : Files) (m : Move) (now : Time) (change : ℕ) where

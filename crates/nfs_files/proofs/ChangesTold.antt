@@ -13,7 +13,8 @@ use Rattle.nfs_results.specs.Results.{spell_result, status_of_result}
 use Rattle.nfs_results.specs.declared.res.Res.TheVariants as Res
 use Rattle.nfs_tree.specs.{declared.object.FileType.FileType, declared.object.FileType.TheVariants.{Regular, Directory, Link}, declared.stored.Stored.Stored}
 use Rattle.nfs_tree.specs.{declared.row.Row.Row, Object.{is_directory, is_regular, no_sets}}
-use Rattle.nfs_tree.specs.Files.{Files, root, stored_in, is_there, is_directory_at, change_of, entry, has_name, has_entries, named, lookup, raised, stays, with_changed}
+use Rattle.nfs_tree.specs.Files.{Files, root, stored_in, is_there, is_directory_at, change_of, entry, has_name, has_entries, number_named, object_named, raised}
+use Rattle.nfs_tree.specs.Files.{unraised, with_changed}
 use Rattle.nfs_tree.specs.{Bytes.{has_bytes, written, resized, with_written, with_resized}, Calls.is_regular_at, Create.with_new}
 use Rattle.nfs_tree.specs.Names.{Move, link_checks, rename_checks, moves, replaced_object, is_unlike, is_in_the_way, with_link, without_name, with_moved}
 use Rattle.nfs_tree.specs.TreeInvariants.{IsTree}
@@ -89,7 +90,7 @@ pub remove_tells : (n : ℕ) (s : store.State) (x : Context) (now : Time) (name 
 remove_tells n s x now name at =
     by_remove (Done (RemoveTells n s.tree)) s x now name (λ f h ok. absurd (false≢true (sym h.done ∙ ok))) (λ d there placed row ok.
     (let t : Files = s.tree in
-    let gone = named t d.number name in
+    let gone = number_named t d.number name in
     let granted = remove_granted t d.number name row in
     let other : gone ≢ d.number = apart t d.number gone (has_one t d.number name granted.0) granted.1 in
     let less : store.State = with_tree s (without_name t d.number name now) in
@@ -138,7 +139,7 @@ abbrev pub RenameTells : (from n : ℕ) → Files → Outcome → Type 0
 RenameTells from n t o =
     (k : RenameOk) × (spell_result o.result ≡ spell_result (Res.Rename k)) × Theirs from t o.state.tree k.source_cinfo × Theirs n t o.state.tree k.target_cinfo
 
-stayed : (n : ℕ) (t : Files) → Theirs n t t (change_info (stays t n))
+stayed : (n : ℕ) (t : Files) → Theirs n t t (change_info (unraised t n))
 stayed n t = record { atomic = refl; before = refl; after = refl }
 
 -- what is replaced is neither of the two directories, each of which has an entry
@@ -168,7 +169,7 @@ replaced_at n s (Some r) change other at = unused_at n r s change other at
 
 -- the tree behind a move
 abbrev behind : store.State → Move → Time → Files
-behind s m now = (without_replaced (with_tree s (with_moved s.tree m now)) (lookup s.tree m.target m.name)).tree
+behind s m now = (without_replaced (with_tree s (with_moved s.tree m now)) (object_named s.tree m.target m.name)).tree
 
 record AreRaised (s : store.State) (m : Move) (now : Time) : Type 0 where
   pub source : Theirs m.source s.tree (behind s m now) (change_info (raised s.tree m.source))
@@ -185,9 +186,9 @@ are_raised s m now tree from to row is =
     let not_target = not_replaced t m m.target tree to (λ taken. has_one t m.target m.name taken) clear in
     let moved : store.State = with_tree s (with_moved t m now) in
     record {
-      source = was_raised m.source t (behind s m now) (replaced_at m.source moved (lookup t m.target m.name) (change_of t m.source + 1) not_source
+      source = was_raised m.source t (behind s m now) (replaced_at m.source moved (object_named t m.target m.name) (change_of t m.source + 1) not_source
           (source_at t m now (change_of t m.source) not_source (at_now t m.source from)));
-      target = was_raised m.target t (behind s m now) (replaced_at m.target moved (lookup t m.target m.name) (change_of t m.target + 1) not_target
+      target = was_raised m.target t (behind s m now) (replaced_at m.target moved (object_named t m.target m.name) (change_of t m.target + 1) not_target
           (target_at t m now (change_of t m.target) not_target (at_now t m.target to)));
     }
 
@@ -216,10 +217,10 @@ rename_tells from n s x now a tree kept at =
             (are_raised s m now tree (current_is s y p.saved was).there (current_is s x p.current is).there row moving).target,
       )
       | inr still ↦ rw still (
-        record { source_cinfo = change_info (stays t m.source); target_cinfo = change_info (stays t m.target) },
+        record { source_cinfo = change_info (unraised t m.source); target_cinfo = change_info (unraised t m.target) },
         refl,
-        same_info m.source from.object t t (change_info (stays t m.source)) source (stayed m.source t),
-        same_info m.target n t t (change_info (stays t m.target)) target (stayed m.target t),
+        same_info m.source from.object t t (change_info (unraised t m.source)) source (stayed m.source t),
+        same_info m.target n t t (change_info (unraised t m.target)) target (stayed m.target t),
       )
     ]))
 
@@ -241,7 +242,7 @@ apart_from : (t : Files) (m n : ℕ) → is_regular_at t m ≡ true → is_direc
 apart_from t m n regular directory same = objects_apart (stored_in t.objects n) (subst (λ (k : ℕ). is_regular_at t k ≡ true) same regular) directory
 
 cut_info : (t : Files) (place g : ℕ) (now : Time) (cut : Bool) → is_there t place ≡ true → (cut ≡ true → g ≢ place)
-    → Theirs place t (if cut then with_resized t g 0 no_sets now else t) (change_info (stays t place))
+    → Theirs place t (if cut then with_resized t g 0 no_sets now else t) (change_info (unraised t place))
 cut_info t place g now false there other = stayed place t
 cut_info t place g now true there other = record {
   atomic = refl;
@@ -253,7 +254,7 @@ cut_info t place g now true there other = record {
 opened_info : (s : store.State) (x : Context) (now : Time) (a : Open) (f : Found) (n : ℕ) → open_parts.asked_for s x a ≡ Ok f → Is s x a f → x.current ≡ Some n
     → Theirs n s.tree (of_open.tree_of s.tree x now a f) (of_open.info_of s.tree f)
 opened_info s x now a (There place g cut) n e is at =
-    same_info place n s.tree (of_open.tree_of s.tree x now a (There place g cut)) (change_info (stays s.tree place)) (some_same x.current place n is.place at)
+    same_info place n s.tree (of_open.tree_of s.tree x now a (There place g cut)) (change_info (unraised s.tree place)) (some_same x.current place n is.place at)
     (cut_info s.tree place g.number now cut is.there (λ cuts. apart_from s.tree g.number place (asked_regular s x a place g cut e) (is.directory cuts)))
 opened_info s x now a (Absent m) n e is at =
     let d = m.place.number in

@@ -17,7 +17,7 @@ use Rattle.nfs_opens.specs.{declared.stateid.StateId.StateId, declared.records.O
 use Rattle.nfs_opens.specs.{Table.{Table, open_at, lock_at}, TableInvariants.IsTable}
 use Rattle.nfs_opens.specs.Locking as locking
 use Rattle.nfs_opens.proofs.CallLaws.{IsLocked}
-use Rattle.nfs_names.specs.{declared.context.Context.Context, declared.node.Node.Node, State.{State, with_tree}, Ending.with_opens, Faults.status_of}
+use Rattle.nfs_names.specs.{declared.context.Context.Context, declared.node.Node.Node, State.{State, with_tree}, Ending.with_opens, Faults.tree_fault_status}
 use Rattle.nfs_names.specs.{Outcome.{Outcome, checked, done, is_ok}, Checks.current}
 use Rattle.nfs_names.proofs.{Found.checked_ok, Ones.by_delay, Effects.Makes, Rows.none_mapped}
 use Rattle.nfs_files.specs.{declared.opening.Found.Found, declared.opening.Found.TheVariants.{There, Absent}, declared.ranges.Wished.Wished}
@@ -213,7 +213,7 @@ module _ (s : State) (x : Context) where
       (answered (Did s x (Op.Write w)) s x Num.Write (checked (writable s x w.stateid (current s x)) (of_write.last_checks s w)) (parts.was_written s x now w)
       (λ status. nothing _ _) (λ d granted.
       (let p = checked_ok (writable s x w.stateid (current s x)) (of_write.last_checks s w) d granted in
-      written_did now w d p.0 p.1 (none_mapped status_of (write_fault s.tree d.number w.offset w.bytes) (write_found s x w d p.0 ∙ p.1)))))
+      written_did now w d p.0 p.1 (none_mapped tree_fault_status (write_fault s.tree d.number w.offset w.bytes) (write_found s x w d p.0 ∙ p.1)))))
 
   -- SETATTR
   set_did : (now : Time) (a : SetAttr) (m : Setting) (size : Option ℕ) → m.wanted.size ≡ size → set_parts.asked_for s x a ≡ Ok m
@@ -234,7 +234,7 @@ module _ (s : State) (x : Context) where
       (λ status. nothing _ _) (λ m granted.
       (let p = checked_ok (set_parts.asked_for s x a) (set_parts.last_checks s) m granted in
       set_did now a m m.wanted.size refl p.0
-      (none_mapped status_of (set_parts.tree_fault s.tree m.node.number m.wanted m.wanted.size) (set_found s x a m p.0 ∙ p.1)))))
+      (none_mapped tree_fault_status (set_parts.tree_fault s.tree m.node.number m.wanted m.wanted.size) (set_found s x a m p.0 ∙ p.1)))))
 
   tested_did : (op : Op) (o : Option Held) → Did s x op (tested s x o)
   tested_did op None = nothing op _

@@ -8,8 +8,8 @@ use Rattle.nfs_xdr.specs.declared.time.Time.{Time}
 use Rattle.nfs_xdr.proofs.Lists.{find_in, find_past, find_out, find_push_other}
 use Rattle.nfs_results.specs.Largest.{given}
 use Rattle.nfs_tree.specs.{declared.sets.Sets.Sets, declared.stored.Stored.Stored, Object.{changed, modified, no_sets}}
-use Rattle.nfs_tree.specs.Files.{Files, stored_in, change_at, with_changed, with_entries_changed, with_links_changed, named, lookup}
-use Rattle.nfs_tree.specs.{Create.{New, with_new, new_object, data_of}, Names.{with_link, without_name, Move, replaced_object, with_both_changed, with_moved}}
+use Rattle.nfs_tree.specs.Files.{Files, stored_in, change_at, with_changed, with_entries_changed, with_links_changed, number_named, object_named}
+use Rattle.nfs_tree.specs.{Create.{New, with_new, new_object}, Names.{with_link, without_name, Move, replaced_object, with_both_changed, with_moved}}
 use Rattle.nfs_tree.specs.Bytes.{written_byte, written, resized, with_bytes, with_written, with_resized}
 use Rattle.nfs_tree.proofs.Objects.{keeps_changed, stored_map}
 use Rattle.nfs_names.specs.State as store
@@ -145,7 +145,7 @@ pub record Has (n : ℕ) (img : Image) (t : Files) : Type 0 where
 
 pub has_new : (n : ℕ) (img : Image) (t : Files) (d : ℕ) (name : List ℕ) (new : New) (sets : Sets) (now : Time) → Has n img t → Has n img (with_new t d name new sets now)
 has_new n img t d name new sets now is =
-    let made : Stored = record { number = t.last_object + 1; object = new_object now new sets; bytes = data_of new } in
+    let made : Stored = record { number = t.last_object + 1; object = new_object now new sets; bytes = new.bytes } in
     let low = is.given in
     let other : t.last_object + 1 ≢ n = λ same. omega arith in
     record {
@@ -158,7 +158,7 @@ has_link : (n : ℕ) (img : Image) (t : Files) (m d : ℕ) (name : List ℕ) (no
 has_link n img t m d name now is = record { given = is.given; holds = at_both n img d m now t.objects is.holds }
 
 has_without : (n : ℕ) (img : Image) (t : Files) (d : ℕ) (name : List ℕ) (now : Time) → Has n img t → Has n img (without_name t d name now)
-has_without n img t d name now is = record { given = is.given; holds = at_both n img d (named t d name) now t.objects is.holds }
+has_without n img t d name now is = record { given = is.given; holds = at_both n img d (number_named t d name) now t.objects is.holds }
 
 has_moved : (n : ℕ) (img : Image) (t : Files) (m : Move) (now : Time) → Has n img t → Has n img (with_moved t m now)
 has_moved n img t m now is = record {
@@ -206,6 +206,6 @@ pub has_effect : (n : ℕ) (img : Image) (s : store.State) (e : names_effects.Ef
 has_effect n img s (Makes d name new sets now) is = has_new n img s.tree d name new sets now is
 has_effect n img s (Links m d name now) is = has_link n img s.tree m d name now is
 has_effect n img s (Removes d name now) is =
-    has_unused n img (with_tree s (without_name s.tree d name now)) (named s.tree d name) (has_without n img s.tree d name now is)
+    has_unused n img (with_tree s (without_name s.tree d name now)) (number_named s.tree d name) (has_without n img s.tree d name now is)
 has_effect n img s (Moves m now) is =
-    has_replaced n img (with_tree s (with_moved s.tree m now)) (lookup s.tree m.target m.name) (has_moved n img s.tree m now is)
+    has_replaced n img (with_tree s (with_moved s.tree m now)) (object_named s.tree m.target m.name) (has_moved n img s.tree m now is)

@@ -17,8 +17,8 @@ use Rattle.nfs_results.specs.declared.res.Res.TheVariants as Res
 use Rattle.nfs_results.specs.Results.{status_of_result, refusal}
 use Rattle.nfs_ranges.specs.declared.Held.{Held}
 use Rattle.nfs_tree.specs.{declared.object.Object.Object, declared.stored.Stored.Stored, declared.sets.Sets.Sets, Object.{is_directory, modified, no_sets}}
-use Rattle.nfs_tree.specs.Files.{Files, stored_in, object_at, is_there, is_directory_at, lookup, change_at, with_entries_changed}
-use Rattle.nfs_tree.specs.{Bytes.{has_bytes, resized, with_bytes, with_resized}, Create.{File, with_new, new_object}}
+use Rattle.nfs_tree.specs.Files.{Files, stored_in, object_at, is_there, is_directory_at, object_named, change_at, with_entries_changed}
+use Rattle.nfs_tree.specs.{Bytes.{has_bytes, resized, with_bytes, with_resized}, Create.{new_file, with_new, new_object}}
 use Rattle.nfs_tree.proofs.Objects.{keeps_changed, stored_map}
 use Rattle.nfs_attrs.specs.declared.wanted.Wanted.{Wanted}
 use Rattle.nfs_opens.specs.Closing as closing
@@ -216,8 +216,8 @@ named_is s x o name d f at is e =
     let p = came (checked (Ok d) (place_checks x name)) _ f e in
     let w = came (attributes_in (makes o.openhow).attributes) _ f p.then in
     let same : d ≡ p.found = ok_is refl (checked_ok (Ok d) (place_checks x name) p.found p.is).0 in
-    let names : claimed s.tree x.current o.claim ≡ lookup s.tree p.found.number name =
-    claim_at s x o (Null name) d at is ∙ ap (λ (d : Node). lookup s.tree d.number name) same in
+    let names : claimed s.tree x.current o.claim ≡ object_named s.tree p.found.number name =
+    claim_at s x o (Null name) d at is ∙ ap (λ (d : Node). object_named s.tree d.number name) same in
     let at_place : x.current ≡ Some p.found.number = current_number s x d at ∙ ap (λ (d : Node). Some d.number) same in
     let directory : is_directory_at s.tree p.found.number ≡ true =
     subst (λ (d : Node). is_directory_at s.tree d.number ≡ is_directory d.object.kind) same (current_is s x d at).directory
@@ -225,11 +225,11 @@ named_is s x o name d f at is e =
     let there : is_there s.tree p.found.number ≡ true = subst (λ (d : Node). is_there s.tree d.number ≡ true) same (current_is s x d at).there in
     go p.found w.found f at_place there directory names w.is w.then
   where
-    go : (place : Node) (wanted : Wanted) (f : Found) → x.current ≡ Some place.number → is_there s.tree place.number ≡ true → is_directory_at s.tree place.number ≡ true → claimed s.tree x.current o.claim ≡ lookup s.tree place.number name
+    go : (place : Node) (wanted : Wanted) (f : Found) → x.current ≡ Some place.number → is_there s.tree place.number ≡ true → is_directory_at s.tree place.number ≡ true → claimed s.tree x.current o.claim ≡ object_named s.tree place.number name
         → attributes_in (makes o.openhow).attributes ≡ Ok wanted
-        → open_parts.found_by s x o (record { place = place; wanted = wanted }) (lookup s.tree place.number name) ≡ Ok f → Is s x o f
+        → open_parts.found_by s x o (record { place = place; wanted = wanted }) (object_named s.tree place.number name) ≡ Ok f → Is s x o f
     go place wanted (There k g cut) at_place there directory names reads e =
-        let it = found_there s x o (record { place = place; wanted = wanted }) (lookup s.tree place.number name) k g cut e in
+        let it = found_there s x o (record { place = place; wanted = wanted }) (object_named s.tree place.number name) k g cut e in
         let asks : asks_empty o ≡ cut = cuts_are o.openhow (access_of o).writes wanted reads ∙ it.1 in
         record {
           place = at_place ∙ ap (λ (n : ℕ). Some n) it.2;
@@ -239,7 +239,7 @@ named_is s x o name d f at is e =
               ∙ (ap (λ (b : Bool). (g.number == n) && b) asks ∙ and_swap (g.number == n) cut);
         }
     go place wanted (Absent m) at_place there directory names reads e =
-        let it = found_absent s x o (record { place = place; wanted = wanted }) (lookup s.tree place.number name) m e in
+        let it = found_absent s x o (record { place = place; wanted = wanted }) (object_named s.tree place.number name) m e in
         record {
           place = at_place ∙ ap (λ (m : Making). Some m.place.number) it.1;
           there = subst (λ (m : Making). is_there s.tree m.place.number ≡ true) it.1 there;
@@ -381,7 +381,7 @@ cut_there n t g now true =
 cut_there n t g now false = refl
 
 new_there : (n : ℕ) (t : Files) (d : ℕ) (name : List ℕ) (size : ℕ) (verifier : Option (List ℕ)) (sets : Sets) (now : Time) → is_there t n ≡ false
-    → is_there (with_new t d name (File size verifier) sets now) n ≡ true → Has n (unwritten size) (with_new t d name (File size verifier) sets now)
+    → is_there (with_new t d name (new_file size verifier) sets now) n ≡ true → Has n (unwritten size) (with_new t d name (new_file size verifier) sets now)
 new_there n t d name size verifier sets now free there = elim (cases_eq (t.last_object + 1) n) [
   | inl same ↦ (let found = find_push_none (λ (s : Stored). s.number == n) (with_entries_changed d now t.objects) made gone (eq-eqb (t.last_object + 1) n same) in record {
     given = omega arith;
@@ -393,7 +393,7 @@ new_there n t d name size verifier sets now free there = elim (cases_eq (t.last_
 ]
   where
     made : Stored
-    made = record { number = t.last_object + 1; object = new_object now (File size verifier) sets; bytes = replicate size 0 }
+    made = record { number = t.last_object + 1; object = new_object now (new_file size verifier) sets; bytes = replicate size 0 }
 
     before : is_some (stored_in (with_entries_changed d now t.objects) n) ≡ false
     before = there_map (change_at d now (modified now no_sets)) n t.objects (keeps_changed d now (modified now no_sets) []).number ∙ free

@@ -6,7 +6,7 @@ use Rattle.nfs_results.specs.MayAnswer.{HasSizes}
 use Rattle.nfs_results.proofs.Lengths.{behind_within, length_spelled}
 use Rattle.nfs_ranges.specs.declared.Held.{Held}
 use Rattle.nfs_opens.specs.{declared.records.LockState.LockState, Table.{Table, lock_at}}
-use Rattle.nfs_files.specs.Denied.{holder, denied}
+use Rattle.nfs_files.specs.Denied.{holder, lock_denied}
 
 pub room_for : (r : Res) (sheet : SheetState) (n : ℕ) → HasArrays r → HasSizes 0 r
     → largest_of (operation_of r) 0 ≡ n → length sheet.bytes + n ≤ sheet.room → HasRoom sheet (spell_result r)
@@ -19,10 +19,10 @@ few_held : (l : Option LockState) → length (holder l).owner ≤ 1024
 few_held None = omega arith
 few_held (Some l) = omega (arith, length-take 1024 l.owner)
 
-pub few_denied : (t : Table) (h : Held) → length (denied t h).owner.owner ≤ 1024
-unfolding denied
+pub few_denied : (t : Table) (h : Held) → length (lock_denied t h).owner.owner ≤ 1024
+unfolding lock_denied
 few_denied t h = few_held (lock_at t h.owner)
 
 -- whatever names the lock that is reported
-pub few_told : (t : Table) (h : Held) (d : Denied) → d ≡ denied t h → length d.owner.owner ≤ 1024
+pub few_told : (t : Table) (h : Held) (d : Denied) → d ≡ lock_denied t h → length d.owner.owner ≤ 1024
 few_told t h d is = subst (λ (d : Denied). length d.owner.owner ≤ 1024) (sym is) (few_denied t h)

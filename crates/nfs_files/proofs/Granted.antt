@@ -1,17 +1,18 @@
 -- OPEN: where its own checks pass, the tree refuses nothing; and what the code looks at in their place.
 use Rattle.std.proofs.Common.{◌≡◌, ℕ, Bool, true, false, cond, not, List, [], ◌∷◌, ◌++◌, Option, Some, None, refl, sym, ◌∙◌, ap, subst}
 use Rattle.std.proofs.lemmas.Bool.{and_parts, not-false, false≢true}
-use Rattle.std.specs.{Prelude.{Ok, Err, ◌==◌, ◌&&◌, is_some, option_map}, Option.option_map_or}
+use Rattle.std.proofs.lemmas.List.{length-replicate}
+use Rattle.std.specs.{Prelude.{Ok, Err, ◌==◌, ◌&&◌, is_some, option_map, unwrap_or}, Option.option_map_or}
 use Rattle.nfs_xdr.specs.{Checks.first_fault, declared.status.Status.Status, declared.status.Status.TheVariants.{Inval, ShareDenied, ServerFault}}
 use Rattle.nfs_xdr.proofs.Checks.{all_passed}
 use Rattle.nfs_compound.specs.{declared.open_args.Open.Open, declared.open_args.OpenClaim.OpenClaim}
 use Rattle.nfs_compound.specs.declared.open_args.OpenClaim.TheVariants.{Null, Previous, DelegateCur, DelegatePrev, Fh, DelegCurFh, DelegPrevFh}
 use Rattle.nfs_tree.specs.{declared.object.FileType.FileType, declared.row.Row.Row, declared.stored.Stored.Stored, Object.{is_directory, is_regular}}
-use Rattle.nfs_tree.specs.{Files.{Files, is_name, stored_in, is_there, is_directory_at, can_change, entry, has_name, lookup}, Calls.is_regular_at}
+use Rattle.nfs_tree.specs.{Files.{Files, is_name, stored_in, is_there, is_directory_at, can_change, entry, has_name, object_named}, Calls.is_regular_at}
 use Rattle.nfs_tree.specs.{TreeInvariants.IsTree, declared.fault.TreeFault.TreeFault}
 use Rattle.nfs_tree.specs.declared.object.FileType.TheVariants as Kind
 use Rattle.nfs_names.specs.{declared.context.Context.Context, declared.node.Node.Node, declared.making.Making.Making, State.State, Outcome.{mapped, checked}}
-use Rattle.nfs_names.specs.{Checks.{node_at, current}, Create.attributes_in, Faults.{status_of, by_tree}, StoreInvariants.IsStore}
+use Rattle.nfs_names.specs.{Checks.{node_at, current}, Create.attributes_in, Faults.{tree_fault_status, by_tree}, StoreInvariants.IsStore}
 use Rattle.nfs_names.proofs.{Rows.fault_map, Found.{IsHeld, current_is, checked_ok, came, ok_is, short_name, or_fault, first_append}}
 use Rattle.nfs_opens.specs.StateId.{last_number}
 use Rattle.nfs_files.specs.{declared.opening.Found.Found, declared.opening.Found.TheVariants.{There, Absent}}
@@ -48,7 +49,7 @@ cut_free t o place f true file can =
 pub record IsFree (s : State) (x : Context) (o : Open) (m : Making) : Type 0 where
   pub place : IsHeld s.tree m.place
   pub named : first_fault (place_checks x (name_of o.claim) m.place) ≡ None
-  pub free : lookup s.tree m.place.number (name_of o.claim) ≡ None
+  pub free : object_named s.tree m.place.number (name_of o.claim) ≡ None
   pub wanted : first_fault (absent_checks x o m) ≡ None
 
 absent_found : (x : Context) (o : Open) (k m : Making) → mapped Absent (checked (Ok k) (absent_checks x o)) ≡ Ok (Absent m)
@@ -75,8 +76,8 @@ named_absent s x o d m is e =
     let p = came (checked (Ok d) (place_checks x name)) _ (Absent m) e in
     let w = came (attributes_in (makes o.openhow).attributes) _ (Absent m) p.then in
     let k : Making = record { place = p.found; wanted = w.found } in
-    let found = found_absent s x o k m (lookup s.tree p.found.number name) w.then in
-    let at : (m : Making) → Type 0 = λ m. (IsHeld s.tree m.place) × (first_fault (place_checks x name m.place) ≡ None) × (lookup s.tree m.place.number name ≡ None) in
+    let found = found_absent s x o k m (object_named s.tree p.found.number name) w.then in
+    let at : (m : Making) → Type 0 = λ m. (IsHeld s.tree m.place) × (first_fault (place_checks x name m.place) ≡ None) × (object_named s.tree m.place.number name ≡ None) in
     let placed = checked_ok (Ok d) (place_checks x name) p.found p.is in
     let all : at m = subst at found.0 (subst (IsHeld s.tree) (ok_is refl placed.0) is, placed.1, found.1) in
     record { place = all.0; named = all.1; free = all.2; wanted = found.2 }
@@ -122,7 +123,8 @@ made_rooms s x o m is =
     let directory : not (is_directory_at t d) ≡ false = ap not is.place.directory ∙ places.0 in
     let short : not (is_name name) ≡ false = ap not (short_name name places.1.1.0 places.1.1.1.0) in
     let free : has_name t d name ≡ false = no_entry (entry t.rows d name) is.free in
-    rw (there, directory, short, free) refl
+    let long = length-replicate {A = ℕ} (unwrap_or m.wanted.size 0) 0 in
+    rw (there, directory, short, free, long) refl
 
 rooms_same : (s : State) (x : Context) (o : Open) (found : Found) → asked_for s x o ≡ Ok found
     → first_fault (by_tree (tree_checks s.tree o found)) ≡ first_fault (room_checks s.tree found)
@@ -145,7 +147,7 @@ last_same s x o found tree is v =
     ends_same _ _ _ _ (by_tree (tree_checks s.tree o found)) (room_checks s.tree found) shared.0
     (ap (λ b. b && (s.opens.last == last_number)) shared.1) (rooms_same s x o found v)
 
-no_fault : (f : Option TreeFault) → option_map status_of f ≡ None → f ≡ None
+no_fault : (f : Option TreeFault) → option_map tree_fault_status f ≡ None → f ≡ None
 no_fault None e = refl
 no_fault (Some f) e = absurd cc
 
@@ -154,7 +156,7 @@ pub tree_free : (s : State) (x : Context) (o : Open) (found : Found) → asked_f
 tree_free s x o (There place f cut) v e = cut_free s.tree o place f cut (asked_regular s x o place f cut v) (rooms_free s x o (There place f cut) e)
 tree_free s x o (Absent m) v e =
     let checks = tree_checks s.tree o (Absent m) in
-    no_fault (first_fault checks) (fault_map status_of checks ∙ rooms_free s x o (Absent m) e)
+    no_fault (first_fault checks) (fault_map tree_fault_status checks ∙ rooms_free s x o (Absent m) e)
 
 -- a directory in which a file may be made can change once more
 pub may_change : (s : State) (x : Context) (o : Open) (found : Found) → first_fault (last_checks s x o found) ≡ None → can_enter s.tree found ≡ true

@@ -16,22 +16,23 @@ use Rattle.nfs_opens.specs.{declared.judging.Seat.Seat, declared.judging.Sort.Th
 use Rattle.nfs_opens.specs.{Table.Table, Locking.{unlock, test_lock}, Steps.{require, in_order, map_err, ◌>>=◌, ◌>>◌}}
 use Rattle.nfs_opens.specs.Closing as closing
 use Rattle.nfs_opens.specs.Opening as opening
-use Rattle.nfs_tree.specs.Files.{lookup}
+use Rattle.nfs_tree.specs.Files.{object_named}
 use Rattle.nfs_attrs.specs.declared.wanted.Wanted.{Wanted}
 use Rattle.nfs_names.specs.{declared.context.Context.Context, declared.node.Node.Node, declared.making.Making.Making, State.State, Ending.with_opens}
 use Rattle.nfs_names.specs.{Outcome.{Outcome, done, passed, checked, mapped, or_refusal, refuses, answers}, Checks.{node_at, current}, Create.attributes_in}
 use Rattle.nfs_files.specs.{declared.target.Target.Target, declared.ranges.Wished.Wished, declared.setting.Setting.Setting}
 use Rattle.nfs_files.specs.{Bytes.{file_checks, seat, reading, writing, seat_checks, may_use}, Close.close, Commit.{write_verifier, commit}}
-use Rattle.nfs_files.specs.{Denied.status_of, FreeStateid.free_stateid, Lock.{stateid_in, locks_as, locked, lock}, LockT.{tested, lock_t}, LockU.lock_u}
-use Rattle.nfs_files.specs.{OpenDowngrade.{bits, open_downgrade}, Ranges.{range_checks, last_of, range, wished}, Read.{was_read, read}, SetAttr.{may_resize, set_attr}}
+use Rattle.nfs_files.specs.{Denied.open_fault_status, FreeStateid.free_stateid, Lock.{stateid_in, locks_as, locked, lock}, LockT.{tested, lock_t}, LockU.lock_u}
+use Rattle.nfs_files.specs.{OpenDowngrade.{bits, open_downgrade}, Ranges.{range, wished}, Read.{was_read, read}, SetAttr.{may_resize, set_attr}}
 use Rattle.nfs_files.specs.{StateIds.meant, Target.the_file, Write.{last_checks, write}}
 use Rattle.nfs_files.specs.Parts.{if_passed, readable, writable, was_written, target, closed, closes, bit_checks, narrowing, narrowed, narrows, frees, wish, locking, locks, unlocking, unlocked, unlocks}
 use Rattle.nfs_files.specs.{declared.opening.Found.Found, declared.opening.Found.TheVariants.{There, Absent}}
 use Rattle.nfs_files.specs.Open.{makes, argument_checks, place_checks, absent_checks, there_checks, cuts, found_by, by_claim, opened, open_file}
 use Rattle.nfs_files.specs.Open as of_open
 use Rattle.nfs_files.specs.OpenParts as open_parts
-use Rattle.nfs_files.specs.OpenDowngrade as downgrade
+use Rattle.nfs_files.proofs.Terms as terms
 use Rattle.nfs_files.specs.SetAttrParts as set_parts
+use Rattle.nfs_files.proofs.Terms.{range_checks, last_of}
 
 -- Steps without an outcome.
 
@@ -178,20 +179,20 @@ downgrade_is s x a = by_file (the_file s x)
     by_bits d id None k = then_done s x Num.OpenDowngrade (down d id) (λ did. narrowed s x did.0 did.1)
     by_bits d id (Some status) k = refl
 
-    by_seat : (d : Node) (id : StateId) (v : Result Seat Status) → or_refusal s x Num.OpenDowngrade (v >> (in_order (downgrade.bit_checks a) >> rest d id))
+    by_seat : (d : Node) (id : StateId) (v : Result Seat Status) → or_refusal s x Num.OpenDowngrade (v >> (in_order (terms.bit_checks a) >> rest d id))
         ≡ answers s x Num.OpenDowngrade (mapped (λ b. pair d id) (checked v (bit_checks a))) (narrows s x a)
     by_seat d id (Err status) = refl
-    by_seat d id (Ok k) = by_bits d id (first_fault (downgrade.bit_checks a)) k
+    by_seat d id (Ok k) = by_bits d id (first_fault (terms.bit_checks a)) k
 
     by_id : (d : Node) (v : Result StateId Status)
-        → or_refusal s x Num.OpenDowngrade (v >>= λ id. judge s.opens id x.client (Some d.number) OpenOnly >> (in_order (downgrade.bit_checks a) >> rest d id))
+        → or_refusal s x Num.OpenDowngrade (v >>= λ id. judge s.opens id x.client (Some d.number) OpenOnly >> (in_order (terms.bit_checks a) >> rest d id))
         ≡ answers s x Num.OpenDowngrade (if_passed (mapped (pair d) v) (λ t. checked (judge s.opens t.id x.client (Some t.file) OpenOnly) (bit_checks a))) (narrows s x a)
     by_id d (Err status) = refl
     by_id d (Ok id) = by_seat d id (judge s.opens id x.client (Some d.number) OpenOnly)
 
     by_file : (v : Result Node Status)
         → or_refusal s x Num.OpenDowngrade (v >>= λ d. meant x Own a.open_stateid
-        >>= λ id. judge s.opens id x.client (Some d.number) OpenOnly >> (in_order (downgrade.bit_checks a) >> rest d id))
+        >>= λ id. judge s.opens id x.client (Some d.number) OpenOnly >> (in_order (terms.bit_checks a) >> rest d id))
         ≡ answers s x Num.OpenDowngrade (if_passed (v >>= λ d. mapped (pair d) (meant x Own a.open_stateid))
         (λ t. checked (judge s.opens t.id x.client (Some t.file) OpenOnly) (bit_checks a))) (narrows s x a)
     by_file (Err status) = refl
@@ -237,7 +238,7 @@ lock_is s x a = by_wish (wished s x a.locktype a.offset a.length)
 pub unlock_is : (s : State) (x : Context) (a : LockU) → lock_u s x a ≡ answers s x Num.LockU (unlocking s x a) (unlocks s x)
 unfolding lock_u
 unlock_is s x a =
-    let given_up : Wish → StateId → Result (StateId × Table) Status = λ w id. map_err status_of (unlock s.opens id w.client w.file w.first w.last) in
+    let given_up : Wish → StateId → Result (StateId × Table) Status = λ w id. map_err open_fault_status (unlock s.opens id w.client w.file w.first w.last) in
     both_then s x Num.LockU (wished s x a.locktype a.offset a.length) (meant x Any a.lock_stateid) (λ w id. record { wish = w; id = id })
     (λ w id. given_up w id >>= λ did. Ok (unlocked s x did.0 did.1)) (unlocks s x)
     (λ w id. then_done s x Num.LockU (given_up w id) (λ did. unlocked s x did.0 did.1))
@@ -311,16 +312,16 @@ found_is s x o m (Some n) = mapped_checked (λ f. There m.place.number f (cuts o
 name_is : (s : State) (x : Context) (o : Open) (name : List ℕ) (d : Node) → by_claim s x o (Null name) d ≡ open_parts.by_name s x o name d
 name_is s x o name d = by_place (first_fault (place_checks x name d))
   where
-    by_wanted : (v : Result Wanted Status) → (v >>= λ wanted. found_by s x o (record { place = d; wanted = wanted }) (lookup s.tree d.number name))
-        ≡ (v >>= λ wanted. open_parts.found_by s x o (record { place = d; wanted = wanted }) (lookup s.tree d.number name))
+    by_wanted : (v : Result Wanted Status) → (v >>= λ wanted. found_by s x o (record { place = d; wanted = wanted }) (object_named s.tree d.number name))
+        ≡ (v >>= λ wanted. open_parts.found_by s x o (record { place = d; wanted = wanted }) (object_named s.tree d.number name))
     by_wanted (Err status) = refl
-    by_wanted (Ok wanted) = found_is s x o (record { place = d; wanted = wanted }) (lookup s.tree d.number name)
+    by_wanted (Ok wanted) = found_is s x o (record { place = d; wanted = wanted }) (object_named s.tree d.number name)
 
     by_place : (fault : Option Status)
         → (judged fault >> (attributes_in (makes o.openhow).attributes
-        >>= λ wanted. found_by s x o (record { place = d; wanted = wanted }) (lookup s.tree d.number name)))
+        >>= λ wanted. found_by s x o (record { place = d; wanted = wanted }) (object_named s.tree d.number name)))
         ≡ (passed d fault >>= λ place. attributes_in (makes o.openhow).attributes
-        >>= λ wanted. open_parts.found_by s x o (record { place = place; wanted = wanted }) (lookup s.tree place.number name))
+        >>= λ wanted. open_parts.found_by s x o (record { place = place; wanted = wanted }) (object_named s.tree place.number name))
     by_place None = by_wanted (attributes_in (makes o.openhow).attributes)
     by_place (Some status) = refl
 

@@ -7,9 +7,10 @@ use Rattle.nfs_xdr.proofs.{Lists.{stays_in, push_in, map_in, any_in, find_in}, T
 use Rattle.nfs_ranges.specs.{declared.Kind.Kind, Holders.{Holders, holding, cleared, holds_any, is_within}, Told.meets, Facts.Tells}
 use Rattle.nfs_ranges.proofs.{CanonicalLemmas.within_is, HolderLemmas.unmet}
 use Rattle.nfs_opens.specs.{declared.records.LockState.LockState, declared.stateid.StateId.StateId, declared.locking.Wish.Wish, Holding.{FileHolders, on_file}}
-use Rattle.nfs_opens.specs.{Table.{Table, lock_at, with_lock}, TableInvariants.IsTable, Closing.{stands, not_under, without_open, without_lock}, Locking.raised}
+use Rattle.nfs_opens.specs.{Table.{Table, lock_at, with_lock}, TableInvariants.IsTable, Closing.{without_open, without_lock}, Locking.raised}
 use Rattle.nfs_opens.proofs.{LockLemmas.holds_none, StepLemmas.judged_tells, CallLaws.IsLocked}
 use Rattle.nfs_files.specs.LockTold.{LockTold, IsBeside, IsAlike, Stands, Clashes}
+use Rattle.nfs_opens.proofs.Terms.{not_under, stands}
 
 -- bytes
 

@@ -51,3 +51,4 @@ pub mod FileOps
 pub mod ChangesAt
 pub mod ChangesTold
 pub mod OpenRows
+pub mod Terms

@@ -10,7 +10,7 @@ use Rattle.nfs_opens.specs.{declared.stateid.StateId.StateId, declared.locking.O
 use Rattle.nfs_opens.specs.declared.locking.OpenFault.TheVariants as F
 use Rattle.nfs_opens.proofs.CallLaws.{refused_is}
 use Rattle.nfs_names.specs.{declared.context.Context.Context, State.State, Comes.Comes, Outcome.{Outcome, refuses, or_delay, is_delay}, Ending.with_opens}
-use Rattle.nfs_files.specs.{Denied.denied, Lock.locked}
+use Rattle.nfs_files.specs.{Denied.lock_denied, Lock.locked}
 use Rattle.nfs_files.proofs.Refused.{told_with, refused_outcome, lock_tells, ok_locked, own_refusal}
 
 comes : (s : State) (x : Context) (o : Outcome) (answer : Status) (r : Res) (old new : SheetState) (after : Table)
@@ -37,15 +37,15 @@ refused_comes s x did status answer old new after v found known put is =
 
 pub denied_comes : (s : State) (x : Context) (did : Result (StateId × Table) OpenFault) (held : Held) (answer : Status) (old new : SheetState) (after : Table)
     → (v : Result StateId OpenFault) → v ≡ Err (F.Denied held) → LocksOrWants s.opens did v after
-    → Puts old new (spell_result (Res.LockDenied (denied after held))) → answer ≡ S.Denied
+    → Puts old new (spell_result (Res.LockDenied (lock_denied after held))) → answer ≡ S.Denied
     → Comes (or_delay (is_delay answer) s x Num.Lock (locked s x did)) old new answer (with_opens s after) x
 denied_comes s x did held answer old new after v found known put is =
     let tells = by_answer s.opens did v (Err (F.Denied held)) after found known in
     let no = refused_is s.opens did (F.Denied held) tells.0 in
     let o = locked s x did in
     subst (λ a. Comes (or_delay (is_delay a) s x Num.Lock o) old new a (with_opens s after) x) (sym is)
-    (comes s x o S.Denied (Res.LockDenied (denied after held)) old new after
-    (ap (λ t. told_with s x (Res.LockDenied (denied t held)) t) (tells.1 ∙ no.1) ∙ sym (ap (locked s x) no.0)) put refl)
+    (comes s x o S.Denied (Res.LockDenied (lock_denied after held)) old new after
+    (ap (λ t. told_with s x (Res.LockDenied (lock_denied t held)) t) (tells.1 ∙ no.1) ∙ sym (ap (locked s x) no.0)) put refl)
 
 -- and where its own checks did
 pub not_locked : (s : State) (x : Context) (o : Outcome) (status answer : Status) (old new : SheetState) → o ≡ refuses s x Num.Lock status

@@ -10,8 +10,8 @@ use Rattle.nfs_compound.specs.{declared.open_args.Open.Open, declared.open_args.
 use Rattle.nfs_compound.specs.declared.open_args.OpenClaim.TheVariants.{Null, Previous, DelegateCur, DelegatePrev, Fh, DelegCurFh, DelegPrevFh}
 use Rattle.nfs_compound.specs.declared.op.Item.TheVariants.{Operation}
 use Rattle.nfs_compound.specs.declared.op.Op.TheVariants as Op
-use Rattle.nfs_tree.specs.{declared.stored.Stored.Stored, Object.{is_regular, no_sets}, Files.{Files, root, stored_in, lookup, with_entries_changed}}
-use Rattle.nfs_tree.specs.{Calls.is_regular_at, Create.{data_of, new_object}, Bytes.{resized, with_resized}, TreeInvariants.IsTree}
+use Rattle.nfs_tree.specs.{declared.stored.Stored.Stored, Object.{is_regular, no_sets}, Files.{Files, root, stored_in, object_named, with_entries_changed}}
+use Rattle.nfs_tree.specs.{Calls.is_regular_at, Create.new_object, Bytes.{resized, with_resized}, TreeInvariants.IsTree}
 use Rattle.nfs_opens.specs.{declared.stateid.StateId.StateId, Opening.opens}
 use Rattle.nfs_names.specs.{declared.context.Context.Context, declared.node.Node.Node, declared.making.Making.Making, State.State, Outcome.{mapped, checked}}
 use Rattle.nfs_names.specs.{Checks.{node_at, current}, Create.attributes_in}
@@ -39,7 +39,7 @@ name_refuses : (s : State) (x : Context) (o : Open) (name : List ℕ) (d : Node)
 name_refuses s x o name d =
     refuses_then (checked (Ok d) (place_checks x name)) _ (refuses_checked (Ok d) (place_checks x name) (ok_refuses d) (λ d. refl)) (λ d.
     refuses_then (attributes_in (makes o.openhow).attributes) _ (wanted_refuses (makes o.openhow).attributes) (λ w.
-    found_by_refuses s x o (record { place = d; wanted = w }) (lookup s.tree d.number name)))
+    found_by_refuses s x o (record { place = d; wanted = w }) (object_named s.tree d.number name)))
 
 handle_refuses : (x : Context) (o : Open) (d : Node) → Refuses (by_handle x o d)
 handle_refuses x o d =
@@ -123,7 +123,7 @@ named_regular : (s : State) (x : Context) (o : Open) (name : List ℕ) (d : Node
 named_regular s x o name d place f cut e =
     let p = came (checked (Ok d) (place_checks x name)) _ (There place f cut) e in
     let w = came (attributes_in (makes o.openhow).attributes) _ (There place f cut) p.then in
-    found_regular s x o (record { place = p.found; wanted = w.found }) (lookup s.tree p.found.number name) place f cut w.then
+    found_regular s x o (record { place = p.found; wanted = w.found }) (object_named s.tree p.found.number name) place f cut w.then
 
 handle_regular : (s : State) (x : Context) (o : Open) (b : Bool) (d : Node) (place : ℕ) (f : Node) (cut : Bool) → IsHeld s.tree d
     → cond b (Err S.Inval) (by_handle x o d) ≡ Ok (There place f cut) → is_regular_at s.tree f.number ≡ true
@@ -167,7 +167,7 @@ made_regular t x now o m is =
     let made : Stored = record {
       number = t.last_object + 1;
       object = new_object now (new_of o m.wanted) (sets_of x now o m.wanted);
-      bytes = data_of (new_of o m.wanted);
+      bytes = (new_of o m.wanted).bytes;
     } in
     number_regular (objects ++ made ∷ []) made root (t.last_object + 1 + 1) is.objects (last_in objects made) refl _ refl
 

@@ -4,7 +4,7 @@ use Rattle.std.specs.Prelude.{Ok, Err}
 use Rattle.nfs_xdr.specs.{declared.time.Time.Time, declared.status.Status.TheVariants.Inval}
 use Rattle.nfs_compound.specs.{declared.open_args.Open.Open, declared.open_args.OpenClaim.OpenClaim}
 use Rattle.nfs_compound.specs.declared.open_args.OpenClaim.TheVariants.{Null, Previous, DelegateCur, DelegatePrev, Fh, DelegCurFh, DelegPrevFh}
-use Rattle.nfs_tree.specs.{declared.row.Row.Row, Files.lookup}
+use Rattle.nfs_tree.specs.{declared.row.Row.Row, Files.object_named}
 use Rattle.nfs_names.specs.{declared.context.Context.Context, declared.node.Node.Node, declared.making.Making.Making, State.State, Checks.{node_at, current}}
 use Rattle.nfs_names.specs.{Create.attributes_in, Outcome.checked}
 use Rattle.nfs_names.proofs.Found.{came, ok_is, checked_ok}
@@ -38,7 +38,7 @@ named_absent s x o name d m at is e =
     let p = came (checked (Ok d) (of_open.place_checks x name)) _ (Absent m) e in
     let w = came (attributes_in (of_open.makes o.openhow).attributes) _ (Absent m) p.then in
     let same : d ≡ p.found = ok_is refl (checked_ok (Ok d) (of_open.place_checks x name) p.found p.is).0 in
-    let made = made_absent s x o (record { place = p.found; wanted = w.found }) m (lookup s.tree p.found.number name) w.then in
+    let made = made_absent s x o (record { place = p.found; wanted = w.found }) m (object_named s.tree p.found.number name) w.then in
     record {
       name = name;
       claim = is;

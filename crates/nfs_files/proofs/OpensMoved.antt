@@ -15,7 +15,7 @@ use Rattle.nfs_opens.specs.Closing as closing
 use Rattle.nfs_opens.specs.Opening as opening
 use Rattle.nfs_opens.proofs.CallLaws.{IsClosed, closed_is, IsFreed, freed_is, IsNarrowed, narrowed_is, IsLocked, under_is, known_is, IsUnlocked, unlocked_is, unmapped}
 use Rattle.nfs_names.specs.{declared.context.Context.Context, State.State, Ending.with_opens, Outcome.{Outcome, done, refuses, answers}}
-use Rattle.nfs_files.specs.{declared.ranges.Wished.Wished, declared.target.Target.Target, StateIds.meant, Denied.{denied, status_of}, Parts.target}
+use Rattle.nfs_files.specs.{declared.ranges.Wished.Wished, declared.target.Target.Target, StateIds.meant, Denied.{lock_denied, open_fault_status}, Parts.target}
 use Rattle.nfs_files.specs.{Close.close, FreeStateid.free_stateid, Lock.{locks_as, locked, lock}, Parts.{closed, closes, frees, locking, locks}}
 use Rattle.nfs_files.specs.{LockU.lock_u, OpenDowngrade.{bits, open_downgrade}, Parts.{unlocking, unlocked, unlocks, narrowing, narrowed, narrows}}
 use Rattle.nfs_files.proofs.InSteps.{close_is, free_is, downgrade_is, unlock_is}
@@ -65,14 +65,14 @@ lock_is t (OpenOwner o) id w did granted = under_is t id o.lock_owner.owner w di
 lock_is t (LockOwner o) id w did granted = known_is t id w did granted
 
 by_locked : (P : Outcome → Type 0) (s : State) (x : Context) (v : Result (StateId × Table) OpenFault) → ((status : Status) → P (refuses s x Num.Lock status))
-    → ((h : Held) → P (done s x (Res.LockDenied (denied s.opens h)))) → ((did : StateId × Table) → v ≡ Ok did → P (locked s x (Ok did))) → P (locked s x v)
+    → ((h : Held) → P (done s x (Res.LockDenied (lock_denied s.opens h)))) → ((did : StateId × Table) → v ≡ Ok did → P (locked s x (Ok did))) → P (locked s x v)
 by_locked P s x (Ok did) refused held each = each did refl
 by_locked P s x (Err (F.Refused status)) refused held each = refused status
 by_locked P s x (Err (F.Denied h)) refused held each = held h
-by_locked P s x (Err F.Memory) refused held each = refused (status_of F.Memory)
+by_locked P s x (Err F.Memory) refused held each = refused (open_fault_status F.Memory)
 
 pub by_lock : (P : Outcome → Type 0) (s : State) (x : Context) (a : Lock) → ((status : Status) → P (refuses s x Num.Lock status))
-    → ((h : Held) → P (done s x (Res.LockDenied (denied s.opens h))))
+    → ((h : Held) → P (done s x (Res.LockDenied (lock_denied s.opens h))))
     → ((m : Wished) (did : StateId × Table) → locking s x a ≡ Ok m → locks_as s.opens a.locker m.id m.wish ≡ Ok did → IsLocked s.opens m.wish did
     → P (locked s x (Ok did)))
     → P (lock s x a)
@@ -90,5 +90,5 @@ by_unlock P s x a refused each =
     rw (unlock_is s x a)
     (answered P s x Num.LockU (unlocking s x a) (unlocks s x) refused (λ m judged.
     (let w = m.wish in let did = unlock s.opens m.id w.client w.file w.first w.last in
-    answered P s x Num.LockU (map_err status_of did) _ refused (λ d granted.
-    (let done = unmapped status_of did d granted in each m d judged done (unlocked_is s.opens m.id w.client w.file w.first w.last d done))))))
+    answered P s x Num.LockU (map_err open_fault_status did) _ refused (λ d granted.
+    (let done = unmapped open_fault_status did d granted in each m d judged done (unlocked_is s.opens m.id w.client w.file w.first w.last d done))))))

@@ -5,9 +5,10 @@ use Rattle.std.specs.Prelude.{◌==◌, filter, if◌then◌else◌}
 use Rattle.nfs_xdr.specs.Tables.{In}
 use Rattle.nfs_xdr.proofs.{Lists.{in_filter, stays_in, any_in, filter_past}, Tables.{in_bounds, in_once}}
 use Rattle.nfs_opens.specs.{declared.records.OpenState.OpenState, declared.records.LockState.LockState, Holding.FileHolders}
-use Rattle.nfs_opens.specs.{Table.{Table, with_open, with_lock}, TableInvariants.IsTable, Closing.{stands, not_under, without_open, without_lock}}
+use Rattle.nfs_opens.specs.{Table.{Table, with_open, with_lock}, TableInvariants.IsTable, Closing.{without_open, without_lock}}
 use Rattle.nfs_names.specs.Ending.{table_staying}
 use Rattle.nfs_files.specs.Own.{HasAsBefore}
+use Rattle.nfs_opens.proofs.Terms.{not_under, stands}
 
 module _ {X : Type 0} where
   pub filter_changed : (p q : X → Bool) (f : X → X) (xs : List X) → ((x : X) → In x xs → q x ≡ true → (p (f x) ≡ false) × (p x ≡ false))

@@ -19,7 +19,7 @@ use Rattle.nfs_opens.specs.Opening as opening
 use Rattle.nfs_opens.specs.Locking as locking
 use Rattle.nfs_names.specs.{declared.context.Context.Context, State.State, Outcome.{checked, is_delay}, Checks.current}
 use Rattle.nfs_names.proofs.{Faulted.status_of_refusal, NameLaws.current_refuses, Refusing.refuses_checked}
-use Rattle.nfs_files.specs.{Bytes.{seat, file_checks}, StateIds.meant, Ranges.wished, Denied.status_of, Close.close, Parts.{writable, target, closes}}
+use Rattle.nfs_files.specs.{Bytes.{seat, file_checks}, StateIds.meant, Ranges.wished, Denied.open_fault_status, Close.close, Parts.{writable, target, closes}}
 use Rattle.nfs_files.specs.{FreeStateid.free_stateid, LockT.tested, LockU.lock_u, Parts.{frees, unlocking, unlocks}}
 use Rattle.nfs_files.specs.{OpenDowngrade.{bits, open_downgrade}, TestStateid.test_stateid, Parts.{narrowing, narrows}}
 use Rattle.nfs_files.specs.Write.{last_checks}
@@ -51,47 +51,47 @@ next_prompt : {A B F : Type 0} (g : F → Status) (v : Result A F) (next : A →
 next_prompt g (Err f) next is more = err_prompt (g f) (is (g f) refl)
 next_prompt g (Ok a) next is more = more a
 
-fault_prompt : (v : Result Seat Status) → IsPrompt v → IsPrompt (map_err status_of (map_err F.Refused v))
+fault_prompt : (v : Result Seat Status) → IsPrompt v → IsPrompt (map_err open_fault_status (map_err F.Refused v))
 fault_prompt (Err status) is = err_prompt status (is status refl)
 fault_prompt (Ok seat) is = ok_prompt seat
 
-told_prompt : (o : Option Held) → IsPrompt (map_err status_of (locking.unless_told o))
+told_prompt : (o : Option Held) → IsPrompt (map_err open_fault_status (locking.unless_told o))
 told_prompt None = ok_prompt tt
-told_prompt (Some h) = err_prompt (status_of (F.Denied h)) refl
+told_prompt (Some h) = err_prompt (open_fault_status (F.Denied h)) refl
 
-judged_prompt : (t : Table) (n : ℕ) (access : Share) (w : Wish) → IsPrompt (map_err status_of (locking.lock_judged t n access w))
+judged_prompt : (t : Table) (n : ℕ) (access : Share) (w : Wish) → IsPrompt (map_err open_fault_status (locking.lock_judged t n access w))
 judged_prompt t n access w = go (locking.permits access w.kind)
   where
-    go : (b : Bool) → IsPrompt (map_err status_of (cond b (locking.unless_told (locking.clash t n w)) (Err (F.Refused OpenMode))))
+    go : (b : Bool) → IsPrompt (map_err open_fault_status (cond b (locking.unless_told (locking.clash t n w)) (Err (F.Refused OpenMode))))
     go true = told_prompt (locking.clash t n w)
     go false = err_prompt OpenMode refl
 
-as_prompt : (t : Table) (w : Wish) (n : ℕ) (access : Share) → IsPrompt (map_err status_of (locking.lock_as t w n access))
+as_prompt : (t : Table) (w : Wish) (n : ℕ) (access : Share) → IsPrompt (map_err open_fault_status (locking.lock_as t w n access))
 as_prompt t w n access =
-    next_prompt status_of (locking.lock_judged t n access w) _ (judged_prompt t n access w) (λ u.
-    next_prompt status_of (ok_or (lock_at t n) (F.Refused BadStateId)) _ (there_prompt status_of (lock_at t n) (F.Refused BadStateId) refl) (λ l. ok_prompt _))
+    next_prompt open_fault_status (locking.lock_judged t n access w) _ (judged_prompt t n access w) (λ u.
+    next_prompt open_fault_status (ok_or (lock_at t n) (F.Refused BadStateId)) _ (there_prompt open_fault_status (lock_at t n) (F.Refused BadStateId) refl) (λ l. ok_prompt _))
 
 owner_prompt : (t : Table) (w : Wish) (opened : ℕ) (owner : List ℕ) (access : Share) (o : Option LockState)
-    → IsPrompt (map_err status_of (locking.lock_by_owner t w opened owner access o))
+    → IsPrompt (map_err open_fault_status (locking.lock_by_owner t w opened owner access o))
 owner_prompt t w opened owner access (Some l) = as_prompt t w l.number access
 owner_prompt t w opened owner access None =
-    next_prompt status_of (locking.lock_judged t 0 access w) _ (judged_prompt t 0 access w) (λ u.
-    next_prompt status_of (require (not (t.last == last_number)) (F.Refused ServerFault)) _ (required_prompt status_of _ (F.Refused ServerFault) refl) (λ u. ok_prompt _))
+    next_prompt open_fault_status (locking.lock_judged t 0 access w) _ (judged_prompt t 0 access w) (λ u.
+    next_prompt open_fault_status (require (not (t.last == last_number)) (F.Refused ServerFault)) _ (required_prompt open_fault_status _ (F.Refused ServerFault) refl) (λ u. ok_prompt _))
 
-locks_prompt : (t : Table) (who : Locker) (id : StateId) (w : Wish) → IsPrompt (map_err status_of (of_lock.locks_as t who id w))
+locks_prompt : (t : Table) (who : Locker) (id : StateId) (w : Wish) → IsPrompt (map_err open_fault_status (of_lock.locks_as t who id w))
 locks_prompt t (OpenOwner o) id w =
-    next_prompt status_of (map_err F.Refused (judge t id w.client (Some w.file) OpenOnly)) _ (fault_prompt _ (judge_prompt t id w.client (Some w.file) OpenOnly))
+    next_prompt open_fault_status (map_err F.Refused (judge t id w.client (Some w.file) OpenOnly)) _ (fault_prompt _ (judge_prompt t id w.client (Some w.file) OpenOnly))
     (λ seat. owner_prompt t w id.number o.lock_owner.owner (locking.access_in seat) (locking.state_of t w.client o.lock_owner.owner w.file))
 locks_prompt t (LockOwner o) id w =
-    next_prompt status_of (map_err F.Refused (judge t id w.client (Some w.file) LockOnly)) _ (fault_prompt _ (judge_prompt t id w.client (Some w.file) LockOnly))
+    next_prompt open_fault_status (map_err F.Refused (judge t id w.client (Some w.file) LockOnly)) _ (fault_prompt _ (judge_prompt t id w.client (Some w.file) LockOnly))
     (λ seat. as_prompt t w id.number (locking.access_in seat))
 
-locked_prompt : (s : State) (x : Context) (v : Result (StateId × Table) OpenFault) → IsPrompt (map_err status_of v)
+locked_prompt : (s : State) (x : Context) (v : Result (StateId × Table) OpenFault) → IsPrompt (map_err open_fault_status v)
     → is_delay (status_of_result (of_lock.locked s x v).result) ≡ false
 locked_prompt s x (Ok did) is = refl
 locked_prompt s x (Err (F.Refused status)) is = ap is_delay (status_of_refusal 12 status) ∙ is status refl
 locked_prompt s x (Err (F.Denied h)) is = refl
-locked_prompt s x (Err F.Memory) is = absurd (let bad : true ≡ false = is (status_of F.Memory) refl in cc)
+locked_prompt s x (Err F.Memory) is = absurd (let bad : true ≡ false = is (open_fault_status F.Memory) refl in cc)
 
 tested_prompt : (s : State) (x : Context) (o : Option Held) → is_delay (status_of_result (tested s x o).result) ≡ false
 tested_prompt s x None = refl
@@ -127,7 +127,7 @@ lock_u_prompt s x a =
     answered_prompt s x Num.LockU (unlocking s x a) (unlocks s x)
     (own_prompt _ (wished_by_refuses x a.lock_stateid wish (wished_refuses s x a.locktype a.offset a.length))) (λ k.
     (let w = k.wish in
-    answered_prompt s x Num.LockU (map_err status_of (locking.unlock s.opens k.id w.client w.file w.first w.last)) _
+    answered_prompt s x Num.LockU (map_err open_fault_status (locking.unlock s.opens k.id w.client w.file w.first w.last)) _
     (own_prompt _ (unlock_refuses s.opens k.id w.client w.file w.first w.last)) (λ did. refl))))
 
 narrows_prompt : (s : State) (x : Context) (a : OpenDowngrade) → is_delay (status_of_result (open_downgrade s x a).result) ≡ false

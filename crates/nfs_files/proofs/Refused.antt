@@ -11,7 +11,7 @@ use Rattle.nfs_opens.proofs.CallLaws.{did_is, refused_is}
 use Rattle.nfs_compound.specs.declared.op_num.OpNum.TheVariants as Num
 use Rattle.nfs_opens.specs.Calls as calls
 use Rattle.nfs_names.specs.{declared.context.Context.Context, State.State, Outcome.{Outcome, refuses, answers, or_delay, is_ok, is_delay}, Ending.with_opens}
-use Rattle.nfs_files.specs.{Denied.status_of, Lock.locked, Parts.unlocked}
+use Rattle.nfs_files.specs.{Denied.open_fault_status, Lock.locked, Parts.unlocked}
 
 -- the outcome of a refusal that the code made
 abbrev pub told_with : State → Context → Res → Table → Outcome
@@ -80,26 +80,26 @@ lock_tells old did new F.Memory h = inl (refl, refl, h.0, h.1)
 pub refused_outcome : (s : State) (x : Context) (op : OpNum) (grows : Bool) (did : Result (StateId × Table) OpenFault)
     (outcome : Result (StateId × Table) OpenFault → Outcome) (fault : OpenFault) (r : Res) (new : Table)
     → ((v : Result (StateId × Table) OpenFault) → IsOk v → is_ok (status_of_result (outcome v).result) ≡ true)
-    → outcome (Err fault) ≡ refuses s x op (status_of fault)
-    → r ≡ refusal (op_number op) (status_of fault) → Wanted s.opens grows did new fault ⊎ Told s.opens did new fault
-    → told_with s x r new ≡ or_delay (grows && is_delay (status_of fault)) s x op (outcome did)
+    → outcome (Err fault) ≡ refuses s x op (open_fault_status fault)
+    → r ≡ refusal (op_number op) (open_fault_status fault) → Wanted s.opens grows did new fault ⊎ Told s.opens did new fault
+    → told_with s x r new ≡ or_delay (grows && is_delay (open_fault_status fault)) s x op (outcome did)
 refused_outcome s x op grows did outcome fault r new goes stops is (inl wanted) =
     let o = outcome did in
-    ap (λ r. told_with s x r new) is ∙ ap (told_with s x (refusal (op_number op) (status_of fault))) wanted.3 ∙ ap (λ f. refuses s x op (status_of f)) wanted.0
-    ∙ sym (ap (λ f. or_delay (grows && is_delay (status_of f)) s x op o) wanted.0 ∙ ap (λ g. or_delay (g && true) s x op o) wanted.1
+    ap (λ r. told_with s x r new) is ∙ ap (told_with s x (refusal (op_number op) (open_fault_status fault))) wanted.3 ∙ ap (λ f. refuses s x op (open_fault_status f)) wanted.0
+    ∙ sym (ap (λ f. or_delay (grows && is_delay (open_fault_status f)) s x op o) wanted.0 ∙ ap (λ g. or_delay (g && true) s x op o) wanted.1
     ∙ ap (λ k. cond k (refuses s x op S.Delay) o) (goes did wanted.2))
 refused_outcome s x op grows did outcome fault r new goes stops is (inr told) =
     let no = refused_is s.opens did fault told.0 in
     let o = outcome did in
-    let same : o ≡ refuses s x op (status_of fault) = ap outcome no.0 ∙ stops in
-    let status : status_of_result o.result ≡ status_of fault =
-    ap (λ (o : Outcome). status_of_result o.result) same ∙ status_of_refusal (op_number op) (status_of fault) in
-    ap (λ r. told_with s x r new) is ∙ ap (told_with s x (refusal (op_number op) (status_of fault))) (told.1 ∙ no.1)
-    ∙ sym (own_refusal grows s x op (status_of fault) o status ∙ same)
+    let same : o ≡ refuses s x op (open_fault_status fault) = ap outcome no.0 ∙ stops in
+    let status : status_of_result o.result ≡ open_fault_status fault =
+    ap (λ (o : Outcome). status_of_result o.result) same ∙ status_of_refusal (op_number op) (open_fault_status fault) in
+    ap (λ r. told_with s x r new) is ∙ ap (told_with s x (refusal (op_number op) (open_fault_status fault))) (told.1 ∙ no.1)
+    ∙ sym (own_refusal grows s x op (open_fault_status fault) o status ∙ same)
 
 -- what LOCKU comes to, by what the table says
 abbrev pub unlocked_by : State → Context → Result (StateId × Table) OpenFault → Outcome
-unlocked_by s x v = answers s x Num.LockU (map_err status_of v) (λ did. unlocked s x did.0 did.1)
+unlocked_by s x v = answers s x Num.LockU (map_err open_fault_status v) (λ did. unlocked s x did.0 did.1)
 
 pub ok_unlocked : (s : State) (x : Context) (v : Result (StateId × Table) OpenFault) → IsOk v → is_ok (status_of_result (unlocked_by s x v).result) ≡ true
 ok_unlocked s x (Ok did) h = refl

@@ -8,7 +8,7 @@ use Rattle.nfs_opens.specs.{declared.stateid.StateId.StateId, declared.stateid.C
 use Rattle.nfs_opens.specs.{declared.judging.Seat.Seat, declared.judging.Seat.TheVariants.{Anonymous, ReadBypass, Open, Lock}, declared.judging.Sort.Sort}
 use Rattle.nfs_opens.specs.{declared.judging.Sort.TheVariants.{OpenOnly, LockOnly, Either}, declared.share.Share.Share}
 use Rattle.nfs_opens.specs.{StateId.{is_current, with_seqid, is_anonymous, is_bypass}, Table.Table}
-use Rattle.nfs_opens.specs.Judging.{judge_checks, seated, judge_named, special, judge, named}
+use Rattle.nfs_opens.specs.Judging.{judge_checks, seated, judge_named, special, judge, state_named}
 use Rattle.nfs_names.specs.{declared.context.Context.Context, declared.node.Node.Node, State.State, Outcome.{passed, checked}}
 use Rattle.nfs_names.proofs.Refusing.{Refuses, refusal_by, all_refuse, err_refuses, ok_refuses, refuses_checked, refuses_then}
 use Rattle.nfs_files.specs.{StateIds.{state_id, meant}, Bytes.{file_checks, seat, reading, writing, seat_checks, may_use}, Parts.{readable, writable}}
@@ -36,8 +36,8 @@ same_passed : (seat : Seat) (o : Option Status) → Refuses (passed seat o) → 
 same_passed seat None h = h
 same_passed seat (Some status) h = h
 
-named_refuses : (t : Table) (id : StateId) (client : ℕ) (file : Option ℕ) (sort : Sort) → Refuses (judge_named client file sort id.seqid (named t id))
-named_refuses t id client file sort = elim (named t id) as (λ o. Refuses (judge_named client file sort id.seqid o)) [
+named_refuses : (t : Table) (id : StateId) (client : ℕ) (file : Option ℕ) (sort : Sort) → Refuses (judge_named client file sort id.seqid (state_named t id))
+named_refuses t id client file sort = elim (state_named t id) as (λ o. Refuses (judge_named client file sort id.seqid o)) [
   | None ↦ bad
   | Some n ↦ same_passed n.seat (first_fault (judge_checks client file sort id.seqid n))
       (refuses_checked (Ok n.seat) (λ seat. judge_checks client file sort id.seqid n) (ok_refuses n.seat) (λ seat. refl))

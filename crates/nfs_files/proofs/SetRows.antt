@@ -7,12 +7,12 @@ use Rattle.nfs_xdr.proofs.Checks.{all_passed}
 use Rattle.nfs_compound.specs.declared.op_num.OpNum.TheVariants as Num
 use Rattle.nfs_compound.specs.{declared.stateid.Stateid.Stateid, declared.file_args.SetAttr.SetAttr}
 use Rattle.nfs_tree.specs.{declared.fault.TreeFault.TreeFault, declared.object.FileType.FileType, declared.object.Object.Object, declared.stored.Stored.Stored}
-use Rattle.nfs_tree.specs.{Object.{is_directory, is_regular}, Files.{Files, most_bytes, stored_in, is_there, is_directory_at, can_change}, Calls.is_regular_at}
+use Rattle.nfs_tree.specs.{Object.{is_directory, is_regular, is_link}, Files.{Files, most_bytes, stored_in, is_there, is_directory_at, can_change}, Calls.is_regular_at}
 use Rattle.nfs_tree.specs.declared.fault.TreeFault.TheVariants as F
 use Rattle.nfs_tree.specs.declared.object.FileType.TheVariants as Kind
 use Rattle.nfs_attrs.specs.declared.wanted.Wanted.{Wanted}
-use Rattle.nfs_names.specs.{declared.context.Context.Context, declared.node.Node.Node, State.State, Faults.status_of, Outcome.{refuses, checked}}
-use Rattle.nfs_names.specs.{Checks.current, Create.{wanted_of, attributes_in}, Lookup.is_link}
+use Rattle.nfs_names.specs.{declared.context.Context.Context, declared.node.Node.Node, State.State, Faults.tree_fault_status, Outcome.{refuses, checked}}
+use Rattle.nfs_names.specs.{Checks.current, Create.{wanted_of, attributes_in}}
 use Rattle.nfs_names.proofs.{Found.{IsHeld, current_is, checked_ok, came, ok_is}, Rows.fault_map, Faulted.{by_last, by_refusal}}
 use Rattle.nfs_files.specs.{declared.setting.Setting.Setting, Bytes.{file_checks, writing, may_use}, Parts.writable}
 use Rattle.nfs_files.specs.{SetAttr.{gives_some, set_attr}}
@@ -45,8 +45,8 @@ writable_ok s x given v d e = checked_ok v file_checks d (if_passed_ok (checked 
 -- the rows of the tree's checks, by whether a size is given
 sized_rows : (s : State) (d : Node) (w : Wanted) (size : ℕ) → IsHeld s.tree d
     → is_regular_at s.tree d.number ≡ true → first_fault (file_checks d) ≡ None → gives_some w ≡ true
-    → option_map status_of (tree_fault s.tree d.number w (Some size))
-    ≡ first_fault ((nat_lt most_bytes size, status_of F.Fbig) ∷ (gives_some w && not (can_change s.tree d.number), status_of F.Counter) ∷ [])
+    → option_map tree_fault_status (tree_fault s.tree d.number w (Some size))
+    ≡ first_fault ((nat_lt most_bytes size, tree_fault_status F.Fbig) ∷ (gives_some w && not (can_change s.tree d.number), tree_fault_status F.Counter) ∷ [])
 sized_rows s d w size is file e some =
     let t = s.tree in
     let checks = all_passed (file_checks d) e in
@@ -55,16 +55,16 @@ sized_rows s d w size is file e some =
     let regular : not (is_regular_at t d.number) ≡ false = ap not file in
     let tail : List (Bool × TreeFault) = (nat_lt most_bytes size, F.Fbig) ∷ (not (can_change t d.number), F.Counter) ∷ [] in
     let same : tree_fault t d.number w (Some size) ≡ first_fault tail = rw (there, directory, regular) refl in
-    ap (option_map status_of) same ∙ fault_map status_of tail
-    ∙ sym (ap (λ b. first_fault ((nat_lt most_bytes size, status_of F.Fbig) ∷ (b && not (can_change t d.number), status_of F.Counter) ∷ [])) some)
+    ap (option_map tree_fault_status) same ∙ fault_map tree_fault_status tail
+    ∙ sym (ap (λ b. first_fault ((nat_lt most_bytes size, tree_fault_status F.Fbig) ∷ (b && not (can_change t d.number), tree_fault_status F.Counter) ∷ [])) some)
 
 plain_rows : (s : State) (d : Node) (w : Wanted) → IsHeld s.tree d
-    → option_map status_of (tree_fault s.tree d.number w None) ≡ first_fault ((gives_some w && not (can_change s.tree d.number), status_of F.Counter) ∷ [])
+    → option_map tree_fault_status (tree_fault s.tree d.number w None) ≡ first_fault ((gives_some w && not (can_change s.tree d.number), tree_fault_status F.Counter) ∷ [])
 plain_rows s d w is =
     let t = s.tree in
     let there : not (is_there t d.number) ≡ false = ap not is.there in
     elim (cases_Bool (gives_some w)) [
-      | inl some ↦ rw (some, there) (fault_map status_of ((not (can_change t d.number), F.Counter) ∷ []))
+      | inl some ↦ rw (some, there) (fault_map tree_fault_status ((not (can_change t d.number), F.Counter) ∷ []))
       | inr none ↦ rw none refl
     ]
 
@@ -73,8 +73,8 @@ given_some w size e = rw e refl
 
 set_rows : (s : State) (x : Context) (given : Stateid) (m : Setting) (o : Option ℕ) (k : Node)
     → m.wanted.size ≡ o → IsHeld s.tree m.node → sized_by s x given m.node o ≡ Ok k
-    → option_map status_of (tree_fault s.tree m.node.number m.wanted o)
-    ≡ first_fault ((of_set.is_too_big o, status_of F.Fbig) ∷ (gives_some m.wanted && not (can_change s.tree m.node.number), status_of F.Counter) ∷ [])
+    → option_map tree_fault_status (tree_fault s.tree m.node.number m.wanted o)
+    ≡ first_fault ((of_set.is_too_big o, tree_fault_status F.Fbig) ∷ (gives_some m.wanted && not (can_change s.tree m.node.number), tree_fault_status F.Counter) ∷ [])
 set_rows s x given m None k h is e = plain_rows s m.node m.wanted is
 set_rows s x given m (Some size) k h is e =
     let found = writable_ok s x given (Ok m.node) k e in
@@ -100,7 +100,7 @@ pub set_by : (s : State) (x : Context) (a : SetAttr) (d : Node) (w : Wanted) →
 set_by s x a d w held read = rw (held, read) refl
 
 pub set_found : (s : State) (x : Context) (a : SetAttr) (m : Setting) → asked_for s x a ≡ Ok m
-    → option_map status_of (tree_fault s.tree m.node.number m.wanted m.wanted.size) ≡ first_fault (last_checks s m)
+    → option_map tree_fault_status (tree_fault s.tree m.node.number m.wanted m.wanted.size) ≡ first_fault (last_checks s m)
 unfolding asked_for
 set_found s x a m v =
     let passed = if_passed_ok (setting s x a) (sized s x a.stateid) m v in
@@ -111,12 +111,12 @@ pub set_goes : (s : State) (x : Context) (now : Time) (a : SetAttr) (m : Setting
     → tree_fault s.tree m.node.number m.wanted m.wanted.size ≡ None → set_attr s x now a ≡ was_set s x now a m
 set_goes s x now a m v none =
     rw (set_attr_is s x now a)
-    (by_last s x Num.SetAttr (asked_for s x a) (last_checks s) (was_set s x now a) m v (sym (set_found s x a m v) ∙ ap (option_map status_of) none))
+    (by_last s x Num.SetAttr (asked_for s x a) (last_checks s) (was_set s x now a) m v (sym (set_found s x a m v) ∙ ap (option_map tree_fault_status) none))
 
 pub set_stops : (s : State) (x : Context) (now : Time) (a : SetAttr) (m : Setting) (f : TreeFault)
     → asked_for s x a ≡ Ok m → tree_fault s.tree m.node.number m.wanted m.wanted.size ≡ Some f
-    → set_attr s x now a ≡ refuses s x Num.SetAttr (status_of f)
+    → set_attr s x now a ≡ refuses s x Num.SetAttr (tree_fault_status f)
 set_stops s x now a m f v some =
     rw (set_attr_is s x now a)
     (by_refusal s x Num.SetAttr (asked_for s x a) (last_checks s) (was_set s x now a) m
-    (status_of f) v (sym (set_found s x a m v) ∙ ap (option_map status_of) some))
+    (tree_fault_status f) v (sym (set_found s x a m v) ∙ ap (option_map tree_fault_status) some))

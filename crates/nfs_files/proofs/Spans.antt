@@ -7,8 +7,9 @@ use Rattle.nfs_compound.specs.{declared.stateid.Stateid.Stateid, declared.lock_a
 use Rattle.nfs_opens.specs.{declared.locking.Wish.Wish, declared.stateid.StateId.StateId, declared.stateid.CurrentSeqid.TheVariants.Any, Calls.is_whole}
 use Rattle.nfs_names.specs.{declared.context.Context.Context, declared.node.Node.Node, State.State, Outcome.{passed, mapped}}
 use Rattle.nfs_names.proofs.Found.{came}
-use Rattle.nfs_files.specs.{declared.ranges.Wished.Wished, StateIds.meant, Target.the_file, Ranges.{all_ones, last_of, range, wished}, Parts.{wish, wished_by}}
+use Rattle.nfs_files.specs.{declared.ranges.Wished.Wished, StateIds.meant, Target.the_file, Ranges.{all_ones, range, wished}, Parts.{wish, wished_by}}
 use Rattle.nfs_files.proofs.InSteps.{range_is, wished_is}
+use Rattle.nfs_files.proofs.Terms.{last_of}
 
 -- what a range that passes its two checks is
 record Passed (empty over : Bool) (last l : ℕ) : Type 0 where

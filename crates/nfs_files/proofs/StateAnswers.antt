@@ -16,8 +16,9 @@ use Rattle.nfs_opens.specs.{declared.judging.Sort.TheVariants.{OpenOnly, LockOnl
 use Rattle.nfs_opens.specs.{Table.{Table, open_at, lock_at}, Judging.judge}
 use Rattle.nfs_opens.specs.declared.judging.Seat.TheVariants as Seats
 use Rattle.nfs_opens.specs.declared.locking.OpenFault.TheVariants as F
-use Rattle.nfs_files.specs.{declared.ranges.Wished.Wished, Denied.status_of, declared.target.Target.Target, StateIds.{meant, wire_id}, Bytes.file_checks}
-use Rattle.nfs_files.specs.{Target.the_file, Ranges.{range_checks, last_of, range, wished}, Close.close, Parts.{target, wish, wished_by, closed, closes}}
+use Rattle.nfs_files.specs.{declared.ranges.Wished.Wished, Denied.open_fault_status, declared.target.Target.Target, StateIds.{meant, wire_id}}
+use Rattle.nfs_files.specs.Bytes.{file_checks}
+use Rattle.nfs_files.specs.{Target.the_file, Ranges.{range, wished}, Close.close, Parts.{target, wish, wished_by, closed, closes}}
 use Rattle.nfs_files.specs.{FreeStateid.free_stateid, LockU.lock_u, Parts.{frees, unlocking, unlocked, unlocks}}
 use Rattle.nfs_files.specs.{OpenDowngrade.{bits, open_downgrade}, Parts.{bit_checks, narrowing, narrowed, narrows}}
 use Rattle.nfs_opens.specs.Closing as closing
@@ -28,6 +29,7 @@ use Rattle.nfs_names.proofs.{Bounds.IsAnswer, NameLaws.current_refuses}
 use Rattle.nfs_names.proofs.Refusing.{Refuses, refusal_by, refuses_checked, refuses_mapped, refuses_then, there_refuses, held_refuses, answers_with, err_refuses, ok_refuses}
 use Rattle.nfs_files.proofs.{Passing.if_passed_refuses, Seats.{bad, meant_refuses, judge_refuses}}
 use Rattle.nfs_files.proofs.InSteps.{file_is, close_is, free_is, downgrade_is, range_is, wished_is, unlock_is}
+use Rattle.nfs_files.proofs.Terms.{range_checks, last_of}
 
 -- the file and the stateid
 pub the_file_refuses : (s : State) (x : Context) → Refuses (the_file s x)
@@ -143,24 +145,24 @@ pub then_refuses : {A B F : Type 0} (g : F → Status) (v : Result A F) (next : 
 then_refuses g (Err f) next h each = err_refuses (g f) (h.each (g f) refl)
 then_refuses g (Ok a) next h each = each a
 
-pub judged_refuses : (v : Result Seat Status) → Refuses v → Refuses (map_err status_of (map_err F.Refused v))
+pub judged_refuses : (v : Result Seat Status) → Refuses v → Refuses (map_err open_fault_status (map_err F.Refused v))
 judged_refuses (Err status) h = err_refuses status (h.each status refl)
 judged_refuses (Ok seat) h = ok_refuses seat
 
-state_refuses : {A : Type 0} (o : Option A) → Refuses (map_err status_of (ok_or o (F.Refused S.BadStateId)))
+state_refuses : {A : Type 0} (o : Option A) → Refuses (map_err open_fault_status (ok_or o (F.Refused S.BadStateId)))
 state_refuses None = bad
 state_refuses (Some a) = ok_refuses a
 
-pub unlock_refuses : (t : Table) (id : StateId) (client file first last : ℕ) → Refuses (map_err status_of (locking.unlock t id client file first last))
+pub unlock_refuses : (t : Table) (id : StateId) (client file first last : ℕ) → Refuses (map_err open_fault_status (locking.unlock t id client file first last))
 unlock_refuses t id client file first last =
-    then_refuses status_of (map_err F.Refused (judge t id client (Some file) LockOnly)) _
+    then_refuses open_fault_status (map_err F.Refused (judge t id client (Some file) LockOnly)) _
     (judged_refuses (judge t id client (Some file) LockOnly) (judge_refuses t id client (Some file) LockOnly)) (λ seat.
-    then_refuses status_of (ok_or (lock_at t id.number) (F.Refused S.BadStateId)) _ (state_refuses (lock_at t id.number)) (λ l. ok_refuses _))
+    then_refuses open_fault_status (ok_or (lock_at t id.number) (F.Refused S.BadStateId)) _ (state_refuses (lock_at t id.number)) (λ l. ok_refuses _))
 
 unlocks_may : (s : State) (x : Context) (a : LockU) (k : Wished) → IsAnswer (Operation (Op.LockU a)) (unlocks s x k).result
 unlocks_may s x a k =
     let w = k.wish in
-    answers_with (IsAnswer (Operation (Op.LockU a))) s x Num.LockU (map_err status_of (locking.unlock s.opens k.id w.client w.file w.first w.last))
+    answers_with (IsAnswer (Operation (Op.LockU a))) s x Num.LockU (map_err open_fault_status (locking.unlock s.opens k.id w.client w.file w.first w.last))
     (λ did. unlocked s x did.0 did.1)
     (unlock_refuses s.opens k.id w.client w.file w.first w.last)
     (λ status h. record { may = (refl, rw (h.done, h.legal) refl, tt); arrays = tt })

@@ -3,7 +3,7 @@ use Rattle.std.proofs.{Common.{◌≡◌, ℕ, ◌≤◌, Bool, eqb, Option, Som
 use Rattle.std.specs.{Prelude.is_none, Option.ForSome, List.list_any}
 use Rattle.nfs_xdr.specs.declared.time.Time.{Time}
 use Rattle.nfs_compound.specs.declared.op.Item.{Item}
-use Rattle.nfs_tree.specs.{Files.{lookup as looked_up, named}, Names.{with_moved, without_name}}
+use Rattle.nfs_tree.specs.{Files.{object_named as looked_up, number_named}, Names.{with_moved, without_name}}
 use Rattle.nfs_opens.specs.{declared.records.OpenState.OpenState, StateId.last_number, Table.{Table, Asked, clashes_with}, TableInvariants.IsTable}
 use Rattle.nfs_opens.specs.Closing as closing
 use Rattle.nfs_opens.specs.Opening as opening
@@ -30,7 +30,7 @@ replaced_lease s None = refl
 replaced_lease s (Some n) = unused_lease s n
 
 name_lease : (s : State) (e : names_effects.Effect) → (names_effects.behind s e).lease ≡ s.lease
-name_lease s (Removes d name now) = unused_lease (with_tree s (without_name s.tree d name now)) (named s.tree d name)
+name_lease s (Removes d name now) = unused_lease (with_tree s (without_name s.tree d name now)) (number_named s.tree d name)
 name_lease s (Moves m now) = replaced_lease (with_tree s (with_moved s.tree m now)) (looked_up s.tree m.target m.name)
 name_lease s e = refl
 

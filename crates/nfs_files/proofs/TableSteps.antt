@@ -9,7 +9,6 @@ use Rattle.nfs_ranges.specs.{Holders.{Holders, holding}, declared.Kind.Kind}
 use Rattle.nfs_opens.specs.{declared.share.Share.Share, declared.records.OpenState.OpenState, declared.records.LockState.LockState, declared.locking.Wish.Wish}
 use Rattle.nfs_opens.specs.{Holding.{FileHolders, on_file}, Closing.held_within, Locking.lock_judged}
 use Rattle.nfs_opens.specs.{Table.{Table, Asked, open_at, lock_at, with_lock, clashes_with}, TableInvariants.IsTable}
-use Rattle.nfs_opens.specs.Closing as closing
 use Rattle.nfs_opens.specs.Locking as locking
 use Rattle.nfs_opens.specs.Opening as opening
 use Rattle.nfs_opens.proofs.{HolderLemmas.{IsFewer, fewer_keeps}, TableLemmas.{table_opened, table_closed, holders_left, KeepsBytes, table_raised}}
@@ -18,6 +17,7 @@ use Rattle.nfs_opens.proofs.CallLaws.{first_state}
 use Rattle.nfs_names.specs.{declared.context.Context.Context, Ending.table_staying, State.State}
 use Rattle.nfs_files.proofs.{KeptLocks.{within_not, held_other}, Outcomes.comes_to, Wishes.IsRange}
 use Rattle.nfs_files.proofs.{Effects.{Effect, Opens, Narrows, Closes, Locks, Begins, Unlocks, Frees, Fits, table_behind}, Effected.kept_opens}
+use Rattle.nfs_opens.proofs.Terms.{stands}
 
 no_bytes : (h : Holders) (n : ℕ) (kind : Kind) (first last : ℕ) → last < first → holding h n kind first last ≡ h
 no_bytes h n kind first last empty =
@@ -106,7 +106,7 @@ table_item refused s x now i table = kept_opens IsTable refused s x now i (λ t 
 
 -- The end of clients: an open whose client stays, stays, so each lock state that is left has its open.
 fewer_within : (locks : List LockState) (held : FileHolders) (f : ℕ) → IsFewer (held_within locks held f) (held f)
-fewer_within locks held f s b = go (closing.stands locks s) (held f s b)
+fewer_within locks held f s b = go (stands locks s) (held f s b)
   where
     go : (v : Bool) (o : Option Kind) → (cond v o None ≡ None) ⊎ (cond v o None ≡ o)
     go true o = inr refl

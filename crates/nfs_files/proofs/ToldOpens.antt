@@ -15,7 +15,7 @@ use Rattle.nfs_results.specs.{declared.res.ChangeInfo.ChangeInfo, Items.open_ok,
 use Rattle.nfs_results.specs.declared.res.Res.TheVariants as Res
 use Rattle.nfs_results.proofs.Lengths.{length_spelled}
 use Rattle.nfs_tree.specs.{declared.object.Object.Object, declared.row.Row.Row, declared.sets.Sets.Sets, Create.{New, with_new}}
-use Rattle.nfs_tree.specs.Files.{Files, object_at, is_entry, entry, lookup}
+use Rattle.nfs_tree.specs.Files.{Files, object_at, is_entry, entry, object_named}
 use Rattle.nfs_tree.proofs.RowsKept.{entry_self}
 use Rattle.nfs_opens.specs.{declared.share.Share.Share, declared.stateid.StateId.StateId, declared.records.OpenState.OpenState, Share.{meets, joined}}
 use Rattle.nfs_opens.specs.{StateId.last_number, Table.{Table, Asked, is_own, is_owners, clashes_with, with_open}, Calls.{open_fault, open_checks}}
@@ -387,24 +387,24 @@ no_row : (o : Option Row) → option_map (λ (r : Row). r.object) o ≡ None →
 no_row None e = refl
 no_row (Some r) e = absurd cc
 
-made_found : (t : Files) (d : ℕ) (name called : List ℕ) (new : New) (sets : Sets) (now : Time) → called ≡ name → lookup t d name ≡ None
-    → lookup (with_new t d called new sets now) d name ≡ Some (t.last_object + 1)
+made_found : (t : Files) (d : ℕ) (name called : List ℕ) (new : New) (sets : Sets) (now : Time) → called ≡ name → object_named t d name ≡ None
+    → object_named (with_new t d called new sets now) d name ≡ Some (t.last_object + 1)
 made_found t d name called new sets now same none =
     let to : Row = record { directory = d; name = name; object = t.last_object + 1; cookie = t.last_cookie + 1 } in
-    ap (λ (n : List ℕ). lookup (with_new t d n new sets now) d name) same
+    ap (λ (n : List ℕ). object_named (with_new t d n new sets now) d name) same
     ∙ ap (λ (o : Option Row). option_map (λ (r : Row). r.object) o)
     (find_push_none (is_entry d name) t.rows to (no_row (entry t.rows d name) none) (entry_self to))
 
 there_found : (t : Files) (x : Context) (now : Time) (a : Open) (d : ℕ) (name : List ℕ) (place : ℕ) (f : Node) (cut : Bool)
-    → lookup (of_open.tree_of t x now a (There place f cut)) d name ≡ lookup t d name
+    → object_named (of_open.tree_of t x now a (There place f cut)) d name ≡ object_named t d name
 there_found t x now a d name place f true = refl
 there_found t x now a d name place f false = refl
 
 abbrev Leads : State → Context → Time → Open → ℕ → List ℕ → Found → Type 0
-Leads s x now a d name f = lookup (of_open.tree_of s.tree x now a f) d name ≡ Some (of_open.file_of s.tree f)
+Leads s x now a d name f = object_named (of_open.tree_of s.tree x now a f) d name ≡ Some (of_open.file_of s.tree f)
 
 name_leads : (s : State) (x : Context) (now : Time) (a : Open) (name : List ℕ) (m : Making) (o : Option ℕ) (f : Found) → of_open.name_of a.claim ≡ name
-    → lookup s.tree m.place.number name ≡ o → open_parts.found_by s x a m o ≡ Ok f → Leads s x now a m.place.number name f
+    → object_named s.tree m.place.number name ≡ o → open_parts.found_by s x a m o ≡ Ok f → Leads s x now a m.place.number name f
 name_leads s x now a name m None f called none e =
     let made = mapped_ok Absent (checked (Ok m) (of_open.absent_checks x a)) f e in
     let one : m ≡ made.from = ok_is refl (checked_ok (Ok m) (of_open.absent_checks x a) made.from made.is).0 in
@@ -422,7 +422,7 @@ claim_leads s x now a (Null name) d f same at e =
     let place = came (checked (Ok d) (of_open.place_checks x name)) _ f e in
     let wanted = came (attributes_in (of_open.makes a.openhow).attributes) _ f place.then in
     let one : d ≡ place.found = ok_is refl (checked_ok (Ok d) (of_open.place_checks x name) place.found place.is).0 in
-    let leads = name_leads s x now a name (record { place = place.found; wanted = wanted.found }) (lookup s.tree place.found.number name) f
+    let leads = name_leads s x now a name (record { place = place.found; wanted = wanted.found }) (object_named s.tree place.found.number name) f
     (ap of_open.name_of same) refl wanted.then in
     ap (named_in (of_open.tree_of s.tree x now a f) name) (at ∙ ap (λ (d : Node). Some d.number) one) ∙ leads
 claim_leads s x now a Fh d f same at e = by_creates (of_open.makes a.openhow).creates e

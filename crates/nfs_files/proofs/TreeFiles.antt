@@ -5,12 +5,14 @@ use Rattle.std.specs.{Prelude.{◌==◌, ◌||◌, filter, is_some}, Option.opti
 use Rattle.nfs_xdr.specs.{Tables.In, declared.time.Time.Time}
 use Rattle.nfs_xdr.proofs.{Lists.{any_in, in_filter, length_filter}, Tables.IsRising-filter}
 use Rattle.nfs_tree.specs.{declared.stored.Stored.Stored, declared.row.Row.Row, Object.is_directory}
-use Rattle.nfs_tree.specs.{Files.{root, has_row, stored_in, is_there, is_directory_at}, Create.new_tree, TreeInvariants.{IsTree, IsSized}}
+use Rattle.nfs_tree.proofs.Objects.{IsSized}
+use Rattle.nfs_tree.specs.{Files.{root, has_row, stored_in, is_there, is_directory_at}, Create.new_tree, TreeInvariants.IsTree}
 use Rattle.nfs_tree.proofs.RowsKept.{rows_same}
 use Rattle.nfs_opens.specs.TableInvariants.{IsTable}
-use Rattle.nfs_names.specs.{State.{State, is_open, is_used}, StoreInvariants.{IsStore, IsRooted}, Ending.{with_opens, table_staying, only_used, staying}}
+use Rattle.nfs_names.specs.{State.{State, is_open, is_used}, StoreInvariants.{IsStore, IsRooted}, Ending.{with_opens, table_staying, staying}}
 use Rattle.nfs_names.proofs.StoreInvariants.{rooted}
 use Rattle.nfs_files.proofs.Steady.{Few}
+use Rattle.nfs_names.proofs.Terms.{only_used}
 
 -- what a state keeps
 pub record IsWhole (s : State) : Type 0 where
@@ -76,7 +78,7 @@ tree_new mode now = record {
   cookies = omega arith;
   counters = (omega arith, omega arith);
   few = omega arith;
-  sized = λ s there. elim there [ inl is ↦ subst IsSized (sym is) (record { size = refl; most = omega arith }) | inr more ↦ absurd more ];
+  sized = λ s there. elim there [ inl is ↦ subst IsSized (sym is) (omega arith) | inr more ↦ absurd more ];
   root = refl;
   rows = record {
     found = λ r there. absurd there;

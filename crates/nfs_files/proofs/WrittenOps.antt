@@ -14,7 +14,8 @@ use Rattle.nfs_compound.specs.declared.op_num.OpNum.TheVariants as Num
 use Rattle.nfs_results.specs.Items as item
 use Rattle.nfs_results.specs.{declared.res.Res.Res, declared.res.WriteOk.WriteOk, Results.{spell_result, done_head}}
 use Rattle.nfs_results.specs.declared.res.Res.TheVariants as Res
-use Rattle.nfs_tree.specs.{declared.object.Object.Object, Files.{object_at, lookup as looked_up, named}, Bytes.has_bytes, Names.{with_moved, without_name}}
+use Rattle.nfs_tree.specs.{declared.object.Object.Object, Files.{object_at, object_named as looked_up, number_named}, Bytes.has_bytes}
+use Rattle.nfs_tree.specs.Names.{with_moved, without_name}
 use Rattle.nfs_attrs.specs.declared.wanted.Wanted.{Wanted}
 use Rattle.nfs_opens.specs.Closing as closing
 use Rattle.nfs_names.specs.{declared.context.Context.Context, declared.node.Node.Node, declared.making.Making.Making}
@@ -56,7 +57,7 @@ names_last : (b : Byte) (s : State) (e : names_effects.Effect) â†’ LastsIn b s â
 names_last b s (Makes d name new sets now) is = lasts_new b s.tree d name new sets now is
 names_last b s (Links n d name now) is = lasts_link b s.tree n d name now is
 names_last b s (Removes d name now) is =
-    lasts_unused b (with_tree s (without_name s.tree d name now)) (named s.tree d name) (lasts_without b s.tree d name now is)
+    lasts_unused b (with_tree s (without_name s.tree d name now)) (number_named s.tree d name) (lasts_without b s.tree d name now is)
 names_last b s (Moves m now) is =
     lasts_replaced b (with_tree s (with_moved s.tree m now)) (looked_up s.tree m.target m.name) (lasts_moved b s.tree m now is)
 

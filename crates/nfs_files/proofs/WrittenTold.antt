@@ -24,6 +24,7 @@ use Rattle.nfs_files.specs.Read as of_read
 use Rattle.nfs_files.specs.Parts as parts
 use Rattle.nfs_files.specs.Write as of_write
 use Rattle.nfs_files.proofs.InSteps.{write_is, read_is}
+use Rattle.nfs_files.proofs.Terms.{bytes_of}
 
 some_same : (o : Option ℕ) (m n : ℕ) → o ≡ Some m → o ≡ Some n → m ≡ n
 some_same o m n e f = (let same : Some m ≡ Some n = sym e ∙ f in cc)
@@ -178,7 +179,7 @@ in_given place offset count bytes told same few (inr within) =
 read_told : (b : Byte) (s : State) (x : Context) (r : Read) (d : Node) (eof text : List ℕ) → Lasts b s.tree → current s x ≡ Ok d
     → TellsRead b x r eof text (spell_result (Res.Read (of_read.was_read s r d))) → Given b r (bytes_in text)
 read_told b s x r d eof text lasts e told =
-    let bytes = of_read.bytes_of s r d in
+    let bytes = bytes_of s r d in
     let k = of_read.was_read s r d in
     let same : d.number ≡ b.file = some_same x.current d.number b.file (current_number s x d e) told.at in
     let parts = behind_head Num.Read (flag k.eof) (opaque bytes) eof text (length_flag k.eof) told.long (sym (read_spelled k) ∙ told.answers) in

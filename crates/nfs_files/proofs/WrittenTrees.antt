@@ -6,8 +6,8 @@ use Rattle.std.specs.{Prelude.{◌==◌, ◌&&◌, filter, option_map, is_some, 
 use Rattle.nfs_xdr.specs.declared.time.Time.{Time}
 use Rattle.nfs_xdr.proofs.Lists.{find_in, find_past, find_out}
 use Rattle.nfs_tree.specs.{declared.sets.Sets.Sets, declared.stored.Stored.Stored, Object.{changed, modified, no_sets}}
-use Rattle.nfs_tree.specs.Files.{Files, stored_in, change_at, with_changed, with_entries_changed, with_links_changed, named}
-use Rattle.nfs_tree.specs.Create.{New, with_new, new_object, data_of}
+use Rattle.nfs_tree.specs.Files.{Files, stored_in, change_at, with_changed, with_entries_changed, with_links_changed, number_named}
+use Rattle.nfs_tree.specs.Create.{New, with_new, new_object}
 use Rattle.nfs_tree.specs.Names.{with_link, without_name, forget, Move, replaced_object, with_both_changed, with_moved}
 use Rattle.nfs_tree.specs.Bytes.{written_byte, written, resized, with_bytes, with_written, with_resized}
 use Rattle.nfs_tree.proofs.Objects.{keeps_changed, stored_map}
@@ -62,7 +62,7 @@ at_both b d n now xs stands =
 
 pub lasts_new : (b : Byte) (t : Files) (d : ℕ) (name : List ℕ) (new : New) (sets : Sets) (now : Time) → Lasts b t → Lasts b (with_new t d name new sets now)
 lasts_new b t d name new sets now is =
-    let made : Stored = record { number = t.last_object + 1; object = new_object now new sets; bytes = data_of new } in
+    let made : Stored = record { number = t.last_object + 1; object = new_object now new sets; bytes = new.bytes } in
     let low = is.given in
     let other : t.last_object + 1 ≢ b.file = λ same. omega arith in
     record {
@@ -75,7 +75,7 @@ pub lasts_link : (b : Byte) (t : Files) (n d : ℕ) (name : List ℕ) (now : Tim
 lasts_link b t n d name now is = record { given = is.given; stands = at_both b d n now t.objects is.stands }
 
 pub lasts_without : (b : Byte) (t : Files) (d : ℕ) (name : List ℕ) (now : Time) → Lasts b t → Lasts b (without_name t d name now)
-lasts_without b t d name now is = record { given = is.given; stands = at_both b d (named t d name) now t.objects is.stands }
+lasts_without b t d name now is = record { given = is.given; stands = at_both b d (number_named t d name) now t.objects is.stands }
 
 at_two : (b : Byte) (c d : ℕ) (now : Time) (xs : List Stored) → StandsAt b (stored_in xs b.file) → StandsAt b (stored_in (with_both_changed c d now xs) b.file)
 at_two b c d now xs stands = elim (cases_Bool (c == d)) [

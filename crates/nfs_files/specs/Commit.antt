@@ -9,7 +9,7 @@ use Rattle.nfs_files.specs.Bytes.{file_checks}
 
 -- the server's instance and four zero bytes (this server's profile)
 abbrev pub write_verifier : State → List ℕ
-write_verifier s = number s.instance ++ replicate 4 0
+write_verifier s = number s.opens.instance ++ replicate 4 0
 
 unfoldable pub commit : State → Context → Outcome
 commit s x = or_refusal s x Num.Commit (do

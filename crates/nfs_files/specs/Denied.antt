@@ -24,14 +24,14 @@ abbrev pub holder : Option LockState → StateOwner
 holder None = record { clientid = 0; owner = [] }
 holder (Some l) = record { clientid = l.client; owner = take opaque_limit l.owner }
 
-unfoldable pub denied : Table → Held → result.Denied
-denied t h = record { offset = h.first; length = size_of h; locktype = type_of h.kind; owner = holder (lock_at t h.owner) }
+unfoldable pub lock_denied : Table → Held → result.Denied
+lock_denied t h = record { offset = h.first; length = size_of h; locktype = type_of h.kind; owner = holder (lock_at t h.owner) }
 
 -- the status of what the table of opens refuses
-abbrev pub status_of : OpenFault → Status
-status_of (Refused status) = status
-status_of (Denied h) = S.Denied
-status_of Memory = S.Delay
+abbrev pub open_fault_status : OpenFault → Status
+open_fault_status (Refused status) = status
+open_fault_status (Denied h) = S.Denied
+open_fault_status Memory = S.Delay
 
 -- the bytes of the largest result of LOCK and of LOCKT
 abbrev pub most_denied : ℕ

@@ -8,7 +8,7 @@ use Rattle.nfs_compound.specs.{declared.open_args.OpenClaim.TheVariants.Null, de
 use Rattle.nfs_compound.specs.declared.op.Op.TheVariants as Op
 use Rattle.nfs_compound.specs.declared.op_num.OpNum.TheVariants as Num
 use Rattle.nfs_results.specs.{Largest.given, Results.done_head}
-use Rattle.nfs_tree.specs.Files.{Files, lookup}
+use Rattle.nfs_tree.specs.Files.{Files, object_named}
 use Rattle.nfs_attrs.specs.declared.wanted.Wanted.{Wanted}
 use Rattle.nfs_names.specs.{declared.context.Context.Context, Create.attributes_in}
 use Rattle.nfs_files.specs.Open.{makes, access_of}
@@ -54,7 +54,7 @@ asks_empty o = option_map_or (λ size. size == 0) (old_size o.openhow) false && 
 
 -- the object that the claim of an OPEN names in the directory of the current filehandle
 abbrev pub claimed : Files → Option ℕ → OpenClaim → Option ℕ
-claimed t (Some directory) (Null name) = lookup t directory name
+claimed t (Some directory) (Null name) = object_named t directory name
 claimed t at claim = None
 
 abbrev pub is_number : ℕ → Option ℕ → Bool

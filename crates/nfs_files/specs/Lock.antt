@@ -9,7 +9,7 @@ use Rattle.nfs_opens.specs.{declared.stateid.StateId.StateId, declared.stateid.C
 use Rattle.nfs_opens.specs.{declared.locking.OpenFault.OpenFault, declared.locking.OpenFault.TheVariants.Denied, Table.Table}
 use Rattle.nfs_opens.specs.{Locking.{lock_under, lock_known}, Steps.{require, ◌>>=◌, ◌>>◌}}
 use Rattle.nfs_names.specs.{declared.context.Context.Context, State.State, Outcome.{Outcome, done, refuses, or_refusal}, Ending.with_opens}
-use Rattle.nfs_files.specs.{StateIds.{meant, wire_id}, Target.with_stateid, Ranges.wished, Denied.{denied, status_of}}
+use Rattle.nfs_files.specs.{StateIds.{meant, wire_id}, Target.with_stateid, Ranges.wished, Denied.{lock_denied, open_fault_status}}
 
 -- a new lock owner names an open, another one its lock state
 abbrev pub stateid_in : Locker → Stateid
@@ -22,8 +22,8 @@ locks_as t (LockOwner o) id w = lock_known t id w
 
 abbrev pub locked : State → Context → Result (StateId × Table) OpenFault → Outcome
 locked s x (Ok did) = record { result = Res.Lock (wire_id did.0); state = with_opens s did.1; context = with_stateid x (wire_id did.0) }
-locked s x (Err (Denied h)) = done s x (Res.LockDenied (denied s.opens h))
-locked s x (Err fault) = refuses s x Num.Lock (status_of fault)
+locked s x (Err (Denied h)) = done s x (Res.LockDenied (lock_denied s.opens h))
+locked s x (Err fault) = refuses s x Num.Lock (open_fault_status fault)
 
 -- there is nothing to reclaim
 unfoldable pub lock : State → Context → Lock → Outcome

@@ -6,11 +6,11 @@ use Rattle.nfs_results.specs.declared.res.Res.TheVariants as Res
 use Rattle.nfs_ranges.specs.declared.Held.{Held}
 use Rattle.nfs_opens.specs.{Locking.test_lock, Steps.◌>>=◌}
 use Rattle.nfs_names.specs.{declared.context.Context.Context, State.State, Outcome.{Outcome, done, or_refusal}}
-use Rattle.nfs_files.specs.{Ranges.wished, Denied.denied}
+use Rattle.nfs_files.specs.{Ranges.wished, Denied.lock_denied}
 
 abbrev pub tested : State → Context → Option Held → Outcome
 tested s x None = done s x Res.LockT
-tested s x (Some h) = done s x (Res.LockTDenied (denied s.opens h))
+tested s x (Some h) = done s x (Res.LockTDenied (lock_denied s.opens h))
 
 unfoldable pub lock_t : State → Context → args.LockT → Outcome
 lock_t s x a = or_refusal s x Num.LockT (do

@@ -11,12 +11,12 @@ use Rattle.nfs_compound.specs.declared.open_args.OpenClaim.TheVariants.{Null, Pr
 use Rattle.nfs_results.specs.declared.res.ChangeInfo.{ChangeInfo}
 use Rattle.nfs_results.specs.declared.res.Res.TheVariants as Res
 use Rattle.nfs_tree.specs.{declared.sets.Sets.Sets, Object.no_sets, declared.fault.TreeFault.TreeFault, declared.fault.TreeFault.TheVariants.Counter}
-use Rattle.nfs_tree.specs.{Files.{Files, lookup, can_change, raised, stays}, Create.{New, File, create_checks, with_new}, Bytes.with_resized}
+use Rattle.nfs_tree.specs.{Files.{Files, object_named, can_change, raised, unraised}, Create.{New, new_file, create_checks, with_new}, Bytes.with_resized}
 use Rattle.nfs_attrs.specs.{declared.wanted.Wanted.Wanted, Mask.{mask_of, trimmed_words}, Setting.make_checks, Permissions.{execute, write}}
 use Rattle.nfs_opens.specs.{declared.share.Share.Share, Share.{neither, share_of}, StateId.last_number, Table.{Asked, clashes_with}, Opening.{own_open, opens}}
 use Rattle.nfs_opens.specs.Steps.{require, in_order, ◌>>=◌, ◌>>◌}
 use Rattle.nfs_names.specs.{declared.context.Context.Context, declared.node.Node.Node, declared.making.Making.Making, State.State}
-use Rattle.nfs_names.specs.{Outcome.{Outcome, or_refusal}, Checks.{node_at, current, no_directory, denied, name_checks}}
+use Rattle.nfs_names.specs.{Outcome.{Outcome, or_refusal}, Checks.{node_at, current, no_directory, no_access, name_checks}}
 use Rattle.nfs_names.specs.{Create.{attributes_in, change_info}, Faults.by_tree}
 use Rattle.nfs_names.specs.Create as create
 use Rattle.nfs_files.specs.{declared.opening.Found.Found, declared.opening.Found.TheVariants.{There, Absent}, StateIds.wire_id, Bytes.{file_checks, want_of}}
@@ -64,14 +64,14 @@ argument_checks o d = (o.share_access % 4 == 0, Inval) ∷ (is_none (share_of o.
 abbrev pub place_checks : Context → List ℕ → Node → List (Bool × Status)
 place_checks x name d =
     no_directory d
-    ∷ denied x d execute
+    ∷ no_access x d execute
     ∷ name_checks name
 
 -- .. then, where the name is free, whether a file may be made ..
 abbrev pub absent_checks : Context → Open → Making → List (Bool × Status)
 absent_checks x o m =
     (not (makes o.openhow).creates, NoEnt)
-    ∷ denied x m.place write
+    ∷ no_access x m.place write
     ∷ make_checks m.wanted x.who
 
 -- .. and where an object is there, whether it may be opened.
@@ -79,7 +79,7 @@ abbrev pub there_checks : Context → Open → Node → List (Bool × Status)
 there_checks x o f =
     (not ((makes o.openhow).opens f.object.verifier), Exist)
     ∷ file_checks f
-    ++ denied x f (want_of (access_of o))
+    ++ no_access x f (want_of (access_of o))
     ∷ []
 
 -- Size 0 cuts a file that is opened for writing, and nothing else is set of a file that is there.
@@ -101,7 +101,7 @@ abbrev pub by_claim : State → Context → Open → OpenClaim → Node → Resu
 by_claim s x o (Null name) d = do
   in_order (place_checks x name d)
   wanted ← attributes_in (makes o.openhow).attributes
-  found_by s x o (record { place = d; wanted = wanted }) (lookup s.tree d.number name)
+  found_by s x o (record { place = d; wanted = wanted }) (object_named s.tree d.number name)
 by_claim s x o Fh d = do
   require (not (makes o.openhow).creates) Inval
   in_order (there_checks x o d)
@@ -119,7 +119,7 @@ asking x o file = record { client = x.client; owner = o.owner.owner; file = file
 
 -- what a new file is, with the verifier for good: rw-r--r-- where no mode is given (profile), and the caller's own
 abbrev pub new_of : Open → Wanted → New
-new_of o wanted = File (unwrap_or wanted.size 0) (makes o.openhow).verifier
+new_of o wanted = new_file (unwrap_or wanted.size 0) (makes o.openhow).verifier
 
 abbrev pub sets_of : Context → Time → Open → Wanted → Sets
 sets_of x now o wanted = record (create.sets_of x now (new_of o wanted) wanted) { mode = Some (unwrap_or wanted.mode 420) }
@@ -141,7 +141,7 @@ tree_of t x now o (There place f cut) = if cut then with_resized t f.number 0 no
 tree_of t x now o (Absent m) = with_new t m.place.number (name_of o.claim) (new_of o m.wanted) (sets_of x now o m.wanted) now
 
 abbrev pub info_of : Files → Found → ChangeInfo
-info_of t (There place f cut) = change_info (stays t place)
+info_of t (There place f cut) = change_info (unraised t place)
 info_of t (Absent m) = change_info (raised t m.place.number)
 
 -- the attributes that were set, of which 4 is the size

@@ -10,10 +10,6 @@ use Rattle.nfs_opens.specs.Opening as opens
 use Rattle.nfs_names.specs.{declared.context.Context.Context, State.State, Outcome.{Outcome, or_refusal}, Ending.with_opens}
 use Rattle.nfs_files.specs.{StateIds.{meant, wire_id}, Target.{the_file, with_stateid}}
 
--- no open has bits above the two
-abbrev pub bit_checks : OpenDowngrade → List (Bool × Status)
-bit_checks a = (is_none (share_of a.share_access), Inval) ∷ (is_none (share_of a.share_deny), Inval) ∷ []
-
 abbrev pub bits : ℕ → Share
 bits n = unwrap_or (share_of n) neither
 
@@ -22,6 +18,6 @@ open_downgrade s x a = or_refusal s x Num.OpenDowngrade (do
   d ← the_file s x
   id ← meant x Own a.open_stateid
   judge s.opens id x.client (Some d.number) OpenOnly
-  in_order (bit_checks a)
+  in_order ((is_none (share_of a.share_access), Inval) ∷ (is_none (share_of a.share_deny), Inval) ∷ [])
   did ← opens.downgrade s.opens id x.client d.number (bits a.share_access) (bits a.share_deny)
   Ok (record { result = Res.OpenDowngrade (wire_id did.0); state = with_opens s did.1; context = with_stateid x (wire_id did.0) }))

@@ -7,7 +7,7 @@ use Rattle.nfs_xdr.specs.declared.status.Status.TheVariants.{Delay, FBig, Inval,
 use Rattle.nfs_compound.specs.{declared.open_args.Open.Open, declared.open_args.OpenClaim.OpenClaim, declared.open_args.OpenClaim.TheVariants.{Null, Previous, Fh}}
 use Rattle.nfs_results.specs.declared.res.OpenOk.{OpenOk}
 use Rattle.nfs_results.specs.declared.res.Res.TheVariants as Res
-use Rattle.nfs_tree.specs.{Files.{Files, most_bytes, most_objects, last_count, can_change, lookup}, declared.fault.TreeFault.TreeFault}
+use Rattle.nfs_tree.specs.{Files.{Files, most_bytes, most_objects, last_count, can_change, object_named}, declared.fault.TreeFault.TreeFault}
 use Rattle.nfs_tree.specs.Calls.{resize_fault, create_fault, Did, does_unless}
 use Rattle.nfs_opens.specs.{StateId.last_number, Table.clashes_with, Opening.own_open, Steps.◌>>=◌}
 use Rattle.nfs_names.specs.{declared.context.Context.Context, declared.node.Node.Node, declared.making.Making.Making, State.State}
@@ -24,7 +24,7 @@ abbrev pub by_name : State → Context → Open → List ℕ → Node → Result
 by_name s x o name d = do
   place ← checked (Ok d) (place_checks x name)
   wanted ← attributes_in (makes o.openhow).attributes
-  found_by s x o (record { place = place; wanted = wanted }) (lookup s.tree place.number name)
+  found_by s x o (record { place = place; wanted = wanted }) (object_named s.tree place.number name)
 
 abbrev pub by_handle : Context → Open → Node → Result Found Status
 by_handle x o d = mapped (λ f. There f.number f false) (checked (Ok d) (there_checks x o))

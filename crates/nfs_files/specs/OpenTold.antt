@@ -7,7 +7,7 @@ use Rattle.nfs_compound.specs.{declared.open_args.OpenClaim.TheVariants.Null, de
 use Rattle.nfs_compound.specs.declared.op_num.OpNum.TheVariants as Num
 use Rattle.nfs_compound.specs.declared.op.Op.TheVariants as Op
 use Rattle.nfs_results.specs.Results.{done_head}
-use Rattle.nfs_tree.specs.Files.{Files, lookup}
+use Rattle.nfs_tree.specs.Files.{Files, object_named}
 use Rattle.nfs_opens.specs.{declared.share.Share.Share, declared.records.OpenState.OpenState, Share.{neither, meets, joined}, Table.Table}
 use Rattle.nfs_names.specs.declared.context.Context.{Context}
 use Rattle.nfs_files.specs.{Open.{access_of, deny_of}, OpenDowngrade.bits}
@@ -58,7 +58,7 @@ pub record IsOpenWith (k : OpenTold) (b : Bits) (t : Table) : Type 0 where
 -- the file that the name leads to, or the one of the current filehandle
 abbrev pub named_in : Files → List ℕ → Option ℕ → Option ℕ
 named_in t name None = None
-named_in t name (Some directory) = lookup t directory name
+named_in t name (Some directory) = object_named t directory name
 
 abbrev pub claimed : Files → Context → OpenClaim → Option ℕ
 claimed t x (Null name) = named_in t name x.current

@@ -1,21 +1,21 @@
 -- Operations on open files in the parts that their code takes, which only contracts inside the crate cite: what is looked at first, and what is done then.
-use Rattle.std.specs.Prelude.{ℕ, Bool, List, [], ◌∷◌, Some, Result, Ok, Err}
-use Rattle.nfs_xdr.specs.{declared.time.Time.Time, declared.status.Status.Status, declared.status.Status.TheVariants.NoGrace}
+use Rattle.std.specs.Prelude.{ℕ, Bool, List, [], ◌∷◌, Some, Result, Ok, Err, is_none}
+use Rattle.nfs_xdr.specs.{declared.time.Time.Time, declared.status.Status.Status, declared.status.Status.TheVariants.{Inval, NoGrace}}
 use Rattle.nfs_compound.specs.{declared.stateid.Stateid.Stateid, declared.lock_args.Lock.Lock, declared.lock_args.LockU.LockU, declared.lock_args.Locker.Locker}
 use Rattle.nfs_compound.specs.{declared.lock_args.LockType.LockType, declared.open_args.OpenDowngrade.OpenDowngrade, declared.file_args.Write.Write}
 use Rattle.nfs_compound.specs.declared.op_num.OpNum.TheVariants as Num
 use Rattle.nfs_results.specs.declared.res.Res.TheVariants as Res
 use Rattle.nfs_opens.specs.{declared.locking.Wish.Wish, declared.stateid.CurrentSeqid.CurrentSeqid, declared.stateid.CurrentSeqid.TheVariants.{Any, Own}}
 use Rattle.nfs_opens.specs.{declared.stateid.StateId.StateId, declared.judging.Seat.Seat, declared.judging.Sort.TheVariants.OpenOnly, Judging.judge}
-use Rattle.nfs_opens.specs.{Table.Table, Locking.unlock, Steps.{map_err, ◌>>=◌}}
+use Rattle.nfs_opens.specs.{Table.Table, Share.share_of, Locking.unlock, Steps.{map_err, ◌>>=◌}}
 use Rattle.nfs_opens.specs.Closing as closing
 use Rattle.nfs_opens.specs.Opening as opening
 use Rattle.nfs_names.specs.{declared.context.Context.Context, declared.node.Node.Node, State.{State, with_tree, without_unused}, Ending.with_opens}
 use Rattle.nfs_names.specs.Outcome.{Outcome, done, checked, mapped, answers}
 use Rattle.nfs_files.specs.{declared.target.Target.Target, declared.ranges.Wished.Wished, Bytes.{file_checks, reading, writing, may_use}, Close.spent}
-use Rattle.nfs_files.specs.{StateIds.{meant, wire_id}, Target.{the_file, with_stateid}, Ranges.{kind_of, wished}, Denied.status_of, Lock.{stateid_in, locks_as, locked}}
+use Rattle.nfs_files.specs.{StateIds.{meant, wire_id}, Target.{the_file, with_stateid}, Ranges.{kind_of, wished}, Denied.open_fault_status}
+use Rattle.nfs_files.specs.Lock.{stateid_in, locks_as, locked}
 use Rattle.nfs_files.specs.{OpenDowngrade.bits, Write.{write_ok, with_bytes}}
-use Rattle.nfs_files.specs.OpenDowngrade as downgrade
 
 -- what was found, if what is looked at next passes too
 abbrev pub if_passed : {A B : Type 0} → Result A Status → (A → Result B Status) → Result A Status
@@ -50,7 +50,7 @@ closes s x t = answers s x Num.Close (closing.close s.opens t.id x.client t.file
 
 -- OPEN_DOWNGRADE
 abbrev pub bit_checks : OpenDowngrade → Seat → List (Bool × Status)
-bit_checks a seat = downgrade.bit_checks a
+bit_checks a seat = (is_none (share_of a.share_access), Inval) ∷ (is_none (share_of a.share_deny), Inval) ∷ []
 
 abbrev pub narrowing : State → Context → OpenDowngrade → Result Target Status
 narrowing s x a = if_passed (target s x Own a.open_stateid) (λ t. checked (judge s.opens t.id x.client (Some t.file) OpenOnly) (bit_checks a))
@@ -93,4 +93,4 @@ unlocked s x id after = record { result = Res.LockU (wire_id id); state = with_o
 abbrev pub unlocks : State → Context → Wished → Outcome
 unlocks s x k =
     let w = k.wish in
-    answers s x Num.LockU (map_err status_of (unlock s.opens k.id w.client w.file w.first w.last)) (λ did. unlocked s x did.0 did.1)
+    answers s x Num.LockU (map_err open_fault_status (unlock s.opens k.id w.client w.file w.first w.last)) (λ did. unlocked s x did.0 did.1)

@@ -13,17 +13,11 @@ use Rattle.nfs_files.specs.Target.{the_file}
 abbrev pub all_ones : ℕ
 all_ones = 0xffff_ffff_ffff_ffff
 
-abbrev pub range_checks : ℕ → ℕ → List (Bool × Status)
-range_checks offset size = (size == 0, Inval) ∷ (not (size == all_ones) && nat_lt all_ones (offset + size), Inval) ∷ []
-
-abbrev pub last_of : ℕ → ℕ → ℕ
-last_of offset size = if size == all_ones then all_ones else offset + size - 1
-
 -- the last byte of a range
 unfoldable pub range : ℕ → ℕ → Result ℕ Status
 range offset size = do
-  in_order (range_checks offset size)
-  Ok (last_of offset size)
+  in_order ((size == 0, Inval) ∷ (not (size == all_ones) && nat_lt all_ones (offset + size), Inval) ∷ [])
+  Ok (if size == all_ones then all_ones else offset + size - 1)
 
 -- a client that would wait is answered at once like one that would not
 abbrev pub kind_of : LockType → Kind

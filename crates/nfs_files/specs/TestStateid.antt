@@ -9,16 +9,16 @@ use Rattle.nfs_names.specs.{declared.context.Context.Context, State.State, Outco
 use Rattle.nfs_files.specs.StateIds.{state_id}
 
 -- special stateids name no state
-abbrev pub status_of : Result Seat Status → Status
-status_of (Err status) = status
-status_of (Ok Anonymous) = BadStateId
-status_of (Ok ReadBypass) = BadStateId
-status_of (Ok (Open number access)) = Nfs4Ok
-status_of (Ok (Lock number access)) = Nfs4Ok
+abbrev pub seat_status : Result Seat Status → Status
+seat_status (Err status) = status
+seat_status (Ok Anonymous) = BadStateId
+seat_status (Ok ReadBypass) = BadStateId
+seat_status (Ok (Open number access)) = Nfs4Ok
+seat_status (Ok (Lock number access)) = Nfs4Ok
 
 -- nor does the one that stands for the current stateid elsewhere
 abbrev pub tested : State → Context → StateId → Status
-tested s x id = if is_current id then BadStateId else status_of (judge s.opens id x.client None Either)
+tested s x id = if is_current id then BadStateId else seat_status (judge s.opens id x.client None Either)
 
 unfoldable pub code : State → Context → Stateid → ℕ
 code s x given = status_number (tested s x (state_id given))

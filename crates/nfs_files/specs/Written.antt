@@ -11,7 +11,7 @@ use Rattle.nfs_compound.specs.declared.op.Op.TheVariants as Op
 use Rattle.nfs_compound.specs.declared.op_num.OpNum.TheVariants as Num
 use Rattle.nfs_results.specs.{Largest.given, declared.res.OpenOk.OpenOk, Results.{spell_result, done_head}}
 use Rattle.nfs_results.specs.declared.res.Res.TheVariants as Res
-use Rattle.nfs_tree.specs.{Files.{Files, is_there, data_at, lookup}, TreeInvariants.IsTree}
+use Rattle.nfs_tree.specs.{Files.{Files, is_there, data_at, object_named}, TreeInvariants.IsTree}
 use Rattle.nfs_attrs.specs.declared.wanted.Wanted.{Wanted}
 use Rattle.nfs_names.specs.{declared.context.Context.Context, State.State, Create.attributes_in}
 use Rattle.nfs_names.specs.Operation as names
@@ -72,7 +72,7 @@ pub record OpensEmpty (file : ℕ) (s : State) (x : Context) (i : Item) (result 
   pub at : x.current ≡ Some directory
   pub name : List ℕ
   pub claim : asked.claim ≡ Null name
-  pub names : lookup s.tree directory name ≡ Some file
+  pub names : object_named s.tree directory name ≡ Some file
   pub given : Attributes
   pub how : asked.openhow ≡ Create (Unchecked given)
   pub wanted : Wanted

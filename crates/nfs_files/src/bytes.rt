@@ -1,18 +1,18 @@
 //! Operations on the bytes of files (RFC 8881 sections 18.3, 18.22 and 18.32).
 
-ghost use Rattle.std.specs.Prelude.{◌≡◌, ◌+◌, ◌-◌, ◌≤◌, ◌||◌, ◌&&◌, Some, length, nat_le};
+ghost use Rattle.std.specs.Prelude.{◌≡◌, ◌+◌, ◌≤◌, length};
 ghost use Rattle.nfs_xdr.specs.SheetState.{Puts};
 ghost use Rattle.nfs_xdr.specs.Spelling.{padding};
 ghost use Rattle.nfs_compound.specs.declared.op_num.OpNum.TheVariants as Num;
 ghost use Rattle.nfs_results.specs.Largest.{given};
 ghost use Rattle.nfs_results.specs.declared.res.Res.TheVariants as Res;
-ghost use Rattle.nfs_results.specs.Results.{spell_result, status_of_result};
+ghost use Rattle.nfs_results.specs.Results.{spell_result};
 ghost use Rattle.nfs_tree.specs.Bytes.{has_bytes};
-ghost use Rattle.nfs_tree.specs.Files.{most_bytes, object_at};
+ghost use Rattle.nfs_tree.specs.Files.{most_bytes};
 ghost use Rattle.nfs_names.specs.State.{state_of};
 ghost use Rattle.nfs_names.specs.Comes.{Comes};
-ghost use Rattle.nfs_names.specs.Outcome.{checked, is_delay, or_delay};
-ghost use Rattle.nfs_names.specs.View.{outcome_of};
+ghost use Rattle.nfs_names.specs.Outcome.{checked};
+ghost use Rattle.nfs_names.specs.View.{outcome_of, MayWant};
 ghost use Rattle.nfs_names.specs.Checks as check;
 ghost use Rattle.nfs_files.specs.Parts as parts;
 ghost use Rattle.nfs_files.specs.Bytes as of_bytes;
@@ -32,7 +32,7 @@ use std::alloc::Global;
 fn write_verifier(store: &Store) -> [u8; 8]
     ensures { result ≡ of_commit.write_verifier (state_of store.now) }
 {
-    let [a, b, c, d] = store.instance.to_be_bytes();
+    let [a, b, c, d] = store.opens.instance().to_be_bytes();
     [a, b, c, d, 0, 0, 0, 0]
 }
 
@@ -83,7 +83,8 @@ pub(crate) fn write_bytes(
     asked: &Write<'_>,
     now: Time,
 ) -> Res<'static>
-    ensures { outcome_of result (state_of store.new) context.now ≡ or_delay (has_bytes asked.now.bytes && is_delay (status_of_result result)) (state_of store.old) context.now Num.Write (of_write.write (state_of store.old) context.now now asked.now) }
+    ensures { MayWant (has_bytes asked.now.bytes) (state_of store.old) context.now Num.Write (of_write.write (state_of store.old) context.now now asked.now)
+        result (state_of store.new) context.now }
 {
     match to_write(store, context, asked) {
         Ok(node) => match store
@@ -97,24 +98,16 @@ pub(crate) fn write_bytes(
     }
 }
 
-/// Whether so many bytes from `offset` on reach the end of a file of this size.
-fn reaches_end(size: u64, offset: u64, count: u32) -> bool
-    ensures { result ≡ (nat_le size offset || nat_le (size - offset) count) }
-{
-    size <= offset || size - offset <= count as u64
-}
-
 /// Puts bytes of a file, as READ answers them.
 fn put_read(store: &Store, node: &Node, asked: &Read, out: &mut Sheet)
-    requires there { object_at store.now.tree node.now.number ≡ Some node.now.object }
-    requires room { length out.old.bytes + (16 + (given asked.now.count + padding (given asked.now.count))) ≤ out.old.room }
+    requires { length out.old.bytes + (16 + (given asked.now.count + padding (given asked.now.count))) ≤ out.old.room }
     ensures { Puts out.old out.new (spell_result (Res.Read (of_read.was_read (state_of store.now) asked.now node.now))) }
 {
-    store.tree.kept();
-    let count = given(asked.count);
     write_done_head(OpNum::Read, out);
-    out.put_flag(reaches_end(node.object.size, asked.offset, count));
-    store.tree.read(node.number, asked.offset, out, count);
+    let count = given(asked.count);
+    store
+        .tree
+        .read_with_end(node.number, asked.offset, out, count);
 }
 
 /// The file that is to be read.

@@ -3,14 +3,13 @@
 ghost use Rattle.std.specs.Prelude.{◌≡◌, true, Ok};
 ghost use Rattle.nfs_xdr.specs.Checks.{first_fault, judged};
 ghost use Rattle.nfs_compound.specs.declared.op_num.OpNum.TheVariants as Num;
-ghost use Rattle.nfs_results.specs.Results.{status_of_result};
 ghost use Rattle.nfs_tree.specs.Calls.{new_of, DoesOrWants};
 ghost use Rattle.nfs_tree.specs.Files as files;
 ghost use Rattle.nfs_opens.specs.Calls as of_opens;
 ghost use Rattle.nfs_names.specs.State.{state_of};
 ghost use Rattle.nfs_names.specs.StoreInvariants.{IsStore, IsRooted};
-ghost use Rattle.nfs_names.specs.Outcome.{checked, mapped, is_delay, or_delay};
-ghost use Rattle.nfs_names.specs.View.{outcome_of};
+ghost use Rattle.nfs_names.specs.Outcome.{checked, mapped};
+ghost use Rattle.nfs_names.specs.View.{MayWant};
 ghost use Rattle.nfs_files.specs.Open as of_open;
 ghost use Rattle.nfs_files.specs.OpenParts as part;
 
@@ -256,7 +255,7 @@ pub(crate) fn open_file(
     now: Time,
 ) -> Res<'static>
     requires { IsStore (state_of store.old) }
-    ensures { outcome_of result (state_of store.new) context.new ≡ or_delay (is_delay (status_of_result result)) (state_of store.old) context.old Num.Open (of_open.open_file (state_of store.old) context.old now asked.now) }
+    ensures { MayWant true (state_of store.old) context.old Num.Open (of_open.open_file (state_of store.old) context.old now asked.now) result (state_of store.new) context.new }
 {
     match judge_whole(store, context, asked) {
         Ok(found) => match open_found(alloc, store, context, asked, &found, now) {

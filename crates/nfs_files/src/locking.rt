@@ -1,19 +1,19 @@
 //! LOCK, LOCKT and LOCKU (RFC 8881 sections 18.10 to 18.12).
 
-ghost use Rattle.std.specs.Prelude.{◌≡◌, ◌+◌, ◌≤◌, ◌&&◌, not, IfOk, length, take};
+ghost use Rattle.std.specs.Prelude.{◌≡◌, ◌+◌, ◌≤◌, not, IfOk, length, take};
 ghost use Rattle.nfs_xdr.specs.declared.status.Status.TheVariants as S;
 ghost use Rattle.nfs_compound.specs.declared.op_num.OpNum.TheVariants as Num;
 ghost use Rattle.nfs_compound.specs.StateOwner as state_owner;
 ghost use Rattle.nfs_xdr.specs.SheetState.{Puts};
 ghost use Rattle.nfs_xdr.specs.Limits.{opaque_limit};
 ghost use Rattle.nfs_results.specs.declared.res.Res.TheVariants as Res;
-ghost use Rattle.nfs_results.specs.Results.{spell_result, status_of_result};
+ghost use Rattle.nfs_results.specs.Results.{spell_result};
 ghost use Rattle.nfs_opens.specs.Table.{table, lock_at};
 ghost use Rattle.nfs_opens.specs.Calls.{LocksOrWants, is_whole};
 ghost use Rattle.nfs_names.specs.State.{state_of};
 ghost use Rattle.nfs_names.specs.Comes.{Comes};
 ghost use Rattle.nfs_names.specs.Outcome.{checked, or_delay, is_delay};
-ghost use Rattle.nfs_names.specs.View.{outcome_of};
+ghost use Rattle.nfs_names.specs.View.{MayWant};
 ghost use Rattle.nfs_files.specs.Denied as of_denied;
 ghost use Rattle.nfs_files.specs.Parts as parts;
 ghost use Rattle.nfs_files.specs.Lock as of_lock;
@@ -80,9 +80,9 @@ fn holder(opens: &Opens, number: u64) -> StateOwner<'_>
 }
 
 /// The lock that is in the way.
-#[tactic(auto, unfolding(crate::specs::Denied::denied))]
+#[tactic(auto, unfolding(crate::specs::Denied::lock_denied))]
 fn denied<'a>(opens: &'a Opens, held: &Held) -> Denied<'a>
-    ensures { result ≡ of_denied.denied (table opens.now) held.now }
+    ensures { result ≡ of_denied.lock_denied (table opens.now) held.now }
 {
     Denied {
         offset: held.first,
@@ -94,7 +94,7 @@ fn denied<'a>(opens: &'a Opens, held: &Held) -> Denied<'a>
 
 /// The status of what the table of opens refuses.
 fn status_of(fault: OpenFault) -> Status
-    ensures { result ≡ of_denied.status_of fault }
+    ensures { result ≡ of_denied.open_fault_status fault }
 {
     match fault {
         OpenFault::Refused(status) => status,
@@ -106,7 +106,7 @@ fn status_of(fault: OpenFault) -> Status
 /// Puts the lock that is in the way of a LOCK, as it answers it.
 fn put_denied(opens: &Opens, held: &Held, out: &mut Sheet) -> Status
     requires { length out.old.bytes + of_denied.most_denied ≤ out.old.room }
-    ensures put { Puts out.old out.new (spell_result (Res.LockDenied (of_denied.denied (table opens.now) held.now))) }
+    ensures put { Puts out.old out.new (spell_result (Res.LockDenied (of_denied.lock_denied (table opens.now) held.now))) }
     ensures status { result ≡ S.Denied }
 {
     write(&Res::LockDenied(denied(opens, held)), out);
@@ -116,7 +116,7 @@ fn put_denied(opens: &Opens, held: &Held, out: &mut Sheet) -> Status
 /// Puts the lock that is in the way of a LOCKT, as it answers it.
 fn put_denied_test(opens: &Opens, held: &Held, out: &mut Sheet) -> Status
     requires { length out.old.bytes + of_denied.most_denied ≤ out.old.room }
-    ensures put { Puts out.old out.new (spell_result (Res.LockTDenied (of_denied.denied (table opens.now) held.now))) }
+    ensures put { Puts out.old out.new (spell_result (Res.LockTDenied (of_denied.lock_denied (table opens.now) held.now))) }
     ensures status { result ≡ S.Denied }
 {
     write(&Res::LockTDenied(denied(opens, held)), out);
@@ -221,7 +221,8 @@ fn set_lock(
 ) -> Status
     requires order { wished.now.wish.first ≤ wished.now.wish.last }
     requires room { length out.old.bytes + of_denied.most_denied ≤ out.old.room }
-    ensures { Comes (or_delay (is_delay result) (state_of store.old) context.old Num.Lock (parts.locks (state_of store.old) context.old locker.now wished.now)) out.old out.new result (state_of store.new) context.new }
+    ensures { Comes (or_delay (is_delay result) (state_of store.old) context.old Num.Lock (parts.locks (state_of store.old) context.old locker.now wished.now))
+        out.old out.new result (state_of store.new) context.new }
 {
     match lock_bytes(alloc, &mut store.opens, locker, wished) {
         Ok(id) => {
@@ -270,7 +271,8 @@ fn give_up(
     wished: &Wished,
 ) -> Res<'static>
     requires order { wished.now.wish.first ≤ wished.now.wish.last }
-    ensures { outcome_of result (state_of store.new) context.new ≡ or_delay (not (is_whole wished.now.wish.first wished.now.wish.last) && is_delay (status_of_result result)) (state_of store.old) context.old Num.LockU (parts.unlocks (state_of store.old) context.old wished.now) }
+    ensures { MayWant (not (is_whole wished.now.wish.first wished.now.wish.last)) (state_of store.old) context.old Num.LockU
+        (parts.unlocks (state_of store.old) context.old wished.now) result (state_of store.new) context.new }
 {
     let wish = &wished.wish;
     match store.opens.unlock(
@@ -297,7 +299,8 @@ pub(crate) fn lock_u(
     context: &mut Context<'_>,
     asked: &LockU,
 ) -> Res<'static>
-    ensures { outcome_of result (state_of store.new) context.new ≡ or_delay (of_lock_u.wants_memory asked.now && is_delay (status_of_result result)) (state_of store.old) context.old Num.LockU (of_lock_u.lock_u (state_of store.old) context.old asked.now) }
+    ensures { MayWant (of_lock_u.wants_memory asked.now) (state_of store.old) context.old Num.LockU
+        (of_lock_u.lock_u (state_of store.old) context.old asked.now) result (state_of store.new) context.new }
 {
     match judge_unlock(store, context, asked) {
         Ok(wished) => give_up(alloc, store, context, &wished),

@@ -82,7 +82,7 @@ pub(crate) fn free_stateid(
 
 /// What a stateid was found to be, as TEST_STATEID reports it.
 fn status_of(judged: Result<Seat, Status>) -> Status
-    ensures { result ≡ of_test.status_of judged }
+    ensures { result ≡ of_test.seat_status judged }
 {
     match judged {
         Ok(Seat::Open { .. }) => Status::Nfs4Ok,

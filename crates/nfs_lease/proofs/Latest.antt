@@ -3,8 +3,8 @@ use Rattle.std.proofs.{Common.{◌≡◌, ℕ, ◌≤◌, eqb, Option, Some, Non
 use Rattle.std.specs.Prelude.{option_map}
 use Rattle.nfs_lease.specs.{Renewals.{Book, no_leases, with_lease, with_renewal, without_lease}, Queue.IsLatest}
 
-pub latest_none : (lease now : ℕ) (b : Book) → b ≡ no_leases lease → IsLatest b now
-latest_none lease now b is = subst (λ b. IsLatest b now) (sym is) (record { each = λ client moment e. absurd cc })
+pub latest_none : (now : ℕ) (b : Book) → b ≡ no_leases → IsLatest b now
+latest_none now b is = subst (λ b. IsLatest b now) (sym is) (record { each = λ client moment e. absurd cc })
 
 pub latest_later : (b : Book) (now later : ℕ) → now ≤ later → IsLatest b now → IsLatest b later
 latest_later b now later le is = record { each = λ client moment e. (let h = is.each client moment e in omega arith) }
@@ -24,7 +24,7 @@ renewed_now (Some m) now moment e = let same : now ≡ moment = cc in omega arit
 pub latest_renewal : (b after : Book) (client now : ℕ) → after ≡ with_renewal b client now → IsLatest b now → IsLatest after now
 latest_renewal b after client now put is = subst (λ b. IsLatest b now) (sym put) (record {
   each = λ c moment e. elim (cases_Bool (eqb c client)) [
-    | inl here ↦ renewed_now (b.renewed c) now moment (rw here at e)
+    | inl here ↦ renewed_now (b c) now moment (rw here at e)
     | inr other ↦ is.each c moment (rw other at e)
   ];
 })

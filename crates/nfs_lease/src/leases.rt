@@ -14,7 +14,6 @@ use std::marker::Model;
 pub struct Leases {
     /// The moment of each client's last renewal, the newest first.
     renewals: LruCache<u64, u64>,
-    lease: u64,
 }
 
 impl Model for Leases {
@@ -24,19 +23,18 @@ impl Model for Leases {
 
     ghost Value = { KeptLeases };
 
-    ghost view = { λ t. record { renewals = t.renewals.entries; duration = t.lease } };
+    ghost view = { λ t. t.renewals.entries };
 
     ghost invariant = { λ t. IsQueue t.renewals.entries × (t.renewals.cap ≡ 2 ^ 64 - 1) };
 }
 
 impl Leases {
-    /// No leases. Each that is added lasts `lease`, in the unit of the moments (seconds in the
-    /// server). `AllocError` where there is no memory for the ends of the queue.
-    pub fn new(alloc: Global, lease: u64) -> Result<Self, AllocError>
-        ensures { IfOk result (λ t. leases_of t ≡ no_leases lease) }
+    /// No leases. `AllocError` where there is no memory for the ends of the queue.
+    pub fn new(alloc: Global) -> Result<Self, AllocError>
+        ensures { IfOk result (λ t. leases_of t ≡ no_leases) }
     {
         let renewals = LruCache::unbounded(alloc)?;
-        Ok(Leases { renewals, lease })
+        Ok(Leases { renewals })
     }
 
     /// Begins the client's lease at the moment `now`, or begins it anew. The queue grows by the
@@ -67,18 +65,18 @@ impl Leases {
     /// Ends the client's lease, if it has one.
     pub fn remove(&mut self, client: u64)
         ensures lease { leases_of self.new ≡ without_lease (leases_of self.old) client }
-        ensures standing { standing self.new + (if is_some ((leases_of self.old).renewed client) then 1 else 0) ≡ standing self.old }
+        ensures standing { standing self.new + (if is_some (leases_of self.old client) then 1 else 0) ≡ standing self.old }
     {
         self.renewals.pop(&client);
     }
 
-    /// A client whose lease has run out: `now` minus its last renewal is greater than the lease.
-    /// None exactly where there is none.
-    pub fn next_out(&self, now: u64) -> Option<u64>
-        ensures { IsNextOut (leases_of self.now) now result }
+    /// A client whose lease has run out: `now` minus its last renewal is greater than `lease`, in
+    /// the unit of the moments (seconds in the server). None exactly where there is none.
+    pub fn next_out(&self, lease: u64, now: u64) -> Option<u64>
+        ensures { IsNextOut lease (leases_of self.now) now result }
     {
         let (client, moment) = self.renewals.peek_lru()?;
-        if now.saturating_sub(*moment) > self.lease {
+        if now.saturating_sub(*moment) > lease {
             Some(*client)
         } else {
             None

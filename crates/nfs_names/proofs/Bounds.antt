@@ -44,7 +44,7 @@ answers_one s x now (Op.GetAttr words) = law.by_get_attr (Answers (Op.GetAttr wo
     record { is = record { may = (refl, omega arith, (at_most_three_words (mask_of words) readable, omega arith)); arrays = tt }; prompt = refl }))
 answers_one s x now Op.GetFh = law.by_get_fh (Answers Op.GetFh) s x
     (λ f h. record { is = record { may = (refl, rw (h.done, h.legal) refl, tt); arrays = tt }; prompt = h.prompt })
-    (λ d there. (let few = length_handle (record { instance = s.instance; number = d.number }) in
+    (λ d there. (let few = length_handle (record { instance = s.opens.instance; number = d.number }) in
     record { is = record { may = (refl, omega arith, omega arith); arrays = tt }; prompt = refl }))
 answers_one s x now (Op.Link name) = law.by_link (Answers (Op.Link name)) s x now name
     (λ f h. record { is = record { may = (refl, rw (h.done, h.legal) refl, tt); arrays = tt }; prompt = h.prompt })

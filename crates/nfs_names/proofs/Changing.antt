@@ -7,7 +7,8 @@ use Rattle.nfs_compound.specs.declared.op_num.OpNum.TheVariants as Num
 use Rattle.nfs_tree.specs.{declared.fault.TreeFault.TreeFault, Create.create_checks, Names.{link_checks, moves, remove_checks, rename_checks}}
 use Rattle.nfs_attrs.specs.{declared.wanted.Wanted.Wanted, Setting.make_checks}
 use Rattle.nfs_opens.specs.Steps.{◌>>=◌, ◌>>◌, in_order, require}
-use Rattle.nfs_names.specs.{declared.context.Context.Context, declared.making.Making.Making, declared.node.Node.Node, State.State, Faults.{status_of, by_tree}}
+use Rattle.nfs_names.specs.{declared.context.Context.Context, declared.making.Making.Making, declared.node.Node.Node, State.State}
+use Rattle.nfs_names.specs.Faults.{tree_fault_status, by_tree}
 use Rattle.nfs_names.specs.{Outcome.{Outcome, refuses, or_refusal}, Checks.{current, both}, Create.{attributes_in, create, new_of, place_checks}}
 use Rattle.nfs_names.specs.{Fronts.{creating, linking, removing, renaming}, Link.link, Remove.remove, Rename.{move_of, renamed, rename}}
 use Rattle.nfs_names.specs.Rename as of_rename
@@ -41,14 +42,14 @@ pub record Asks {A : Type 0} (s : State) (x : Context) (op : OpNum) (found : Res
 module _ {A : Type 0} {s : State} {x : Context} {op : OpNum} {found : Result A Status} {checks : A → List (Bool × TreeFault)} {does : A → Outcome}
     {o : Outcome} (asks : Asks s x op found checks does o) where
   by_tree_fault : (a : A) (fault : Option TreeFault) → found ≡ Ok a → first_fault (checks a) ≡ fault
-      → o ≡ or_refusal s x op (judged (option_map status_of fault) >> Ok (does a))
+      → o ≡ or_refusal s x op (judged (option_map tree_fault_status fault) >> Ok (does a))
   by_tree_fault a fault there e = asks.is ∙ ap (λ v. or_refusal s x op (v >>= λ a. in_order (by_tree (checks a)) >> Ok (does a))) there
-      ∙ ap (λ o. or_refusal s x op (judged o >> Ok (does a))) (sym (fault_map status_of (checks a)) ∙ ap (option_map status_of) e)
+      ∙ ap (λ o. or_refusal s x op (judged o >> Ok (does a))) (sym (fault_map tree_fault_status (checks a)) ∙ ap (option_map tree_fault_status) e)
 
   pub goes : (a : A) → found ≡ Ok a → first_fault (checks a) ≡ None → o ≡ does a
   goes a there none = by_tree_fault a None there none
 
-  pub stops : (a : A) (f : TreeFault) → found ≡ Ok a → first_fault (checks a) ≡ Some f → o ≡ refuses s x op (status_of f)
+  pub stops : (a : A) (f : TreeFault) → found ≡ Ok a → first_fault (checks a) ≡ Some f → o ≡ refuses s x op (tree_fault_status f)
   stops a f there some = by_tree_fault a (Some f) there some
 
   pub errs : (f : Status) → found ≡ Err f → o ≡ refuses s x op f

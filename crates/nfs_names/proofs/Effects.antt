@@ -2,7 +2,8 @@
 -- holds behind each operation.
 use Rattle.std.proofs.Common.{◌≡◌, ℕ, true, List, None}
 use Rattle.nfs_xdr.specs.declared.time.Time.{Time}
-use Rattle.nfs_tree.specs.{declared.sets.Sets.Sets, Files.{lookup, named}, Create.{New, with_new}, Names.{Move, moves, with_link, without_name, with_moved}}
+use Rattle.nfs_tree.specs.{declared.sets.Sets.Sets, Files.{object_named, number_named}, Create.{New, with_new}}
+use Rattle.nfs_tree.specs.Names.{Move, moves, with_link, without_name, with_moved}
 use Rattle.nfs_tree.specs.Calls.{create_fault, link_fault, remove_fault, rename_fault}
 use Rattle.nfs_names.specs.{declared.context.Context.Context, State.{State, with_tree, without_unused}, Rename.without_replaced}
 
@@ -16,8 +17,8 @@ pub data Effect : Type 0 where
 abbrev pub behind : State → Effect → State
 behind s (Makes d name new sets now) = with_tree s (with_new s.tree d name new sets now)
 behind s (Links n d name now) = with_tree s (with_link s.tree n d name now)
-behind s (Removes d name now) = without_unused (with_tree s (without_name s.tree d name now)) (named s.tree d name)
-behind s (Moves m now) = without_replaced (with_tree s (with_moved s.tree m now)) (lookup s.tree m.target m.name)
+behind s (Removes d name now) = without_unused (with_tree s (without_name s.tree d name now)) (number_named s.tree d name)
+behind s (Moves m now) = without_replaced (with_tree s (with_moved s.tree m now)) (object_named s.tree m.target m.name)
 
 -- the tree refuses nothing of it
 abbrev pub Fits : State → Effect → Type 0

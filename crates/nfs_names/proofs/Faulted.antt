@@ -8,7 +8,7 @@ use Rattle.nfs_results.specs.{declared.res.Res.Res, Results.{status_of_result, r
 use Rattle.nfs_tree.specs.declared.fault.TreeFault.{TreeFault}
 use Rattle.nfs_tree.specs.declared.fault.TreeFault.TheVariants.{NoEnt, Exist, NotDir, IsDir, NotEmpty, Inval, Fbig, NoSpc, Mlink, Counter, Memory}
 use Rattle.nfs_tree.specs.{Files.Files, Calls.{Did, does_unless, DoesOrWants}}
-use Rattle.nfs_names.specs.{declared.context.Context.Context, State.{State, with_tree}, Faults.status_of}
+use Rattle.nfs_names.specs.{declared.context.Context.Context, State.{State, with_tree}, Faults.tree_fault_status}
 use Rattle.nfs_names.specs.Outcome.{Outcome, refuses, passed, checked, answers, or_delay, is_ok, is_delay}
 use Rattle.nfs_names.proofs.Refusing.{IsRefusal, Refuses}
 
@@ -78,7 +78,7 @@ abbrev Wanted : {A : Type 0} → Files → Bool → Did A → Files → TreeFaul
 Wanted t grows did new f = (f ≡ Memory) × (grows ≡ true) × IsOk did.answer × (new ≡ t)
 
 abbrev Told : {A : Type 0} → Did A → Files → TreeFault → Type 0
-Told did new f = (is_delay (status_of f) ≡ false) × (Err f ≡ did.answer) × (new ≡ did.after)
+Told did new f = (is_delay (tree_fault_status f) ≡ false) × (Err f ≡ did.answer) × (new ≡ did.after)
 
 pub refused_by_did : {A : Type 0} (t : Files) (grows : Bool) (did : Did A) (new : Files) (f : TreeFault)
     → DoesOrWants t grows did (Err f) new → Wanted t grows did new f ⊎ Told did new f
@@ -106,7 +106,7 @@ abbrev pub Wants : Bool → TreeFault → Option TreeFault → Type 0
 Wants grows f fault = (f ≡ Memory) × (fault ≡ None) × (grows ≡ true)
 
 abbrev pub Other : TreeFault → Option TreeFault → Type 0
-Other f fault = (fault ≡ Some f) × (is_delay (status_of f) ≡ false)
+Other f fault = (fault ≡ Some f) × (is_delay (tree_fault_status f) ≡ false)
 
 no_fault : {A : Type 0} (t : Files) (fault : Option TreeFault) (answer : A) (after : Files) → IsOk (does_unless t fault answer after).answer → fault ≡ None
 no_fault t None answer after ok = refl
@@ -121,13 +121,13 @@ refused_tree t grows fault answer after new f d = elim (refused_by_did t grows (
 ]
 
 refused_growing : (grows : Bool) (s : State) (x : Context) (op : OpNum) (o g : Outcome) (fault : Option TreeFault) (f : TreeFault)
-    → (fault ≡ None → o ≡ g) → (fault ≡ Some f → o ≡ refuses s x op (status_of f)) → is_ok (status_of_result g.result) ≡ true
-    → Wants grows f fault ⊎ Other f fault → refuses s x op (status_of f) ≡ or_delay (grows && is_delay (status_of f)) s x op o
+    → (fault ≡ None → o ≡ g) → (fault ≡ Some f → o ≡ refuses s x op (tree_fault_status f)) → is_ok (status_of_result g.result) ≡ true
+    → Wants grows f fault ⊎ Other f fault → refuses s x op (tree_fault_status f) ≡ or_delay (grows && is_delay (tree_fault_status f)) s x op o
 refused_growing grows s x op o g fault f goes stops ok (inl w) =
-    rw w.2 (ap (λ f. refuses s x op (status_of f)) w.0
-    ∙ sym (ap (λ f. or_delay (is_delay (status_of f)) s x op o) w.0 ∙ ap (or_delay true s x op) (goes w.1) ∙ delayed s x op g ok))
+    rw w.2 (ap (λ f. refuses s x op (tree_fault_status f)) w.0
+    ∙ sym (ap (λ f. or_delay (is_delay (tree_fault_status f)) s x op o) w.0 ∙ ap (or_delay true s x op) (goes w.1) ∙ delayed s x op g ok))
 refused_growing grows s x op o g fault f goes stops ok (inr other) =
-    sym (not_delayed (grows && is_delay (status_of f)) s x op o (and_right grows (is_delay (status_of f)) other.1) ∙ stops other.0)
+    sym (not_delayed (grows && is_delay (tree_fault_status f)) s x op o (and_right grows (is_delay (tree_fault_status f)) other.1) ∙ stops other.0)
 
 -- An operation whose last check is the tree's. `may` says whether it may want memory, and `grows` whether its tree grows.
 
@@ -146,14 +146,14 @@ told_done may grows s x op o result context fault answer a after new goes d =
 -- what the tree refused
 pub told_fault : {A : Type 0} (may grows : Bool) (s : State) (x : Context) (op : OpNum) (o done : Outcome) (r : Res)
     (fault : Option TreeFault) (answer : A) (after new : Files) (f : TreeFault)
-    → may ≡ grows → r ≡ refusal (op_number op) (status_of f)
-    → (fault ≡ None → o ≡ done) → (fault ≡ Some f → o ≡ refuses s x op (status_of f)) → is_ok (status_of_result done.result) ≡ true
+    → may ≡ grows → r ≡ refusal (op_number op) (tree_fault_status f)
+    → (fault ≡ None → o ≡ done) → (fault ≡ Some f → o ≡ refuses s x op (tree_fault_status f)) → is_ok (status_of_result done.result) ≡ true
     → DoesOrWants s.tree grows (does_unless s.tree fault answer after) (Err f) new
     → record { result = r; state = with_tree s new; context = x } ≡ or_delay (may && is_delay (status_of_result r)) s x op o
 told_fault may grows s x op o done r fault answer after new f same is goes stops ok d =
     let did = refused_tree s.tree grows fault answer after new f d in
-    told_refusal_by may s new x op o r (status_of f) is did.0
-    (subst (λ b. refuses s x op (status_of f) ≡ or_delay (b && is_delay (status_of f)) s x op o) (sym same)
+    told_refusal_by may s new x op o r (tree_fault_status f) is did.0
+    (subst (λ b. refuses s x op (tree_fault_status f) ≡ or_delay (b && is_delay (tree_fault_status f)) s x op o) (sym same)
     (refused_growing grows s x op o done fault f goes stops ok did.1))
 
 -- what was refused before the tree was asked

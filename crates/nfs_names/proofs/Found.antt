@@ -1,13 +1,13 @@
 -- What is known of an object that was found under a filehandle, and of what passed its checks.
-use Rattle.std.proofs.Common.{◌≡◌, ℕ, ◌≤◌, Bool, true, false, cond, List, [], ◌∷◌, ◌++◌, length, Option, Some, None, refl, sym, ◌∙◌, ap, arith}
+use Rattle.std.proofs.Common.{◌≡◌, ℕ, ◌≤◌, Bool, true, false, cond, List, [], ◌∷◌, ◌++◌, length, Option, Some, None, refl, sym, ◌∙◌, ap, subst, arith}
 use Rattle.std.proofs.lemmas.Bool.{and_from, ltb-false, lt-ltb, le-leb}
 use Rattle.std.specs.{Prelude.{Result, Ok, Err, is_some, nat_lt, nat_le, ◌==◌, ◌&&◌}, Option.option_map_or}
 use Rattle.nfs_xdr.specs.{Checks.{first_fault, judged}, declared.status.Status.Status}
 use Rattle.nfs_tree.specs.{declared.object.Object.Object, declared.stored.Stored.Stored, Object.is_directory}
-use Rattle.nfs_tree.specs.Files.{Files, most_name, is_name, stored_in, object_at, is_there, is_directory_at}
+use Rattle.nfs_tree.specs.Files.{Files, most_name, is_name, stored_in, data_at, object_at, is_there, is_directory_at}
 pub use Rattle.nfs_opens.proofs.CallLaws.{came, ok_is}
 use Rattle.nfs_names.specs.{declared.context.Context.Context, declared.node.Node.Node, State.State, Outcome.{passed, checked}}
-use Rattle.nfs_names.specs.Checks.{node_as, node_at, current}
+use Rattle.nfs_names.specs.{Checks.{node_as, node_at, current}, Fronts.sized}
 
 passed_ok : {A : Type 0} (b a : A) (o : Option Status) → passed b o ≡ Ok a → (b ≡ a) × (o ≡ None)
 passed_ok b a None e = (cc, refl)
@@ -54,6 +54,19 @@ node_is s (Some n) d e = node_by s.tree n (object_at s.tree n) d refl e
 pub current_is : (s : State) (x : Context) (d : Node) → current s x ≡ Ok d → IsHeld s.tree d
 unfolding current
 current_is s x d e = node_is s x.current d e
+
+-- an object that was found with its size, and why it was not
+pub sized_ok : (s : State) (v : Result Node Status) (p : Node × ℕ) → sized s v ≡ Ok p → (v ≡ Ok p.0) × (p.1 ≡ length (data_at s.tree p.0.number))
+sized_ok s (Err status) p e = absurd cc
+sized_ok s (Ok d) p e =
+    let same : (d, length (data_at s.tree d.number)) ≡ p = ok_is refl e in (
+      ap (λ (q : Node × ℕ). let found : Result Node Status = Ok q.0 in found) same,
+      sym (ap (λ (q : Node × ℕ). q.1) same) ∙ ap (λ (q : Node × ℕ). length (data_at s.tree q.0.number)) same,
+    )
+
+pub sized_err : (s : State) (v : Result Node Status) (status : Status) → sized s v ≡ Err status → v ≡ Err status
+sized_err s (Ok d) status e = absurd cc
+sized_err s (Err other) status e = (let same : other ≡ status = cc in ap Err same)
 
 -- neither empty nor longer than so many bytes
 pub short_list : (most : ℕ) (xs : List ℕ) → (length xs == 0) ≡ false → nat_lt most (length xs) ≡ false → nat_lt 0 (length xs) && nat_le (length xs) most ≡ true

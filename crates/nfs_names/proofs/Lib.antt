@@ -20,3 +20,4 @@ pub mod Listed
 pub mod Staying
 pub mod Untouched
 pub mod Ended
+pub mod Terms

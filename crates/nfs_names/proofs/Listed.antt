@@ -15,8 +15,9 @@ use Rattle.nfs_results.proofs.{Lengths.{length_head, length_spelled}, StraightLa
 use Rattle.nfs_xdr.proofs.Putting.{length_number, puts_then}
 use Rattle.nfs_compound.specs.declared.op_num.OpNum.TheVariants as Num
 use Rattle.nfs_names.specs.{declared.context.Context.Context, Comes.Comes, Outcome.{Outcome, done, or_refusal}, Checks.current, declared.node.Node.Node}
-use Rattle.nfs_names.specs.{State.State, Fronts.reading_dir, ReadDir.{longest, fits, fitting, left, zeros, fits_none, listed, read_dir}, Lists.Lists}
+use Rattle.nfs_names.specs.{State.State, Fronts.reading_dir, ReadDir.{longest, fitting, left, zeros, fits_none, listed, read_dir}, Lists.Lists}
 use Rattle.nfs_names.proofs.{Steps.through, Entering.{length_entry_head, given_least}}
+use Rattle.nfs_names.proofs.Terms.{fits}
 
 longest_passes : {A : Type 0} (test : List A → Bool) (xs : List A) → test [] ≡ true → test (longest test xs) ≡ true
 longest_passes test [] e = e

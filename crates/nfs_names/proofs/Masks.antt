@@ -1,12 +1,16 @@
 -- What is reported of masks, and room for what is put part by part.
 use Rattle.std.proofs.Common.{◌≡◌, ℕ, suc, inl, inr, ◌+◌, ◌≤◌, true, false, cond, List, [], ◌∷◌, length, get_or, drop, refl, ◌∙◌, ap, arith}
 use Rattle.std.proofs.{lemmas.Bool.{ne_eqb, and_right, cases_Bool}, lemmas.List.{length-append, length-take}}
-use Rattle.std.specs.Prelude.{◌==◌, ◌&&◌}
+use Rattle.std.specs.Prelude.{◌==◌, ◌&&◌, if◌then◌else◌}
 use Rattle.nfs_tree.specs.{Files.{Files, data_at}, Bytes.part, declared.object.Object.Object}
 use Rattle.nfs_xdr.specs.SheetState.{SheetState, HasRoom, Puts}
 use Rattle.nfs_results.specs.{AttrSet.{before, trimmed}, Items.{attr_set, fattr}}
-use Rattle.nfs_attrs.specs.{declared.about.About.About, declared.mask.Mask.Mask, Mask.{before_zero, without_last_zeros, trimmed_words, common}}
+use Rattle.nfs_attrs.specs.{declared.about.About.About, declared.mask.Mask.Mask, Mask.{without_last_zeros, trimmed_words, common}}
 use Rattle.nfs_attrs.specs.Attributes.{readable, values, spell_attrs}
+
+-- a word in front of the words behind it, if it is not the last of the zeros
+abbrev before_zero : ℕ → List ℕ → List ℕ
+before_zero word words = if word == 0 && length words == 0 then [] else word ∷ words
 
 same_before : (word : ℕ) (words : List ℕ) → before word words ≡ before_zero word words
 same_before word [] = elim (word == 0) as (λ b. cond b [] (word ∷ []) ≡ cond (b && true) [] (word ∷ [])) [ true ↦ refl | false ↦ refl ]

@@ -8,24 +8,26 @@ use Rattle.nfs_compound.specs.{declared.name_args.ReadDir.ReadDir, declared.name
 use Rattle.nfs_compound.specs.declared.name_args.SecinfoStyle.TheVariants.{CurrentFh, Parent}
 use Rattle.nfs_compound.specs.declared.op_num.OpNum.TheVariants as Num
 use Rattle.nfs_results.specs.declared.res.Res.TheVariants as Res
-use Rattle.nfs_tree.specs.{declared.object.Object.Object, Bytes.part, Files.{most_text, raised, named, object_at, parent_in, lookup as found}}
+use Rattle.nfs_tree.specs.{declared.object.Object.Object, Bytes.part, Files.{most_text, raised, number_named, object_at, parent_in, object_named as found}}
 use Rattle.nfs_tree.specs.{Create.{create_checks, with_new}, Names.{link_checks, with_link, moves, remove_checks, rename_checks, without_name}}
-use Rattle.nfs_tree.specs.Object.{is_directory}
+use Rattle.nfs_tree.specs.Object.{is_directory, is_link}
 use Rattle.nfs_attrs.specs.{declared.handle.Handle.Handle, declared.wanted.AttrFault.AttrFault, declared.wanted.Wanted.Wanted, Handle.handle_of}
-use Rattle.nfs_attrs.specs.{Mask.{mask_of, asks_set_only, trimmed_words}, Permissions.{change, execute, judge_access}, Reading.fault_status}
+use Rattle.nfs_attrs.specs.{Mask.{mask_of, asks_set_only, trimmed_words}, Permissions.{change_entries, execute, judge_access}, Reading.attr_fault_status}
 use Rattle.nfs_attrs.specs.{Setting.make_checks, Wire.nfs_fh4}
 use Rattle.nfs_attrs.specs.declared.wanted.AttrFault.TheVariants as F
 use Rattle.nfs_opens.specs.Steps.{map_err}
 use Rattle.nfs_names.specs.{declared.context.Context.Context, declared.context.Saved.Saved, declared.node.Node.Node, declared.node.Pair.Pair}
 use Rattle.nfs_names.specs.{State.{State, with_tree, without_unused}, Context.at_object, Outcome.{Outcome, done, refuses}}
-use Rattle.nfs_names.specs.{Checks.{node_as, node_at, saved_object, current, both, no_directory, denied, name_checks}, Faults.by_tree, Attributes.attributes_of}
-use Rattle.nfs_names.specs.{Access.{told_access, access}, Create.{attributes_in, change_info, create, new_of, place_checks, sets_of, wanted_of}}
-use Rattle.nfs_names.specs.{GetAttr.get_attr, GetFh.get_fh, Link.link, Lookup.{lookup, is_link}, LookupP.lookup_p, NVerify.nverify, PutFh.put_fh}
+use Rattle.nfs_names.specs.{Checks.{node_as, node_at, saved_object, current, both, no_directory, no_access, name_checks}, Faults.by_tree}
+use Rattle.nfs_names.specs.Attributes.{attributes_of}
+use Rattle.nfs_names.specs.{Access.{access}, Create.{attributes_in, change_info, create, new_of, place_checks, sets_of, wanted_of}}
+use Rattle.nfs_names.specs.{GetAttr.get_attr, GetFh.get_fh, Link.link, Lookup.lookup, LookupP.lookup_p, NVerify.nverify, PutFh.put_fh}
 use Rattle.nfs_names.specs.{ReadDir.{listing_checks, fits_none, listed, read_dir}, ReadLink.read_link, Remove.remove, Rename.{move_of, renamed, rename}}
 use Rattle.nfs_names.specs.{RestoreFh.restore_fh, SaveFh.save_fh, SecinfoNoName.{style_checks, secinfo_no_name}, Verify.{same_at, compared, verify}}
 use Rattle.nfs_names.specs.Rename as of_rename
 use Rattle.nfs_names.proofs.{Rows.tree_passes, Refusing.{IsRefusal, refusal_by, Refuses, all_refuse, err_refuses, ok_refuses, refuses_then}}
 use Rattle.nfs_names.proofs.Steps.{ends_found, ends_there, ends_held, ends_passed, by_steps}
+use Rattle.nfs_names.proofs.Terms.{told_access}
 
 -- What is looked up.
 
@@ -46,14 +48,14 @@ unfolding both
 both_refuses s x = refuses_then (current s x) _ (current_refuses s x) (λ d.
     refuses_then (node_at s (saved_object x.saved)) _ (node_refuses s (saved_object x.saved)) (λ e. ok_refuses _))
 
-attribute_refusal : (f : AttrFault) → IsRefusal (fault_status f)
+attribute_refusal : (f : AttrFault) → IsRefusal (attr_fault_status f)
 attribute_refusal F.AttrNotSupp = refusal_by _ refl
 attribute_refusal F.Inval = refusal_by _ refl
 attribute_refusal F.BadXdr = refusal_by _ refl
 attribute_refusal F.BadOwner = refusal_by _ refl
 
-read_refuses : {A : Type 0} (v : Result A AttrFault) → Refuses (map_err fault_status v)
-read_refuses (Err f) = err_refuses (fault_status f) (attribute_refusal f)
+read_refuses : {A : Type 0} (v : Result A AttrFault) → Refuses (map_err attr_fault_status v)
+read_refuses (Err f) = err_refuses (attr_fault_status f) (attribute_refusal f)
 read_refuses (Ok a) = ok_refuses a
 
 pub wanted_refuses : (a : Attributes) → Refuses (attributes_in a)
@@ -75,7 +77,7 @@ Refused P s x op = (f : Status) → IsRefusal f → P (refuses s x op f)
 abbrev pub removed : State → Context → Time → List ℕ → Node → Outcome
 removed s x now name d = record {
   result = Res.Remove (change_info (raised s.tree d.number));
-  state = without_unused (with_tree s (without_name s.tree d.number name now)) (named s.tree d.number name);
+  state = without_unused (with_tree s (without_name s.tree d.number name now)) (number_named s.tree d.number name);
   context = x;
 }
 
@@ -96,19 +98,19 @@ created s x now c d wanted = record {
 -- What is looked at first.
 
 abbrev pub link_places : Context → List ℕ → Pair → List (Bool × Status)
-link_places x name p = no_directory p.current ∷ (is_directory p.saved.object.kind, IsDir) ∷ denied x p.current change ∷ name_checks name
+link_places x name p = no_directory p.current ∷ (is_directory p.saved.object.kind, IsDir) ∷ no_access x p.current change_entries ∷ name_checks name
 
 abbrev lookup_places : Context → List ℕ → Node → List (Bool × Status)
-lookup_places x name d = (is_link d.object.kind, Symlink) ∷ no_directory d ∷ denied x d execute ∷ name_checks name
+lookup_places x name d = (is_link d.object.kind, Symlink) ∷ no_directory d ∷ no_access x d execute ∷ name_checks name
 
 abbrev lookup_p_places : Context → Node → List (Bool × Status)
-lookup_p_places x d = no_directory d ∷ denied x d execute ∷ []
+lookup_p_places x d = no_directory d ∷ no_access x d execute ∷ []
 
 abbrev handle_places : State → Handle → List (Bool × Status)
-handle_places s h = (not (h.instance == s.instance), Stale) ∷ (not (is_some (object_at s.tree h.number)), Stale) ∷ []
+handle_places s h = (not (h.instance == s.opens.instance), Stale) ∷ (not (is_some (object_at s.tree h.number)), Stale) ∷ []
 
 abbrev pub remove_places : Context → List ℕ → Node → List (Bool × Status)
-remove_places x name d = no_directory d ∷ denied x d change ∷ name_checks name
+remove_places x name d = no_directory d ∷ no_access x d change_entries ∷ name_checks name
 
 -- The laws.
 
@@ -137,7 +139,7 @@ module _ (P : Outcome → Type 0) (s : State) (x : Context) where
       ends_held P (not (asks_set_only (mask_of words))) Inval _ refl (then d there)))
 
   pub by_get_fh : Refused P s x Num.GetFh
-      → ((d : Node) → current s x ≡ Ok d → P (done s x (Res.GetFh (nfs_fh4 (record { instance = s.instance; number = d.number })).bytes))) → P (get_fh s x)
+      → ((d : Node) → current s x ≡ Ok d → P (done s x (Res.GetFh (nfs_fh4 (record { instance = s.opens.instance; number = d.number })).bytes))) → P (get_fh s x)
   unfolding get_fh
   by_get_fh refused then = by_steps P s x Num.GetFh _ refused (ends_found P _ _ (current_refuses s x) then)
 

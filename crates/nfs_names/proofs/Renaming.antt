@@ -7,12 +7,13 @@ use Rattle.nfs_xdr.specs.declared.time.Time.{Time}
 use Rattle.nfs_compound.specs.declared.op_num.OpNum.TheVariants as Num
 use Rattle.nfs_compound.specs.declared.name_args.Rename as args
 use Rattle.nfs_tree.specs.{declared.row.Row.Row, declared.done.Renamed.Renamed, declared.fault.TreeFault.TreeFault}
-use Rattle.nfs_tree.specs.Files.{Files, has_name, lookup, is_entry, entry, has_entries, without_entry, raised, stays}
+use Rattle.nfs_tree.specs.Files.{Files, has_name, object_named, is_entry, entry, has_entries, without_entry, raised, unraised}
 use Rattle.nfs_tree.specs.Calls.{Did, DoesOrWants, rename_fault, rename_unless}
 use Rattle.nfs_tree.specs.Names.{Move, move, moves, moved_object, replaced_object, is_unlike, is_in_the_way, rename_checks, with_moved}
 use Rattle.nfs_tree.specs.Calls as tree
 use Rattle.nfs_tree.proofs.Trees.{has_one, apart}
-use Rattle.nfs_names.specs.{declared.context.Context.Context, declared.node.Pair.Pair, State.State, Faults.status_of, Outcome.{refuses, or_delay, is_delay}}
+use Rattle.nfs_names.specs.{declared.context.Context.Context, declared.node.Pair.Pair, State.State, Faults.tree_fault_status}
+use Rattle.nfs_names.specs.Outcome.{refuses, or_delay, is_delay}
 use Rattle.nfs_names.specs.{Checks.both, Operation.moves_in, Rename.{move_of, renamed}, Fronts.renaming}
 use Rattle.nfs_names.specs.Rename as of_rename
 use Rattle.nfs_opens.specs.Steps.{in_order}
@@ -64,7 +65,7 @@ way_free t m none go =
     rw go at both
 
 pub replaced_empty : (t : Files) (m : Move) (now : Time) (n : ℕ) → rename_fault t m ≡ None
-    → moves t m ≡ true → lookup t m.target m.name ≡ Some n → has_entries (with_moved t m now).rows n ≡ false
+    → moves t m ≡ true → object_named t m.target m.name ≡ Some n → has_entries (with_moved t m now).rows n ≡ false
 replaced_empty t m now n none go found =
     let is : replaced_object t m ≡ n = ap (λ o. unwrap_or o 0) found in
     let some : has_name t m.target m.name ≡ true = by_entry (entry t.rows m.target m.name) refl in
@@ -89,10 +90,10 @@ pub went_empty : (t : Files) (m : Move) (now : Time) (r : Renamed) (new : Files)
 went_empty t m now r new w n is = elim (cases_Bool (moves t m)) [
   | inl go ↦ (let answer : Ok r ≡ (tree.moved t m now).answer = rw go at w.answer in
       let after : new ≡ with_moved t m now = rw go at w.after in
-      let same : r ≡ record { source = raised t m.source; target = raised t m.target; replaced = lookup t m.target m.name } = cc in
+      let same : r ≡ record { source = raised t m.source; target = raised t m.target; replaced = object_named t m.target m.name } = cc in
       ap (λ (u : Files). has_entries u.rows n) after ∙ replaced_empty t m now n w.none go (sym (ap (λ (r : Renamed). r.replaced) same) ∙ is))
   | inr stay ↦ (let answer : Ok r ≡ (tree.unmoved t m).answer = rw stay at w.answer in
-      let same : r ≡ record { source = stays t m.source; target = stays t m.target; replaced = None } = cc in
+      let same : r ≡ record { source = unraised t m.source; target = unraised t m.target; replaced = None } = cc in
       absurd (let bad : None ≡ Some n = sym (ap (λ (r : Renamed). r.replaced) same) ∙ is in cc))
 ]
 
@@ -101,7 +102,7 @@ pub rename_refused : (s : State) (x : Context) (now : Time) (a : args.Rename) (p
     → renaming s x a ≡ Ok p
     → DoesOrWants s.tree (moves s.tree (move_of a p)) (tree.rename s.tree (move_of a p) now) (Err f) new
     → (new ≡ s.tree)
-    × (refuses s x Num.Rename (status_of f) ≡ or_delay (moves_in s a (both s x) && is_delay (status_of f)) s x Num.Rename (of_rename.rename s x now a))
+    × (refuses s x Num.Rename (tree_fault_status f) ≡ or_delay (moves_in s a (both s x) && is_delay (tree_fault_status f)) s x Num.Rename (of_rename.rename s x now a))
 rename_refused s x now a p f new v d =
     let t = s.tree in
     let m = move_of a p in
@@ -115,8 +116,8 @@ rename_refused s x now a p f new v d =
         w.3,
         (let none = unless_none t (rename_fault t m) (Goes t m now) w.2 in
             let is : o ≡ renamed s x now a p true = goes asks p v none ∙ ap (renamed s x now a p) w.1 in
-            let flag : moves_in s a (both s x) && is_delay (status_of f) ≡ true = and_from _ _ (grows ∙ w.1) (ap (λ f. is_delay (status_of f)) w.0) in
-            ap (λ f. refuses s x Num.Rename (status_of f)) w.0
+            let flag : moves_in s a (both s x) && is_delay (tree_fault_status f) ≡ true = and_from _ _ (grows ∙ w.1) (ap (λ f. is_delay (tree_fault_status f)) w.0) in
+            ap (λ f. refuses s x Num.Rename (tree_fault_status f)) w.0
             ∙ sym (ap (λ b. or_delay b s x Num.Rename o) flag ∙ ap (or_delay true s x Num.Rename) is ∙ delayed s x Num.Rename (renamed s x now a p true) refl)),
       )
       | inr e ↦ (let err = unless_err t (rename_fault t m) (Goes t m now) f new (goes_ok t m now) e.1 e.2 in

@@ -5,7 +5,7 @@ use Rattle.std.specs.{Prelude.{option_map, filter}, List.list_any}
 use Rattle.nfs_xdr.specs.Checks.{first_fault}
 use Rattle.nfs_xdr.proofs.Lists.{any_push}
 use Rattle.nfs_tree.specs.declared.fault.TreeFault.{TreeFault}
-use Rattle.nfs_names.specs.Faults.{status_of, by_tree}
+use Rattle.nfs_names.specs.Faults.{tree_fault_status, by_tree}
 
 -- faults under other names
 pub fault_map : {F G : Type 0} (f : F → G) (checks : List (Bool × F))
@@ -40,4 +40,4 @@ none_mapped f (Some fault) e = absurd cc
 
 -- what passed the tree's checks under the statuses of its faults passed them
 pub tree_passes : (checks : List (Bool × TreeFault)) → first_fault (by_tree checks) ≡ None → first_fault checks ≡ None
-tree_passes checks e = none_mapped status_of (first_fault checks) (fault_map status_of checks ∙ e)
+tree_passes checks e = none_mapped tree_fault_status (first_fault checks) (fault_map tree_fault_status checks ∙ e)

@@ -4,7 +4,7 @@ use Rattle.std.specs.Prelude.{◌==◌, ◌||◌, IfSome}
 use Rattle.nfs_xdr.specs.declared.time.Time.{Time}
 use Rattle.nfs_xdr.proofs.Lists.{none_left}
 use Rattle.nfs_compound.specs.declared.op.Item.{Item}
-use Rattle.nfs_tree.specs.{Files.{root, has_row, has_entries, is_entry, lookup, named}, Names.{with_moved, without_name}, TreeInvariants.IsTree}
+use Rattle.nfs_tree.specs.{Files.{root, has_row, has_entries, is_entry, object_named, number_named}, Names.{with_moved, without_name}, TreeInvariants.IsTree}
 use Rattle.nfs_tree.proofs.{Trees.{tree_forgets, tree_removed, remove_granted}, Put.{tree_created, tree_linked}, Moved.tree_moved}
 use Rattle.nfs_names.specs.{declared.context.Context.Context, State.{State, with_tree, is_open, is_used, without_unused}, StoreInvariants.IsStore}
 use Rattle.nfs_names.specs.{Rename.without_replaced, Operation.comes_to}
@@ -28,10 +28,10 @@ tree_replaced s (Some n) is empty = tree_unused s n is (λ unused. empty n refl)
 pub tree_kept : (s : State) (e : Effect) → Fits s e → IsTree s.tree → IsStore s → IsTree (behind s e).tree
 tree_kept s (Makes d name new sets now) none is store = tree_created s.tree d name new sets now is none (rooted s store d)
 tree_kept s (Links n d name now) none is store = tree_linked s.tree n d name now is none (rooted s store d)
-tree_kept s (Removes d name now) none is store = tree_unused (with_tree s (without_name s.tree d name now)) (named s.tree d name)
+tree_kept s (Removes d name now) none is store = tree_unused (with_tree s (without_name s.tree d name now)) (number_named s.tree d name)
     (tree_removed s.tree d name now is none)
-    (λ unused. none_left (λ r. r.directory == named s.tree d name) (λ r. not (is_entry d name r)) s.tree.rows (remove_granted s.tree d name none).1)
-tree_kept s (Moves m now) fits is store = tree_replaced (with_tree s (with_moved s.tree m now)) (lookup s.tree m.target m.name)
+    (λ unused. none_left (λ r. r.directory == number_named s.tree d name) (λ r. not (is_entry d name r)) s.tree.rows (remove_granted s.tree d name none).1)
+tree_kept s (Moves m now) fits is store = tree_replaced (with_tree s (with_moved s.tree m now)) (object_named s.tree m.target m.name)
     (tree_moved s.tree m now is fits.0 fits.1 (rooted s store m.target)) (λ n found. replaced_empty s.tree m now n fits.0 fits.1 found)
 
 pub store_kept : (s : State) (e : Effect) → IsTree s.tree → IsStore s → IsStore (behind s e)

@@ -6,10 +6,12 @@ use Rattle.nfs_xdr.specs.Tables.{In}
 use Rattle.nfs_xdr.proofs.Lists.{none_any, filter_past, filter_both, filter_all, any_in, any_left}
 use Rattle.nfs_tree.specs.{declared.stored.Stored.Stored, Object.is_regular, Files.{root, stored_in, has_row}}
 use Rattle.nfs_opens.specs.{declared.records.OpenState.OpenState, declared.records.LockState.LockState, Holding.FileHolders, Table.Table}
-use Rattle.nfs_opens.specs.{TableInvariants.{IsTable, IsHolder, AreHolders}, Closing.{stands, held_within}}
+use Rattle.nfs_opens.specs.{TableInvariants.{IsTable, IsHolder, AreHolders}, Closing.{held_within}}
 use Rattle.nfs_opens.proofs.LockLemmas.{same_table}
 use Rattle.nfs_names.specs.{State.{State, with_tree, is_open, is_used, without_unused}, StoreInvariants.IsStore}
-use Rattle.nfs_names.specs.Ending.{has_open, table_staying, with_opens, only_used, staying}
+use Rattle.nfs_names.specs.Ending.{has_open, table_staying, with_opens, staying}
+use Rattle.nfs_opens.proofs.Terms.{stands}
+use Rattle.nfs_names.proofs.Terms.{only_used}
 
 -- Locked bytes.
 within_twice : (few many : List LockState) (held : FileHolders) → ((s : ℕ) → stands few s ≡ true → stands many s ≡ true)

@@ -5,9 +5,10 @@ use Rattle.std.specs.{Prelude.{◌==◌, ◌||◌, filter, option_map, unwrap_or
 use Rattle.nfs_xdr.specs.{declared.time.Time.Time, Tables.In}
 use Rattle.nfs_tree.specs.{declared.object.FileType.FileType, declared.row.Row.Row, declared.sets.Sets.Sets, declared.stored.Stored.Stored}
 use Rattle.nfs_tree.specs.Object.{is_directory, is_regular, modified, no_sets}
-use Rattle.nfs_tree.specs.{Files.{Files, root, stored_in, is_there, is_directory_at, is_entry, entry, named, lookup, has_row, has_entries}, Calls.is_regular_at}
+use Rattle.nfs_tree.specs.Files.{Files, root, stored_in, is_there, is_directory_at, is_entry, entry, number_named, object_named, has_row, has_entries}
+use Rattle.nfs_tree.specs.Calls.{is_regular_at}
 use Rattle.nfs_tree.specs.Files.{with_changed, with_entries_changed, with_links_changed, change_at, without_entry}
-use Rattle.nfs_tree.specs.Create.{New, with_new, new_object, data_of}
+use Rattle.nfs_tree.specs.Create.{New, with_new, new_object}
 use Rattle.nfs_tree.specs.{Names.{with_link, without_name, forget, Move, moved_object, replaced_object, with_both_changed, with_moved}, TreeInvariants.IsTree}
 use Rattle.nfs_tree.specs.declared.object.FileType.TheVariants as Kind
 use Rattle.nfs_xdr.proofs.Lists.{in_any, any_in, stays_in, push_in, last_in, none_in}
@@ -183,7 +184,7 @@ row_pushed rows to n e =
 row_last : (rows : List Row) (to : Row) (n : ℕ) → to.object ≡ n → has_row (rows ++ to ∷ []) n ≡ true
 row_last rows to n is = any_in (λ (r : Row). r.object == n) (rows ++ to ∷ []) to (last_in rows to) (eq-eqb to.object n is)
 
-row_kept : (t : Files) (d : ℕ) (name : List ℕ) (m : ℕ) → IsTree t → m ≢ named t d name
+row_kept : (t : Files) (d : ℕ) (name : List ℕ) (m : ℕ) → IsTree t → m ≢ number_named t d name
     → has_row t.rows m ≡ true → has_row (without_entry d name t.rows) m ≡ true
 row_kept t d name m is other some =
     let r = in_any (λ (r : Row). r.object == m) t.rows some in
@@ -205,7 +206,7 @@ store_new s d name new sets now is =
     let t = s.tree in
     let u = with_new t d name new sets now in
     let changed = with_entries_changed d now t.objects in
-    let made : Stored = record { number = t.last_object + 1; object = new_object now new sets; bytes = data_of new } in
+    let made : Stored = record { number = t.last_object + 1; object = new_object now new sets; bytes = new.bytes } in
     let row : Row = record { directory = d; name = name; object = t.last_object + 1; cookie = t.last_cookie + 1 } in
     let kind = λ (m : ℕ). kind_changed t.objects d m now (modified now no_sets) in
     record {
@@ -231,10 +232,10 @@ store_link s n d name now is =
 
 -- REMOVE
 pub store_removed : (s : State) (d : ℕ) (name : List ℕ) (now : Time) → IsTree s.tree → IsStore s
-    → IsStore (without_unused (with_tree s (without_name s.tree d name now)) (named s.tree d name))
+    → IsStore (without_unused (with_tree s (without_name s.tree d name now)) (number_named s.tree d name))
 store_removed s d name now tree is =
     let t = s.tree in
-    let n = named t d name in
+    let n = number_named t d name in
     store_without (with_tree s (without_name t d name now)) n
     (but_by s (without_name t d name now) n
     (λ m. kind_changed (with_entries_changed d now t.objects) n m now no_sets ∙ kind_changed t.objects d m now (modified now no_sets))
@@ -270,18 +271,18 @@ row_moved t m now k is free some =
     ]
 
 pub store_moved : (s : State) (m : Move) (now : Time) → IsTree s.tree → IsStore s
-    → IsStore (without_replaced (with_tree s (with_moved s.tree m now)) (lookup s.tree m.target m.name))
+    → IsStore (without_replaced (with_tree s (with_moved s.tree m now)) (object_named s.tree m.target m.name))
 store_moved s m now tree is = by_entry (entry s.tree.rows m.target m.name) refl
   where
     by_entry : (o : Option Row) → entry s.tree.rows m.target m.name ≡ o
-        → IsStore (without_replaced (with_tree s (with_moved s.tree m now)) (lookup s.tree m.target m.name))
+        → IsStore (without_replaced (with_tree s (with_moved s.tree m now)) (object_named s.tree m.target m.name))
     by_entry None h =
-        let none : lookup s.tree m.target m.name ≡ None = ap (option_map (λ (r : Row). r.object)) h in
+        let none : object_named s.tree m.target m.name ≡ None = ap (option_map (λ (r : Row). r.object)) h in
         subst (λ (o : Option ℕ). IsStore (without_replaced (with_tree s (with_moved s.tree m now)) o)) (sym none)
         (store_by s (with_moved s.tree m now) (kind_moved s.tree m now)
         (λ k. row_moved s.tree m now k tree (λ r there e. absurd (false≢true (sym (none_in (is_entry m.target m.name) s.tree.rows r h there) ∙ e)))) is)
     by_entry (Some q) h =
-        let some : lookup s.tree m.target m.name ≡ Some q.object = ap (option_map (λ (r : Row). r.object)) h in
+        let some : object_named s.tree m.target m.name ≡ Some q.object = ap (option_map (λ (r : Row). r.object)) h in
         subst (λ (o : Option ℕ). IsStore (without_replaced (with_tree s (with_moved s.tree m now)) o)) (sym some)
         (store_without (with_tree s (with_moved s.tree m now)) q.object
         (but_by s (with_moved s.tree m now) q.object (kind_moved s.tree m now)

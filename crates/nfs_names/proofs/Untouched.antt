@@ -3,7 +3,7 @@ use Rattle.std.proofs.{Common.{◌≡◌, ℕ, Bool, Option, Some, None, refl, �
 use Rattle.std.specs.{Prelude.IfSome, Option.ForSome}
 use Rattle.nfs_xdr.specs.declared.time.Time.{Time}
 use Rattle.nfs_compound.specs.declared.op.Item.{Item}
-use Rattle.nfs_tree.specs.{Files.{lookup, named}, Names.{with_moved, without_name}}
+use Rattle.nfs_tree.specs.{Files.{object_named, number_named}, Names.{with_moved, without_name}}
 use Rattle.nfs_names.specs.{declared.context.Context.Context, State.{State, with_tree, is_used, without_unused}, Operation.comes_to, Rename.without_replaced}
 use Rattle.nfs_names.proofs.{Effects.{Effect, Removes, Moves, behind, Kept}, Effected.kept_item, Ones.each_of}
 
@@ -20,8 +20,8 @@ replaced_opens s None = refl
 replaced_opens s (Some n) = unused_opens s n
 
 pub opens_kept : (s : State) (e : Effect) → (behind s e).opens ≡ s.opens
-opens_kept s (Removes d name now) = unused_opens (with_tree s (without_name s.tree d name now)) (named s.tree d name)
-opens_kept s (Moves m now) = replaced_opens (with_tree s (with_moved s.tree m now)) (lookup s.tree m.target m.name)
+opens_kept s (Removes d name now) = unused_opens (with_tree s (without_name s.tree d name now)) (number_named s.tree d name)
+opens_kept s (Moves m now) = replaced_opens (with_tree s (with_moved s.tree m now)) (object_named s.tree m.target m.name)
 opens_kept s e = refl
 
 leaves_kept : (s : State) (x : Context) → Kept (Leaves s x)

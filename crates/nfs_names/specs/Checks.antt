@@ -38,8 +38,8 @@ no_directory d = (not (is_directory d.object.kind), NotDir)
 unfoldable pub permits : Context → Node → Want → Bool
 permits x d want = may d.object x.who want
 
-abbrev pub denied : Context → Node → Want → Bool × Status
-denied x d want = (not (permits x d want), Access)
+abbrev pub no_access : Context → Node → Want → Bool × Status
+no_access x d want = (not (permits x d want), Access)
 
 -- The four checks of a name (component4, RFC 8881 sections 14.3 and 15.1.7): `/` and a zero byte stand in none, and `.` and `..` are none.
 abbrev pub is_barred : ℕ → Bool

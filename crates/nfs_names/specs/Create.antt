@@ -1,19 +1,19 @@
 -- CREATE (RFC 8881 section 18.4): a directory or a symbolic link is made, and becomes the current filehandle's object.
-use Rattle.std.specs.Prelude.{ℕ, ◌+◌, ◌==◌, Bool, true, false, not, List, ◌∷◌, length, nat_lt, Some, Result, Ok, is_some, unwrap_or, option_map}
+use Rattle.std.specs.Prelude.{ℕ, ◌+◌, ◌==◌, Bool, true, false, not, List, ◌∷◌, length, nat_lt, Some, Result, Ok, is_some, unwrap_or, option_map, if◌then◌else◌}
 use Rattle.nfs_xdr.specs.{declared.time.Time.Time, declared.status.Status.Status, declared.status.Status.TheVariants.{Inval, NameTooLong, BadType}}
 use Rattle.nfs_compound.specs.declared.op_num.OpNum.TheVariants as Num
 use Rattle.nfs_compound.specs.{declared.attributes.Attributes.Attributes, declared.name_args.Create.Create, declared.name_args.CreateType.CreateType}
 use Rattle.nfs_compound.specs.declared.name_args.CreateType.TheVariants.{Symlink, Other}
 use Rattle.nfs_results.specs.declared.res.ChangeInfo.{ChangeInfo}
 use Rattle.nfs_results.specs.declared.res.Res.TheVariants as Res
-use Rattle.nfs_tree.specs.{declared.done.Change.Change, declared.sets.Sets.Sets, Files.{most_text, raised}}
-use Rattle.nfs_tree.specs.Create.{New, Directory, Link, create_checks, with_new}
+use Rattle.nfs_tree.specs.{declared.done.Change.Change, declared.sets.Sets.Sets, Object.is_link, Files.{most_text, raised}}
+use Rattle.nfs_tree.specs.Create.{New, new_directory, new_link, create_checks, with_new}
 use Rattle.nfs_attrs.specs.{declared.set_time.SetTime.SetTime, declared.set_time.SetTime.TheVariants.{Now, Given}, declared.wanted.Wanted.Wanted}
-use Rattle.nfs_attrs.specs.{declared.wanted.AttrFault.AttrFault, Mask.{mask_of, trimmed_words}, Reading.{read_attrs, fault_status}, Setting.make_checks}
-use Rattle.nfs_attrs.specs.Permissions.{change}
+use Rattle.nfs_attrs.specs.{declared.wanted.AttrFault.AttrFault, Mask.{mask_of, trimmed_words}, Reading.{read_attrs, attr_fault_status}, Setting.make_checks}
+use Rattle.nfs_attrs.specs.Permissions.{change_entries}
 use Rattle.nfs_opens.specs.Steps.{◌>>=◌, map_err, in_order, require, ◌>>◌}
 use Rattle.nfs_names.specs.{declared.context.Context.Context, declared.node.Node.Node, State.{State, with_tree}, Context.at_object}
-use Rattle.nfs_names.specs.{Outcome.{Outcome, or_refusal}, Checks.{current, no_directory, denied, name_checks}, Faults.by_tree}
+use Rattle.nfs_names.specs.{Outcome.{Outcome, or_refusal}, Checks.{current, no_directory, no_access, name_checks}, Faults.by_tree}
 
 -- Directories and links are made; a number that is no type's is read like one that has nothing behind it.
 abbrev pub is_made : CreateType → Bool
@@ -26,19 +26,18 @@ text_is test (Symlink text) = test (length text)
 text_is test type = false
 
 abbrev pub new_of : CreateType → New
-new_of (Symlink text) = Link text
-new_of type = Directory
+new_of (Symlink text) = new_link text
+new_of type = new_directory
 
 -- what its mode is where none is given: rwxr-xr-x for a directory, rwxrwxrwx for a link (profile)
 abbrev pub plain_mode : New → ℕ
-plain_mode (Link text) = 511
-plain_mode other = 493
+plain_mode new = if is_link new.kind then 511 else 493
 
 -- what is looked at of the place, the type and the name
 abbrev pub place_checks : Context → Create → Node → List (Bool × Status)
 place_checks x c d =
     no_directory d
-    ∷ denied x d change
+    ∷ no_access x d change_entries
     ∷ (not (is_made c.objtype), BadType)
     ∷ (text_is (λ n. n == 0) c.objtype, Inval)
     ∷ (text_is (nat_lt most_text) c.objtype, NameTooLong)
@@ -49,7 +48,7 @@ unfoldable pub wanted_of : Attributes → Result Wanted AttrFault
 wanted_of a = read_attrs (mask_of a.attrmask) a.attr_vals
 
 abbrev pub attributes_in : Attributes → Result Wanted Status
-attributes_in a = map_err fault_status (wanted_of a)
+attributes_in a = map_err attr_fault_status (wanted_of a)
 
 -- what is set: what is given, else the plain mode, and the caller's user and group
 abbrev pub time_of : Time → SetTime → Time

@@ -28,9 +28,8 @@ without_opens s client = with_opens s (table_staying (λ c. not (c == client)) s
 abbrev pub without_own : State → ℕ → ℕ → State
 without_own s client n = if is_used (without_opens s client) n then s else with_tree s (forget s.tree n)
 
--- of the objects those that are the root, have a row or are open
-abbrev pub only_used : State → State
-only_used s = with_tree s (record s.tree { objects = filter (λ o. is_used s o.number) s.tree.objects })
-
+-- of the objects those stay that are the root, have a row or are open
 abbrev pub staying : (ℕ → Bool) → State → State
-staying stays s = only_used (with_opens s (table_staying stays s.opens))
+staying stays s =
+    let left = with_opens s (table_staying stays s.opens) in
+    with_tree left (record left.tree { objects = filter (λ o. is_used left o.number) left.tree.objects })

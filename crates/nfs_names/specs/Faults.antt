@@ -5,19 +5,19 @@ use Rattle.nfs_xdr.specs.declared.status.Status.TheVariants as S
 use Rattle.nfs_tree.specs.declared.fault.TreeFault.{TreeFault}
 use Rattle.nfs_tree.specs.declared.fault.TreeFault.TheVariants as F
 
-abbrev pub status_of : TreeFault → Status
-status_of F.NoEnt = S.NoEnt
-status_of F.Exist = S.Exist
-status_of F.NotDir = S.NotDir
-status_of F.IsDir = S.IsDir
-status_of F.NotEmpty = S.NotEmpty
-status_of F.Inval = S.Inval
-status_of F.Fbig = S.FBig
-status_of F.NoSpc = S.NoSpc
-status_of F.Mlink = S.MLink
-status_of F.Counter = S.ServerFault
-status_of F.Memory = S.Delay
+abbrev pub tree_fault_status : TreeFault → Status
+tree_fault_status F.NoEnt = S.NoEnt
+tree_fault_status F.Exist = S.Exist
+tree_fault_status F.NotDir = S.NotDir
+tree_fault_status F.IsDir = S.IsDir
+tree_fault_status F.NotEmpty = S.NotEmpty
+tree_fault_status F.Inval = S.Inval
+tree_fault_status F.Fbig = S.FBig
+tree_fault_status F.NoSpc = S.NoSpc
+tree_fault_status F.Mlink = S.MLink
+tree_fault_status F.Counter = S.ServerFault
+tree_fault_status F.Memory = S.Delay
 
 -- the tree's own checks, under the statuses of its faults
 abbrev pub by_tree : List (Bool × TreeFault) → List (Bool × Status)
-by_tree checks = map (λ check. (check.0, status_of check.1)) checks
+by_tree checks = map (λ check. (check.0, tree_fault_status check.1)) checks

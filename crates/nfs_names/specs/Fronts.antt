@@ -1,15 +1,16 @@
 -- What the code finds for an operation before it does anything: the first steps of the operation, by themselves.
-use Rattle.std.specs.Prelude.{ℕ, ◌==◌, List, [], ◌∷◌, Result, Ok, is_some, not, ok_or}
+use Rattle.std.specs.Prelude.{ℕ, ◌==◌, List, [], ◌∷◌, length, Result, Ok, is_some, not, ok_or}
 use Rattle.nfs_xdr.specs.declared.status.Status.{Status}
 use Rattle.nfs_xdr.specs.declared.status.Status.TheVariants.{IsDir, Symlink, Inval, Stale, NoFileHandle, NoEnt, BadHandle, WrongType}
 use Rattle.nfs_compound.specs.{declared.name_args.Create.Create, declared.name_args.ReadDir.ReadDir, declared.name_args.Rename.Rename}
 use Rattle.nfs_compound.specs.declared.name_args.SecinfoStyle.{SecinfoStyle}
-use Rattle.nfs_tree.specs.{Object.is_directory, Files.{lookup, object_at, parent_in}}
-use Rattle.nfs_attrs.specs.{declared.handle.Handle.Handle, Handle.handle_of, Mask.{mask_of, asks_set_only}, Permissions.{change, execute}, Setting.make_checks}
+use Rattle.nfs_tree.specs.{Object.{is_directory, is_link}, Files.{data_at, object_named, object_at, parent_in}}
+use Rattle.nfs_attrs.specs.{declared.handle.Handle.Handle, Handle.handle_of, Mask.{mask_of, asks_set_only}, Permissions.{change_entries, execute}}
+use Rattle.nfs_attrs.specs.Setting.{make_checks}
 use Rattle.nfs_opens.specs.Steps.{◌>>=◌, ◌>>◌, in_order, require}
 use Rattle.nfs_names.specs.{declared.context.Context.Context, declared.context.Saved.Saved, declared.making.Making.Making, declared.node.Node.Node}
-use Rattle.nfs_names.specs.{declared.node.Pair.Pair, State.State, Checks.{current, both, no_directory, denied, name_checks}}
-use Rattle.nfs_names.specs.{Create.{attributes_in, place_checks}, Lookup.is_link, ReadDir.listing_checks, SecinfoNoName.style_checks}
+use Rattle.nfs_names.specs.{declared.node.Pair.Pair, State.State, Checks.{current, both, no_directory, no_access, name_checks}}
+use Rattle.nfs_names.specs.{Create.{attributes_in, place_checks}, ReadDir.listing_checks, SecinfoNoName.style_checks}
 use Rattle.nfs_names.specs.Rename as of_rename
 
 -- the directory in which CREATE makes an object
@@ -33,14 +34,14 @@ creating s x c = do
 abbrev pub linking : State → Context → List ℕ → Result Pair Status
 linking s x name = do
   p ← both s x
-  in_order (no_directory p.current ∷ (is_directory p.saved.object.kind, IsDir) ∷ denied x p.current change ∷ name_checks name)
+  in_order (no_directory p.current ∷ (is_directory p.saved.object.kind, IsDir) ∷ no_access x p.current change_entries ∷ name_checks name)
   Ok p
 
 -- the directory of REMOVE
 abbrev pub removing : State → Context → List ℕ → Result Node Status
 removing s x name = do
   d ← current s x
-  in_order (no_directory d ∷ denied x d change ∷ name_checks name)
+  in_order (no_directory d ∷ no_access x d change_entries ∷ name_checks name)
   Ok d
 
 -- the directories of RENAME
@@ -54,21 +55,21 @@ renaming s x a = do
 abbrev pub looking_up : State → Context → List ℕ → Result ℕ Status
 looking_up s x name = do
   d ← current s x
-  in_order ((is_link d.object.kind, Symlink) ∷ no_directory d ∷ denied x d execute ∷ name_checks name)
-  ok_or (lookup s.tree d.number name) NoEnt
+  in_order ((is_link d.object.kind, Symlink) ∷ no_directory d ∷ no_access x d execute ∷ name_checks name)
+  ok_or (object_named s.tree d.number name) NoEnt
 
 -- the directory that LOOKUPP finds
 abbrev pub looking_above : State → Context → Result ℕ Status
 looking_above s x = do
   d ← current s x
-  in_order (no_directory d ∷ denied x d execute ∷ [])
+  in_order (no_directory d ∷ no_access x d execute ∷ [])
   ok_or (parent_in s.tree.rows d.number) NoEnt
 
 -- the filehandle of PUTFH
 abbrev pub putting_fh : State → List ℕ → Result Handle Status
 putting_fh s object = do
   h ← ok_or (handle_of object) BadHandle
-  in_order ((not (h.instance == s.instance), Stale) ∷ (not (is_some (object_at s.tree h.number)), Stale) ∷ [])
+  in_order ((not (h.instance == s.opens.instance), Stale) ∷ (not (is_some (object_at s.tree h.number)), Stale) ∷ [])
   Ok h
 
 -- what RESTOREFH restores
@@ -98,6 +99,12 @@ reading_dir s x a = do
   d ← current s x
   in_order (listing_checks x a d)
   Ok d
+
+-- an object, and how many bytes it has
+abbrev pub sized : State → Result Node Status → Result (Node × ℕ) Status
+sized s found = do
+  d ← found
+  Ok (d, length (data_at s.tree d.number))
 
 -- the object of GETATTR
 abbrev pub getting_attr : State → Context → List ℕ → Result Node Status

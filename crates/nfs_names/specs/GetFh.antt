@@ -9,4 +9,4 @@ use Rattle.std.specs.Prelude.{Ok}
 unfoldable pub get_fh : State → Context → Outcome
 get_fh s x = or_refusal s x Num.GetFh (do
   d ← current s x
-  Ok (done s x (Res.GetFh (nfs_fh4 (record { instance = s.instance; number = d.number })).bytes)))
+  Ok (done s x (Res.GetFh (nfs_fh4 (record { instance = s.opens.instance; number = d.number })).bytes)))

@@ -4,15 +4,15 @@ use Rattle.nfs_xdr.specs.{declared.time.Time.Time, declared.status.Status.TheVar
 use Rattle.nfs_compound.specs.declared.op_num.OpNum.TheVariants as Num
 use Rattle.nfs_results.specs.declared.res.Res.TheVariants as Res
 use Rattle.nfs_tree.specs.{Object.is_directory, Names.{link_checks, with_link}, Files.raised}
-use Rattle.nfs_attrs.specs.Permissions.{change}
+use Rattle.nfs_attrs.specs.Permissions.{change_entries}
 use Rattle.nfs_names.specs.{declared.context.Context.Context, State.{State, with_tree}, Outcome.{Outcome, or_refusal}}
-use Rattle.nfs_names.specs.{Checks.{both, no_directory, denied, name_checks}, Create.change_info, Faults.by_tree}
+use Rattle.nfs_names.specs.{Checks.{both, no_directory, no_access, name_checks}, Create.change_info, Faults.by_tree}
 use Rattle.nfs_opens.specs.Steps.{in_order, ◌>>=◌, ◌>>◌}
 
 unfoldable pub link : State → Context → Time → List ℕ → Outcome
 link s x now name = or_refusal s x Num.Link (do
   p ← both s x
-  in_order (no_directory p.current ∷ (is_directory p.saved.object.kind, IsDir) ∷ denied x p.current change ∷ name_checks name)
+  in_order (no_directory p.current ∷ (is_directory p.saved.object.kind, IsDir) ∷ no_access x p.current change_entries ∷ name_checks name)
   in_order (by_tree (link_checks s.tree p.saved.number p.current.number name))
   Ok (record {
     result = Res.Link (change_info (raised s.tree p.current.number));

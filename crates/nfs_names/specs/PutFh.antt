@@ -11,5 +11,5 @@ use Rattle.nfs_opens.specs.Steps.{in_order, ◌>>=◌, ◌>>◌}
 unfoldable pub put_fh : State → Context → List ℕ → Outcome
 put_fh s x object = or_refusal s x Num.PutFh (do
   h ← ok_or (handle_of object) BadHandle
-  in_order ((not (h.instance == s.instance), Stale) ∷ (not (is_some (object_at s.tree h.number)), Stale) ∷ [])
+  in_order ((not (h.instance == s.opens.instance), Stale) ∷ (not (is_some (object_at s.tree h.number)), Stale) ∷ [])
   Ok (done s (at_object x h.number) Res.PutFh))

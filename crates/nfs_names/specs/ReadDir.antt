@@ -9,7 +9,7 @@ use Rattle.nfs_results.specs.declared.res.Res.TheVariants as Res
 use Rattle.nfs_tree.specs.{declared.object.Object.Object, Files.{Listed, listing, object_at}}
 use Rattle.nfs_attrs.specs.{declared.mask.Mask.Mask, Mask.{mask_of, asks_set_only}, Permissions.read}
 use Rattle.nfs_names.specs.{declared.context.Context.Context, declared.node.Node.Node, State.State, Outcome.{Outcome, done, or_refusal}}
-use Rattle.nfs_names.specs.{Checks.{current, no_directory, denied}, Attributes.attributes_of}
+use Rattle.nfs_names.specs.{Checks.{current, no_directory, no_access}, Attributes.attributes_of}
 use Rattle.nfs_opens.specs.Steps.{in_order, require, ◌>>=◌, ◌>>◌}
 
 -- what is reported of an object; an entry's object is there, so the first line is never met
@@ -30,11 +30,8 @@ longest test [] = []
 longest test (x ∷ xs) = if test (x ∷ []) then x ∷ longest (λ more. test (x ∷ more)) xs else []
 
 -- as many as fit behind the status, with the verifier in front of them and the two flags behind them
-abbrev pub fits : ℕ → List Entry → Bool
-fits most entries = nat_le (length (flat_map entry_text entries) + 16) most
-
 unfoldable pub fitting : State → ReadDir → Node → List Entry
-fitting s a d = longest (fits (given a.maxcount)) (left s a d)
+fitting s a d = longest (λ entries. nat_le (length (flat_map entry_text entries) + 16) (given a.maxcount)) (left s a d)
 
 abbrev pub zeros : List ℕ
 zeros = replicate 8 0
@@ -43,7 +40,7 @@ zeros = replicate 8 0
 abbrev pub listing_checks : Context → ReadDir → Node → List (Bool × Status)
 listing_checks x a d =
     no_directory d
-    ∷ denied x d read
+    ∷ no_access x d read
     ∷ (asks_set_only (mask_of a.attr_request), Inval)
     ∷ (not (bytes_eq a.cookieverf zeros), NotSame)
     ∷ (a.cookie == 1 || a.cookie == 2, BadCookie)

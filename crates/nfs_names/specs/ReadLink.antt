@@ -3,8 +3,9 @@ use Rattle.std.specs.Prelude.{Ok}
 use Rattle.nfs_xdr.specs.declared.status.Status.TheVariants.{WrongType}
 use Rattle.nfs_compound.specs.declared.op_num.OpNum.TheVariants as Num
 use Rattle.nfs_results.specs.declared.res.Res.TheVariants as Res
+use Rattle.nfs_tree.specs.Object.{is_link}
 use Rattle.nfs_tree.specs.{Files.most_text, Bytes.part}
-use Rattle.nfs_names.specs.{declared.context.Context.Context, State.State, Outcome.{Outcome, done, or_refusal}, Checks.current, Lookup.is_link}
+use Rattle.nfs_names.specs.{declared.context.Context.Context, State.State, Outcome.{Outcome, done, or_refusal}, Checks.current}
 use Rattle.nfs_opens.specs.Steps.{require, ◌>>=◌, ◌>>◌}
 
 -- the text is all that the object has, and no link has more

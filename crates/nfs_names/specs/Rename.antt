@@ -4,10 +4,10 @@ use Rattle.nfs_xdr.specs.{declared.time.Time.Time, declared.status.Status.Status
 use Rattle.nfs_compound.specs.declared.op_num.OpNum.TheVariants as Num
 use Rattle.nfs_compound.specs.declared.name_args.Rename as args
 use Rattle.nfs_results.specs.declared.res.Res.TheVariants as Res
-use Rattle.nfs_tree.specs.{Files.{lookup, raised, stays}, Names.{Move, move, moves, rename_checks, with_moved}}
-use Rattle.nfs_attrs.specs.Permissions.{change}
+use Rattle.nfs_tree.specs.{Files.{object_named, raised, unraised}, Names.{Move, move, moves, rename_checks, with_moved}}
+use Rattle.nfs_attrs.specs.Permissions.{change_entries}
 use Rattle.nfs_names.specs.{declared.context.Context.Context, declared.node.Pair.Pair, State.{State, with_tree, without_unused}}
-use Rattle.nfs_names.specs.{Outcome.{Outcome, done, or_refusal}, Checks.{both, no_directory, denied, name_checks}, Create.change_info, Faults.by_tree}
+use Rattle.nfs_names.specs.{Outcome.{Outcome, done, or_refusal}, Checks.{both, no_directory, no_access, name_checks}, Create.change_info, Faults.by_tree}
 use Rattle.nfs_opens.specs.Steps.{in_order, ◌>>=◌, ◌>>◌}
 
 abbrev pub move_of : args.Rename → Pair → Move
@@ -25,12 +25,12 @@ renamed s x now a p true = record {
     source_cinfo = change_info (raised s.tree p.saved.number);
     target_cinfo = change_info (raised s.tree p.current.number);
   });
-  state = without_replaced (with_tree s (with_moved s.tree (move_of a p) now)) (lookup s.tree p.current.number a.newname);
+  state = without_replaced (with_tree s (with_moved s.tree (move_of a p) now)) (object_named s.tree p.current.number a.newname);
   context = x;
 }
 renamed s x now a p false = done s x (Res.Rename (record {
-  source_cinfo = change_info (stays s.tree p.saved.number);
-  target_cinfo = change_info (stays s.tree p.current.number);
+  source_cinfo = change_info (unraised s.tree p.saved.number);
+  target_cinfo = change_info (unraised s.tree p.current.number);
 }))
 
 -- what is looked at of the places and the names
@@ -38,8 +38,8 @@ abbrev pub place_checks : Context → args.Rename → Pair → List (Bool × Sta
 place_checks x a p =
     no_directory p.saved
     ∷ no_directory p.current
-    ∷ denied x p.saved change
-    ∷ denied x p.current change
+    ∷ no_access x p.saved change_entries
+    ∷ no_access x p.current change_entries
     ∷ name_checks a.oldname
     ++ name_checks a.newname
 

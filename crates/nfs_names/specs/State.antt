@@ -1,4 +1,4 @@
--- What operations act on: the tree, the opens, the instance of the server and the length of a lease.
+-- What operations act on: the tree, the opens, which know the server's instance, and the length of a lease.
 use Rattle.std.specs.{Prelude.{ℕ, ◌==◌, ◌||◌, Bool, pos, if◌then◌else◌}, List.list_any}
 use Rattle.nfs_xdr.specs.declared.time.Time.{Time}
 use Rattle.nfs_tree.specs.{Files.{Files, root, has_row}, Create.new_tree, Names.forget}
@@ -8,18 +8,17 @@ use Rattle.nfs_names.specs.declared.store.Store.{Store}
 pub record State : Type 0 where
   pub tree : Files
   pub opens : Table
-  pub instance : ℕ
   pub lease : ℕ
 
 abbrev pub state_of : Store → State
-state_of s = record { tree = s.tree; opens = table s.opens; instance = s.instance; lease = s.lease }
+state_of s = record { tree = s.tree; opens = table s.opens; lease = s.lease }
 
 -- a new server's: nothing but the root, and nothing is open
 abbrev pub new_store : ℕ → Time → ℕ → ℕ → State
-new_store mode now instance lease = record { tree = new_tree mode now; opens = no_opens instance; instance = instance; lease = lease }
+new_store mode now instance lease = record { tree = new_tree mode now; opens = no_opens instance; lease = lease }
 
 abbrev pub with_tree : State → Files → State
-with_tree s t = record { tree = t; opens = s.opens; instance = s.instance; lease = s.lease }
+with_tree s t = record { tree = t; opens = s.opens; lease = s.lease }
 
 -- so many seconds, as a time
 abbrev pub moment : ℕ → Time

@@ -1,6 +1,7 @@
 //! Operations that report attributes and rights (RFC 8881 sections 18.1, 18.7, 18.8, 18.15 and 18.31).
 
 ghost use Rattle.std.specs.Prelude.{◌≡◌, ◌+◌, ◌≤◌, length};
+ghost use Rattle.nfs_tree.specs.Files.{data_at};
 ghost use Rattle.nfs_xdr.specs.SheetState.{Puts};
 ghost use Rattle.nfs_results.specs.Results.{spell_result};
 ghost use Rattle.nfs_results.specs.declared.res.Res.TheVariants as Res;
@@ -18,7 +19,7 @@ ghost use Rattle.nfs_names.specs.GetFh as of_get_fh;
 ghost use Rattle.nfs_names.specs.Verify as of_verify;
 ghost use Rattle.nfs_names.specs.NVerify as of_nverify;
 
-use crate::checks::{current, put_refusal, refuse};
+use crate::checks::{current, current_and_size, put_refusal, refuse};
 use crate::context::Context;
 use crate::node::Node;
 use crate::store::Store;
@@ -45,9 +46,10 @@ fn links_of(store: &Store, node: &Node) -> u32
     }
 }
 
-/// What is reported of an object beside the object itself, as far as it is asked for: names are counted only where
-/// their number is.
-pub(crate) fn about(store: &Store, node: &Node, asked: Mask) -> About
+/// What is reported of an object of so many bytes beside the object itself, as far as it is asked for: names are counted
+/// only where their number is.
+pub(crate) fn about(store: &Store, node: &Node, size: u64, asked: Mask) -> About
+    requires { size ≡ length (data_at store.now.tree node.now.number) }
     ensures { values asked result node.now.object ≡ values asked (attributes.about (state_of store.now) node.now) node.now.object }
 {
     let links = if asked.has(attribute::NUMLINKS) {
@@ -57,8 +59,9 @@ pub(crate) fn about(store: &Store, node: &Node, asked: Mask) -> About
     };
     About {
         number: node.number,
+        size,
         links,
-        instance: store.instance,
+        instance: store.opens.instance(),
         lease: store.lease,
     }
 }
@@ -80,36 +83,41 @@ pub(crate) fn access(store: &Store, context: &Context<'_>, asked: u32) -> Res<'s
     }
 }
 
-/// The object whose attributes are asked for: those that can only be set are not reported.
-fn judge_mask(store: &Store, context: &Context<'_>, mask: &Bitmap<'_>) -> Result<Node, Status>
-    ensures { result ≡ front.getting_attr (state_of store.now) context.now mask.now }
+/// The object whose attributes are asked for, and its size: those that can only be set are not reported.
+fn judge_mask(
+    store: &Store,
+    context: &Context<'_>,
+    mask: &Bitmap<'_>,
+) -> Result<(Node, u64), Status>
+    ensures { result ≡ front.sized (state_of store.now) (front.getting_attr (state_of store.now) context.now mask.now) }
 {
-    let d = current(store, context)?;
+    let found = current_and_size(store, context)?;
     if mask_in(mask).asks_set_only() {
         return Err(Status::Inval);
     }
-    Ok(d)
+    Ok(found)
 }
 
 /// Whether the attributes of the current object are those that are given.
 fn compare(store: &Store, context: &Context<'_>, given: &Attributes<'_>) -> Result<bool, Status>
     ensures { result ≡ of_verify.compared (state_of store.now) context.now given.now }
 {
-    let d = current(store, context)?;
-    match same_at(store, &d, given) {
+    let (d, size) = current_and_size(store, context)?;
+    match same_at(store, &d, size, given) {
         Ok(equal) => Ok(equal),
         Err(fault) => Err(fault.status()),
     }
 }
 
 #[tactic(auto, unfolding(crate::specs::Verify::same_at))]
-fn same_at(store: &Store, node: &Node, given: &Attributes<'_>) -> Result<bool, AttrFault>
+fn same_at(store: &Store, node: &Node, size: u64, given: &Attributes<'_>) -> Result<bool, AttrFault>
+    requires { size ≡ length (data_at store.now.tree node.now.number) }
     ensures { result ≡ of_verify.same_at (state_of store.now) given.now node.now }
 {
     let asked = mask_in(&given.attrmask);
     same(
         &node.object,
-        &about(store, node, asked),
+        &about(store, node, size, asked),
         asked,
         given.attr_vals.bytes(),
     )
@@ -139,13 +147,14 @@ pub(crate) fn nverify(store: &Store, context: &Context<'_>, given: &Attributes<'
     }
 }
 
-/// Puts the attributes of an object, as GETATTR answers them.
-fn put_attributes(store: &Store, node: &Node, asked: Mask, out: &mut Sheet)
-    requires { length out.old.bytes + 640 ≤ out.old.room }
+/// Puts the attributes of an object of so many bytes, as GETATTR answers them.
+fn put_attributes(store: &Store, node: &Node, size: u64, asked: Mask, out: &mut Sheet)
+    requires size { size ≡ length (data_at store.now.tree node.now.number) }
+    requires room { length out.old.bytes + 640 ≤ out.old.room }
     ensures { Puts out.old out.new (spell_result (Res.GetAttr (attributes.attributes_of (state_of store.now) asked node.now))) }
 {
     write_done_head(OpNum::GetAttr, out);
-    write_attrs(&node.object, &about(store, node, asked), asked, out);
+    write_attrs(&node.object, &about(store, node, size, asked), asked, out);
 }
 
 /// GETATTR.
@@ -160,8 +169,8 @@ pub(crate) fn get_attr(
     ensures { Comes (of_get_attr.get_attr (state_of store.now) context.now asked.now) out.old out.new result (state_of store.now) context.now }
 {
     match judge_mask(store, context, asked) {
-        Ok(d) => {
-            put_attributes(store, &d, mask_in(asked), out);
+        Ok((d, size)) => {
+            put_attributes(store, &d, size, mask_in(asked), out);
             Status::Nfs4Ok
         }
         Err(status) => put_refusal(OpNum::GetAttr, status, out),
@@ -186,7 +195,7 @@ pub(crate) fn get_fh(store: &Store, context: &Context<'_>, out: &mut Sheet) -> S
     match current(store, context) {
         Ok(d) => {
             let handle = Handle {
-                instance: store.instance,
+                instance: store.opens.instance(),
                 number: d.number,
             };
             put_handle(&handle, out);

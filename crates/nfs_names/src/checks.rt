@@ -7,10 +7,11 @@ ghost use Rattle.nfs_compound.specs.OpNum.{op_number};
 ghost use Rattle.nfs_xdr.specs.SheetState.{Puts};
 ghost use Rattle.nfs_results.specs.declared.res.Res.TheVariants as Res;
 ghost use Rattle.nfs_results.specs.Results.{refusal, spell_result};
+ghost use Rattle.nfs_tree.specs.Object.{is_link};
 ghost use Rattle.nfs_tree.specs.Files.{object_at};
 ghost use Rattle.nfs_names.specs.State.{state_of};
 ghost use Rattle.nfs_names.specs.Checks.{node_at, current, both, saved_object, permits, is_barred, is_dots, name_checks};
-ghost use Rattle.nfs_names.specs.Lookup.{is_link};
+ghost use Rattle.nfs_names.specs.Fronts.{sized};
 
 use crate::context::{Context, Saved};
 use crate::node::{Node, Pair};
@@ -70,6 +71,23 @@ pub fn current(store: &Store, context: &Context<'_>) -> Result<Node, Status>
     ensures { result ≡ current (state_of store.now) context.now }
 {
     node_at(store, context.current)
+}
+
+/// The same object, and how many bytes it has.
+#[tactic(auto, unfolding(crate::specs::Checks::current))]
+pub(crate) fn current_and_size(store: &Store, context: &Context<'_>) -> Result<(Node, u64), Status>
+    ensures { result ≡ sized (state_of store.now) (current (state_of store.now) context.now) }
+{
+    let Some(number) = context.current else {
+        return Err(Status::NoFileHandle);
+    };
+    match store.tree.object_and_size(number) {
+        Some((object, size)) => {
+            let object = *object;
+            Ok((Node { number, object }, size))
+        }
+        None => Err(Status::Stale),
+    }
 }
 
 /// The objects of the current filehandle and of the saved one.

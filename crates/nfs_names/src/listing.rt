@@ -9,7 +9,7 @@ ghost use Rattle.nfs_results.specs.declared.res.Res.TheVariants as Res;
 ghost use Rattle.nfs_results.specs.Results.{spell_result};
 ghost use Rattle.nfs_results.specs.Straight.{entry_head, entry_text};
 ghost use Rattle.nfs_tree.specs.Bytes.{part};
-ghost use Rattle.nfs_tree.specs.Files.{most_text, object_at};
+ghost use Rattle.nfs_tree.specs.Files.{most_text, data_at, object_at};
 ghost use Rattle.nfs_tree.specs.Listing.{listed_of};
 ghost use Rattle.nfs_attrs.specs.Attributes.{spell_attrs};
 ghost use Rattle.nfs_names.specs.State.{state_of};
@@ -108,16 +108,18 @@ fn fits(name: &[u8], object: &Object, about: &About, asked: &Asked, room: usize)
     name.len() + MOST_BESIDE_NAME <= room || entry_len(name, object, about, asked.mask()) <= room
 }
 
-/// Puts an entry with the attributes of its object, if it takes no more than `room` bytes.
+/// Puts an entry with the attributes of its object, which has `size` bytes, if it takes no more than `room` bytes.
 fn put_entry(
     store: &Store,
     entry: &Entry<'_>,
     object: &Object,
+    size: u64,
     asked: &Asked,
     room: usize,
     out: &mut Sheet,
 ) -> bool
     requires there { Some object.now ≡ object_at store.now.tree entry.now.number }
+    requires size { size ≡ length (data_at store.now.tree entry.now.number) }
     requires few { room ≤ most_transfer }
     requires room { length out.old.bytes + room ≤ out.old.room }
     ensures { PutsWithin result room out.old out.new (entry_text (of_read_dir.entry_of (state_of store.now) asked.now (listed_of entry.now))) }
@@ -126,7 +128,7 @@ fn put_entry(
         number: entry.number,
         object: *object,
     };
-    let about = about(store, &node, asked.mask());
+    let about = about(store, &node, size, asked.mask());
     if !fits(entry.name, object, &about, asked, room) {
         return false;
     }
@@ -148,11 +150,11 @@ fn put_entries(store: &Store, place: &Node, asked: &ReadDir<'_>, out: &mut Sheet
     let mut objects = store.tree.in_turn(place.number);
     let mut listing = store.tree.list(place.number, asked.cookie);
     while let Some(entry) = listing.next() {
-        let Some(object) = objects.object(entry.number) else {
+        let Some((object, size)) = objects.object_and_size(entry.number) else {
             return false;
         };
         let before = out.len();
-        if !put_entry(store, &entry, object, &wanted, room, out) {
+        if !put_entry(store, &entry, object, size, &wanted, room, out) {
             return false;
         }
         room -= out.len() - before;

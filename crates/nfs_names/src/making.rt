@@ -1,16 +1,14 @@
 //! Operations that make, name and remove objects (RFC 8881 sections 18.4, 18.9, 18.25 and 18.26).
 
-ghost use Rattle.std.specs.Prelude.{◌≡◌, ◌==◌, ◌&&◌, ℕ, Some, false, length, nat_lt, option_map};
+ghost use Rattle.std.specs.Prelude.{◌≡◌, ◌==◌, ℕ, Some, true, false, length, nat_lt, option_map};
 ghost use Rattle.nfs_compound.specs.declared.op_num.OpNum.TheVariants as Num;
 ghost use Rattle.nfs_tree.specs.Calls.{new_of};
 ghost use Rattle.nfs_tree.specs.Files.{most_text, has_entries};
 ghost use Rattle.nfs_attrs.specs.Mask.{trimmed_words};
-ghost use Rattle.nfs_results.specs.Results.{status_of_result};
 ghost use Rattle.nfs_names.specs.State.{state_of};
 ghost use Rattle.nfs_names.specs.StoreInvariants.{IsRooted};
-ghost use Rattle.nfs_names.specs.Outcome.{is_delay, or_delay};
 ghost use Rattle.nfs_names.specs.Operation.{moves_in};
-ghost use Rattle.nfs_names.specs.View.{outcome_of};
+ghost use Rattle.nfs_names.specs.View.{outcome_of, MayWant};
 ghost use Rattle.nfs_names.specs.Checks as check;
 ghost use Rattle.nfs_names.specs.Fronts as front;
 ghost use Rattle.nfs_names.specs.Create as of_create;
@@ -180,7 +178,7 @@ fn judge_making(store: &Store, context: &Context<'_>, asked: &Create<'_>) -> Res
 
 /// The status of what the tree refuses.
 pub fn status_of(fault: TreeFault) -> Status
-    ensures { result ≡ of_tree.status_of fault }
+    ensures { result ≡ of_tree.tree_fault_status fault }
 {
     match fault {
         TreeFault::NoEnt => Status::NoEnt,
@@ -206,7 +204,7 @@ pub(crate) fn create(
     now: Time,
 ) -> Res<'static>
     requires { IsRooted store.old.tree }
-    ensures { outcome_of result (state_of store.new) context.new ≡ or_delay (is_delay (status_of_result result)) (state_of store.old) context.old Num.Create (of_create.create (state_of store.old) context.old now asked.now) }
+    ensures { MayWant true (state_of store.old) context.old Num.Create (of_create.create (state_of store.old) context.old now asked.now) result (state_of store.new) context.new }
 {
     match judge_making(store, context, asked) {
         Ok(making) => {
@@ -285,7 +283,7 @@ pub(crate) fn link(
     now: Time,
 ) -> Res<'static>
     requires { IsRooted store.old.tree }
-    ensures { outcome_of result (state_of store.new) context.now ≡ or_delay (is_delay (status_of_result result)) (state_of store.old) context.now Num.Link (of_link.link (state_of store.old) context.now now name.now) }
+    ensures { MayWant true (state_of store.old) context.now Num.Link (of_link.link (state_of store.old) context.now now name.now) result (state_of store.new) context.now }
 {
     match judge_link(store, context, name) {
         Ok(p) => match store
@@ -376,9 +374,8 @@ pub(crate) fn rename(
     now: Time,
 ) -> Res<'static>
     requires { IsRooted store.old.tree }
-    ensures { outcome_of result (state_of store.new) context.now
-        ≡ or_delay (moves_in (state_of store.old) asked.now (check.both (state_of store.old) context.now) && is_delay (status_of_result result))
-        (state_of store.old) context.now Num.Rename (of_rename.rename (state_of store.old) context.now now asked.now) }
+    ensures { MayWant (moves_in (state_of store.old) asked.now (check.both (state_of store.old) context.now)) (state_of store.old) context.now Num.Rename
+        (of_rename.rename (state_of store.old) context.now now asked.now) result (state_of store.new) context.now }
 {
     match judge_rename(store, context, asked) {
         Ok(p) => match store.tree.rename(

@@ -17,8 +17,6 @@ pub struct Store {
     pub tree: Tree,
     /// Who has which file open how, and whose bytes are locked.
     pub opens: Opens,
-    /// Tells this start of the server from others: it stands in each filehandle and in each stateid.
-    pub instance: u32,
     /// How long a lease is, in seconds.
     pub lease: u32,
 }
@@ -40,7 +38,6 @@ impl Store {
         Ok(Store {
             tree,
             opens: Opens::new(alloc, instance),
-            instance,
             lease,
         })
     }

@@ -100,7 +100,7 @@ fn read_handle(store: &Store, object: &[u8]) -> Result<Handle, Status>
     let Ok(handle) = Handle::read(object) else {
         return Err(Status::BadHandle);
     };
-    if handle.instance != store.instance {
+    if handle.instance != store.opens.instance() {
         return Err(Status::Stale);
     }
     if !is_there(store, handle.number) {

@@ -4,7 +4,7 @@ use Rattle.std.proofs.lemmas.Bool.{cases_Bool, eq-eqb, ne_eqb, false≢true}
 use Rattle.std.specs.{Prelude.{◌==◌, ◌&&◌, ◌||◌, find, nat_lt}, List.list_any}
 use Rattle.nfs_xdr.specs.Tables.{In, record_at, without_record}
 use Rattle.nfs_xdr.proofs.{Lists.{filter_both, find_in, none_in}, Tables.{in_once, at_of_in}}
-use Rattle.nfs_opens.specs.{declared.records.OpenState.OpenState, Counts.{how_many, count_of, had, denied, without_one, reserved}, Share.meets}
+use Rattle.nfs_opens.specs.{declared.records.OpenState.OpenState, Counts.{how_many, count_of, had, share_denied, without_one, reserved}, Share.meets}
 use Rattle.nfs_opens.specs.{Table.{Table, Asked, is_owners, is_own, clashes_with}, TableInvariants.{IsTable, HasOneEach}}
 use Rattle.nfs_opens.proofs.{CountLemmas.{many_any, many_same}, CountedLemmas.{same_count, count_without}, ShareLemmas.own_is, SingleLemmas.whose_is}
 
@@ -112,7 +112,7 @@ both {p} {q} {r} {s} e f = ap (λ (b : Bool). b || r) e ∙ ap (λ (b : Bool). q
 
 -- A clash is one with what some open of another owner denies, or has.
 pub clash_counted : (a : Asked) (xs : List OpenState)
-    → (meets a.access (denied (count_of (is_others a) xs)) || meets a.deny (had (count_of (is_others a) xs))) ≡ list_any (clashes_with a) xs
+    → (meets a.access (share_denied (count_of (is_others a) xs)) || meets a.deny (had (count_of (is_others a) xs))) ≡ list_any (clashes_with a) xs
 clash_counted a xs =
     let P : Bool → (OpenState → Bool) → OpenState → Bool = λ asks one o. asks && (is_others a o && one o) in
     let br : OpenState → Bool = λ o. o.deny.reads in
@@ -127,4 +127,4 @@ clash_counted a xs =
     (λ o. spread (o.file == a.file) (is_owners a o) a.access.reads a.access.writes a.deny.reads a.deny.writes o.access.reads o.access.writes o.deny.reads o.deny.writes)
     ∙ (any_or (λ o. P a.access.reads br o || P a.access.writes bw o) (λ o. P a.deny.reads r o || P a.deny.writes w o) xs
     ∙ (ap (λ (b : Bool). b || list_any (λ o. P a.deny.reads r o || P a.deny.writes w o) xs) (first ∙ both (part a.access.reads br) (part a.access.writes bw))
-    ∙ ap (λ (b : Bool). meets a.access (denied (count_of (is_others a) xs)) || b) (second ∙ both (part a.deny.reads r) (part a.deny.writes w)))))
+    ∙ ap (λ (b : Bool). meets a.access (share_denied (count_of (is_others a) xs)) || b) (second ∙ both (part a.deny.reads r) (part a.deny.writes w)))))

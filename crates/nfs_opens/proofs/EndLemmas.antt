@@ -6,8 +6,9 @@ use Rattle.nfs_xdr.specs.Tables.{In}
 use Rattle.nfs_xdr.proofs.{Lists.{find_in, none_in, any_in, any_left, filter_all, filter_past, length_fewer}, Tables.in_once}
 use Rattle.nfs_ranges.specs.declared.Kind.{Kind}
 use Rattle.nfs_opens.specs.{declared.records.OpenState.OpenState, declared.records.LockState.LockState, Table.Table, TableInvariants.IsTable}
-use Rattle.nfs_opens.specs.{Closing.{stands, held_within, not_under, without_open}, Calls.without_client}
+use Rattle.nfs_opens.specs.{Closing.{held_within, without_open}, Calls.without_client}
 use Rattle.nfs_opens.proofs.LockLemmas.{same_table, some_or_none}
+use Rattle.nfs_opens.proofs.Terms.{not_under, stands}
 
 abbrev number_of : OpenState → ℕ
 number_of o = o.number

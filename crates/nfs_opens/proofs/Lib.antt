@@ -19,3 +19,4 @@ pub mod StepLemmas
 pub mod CallLaws
 pub mod LockedLemmas
 pub mod EndLemmas
+pub mod Terms

@@ -9,9 +9,10 @@ use Rattle.nfs_ranges.specs.{declared.Kind.Kind, Holders.{Holders, cleared, HasN
 use Rattle.nfs_opens.specs.{declared.share.Share.Share, declared.records.OpenState.OpenState, declared.records.LockState.LockState}
 use Rattle.nfs_opens.specs.{Holding.{FileHolders, on_file}, Table.{Table, Asked, clashes_with, as_asked, with_open, with_lock, no_opens}}
 use Rattle.nfs_opens.specs.{TableInvariants.{IsTable, IsHolder, AreHolders}, Opening.{new_open, joins, narrows, is_narrower}}
-use Rattle.nfs_opens.specs.{Closing.{stands, held_within, not_under, without_open, without_lock}, Locking.raised}
+use Rattle.nfs_opens.specs.{Closing.{held_within, without_open, without_lock}, Locking.raised}
 use Rattle.nfs_opens.proofs.{FileLemmas.{file_here, file_other}, HolderLemmas.{IsFewer, fewer_keeps}}
 use Rattle.nfs_opens.proofs.ShareLemmas.{peace_back, peace_self, joins_apart, narrows_apart}
+use Rattle.nfs_opens.proofs.Terms.{not_under, stands}
 
 -- a new table
 pub table_new : (instance : ℕ) → IsTable (no_opens instance)

@@ -6,22 +6,16 @@ use Rattle.nfs_opens.specs.{declared.stateid.StateId.StateId, declared.records.L
 use Rattle.nfs_opens.specs.{declared.judging.Seat.TheVariants.{Open, Lock}, declared.judging.Sort.TheVariants.{OpenOnly, Either}, Holding.FileHolders}
 use Rattle.nfs_opens.specs.{Steps.{◌>>=◌, ◌>>◌, require}, Table.{Table, lock_at}, Judging.judge}
 
-abbrev pub stands : List LockState → ℕ → Bool
-stands locks s = list_any (λ l. l.number == s) locks
-
 -- the bytes of the lock states that stand
 abbrev pub held_within : List LockState → FileHolders → FileHolders
-held_within locks held f s b = if stands locks s then held f s b else None
+held_within locks held f s b = if list_any (λ l. l.number == s) locks then held f s b else None
 
 -- an open goes, with its lock states and their bytes
-abbrev pub not_under : ℕ → LockState → Bool
-not_under n l = not (l.opened == n)
-
 abbrev pub without_open : Table → ℕ → Table
 without_open t n = record t {
   opens = filter (λ o. not (o.number == n)) t.opens;
-  locks = filter (not_under n) t.locks;
-  held = held_within (filter (not_under n) t.locks) t.held;
+  locks = filter (λ l. not (l.opened == n)) t.locks;
+  held = held_within (filter (λ l. not (l.opened == n)) t.locks) t.held;
 }
 
 abbrev pub close : Table → StateId → ℕ → ℕ → Result (Unit {0} × Table) Status

@@ -25,8 +25,8 @@ no_count = record { opens = 0; readers = 0; writers = 0; read_deniers = 0; write
 abbrev pub had : Count → Share
 had c = record { reads = nat_lt 0 c.readers; writes = nat_lt 0 c.writers }
 
-abbrev pub denied : Count → Share
-denied c = record { reads = nat_lt 0 c.read_deniers; writes = nat_lt 0 c.write_deniers }
+abbrev pub share_denied : Count → Share
+share_denied c = record { reads = nat_lt 0 c.read_deniers; writes = nat_lt 0 c.write_deniers }
 
 -- a number that counts one more, up to the last one, or one less
 abbrev pub more : ℕ → Bool → ℕ

@@ -24,8 +24,8 @@ named_by t None (Some l) = Some (lock_named t l)
 named_by t None None = None
 
 -- the state that a stateid of this instance names
-abbrev pub named : Table → StateId → Option Named
-named t id = if id.instance == t.instance then named_by t (open_at t id.number) (lock_at t id.number) else None
+abbrev pub state_named : Table → StateId → Option Named
+state_named t id = if id.instance == t.instance then named_by t (open_at t id.number) (lock_at t id.number) else None
 
 -- it is the file that is wanted, or any will do
 abbrev pub is_file : Option ℕ → ℕ → Bool
@@ -65,4 +65,4 @@ abbrev pub judge : Table → StateId → ℕ → Option ℕ → Sort → Result 
 judge t id client file sort =
     if is_anonymous id then special sort Anonymous
     else if is_bypass id then special sort ReadBypass
-    else judge_named client file sort id.seqid (named t id)
+    else judge_named client file sort id.seqid (state_named t id)

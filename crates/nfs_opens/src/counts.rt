@@ -26,7 +26,7 @@ pub(crate) struct Count {
 }
 
 impl Count {
-    ghost use Rattle.nfs_opens.specs.Counts.{no_count, had, denied, more, less, with_one, without_one};
+    ghost use Rattle.nfs_opens.specs.Counts.{no_count, had, share_denied, more, less, with_one, without_one};
 
     fn more(count: u64, one: bool) -> u64
         ensures { result ≡ more count one }
@@ -98,7 +98,7 @@ impl Count {
 
     /// What any of the opens denies.
     pub(crate) fn denied(self) -> Share
-        ensures { result ≡ denied self }
+        ensures { result ≡ share_denied self }
     {
         Share {
             reads: self.read_deniers > 0,

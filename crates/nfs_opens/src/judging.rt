@@ -2,7 +2,7 @@
 
 ghost use Rattle.std.specs.Prelude.{◌≡◌, Some};
 ghost use Rattle.nfs_opens.specs.Table.{table, open_at};
-ghost use Rattle.nfs_opens.specs.Judging.{named, judge, judge_named, special, is_sort, is_file, lock_named, open_named, access_of};
+ghost use Rattle.nfs_opens.specs.Judging.{state_named, judge, judge_named, special, is_sort, is_file, lock_named, open_named, access_of};
 
 use crate::opens::Opens;
 use crate::records::{LockState, OpenState};
@@ -144,7 +144,7 @@ impl Opens {
     }
 
     fn named(&self, id: StateId) -> Option<Named>
-        ensures { result ≡ named (table self.now) id }
+        ensures { result ≡ state_named (table self.now) id }
     {
         if id.instance != self.instance {
             return None;

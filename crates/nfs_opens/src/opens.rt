@@ -75,6 +75,13 @@ impl Opens {
         self.locks.len()
     }
 
+    /// The server's instance.
+    pub fn instance(&self) -> u32
+        ensures { result ≡ (table self.now).instance }
+    {
+        self.instance
+    }
+
     /// What holds of every table; moves nothing.
     pub fn kept(&self)
         ensures { IsTable (table self.now) }

@@ -51,6 +51,11 @@ pub record IsPlace (p : Interval → Bool) (bs : List (List Interval)) (place : 
   pub behind : (t : ℕ) → t ≤ length (option_to_list (head (drop (lead p (flat bs)) (flat bs))))
       → drop t (drop place.at (block_at bs place.block)) ++ flat (drop (suc place.block) bs) ≡ drop t (drop (lead p (flat bs)) (flat bs))
 
+-- what an edit leaves of the two blocks in which it begins and ends
+abbrev pub edges : Edit → List (List Interval) → List Interval
+edges e bs = take e.from.at (block_at bs e.from.block) ++
+    (option_to_list e.left ++ (option_to_list e.middle ++ (option_to_list e.right ++ drop e.taken (drop e.to.at (block_at bs e.to.block)))))
+
 -- what an edit leaves
 abbrev pub spliced : Edit → List (List Interval) → List Interval
 spliced e bs = flat (take e.from.block bs) ++ (take e.from.at (block_at bs e.from.block) ++ (option_to_list e.left ++ (option_to_list e.middle ++ (option_to_list e.right ++ (drop e.taken (drop e.to.at (block_at bs e.to.block)) ++ flat (drop (suc e.to.block) bs))))))

@@ -5,7 +5,7 @@ ghost use Rattle.std.specs.Option.{option_to_list};
 ghost use Rattle.nfs_ranges.specs.Owners.{is_empty};
 ghost use Rattle.nfs_ranges.specs.Clashes.{has_write};
 ghost use Rattle.nfs_ranges.specs.Edits.{lead, ends_before, ends_by, head};
-ghost use Rattle.nfs_ranges.specs.Blocks.{flat, last_end, block_at, AreSome, AreBlocks, IsPlace, ends_whole, ends_whole_by, spot, spliced, ArePartsOf};
+ghost use Rattle.nfs_ranges.specs.Blocks.{flat, last_end, block_at, AreSome, AreBlocks, IsPlace, ends_whole, ends_whole_by, spot, edges, spliced, ArePartsOf};
 
 use super::edits::{Edit, ended_before, ended_by, interval_at};
 use super::interval::Interval;
@@ -181,7 +181,7 @@ fn add(intervals: &mut Vec<Interval>, piece: Option<Interval>) -> Result<(), All
 
 /// What an edit leaves of the two blocks in which it begins and ends.
 fn edges(alloc: Global, blocks: &[Block], edit: Edit) -> Result<Vec<Interval>, AllocError>
-    ensures { IfOk result (λ v. v.items ≡ take edit.from.at (block_at blocks.now edit.from.block) ++ (option_to_list edit.left ++ (option_to_list edit.middle ++ (option_to_list edit.right ++ drop edit.taken (drop edit.to.at (block_at blocks.now edit.to.block)))))) }
+    ensures { IfOk result (λ v. v.items ≡ edges edit blocks.now) }
 {
     let before = front(intervals_at(blocks, edit.from.block), edit.from.at);
     let behind = rest(

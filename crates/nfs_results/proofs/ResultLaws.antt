@@ -11,7 +11,7 @@ use Rattle.nfs_compound.specs.{declared.op_num.OpNum.OpNum, OpNum.{op_number, op
 use Rattle.nfs_compound.specs.declared.op_num.OpNum.TheVariants as Num
 use Rattle.nfs_compound.proofs.ItemLaws.{is_stateid}
 use Rattle.nfs_results.specs.Items as item
-use Rattle.nfs_results.specs.{Listing.read_dir, declared.res.Res.Res, Results.{head, spell_result}, Refusals.{bears, tells, can_refuse}, Parts.is_legal}
+use Rattle.nfs_results.specs.{Listing.read_dir, declared.res.Res.Res, Results.{head, spell_result}, Refusals.{may_return, tells, can_refuse}, Parts.is_legal}
 use Rattle.nfs_results.specs.ResultCodec.{FitsResult, done_at, done_by, refused_at, read_behind, result}
 use Rattle.nfs_results.proofs.ItemLaws.{is_attr_set, is_fattr, is_change_info, is_access, is_create, is_denied, is_open_ok, is_read_ok, is_read_dir, is_rename}
 use Rattle.nfs_results.proofs.ItemLaws.{is_write_ok, is_exchange_id, is_create_session, is_flavors, is_sequence, is_status_codes}
@@ -194,9 +194,9 @@ refused_again : (operation : ℕ) (s : Status) (rest : List ℕ) → can_refuse 
     → result.read (spell_result (Res.Refused operation s) ++ rest) ≡ Some (Res.Refused operation s, rest)
 unfolding refused_at
 refused_again operation s rest fits =
-    let b = bears_some (eqb operation 10044) operation (status_number s) refl (and_parts (bears operation s) (not (tells operation s)) fits).0 in
+    let b = bears_some (eqb operation 10044) operation (status_number s) refl (and_parts (may_return operation s) (not (tells operation s)) fits).0 in
     let refuses : refused_at operation s rest ≡ Some (Res.Refused operation s, rest) =
-    passes (bears operation s) (eqb operation 34) (is_legal s) (eqb operation 12) (eqb operation 13) (eqb (status_number s) 10010) _ _ _ _ None fits in
+    passes (may_return operation s) (eqb operation 34) (is_legal s) (eqb operation 12) (eqb operation 13) (eqb (status_number s) 10010) _ _ _ _ None fits in
     alone_again operation s (Res.Refused operation s) rest b.0
     (ap (λ (ok : Bool). cond ok (done_by (op_num operation) rest) (refused_at operation s rest)) b.1 ∙ refuses) refl
 

@@ -6,8 +6,8 @@ use Rattle.nfs_compound.specs.OpNum.{op_number, first_op, last_op, op_illegal}
 
 -- A refusal is one of an operation of minor version 1, which are first_op to last_op, or of OP_ILLEGAL. That one alone is illegal, and
 -- beside that its answer can only be too big.
-abbrev pub bears : ℕ → Status → Bool
-bears operation s =
+abbrev pub may_return : ℕ → Status → Bool
+may_return operation s =
     if operation == op_illegal then status_number s == status_number OpIllegal || status_number s == status_number RepTooBig
     else nat_le first_op operation && nat_le operation last_op && not (status_number s == status_number Nfs4Ok || status_number s == status_number OpIllegal)
 
@@ -17,4 +17,4 @@ tells operation s = operation == op_number Num.SetAttr
     || ((operation == op_number Num.Lock || operation == op_number Num.LockT) && status_number s == status_number Denied)
 
 abbrev pub can_refuse : ℕ → Status → Bool
-can_refuse operation s = bears operation s && not (tells operation s)
+can_refuse operation s = may_return operation s && not (tells operation s)

@@ -34,7 +34,7 @@ pub use res::{
     OpenOk, ReadDirOk, ReadOk, RenameOk, Res, SequenceOk, Words, WriteOk,
 };
 pub use straight::{
-    write_done_head, write_entry, write_list_end, write_read_dir_head, write_read_end,
-    write_read_head, write_test_stateid_head,
+    write_done_head, write_entry, write_list_end, write_read_dir_head, write_read_head,
+    write_test_stateid_head,
 };
 pub use writing::write;

@@ -117,7 +117,7 @@ pub fn can_refuse(operation: u32, status: Status) -> bool
 
 /// Whether an operation of this number can be refused with this status.
 fn bears(operation: u32, status: Status) -> bool
-    ensures { result ≡ refusals.bears operation status }
+    ensures { result ≡ refusals.may_return operation status }
 {
     let number = status.number();
     if operation == OP_ILLEGAL {

@@ -1,13 +1,13 @@
 //! Results whose bytes come straight from where they are kept: the parts in front of them and behind them.
 //!
-//! READ is [`write_read_head`], the bytes and [`write_read_end`]. READDIR is [`write_read_dir_head`], for each
-//! entry [`write_entry`] and its attributes, and [`write_list_end`]. GETATTR is [`write_done_head`] and the
-//! attributes. TEST_STATEID is [`write_test_stateid_head`] and the number of each status.
+//! READ is [`write_read_head`], the bytes, and the zeros that fill up their last word. READDIR is
+//! [`write_read_dir_head`], for each entry [`write_entry`] and its attributes, and [`write_list_end`]. GETATTR is
+//! [`write_done_head`] and the attributes. TEST_STATEID is [`write_test_stateid_head`] and the number of each status.
 
 ghost use Rattle.std.specs.Prelude.{◌<◌, ◌^◌, ◌++◌, length, replicate};
 ghost use Rattle.nfs_xdr.specs.SheetState.{HasRoom, Puts};
 ghost use Rattle.nfs_xdr.specs.Spelling.{number, flag, padding};
-ghost use Rattle.nfs_results.specs.Straight.{read_head, read_end, read_dir_head, entry_head, list_end, test_stateid_head};
+ghost use Rattle.nfs_results.specs.Straight.{read_head, read_dir_head, entry_head, list_end, test_stateid_head};
 ghost use Rattle.nfs_results.specs.Results.{done_head};
 
 use crate::writing::put_head;
@@ -40,15 +40,6 @@ fn put_eof_and_count(eof: bool, count: u32, out: &mut Sheet)
 {
     out.put_flag(eof);
     out.put_u32(count);
-}
-
-/// Puts the zeros that fill up the last word of `count` bytes (RFC 4506 section 4.10).
-pub fn write_read_end(count: u32, out: &mut Sheet)
-    requires room { HasRoom out.old (read_end count) }
-    ensures { Puts out.old out.new (read_end count) }
-{
-    let zeros = [0; 3];
-    out.put_bytes(&zeros[..((4 - count % 4) % 4) as usize]);
 }
 
 /// Puts what a READDIR has in front of its entries (RFC 8881 section 18.23.2).

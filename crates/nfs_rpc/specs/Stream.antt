@@ -1,5 +1,5 @@
 -- A whole stream read into records (RFC 5531 section 11): the records, one behind the other, and how it ends.
-use Rattle.std.specs.Prelude.{◌≡◌, ℕ, List, [], ◌∷◌, ◌++◌}
+use Rattle.std.specs.Prelude.{◌≡◌, ℕ, List, [], ◌∷◌, ◌++◌, take, drop}
 use Rattle.nfs_rpc.specs.RecordMarking.{IsRecord, IsTooLong}
 
 -- No front of it is a whole record, and none is too long.
@@ -27,3 +27,8 @@ pub record IsReading (stream : List ℕ) (records : List (List ℕ)) (end : End)
   pub behind : List ℕ
   pub stands : AreRecords stream records behind
   pub ends : EndsAs behind end
+
+-- behind a record that a front of the piece ends, the rest of the piece is read on
+abbrev pub ReadsOn : (rest piece : List ℕ) (used : ℕ) → Type 0
+ReadsOn rest piece used = (d : List ℕ) (records : List (List ℕ)) (end : End)
+    → IsRecord (rest ++ take used piece) d → IsReading (drop used piece) records end → IsReading (rest ++ piece) (d ∷ records) end

@@ -2,7 +2,7 @@
 
 ghost use Rattle.std.specs.Prelude.{◌≡◌, ◌↔◌, ◌≤◌, ◌++◌, ◌∷◌, List, [], ℕ, Some, length, take, drop};
 ghost use Rattle.nfs_rpc.specs.RecordMarking.{IsRecord, IsTooLong, Part, IsPart, start};
-ghost use Rattle.nfs_rpc.specs.Stream.{IsUnfinished, End, Open, TooLong, IsReading};
+ghost use Rattle.nfs_rpc.specs.Stream.{IsUnfinished, End, Open, TooLong, IsReading, ReadsOn};
 ghost use Rattle.nfs_rpc.specs.declared.refusal.Refusal.{Refusal};
 ghost use Rattle.nfs_rpc.specs.Reply.{spell_head, spell_refusal};
 ghost use Rattle.nfs_xdr.specs.Caller.{Caller};
@@ -31,7 +31,7 @@ pub fn one_part()
 /// bytes taken is read on; or it is too long.
 pub fn following()
     ensures more { (rest : List ℕ) (p : Part) → IsPart rest p → IsReading rest [] (Open rest) }
-    ensures whole { (rest piece : List ℕ) (used : ℕ) (d : List ℕ) (records : List (List ℕ)) (end : End) → IsRecord (rest ++ take used piece) d → IsReading (drop used piece) records end → IsReading (rest ++ piece) (d ∷ records) end }
+    ensures whole { (rest piece : List ℕ) (used : ℕ) → ReadsOn rest piece used }
     ensures too_long { (rest piece : List ℕ) (used : ℕ) → IsTooLong (rest ++ take used piece) → IsReading (rest ++ piece) [] TooLong }
 {}
 

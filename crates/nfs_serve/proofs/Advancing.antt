@@ -1,7 +1,7 @@
 -- Acts one after the other, and what each call of a port comes to.
 use Rattle.std.proofs.Common.{◌≡◌, ℕ, not, ◌&&◌, ◌||◌, ◌+◌, ◌<◌, ◌≤◌, Bool, List, [], ◌∷◌, ◌++◌, length, filter, arith, flat_map, Option, Some, None, refl, sym, ap, subst, ◌∙◌}
 use Rattle.std.proofs.{Common.{append_assoc, append-nil, true, false}, lemmas.List.Concat.flat_map-append, lemmas.List.Elements.filter-append}
-use Rattle.nfs_serve.specs.Step.{State}
+use Rattle.nfs_serve.specs.Step.{ServerState}
 use Rattle.nfs_serve.specs.Desk.{Desk, HasMore, Unready, MayClose, most_read, closed, leaving, Act, WriteBlocked, Closed, Failed, Stepped, Came, ReadBlocked, Ended, IsHungry, Does, Goes, IsStuck, Reads, ReadsOnce, is_of_read}
 use Rattle.nfs_serve.specs.{Told.{Told, Logs}, Deeds.{Deed, counted, shown, asked}, declared.lane.Budget.Budget}
 use Rattle.nfs_serve.specs.Lane.{Stand, is_first, Advances, Quiet, StepsOne}
@@ -21,7 +21,7 @@ pub heard_or : (h x : Bool) → (h || (not h && x)) ≡ (h || x)
 heard_or true x = refl
 heard_or false x = refl
 
-pub Goes-append : (port : ℕ) (s u t : State) (d c e : Desk) (xs ys : List Act) → Goes port s d xs u c → Goes port u c ys t e → Goes port s d (xs ++ ys) t e
+pub Goes-append : (port : ℕ) (s u t : ServerState) (d c e : Desk) (xs ys : List Act) → Goes port s d xs u c → Goes port u c ys t e → Goes port s d (xs ++ ys) t e
 Goes-append port s u t d c e [] ys p q = rw (sym p.0) (rw (sym p.1) q)
 Goes-append port s u t d c e (x ∷ xs) ys p q =
     let (v, b, does, rest) = p in
@@ -45,16 +45,16 @@ reads_between xs mid ys none later few =
     (reads_last xs mid none few)
 
 -- a stand by its parts
-abbrev pub stands : State → Desk → Option (List Deed) → Option (List Told) → Stand
+abbrev pub stands : ServerState → Desk → Option (List Deed) → Option (List Told) → Stand
 stands s d l c = record { state = s; desk = d; log = l; told = c }
 
-pub stays : (port : ℕ) (s : State) (d : Desk) (l : Option (List Deed)) (c : Option (List Told)) → Advances port [] (stands s d l c) (stands s d l c)
+pub stays : (port : ℕ) (s : ServerState) (d : Desk) (l : Option (List Deed)) (c : Option (List Told)) → Advances port [] (stands s d l c) (stands s d l c)
 stays port s d l c = record { goes = (refl, refl); logs = Logs-nil l; clock = Logs-nil c }
 
-module _ {port : ℕ} {xs : List Act} {s u : State} {d c : Desk} {l0 l1 : Option (List Deed)} {c0 c1 : Option (List Told)}
+module _ {port : ℕ} {xs : List Act} {s u : ServerState} {d c : Desk} {l0 l1 : Option (List Deed)} {c0 c1 : Option (List Told)}
     (first : Advances port xs (stands s d l0 c0) (stands u c l1 c1)) where
   -- further acts
-  pub goes_on : (ys : List Act) (t : State) (e : Desk) (l2 : Option (List Deed)) (c2 : Option (List Told))
+  pub goes_on : (ys : List Act) (t : ServerState) (e : Desk) (l2 : Option (List Deed)) (c2 : Option (List Told))
       → Advances port ys (stands u c l1 c1) (stands t e l2 c2) → Advances port (xs ++ ys) (stands s d l0 c0) (stands t e l2 c2)
   goes_on ys t e l2 c2 then_ = record {
     goes = Goes-append port s u t d c e xs ys first.goes then_.goes;
@@ -63,7 +63,7 @@ module _ {port : ℕ} {xs : List Act} {s u : State} {d c : Desk} {l0 l1 : Option
   }
 
 -- one act that a port shows
-pub one_shown : (port : ℕ) (a : Act) (s : State) (d e : Desk) (l0 l1 : Option (List Deed)) (c : Option (List Told))
+pub one_shown : (port : ℕ) (a : Act) (s : ServerState) (d e : Desk) (l0 l1 : Option (List Deed)) (c : Option (List Told))
     → shown port a ≡ record { port = port; act = a } ∷ [] → asked a ≡ [] → Does port s d a s e
     → Logs l0 l1 (record { port = port; act = a } ∷ []) → Advances port (a ∷ []) (stands s d l0 c) (stands s e l1 c)
 one_shown port a s d e l0 l1 c is none does logs = record {
@@ -76,7 +76,7 @@ pub quiet_start : (port : ℕ) (d : Desk) (l : Option (List Deed)) → Quiet por
 quiet_start port d l = record { goes = λ s. (refl, refl); logs = Logs-nil l; unasked = refl; no_reads = refl }
 
 pub quiet_act : (port : ℕ) (a : Act) (d e : Desk) (l0 l1 : Option (List Deed))
-    → shown port a ≡ record { port = port; act = a } ∷ [] → asked a ≡ [] → filter is_of_read (a ∷ []) ≡ [] → ((s : State) → Does port s d a s e)
+    → shown port a ≡ record { port = port; act = a } ∷ [] → asked a ≡ [] → filter is_of_read (a ∷ []) ≡ [] → ((s : ServerState) → Does port s d a s e)
     → Logs l0 l1 (record { port = port; act = a } ∷ []) → Quiet port (a ∷ []) d e l0 l1
 quiet_act port a d e l0 l1 is none unread does logs = record {
   goes = λ s. (s, e, does s, (refl, refl));
@@ -95,7 +95,7 @@ quiet_on port xs ys d c e l0 l1 l2 p q = record {
 }
 
 -- quiet acts as acts
-pub quiet_advances : (port : ℕ) (acts : List Act) (s : State) (d e : Desk) (l0 l1 : Option (List Deed)) (c : Option (List Told))
+pub quiet_advances : (port : ℕ) (acts : List Act) (s : ServerState) (d e : Desk) (l0 l1 : Option (List Deed)) (c : Option (List Told))
     → Quiet port acts d e l0 l1 → Advances port acts (stands s d l0 c) (stands s e l1 c)
 quiet_advances port acts s d e l0 l1 c q = record {
   goes = q.goes s;
@@ -134,27 +134,27 @@ stuck_behind xs ys d h =
     (xs ++ front, ap (λ l. xs ++ l) is ∙ sym (append_assoc xs front (WriteBlocked ∷ [])), owed)
 
 -- what a read comes to
-pub read_blocked : (port : ℕ) (s : State) (d : Desk) (u : List ℕ) (l0 l1 : Option (List Deed)) (c : Option (List Told)) → IsHungry d → u ≡ []
+pub read_blocked : (port : ℕ) (s : ServerState) (d : Desk) (u : List ℕ) (l0 l1 : Option (List Deed)) (c : Option (List Told)) → IsHungry d → u ≡ []
     → Logs l0 l1 (record { port = port; act = ReadBlocked } ∷ [])
     → Advances port (ReadBlocked ∷ []) (stands s d l0 c) (stands s (record { live = d.live; gone = d.gone; heard = d.heard; stream = d.stream; reads = d.reads; unread = u; owed = d.owed }) l1 c)
 read_blocked port s d u l0 l1 c hungry none logs = one_shown port ReadBlocked s d _ l0 l1 c refl refl
     (refl, hungry, ap (λ v. record { live = d.live; gone = d.gone; heard = d.heard; stream = d.stream; reads = d.reads; unread = v; owed = d.owed }) (none ∙ sym hungry.unread)) logs
 
-pub read_came : (port : ℕ) (s : State) (d : Desk) (u : List ℕ) (l0 l1 : Option (List Deed)) (c : Option (List Told)) → IsHungry d
+pub read_came : (port : ℕ) (s : ServerState) (d : Desk) (u : List ℕ) (l0 l1 : Option (List Deed)) (c : Option (List Told)) → IsHungry d
     → 0 < length u → length u ≤ most_read → Logs l0 l1 (record { port = port; act = Came u } ∷ [])
     → Advances port (Came u ∷ []) (stands s d l0 c) (stands s (record { live = d.live; gone = d.gone; heard = d.heard; stream = d.stream; reads = d.reads + 1; unread = u; owed = d.owed }) l1 c)
 read_came port s d u l0 l1 c hungry some few logs = one_shown port (Came u) s d _ l0 l1 c refl refl (refl, hungry, some, few, refl) logs
 
-pub read_ended : (port : ℕ) (s : State) (d : Desk) (l0 l1 : Option (List Deed)) (c : Option (List Told)) → IsHungry d
+pub read_ended : (port : ℕ) (s : ServerState) (d : Desk) (l0 l1 : Option (List Deed)) (c : Option (List Told)) → IsHungry d
     → Logs l0 l1 (record { port = port; act = Ended } ∷ []) → Advances port (Ended ∷ []) (stands s d l0 c) (stands s leaving l1 c)
 read_ended port s d l0 l1 c hungry logs = one_shown port Ended s d leaving l0 l1 c refl refl (refl, hungry, refl) logs
 
-pub read_failed : (port : ℕ) (s : State) (d : Desk) (l0 l1 : Option (List Deed)) (c : Option (List Told)) → d.live ≡ true
+pub read_failed : (port : ℕ) (s : ServerState) (d : Desk) (l0 l1 : Option (List Deed)) (c : Option (List Told)) → d.live ≡ true
     → Logs l0 l1 (record { port = port; act = Failed } ∷ []) → Advances port (Failed ∷ []) (stands s d l0 c) (stands s leaving l1 c)
 read_failed port s d l0 l1 c live logs = one_shown port Failed s d leaving l0 l1 c refl refl (refl, live, refl) logs
 
 -- a connection that may be closed is closed
-pub closes : (port : ℕ) (s : State) (d : Desk) (l0 l1 : Option (List Deed)) (c : Option (List Told)) → MayClose d
+pub closes : (port : ℕ) (s : ServerState) (d : Desk) (l0 l1 : Option (List Deed)) (c : Option (List Told)) → MayClose d
     → Logs l0 l1 (record { port = port; act = Closed } ∷ []) → Advances port (Closed ∷ []) (stands s d l0 c) (stands s closed l1 c)
 closes port s d l0 l1 c may logs = one_shown port Closed s d closed l0 l1 c refl refl (refl, may, refl) logs
 
@@ -162,7 +162,7 @@ pub reads_closed : (xs : List Act) → ReadsOnce xs → ReadsOnce (xs ++ Closed 
 reads_closed xs once = subst (λ l. length l ≤ 1) (sym (filter-append is_of_read xs (Closed ∷ []) ∙ append-nil (filter is_of_read xs))) once
 
 -- acts behind a port that said that it is ready
-pub behind_nothing : (port : ℕ) (acts : List Act) (s t : State) (d e : Desk) (l0 l1 l2 : Option (List Deed)) (c0 c1 : Option (List Told)) → Logs l0 l1 []
+pub behind_nothing : (port : ℕ) (acts : List Act) (s t : ServerState) (d e : Desk) (l0 l1 l2 : Option (List Deed)) (c0 c1 : Option (List Told)) → Logs l0 l1 []
     → Advances port acts (stands s d l1 c0) (stands t e l2 c1) → Advances port acts (stands s d l0 c0) (stands t e l2 c1)
 behind_nothing port acts s t d e l0 l1 l2 c0 c1 none later = record {
   goes = later.goes;
@@ -171,7 +171,7 @@ behind_nothing port acts s t d e l0 l1 l2 c0 c1 none later = record {
 }
 
 -- a port that is passed over
-pub passed_over : (port : ℕ) (s : State) (d : Desk) (l0 l1 : Option (List Deed)) (c : Option (List Told)) → (HasMore d → ⊥)
+pub passed_over : (port : ℕ) (s : ServerState) (d : Desk) (l0 l1 : Option (List Deed)) (c : Option (List Told)) → (HasMore d → ⊥)
     → Logs l0 l1 (record { port = port; act = Unready } ∷ []) → Advances port (Unready ∷ []) (stands s d l0 c) (stands s d l1 c)
 passed_over port s d l0 l1 c none logs = one_shown port Unready s d d l0 l1 c refl refl (refl, none, refl) logs
 

@@ -4,7 +4,7 @@ use Rattle.std.proofs.Common.{append_assoc, append-nil, length-append}
 use Rattle.nfs_rpc.specs.RecordMarking.{Gathered}
 use Rattle.nfs_serve.specs.{declared.fault.Stop.Stop, declared.fault.Stop.TheVariants.{Cut, Connection, Long, Late, Many, ReadFailed, WriteFailed}}
 use Rattle.nfs_serve.specs.{declared.fault.ReplayFault.ReplayFault, Script.{Entry, spell_entry, BeginsRefused, StopsAt, IsStopped, IsWhole}, Ends.IsReported}
-use Rattle.nfs_serve.specs.{Step.State, Replay.{RunsOn, RunsScript, RunsFront, ReplaysFault, Replays, Reports}}
+use Rattle.nfs_serve.specs.{Step.ServerState, Replay.{RunsOn, RunsScript, RunsFront, ReplaysFault, Replays, Reports}}
 
 false≢true : false ≡ true → ⊥
 false≢true e = cc
@@ -26,7 +26,7 @@ longer read left stop entries rest is stands = record {
   stands = stands;
 }
 
-module _ (old new : State) (held : List Gathered) (read written : List ℕ) where
+module _ (old new : ServerState) (held : List Gathered) (read written : List ℕ) where
   -- a fault of the script's own
   faults : (left : List ℕ) (stop : Stop) (entry : ℕ) (ended failed : Bool) → IsReported stop ended false failed (Some left)
       → failed ≡ false → ReplaysFault stop entry old new held read written
@@ -57,7 +57,7 @@ module _ (old new : State) (held : List Gathered) (read written : List ℕ) wher
   breaks left Many entry ended told h = absurd (true≢false told.1)
   breaks left ReadFailed entry ended told h = absurd (true≢false told.1)
 
-pub ran_whole : (answer : Result (Unit {0}) ReplayFault) (old new : State) (held : List Gathered) (script left was bytes : List ℕ) (ended failed : Bool)
+pub ran_whole : (answer : Result (Unit {0}) ReplayFault) (old new : ServerState) (held : List Gathered) (script left was bytes : List ℕ) (ended failed : Bool)
     → was ≡ [] → failed ≡ false
     → Replays answer old new held (Some script) (Some left) (Some was) (Some bytes)
     → Reports answer ended false failed (Some left) → RunsScript answer old new held script bytes
@@ -70,7 +70,7 @@ ran_whole (Err f) old new held script left was bytes ended failed none well (rea
     let all : bytes ≡ written = appended ∙ ap (λ l. l ++ written) none in
     (subst (λ s. ReplaysFault f.number f.entry old new held s bytes) (sym consumed) (subst (ReplaysFault f.number f.entry old new held (read ++ left)) (sym all) ran), (unread, unwritten))
 
-pub ran_front : (answer : Result (Unit {0}) ReplayFault) (old new : State) (held : List Gathered) (script left was bytes : List ℕ) (ended failed : Bool)
+pub ran_front : (answer : Result (Unit {0}) ReplayFault) (old new : ServerState) (held : List Gathered) (script left was bytes : List ℕ) (ended failed : Bool)
     → was ≡ [] → failed ≡ true
     → Replays answer old new held (Some script) (Some left) (Some was) (Some bytes)
     → Reports answer ended false failed (Some left) → RunsFront old new held script

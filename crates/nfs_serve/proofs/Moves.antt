@@ -2,15 +2,15 @@
 use Rattle.std.proofs.Common.{◌≡◌, ℕ, Bool, true, false, List, [], ◌∷◌, ◌++◌, refl, sym, ap, ◌∙◌, append_assoc, append-nil, nat_eq, if◌then◌else◌}
 use Rattle.std.proofs.lemmas.List.{map-append}
 use Rattle.nfs_rpc.specs.{RecordMarking.Gathered, Stream.End}
-use Rattle.nfs_serve.specs.{declared.form.Form.Form, Script.Entry, Step.State}
+use Rattle.nfs_serve.specs.{declared.form.Form.Form, Script.Entry, Step.ServerState}
 use Rattle.nfs_serve.specs.Run.{Streams, with_stream, StreamEvent, Takes, TakesAll, Move, events, after, after_event, output, output_of, all_closed, Brings, Runs, Breaks, RunsInto}
 use Rattle.nfs_serve.specs.{Server.{held_on, IsWith, Stands}, Replay.AllStand}
 
-pub after-append : (s : State) (xs ys : List Move) → after s (xs ++ ys) ≡ after (after s xs) ys
+pub after-append : (s : ServerState) (xs ys : List Move) → after s (xs ++ ys) ≡ after (after s xs) ys
 after-append s [] ys = refl
 after-append s (m ∷ xs) ys = after-append (after_event s m.event m.choice) xs ys
 
-pub output-append : (form : Form) (s : State) (xs ys : List Move) → output form s (xs ++ ys) ≡ output form s xs ++ output form (after s xs) ys
+pub output-append : (form : Form) (s : ServerState) (xs ys : List Move) → output form s (xs ++ ys) ≡ output form s xs ++ output form (after s xs) ys
 output-append form s [] ys = refl
 output-append form s (m ∷ xs) ys =
     ap (λ l. output_of form s m.event m.choice ++ l) (output-append form (after_event s m.event m.choice) xs ys)
@@ -18,7 +18,7 @@ output-append form s (m ∷ xs) ys =
     (output form (after (after_event s m.event m.choice) xs) ys))
 
 -- one more move
-pub output-last : (form : Form) (s : State) (xs : List Move) (m : Move)
+pub output-last : (form : Form) (s : ServerState) (xs : List Move) (m : Move)
     → output form s (xs ++ m ∷ []) ≡ output form s xs ++ output_of form (after s xs) m.event m.choice
 output-last form s xs m = output-append form s xs (m ∷ []) ∙ ap (λ l. output form s xs ++ l) (append-nil (output_of form (after s xs) m.event m.choice))
 
@@ -35,7 +35,7 @@ TakesAll-more old (d ∷ es) first between e later new h t =
     (here, more ++ later, middle, ap (λ l. l ++ later) is ∙ append_assoc here more later, takes, TakesAll-more middle es more between e later new rest t)
 
 -- a run that goes on by an entry
-pub runs_more : (form : Form) (old now new : State) (es : List Entry) (streams end : Streams) (written : List ℕ) (e : Entry) (moves : List Move)
+pub runs_more : (form : Form) (old now new : ServerState) (es : List Entry) (streams end : Streams) (written : List ℕ) (e : Entry) (moves : List Move)
     → Runs form old now es streams written → Takes streams e (events moves) end → new ≡ after now moves
     → Runs form old new (es ++ e ∷ []) end (written ++ output form now moves)
 runs_more form old now new es streams end written e moves r takes state = record {
@@ -47,7 +47,7 @@ runs_more form old now new es streams end written e moves r takes state = record
 }
 
 -- a run that breaks in an entry
-pub runs_into : (form : Form) (old now new : State) (es : List Entry) (streams : Streams) (written more : List ℕ) (e : Entry) (own : List Move) (last : Move)
+pub runs_into : (form : Form) (old now new : ServerState) (es : List Entry) (streams : Streams) (written more : List ℕ) (e : Entry) (own : List Move) (last : Move)
     (taken dropped : List ℕ) (end : End) → Runs form old now es streams written → e.piece ≡ taken ++ dropped
     → Brings e.conn e.moment (streams e.conn) taken (events (own ++ last ∷ [])) end → Breaks form now new own last more
     → RunsInto form old new es e streams (written ++ more)

@@ -3,10 +3,11 @@ use Rattle.std.proofs.{Common.{◌≡◌, ℕ, false, List, [], take, Option, So
 use Rattle.std.proofs.{lemmas.List.{get_or-take, length-take}, lemmas.Bool.cases_lt}
 use Rattle.nfs_xdr.specs.Text.{IsBytes}
 use Rattle.nfs_rpc.specs.{RecordMarking.{Gathered, Complete, Failed, is_too_long}, Feeding.waits}
-use Rattle.nfs_serve.specs.{declared.form.Form.TheVariants.Plain, Step.{State, step}, Run.spell_answer, Server.fresh, First.{TakesUp, RunsOver}, Desk.TakesPart}
+use Rattle.nfs_serve.specs.{declared.form.Form.TheVariants.Plain, Step.{ServerState, step}, Run.spell_answer, Server.fresh, First.{TakesUp, RunsOver}}
+use Rattle.nfs_serve.specs.Desk.{TakesPart}
 use Rattle.nfs_serve.proofs.Pieces.{taking_start, taking_more, taking_ends, taking_long}
 
-module _ (conn : ℕ) (s : State) (was : Gathered) (moment : ℕ) (part : List ℕ) (short : is_too_long was ≡ false) where
+module _ (conn : ℕ) (s : ServerState) (was : Gathered) (moment : ℕ) (part : List ℕ) (short : is_too_long was ≡ false) where
   -- no record ends in it
   pub takes_none : (is : Gathered) → TakesUp was part is → waits is ≡ false → is_too_long is ≡ false → IsBytes part → TakesPart conn s was moment part s is []
   unfolding taking_start taking_ends
@@ -14,7 +15,7 @@ module _ (conn : ℕ) (s : State) (was : Gathered) (moment : ℕ) (part : List �
       let f = taking_ends (taking_start s was conn moment Plain part (Some [])) is short none going bytes up in
       record { moves = f.moves; one = omega arith; state = f.state; wrote = f.wrote; stream = f.stream }
 
-  pub takes_record : (call : List ℕ) (choice : Option ℕ) (t : State) → TakesUp was part (Complete call) → IsBytes part
+  pub takes_record : (call : List ℕ) (choice : Option ℕ) (t : ServerState) → TakesUp was part (Complete call) → IsBytes part
       → t ≡ (step s call moment choice).state → TakesPart conn s was moment part t fresh (spell_answer Plain conn (step s call moment choice).reply)
   unfolding taking_start taking_more taking_ends
   takes_record call choice t up bytes state =

@@ -6,7 +6,7 @@ use Rattle.nfs_xdr.specs.Text.{IsBytes}
 use Rattle.nfs_rpc.specs.RecordMarking.{Gathered, Begun, Complete, Failed, IsRecord, start, is_too_long}
 use Rattle.nfs_rpc.specs.{Stream.{End, Open, TooLong, AreRecords, IsReading, IsUnfinished}, Feeding.{waits, Holds}}
 use Rattle.nfs_rpc.proofs.{Fragments.{IsBytes-append, bytes_behind_front}, Readings.part_unfinished}
-use Rattle.nfs_serve.specs.{declared.form.Form.Form, Step.{State, step}, Ends.AppendsFront, First.TakesUp}
+use Rattle.nfs_serve.specs.{declared.form.Form.Form, Step.{ServerState, step}, Ends.AppendsFront, First.TakesUp}
 use Rattle.nfs_serve.specs.Run.{Arrives, Overflows, events_of, Brings, Move, events, after, output, spell_answer, spell_overflow}
 use Rattle.nfs_serve.specs.Server.{Stands, flow_of, Feeds, FeedsInto}
 use Rattle.nfs_serve.specs.declared.form.Flow.TheVariants as Flow
@@ -63,7 +63,7 @@ flow_open (Complete call) none going = absurd cc
 flow_open Failed none going = absurd cc
 
 -- A piece that was taken as far as the rest: each record in it ran, and its reply was written.
-pub record Taking (old now : State) (was is : Gathered) (conn moment : ℕ) (form : Form) (piece rest : List ℕ) (h0 h1 : Option (List ℕ)) : Type 0 where
+pub record Taking (old now : ServerState) (was is : Gathered) (conn moment : ℕ) (form : Form) (piece rest : List ℕ) (h0 h1 : Option (List ℕ)) : Type 0 where
   pub moves : List Move
   pub calls : List (List ℕ)
   pub taken : List ℕ
@@ -73,7 +73,7 @@ pub record Taking (old now : State) (was is : Gathered) (conn moment : ℕ) (for
   pub order : events moves ≡ map (λ call. Arrives conn moment call) calls
   pub stream : (before : List ℕ) → IsBytes before → Holds before was → Taken before taken calls is
 
-unfoldable pub taking_start : (s : State) (was : Gathered) (conn moment : ℕ) (form : Form) (piece : List ℕ) (h : Option (List ℕ))
+unfoldable pub taking_start : (s : ServerState) (was : Gathered) (conn moment : ℕ) (form : Form) (piece : List ℕ) (h : Option (List ℕ))
     → Taking s s was was conn moment form piece piece h h
 taking_start s was conn moment form piece h = record {
   moves = [];
@@ -86,7 +86,7 @@ taking_start s was conn moment form piece h = record {
   stream = λ before bytes holds. record { behind = before; records = append-nil before; bytes = bytes; holds = holds };
 }
 
-module _ {old now : State} {was is : Gathered} {conn moment : ℕ} {form : Form} {piece rest : List ℕ} {h0 h1 : Option (List ℕ)}
+module _ {old now : ServerState} {was is : Gathered} {conn moment : ℕ} {form : Form} {piece rest : List ℕ} {h0 h1 : Option (List ℕ)}
     (t : Taking old now was is conn moment form piece rest h0 h1) where
   -- the records behind a front of the rest that ends one
   pub taken_record : (front behind call before : List ℕ) → rest ≡ front ++ behind → TakesUp is front (Complete call) → IsBytes before → Holds before was
@@ -107,7 +107,7 @@ module _ {old now : State} {was is : Gathered} {conn moment : ℕ} {form : Form}
   order_long = events-append t.moves (record { event = Overflows conn; choice = None } ∷ []) ∙ ap (λ l. l ++ Overflows conn ∷ []) t.order
 
   -- the record that ends in the rest ran, and its reply was written
-  unfoldable pub taking_more : (front behind call : List ℕ) (choice : Option ℕ) (later : State) (h2 : Option (List ℕ))
+  unfoldable pub taking_more : (front behind call : List ℕ) (choice : Option ℕ) (later : ServerState) (h2 : Option (List ℕ))
       → rest ≡ front ++ behind → TakesUp is front (Complete call)
       → later ≡ (step now call moment choice).state → Appends h1 h2 (spell_answer form conn (step now call moment choice).reply)
       → Taking old later was (Begun start) conn moment form piece behind h0 h2
@@ -191,7 +191,7 @@ module _ {old now : State} {was is : Gathered} {conn moment : ℕ} {form : Form}
       }
 
   -- the writer failed in the reply to the record that ends in the rest
-  pub breaking : (front behind call : List ℕ) (choice : Option ℕ) (later : State) (h2 : Option (List ℕ))
+  pub breaking : (front behind call : List ℕ) (choice : Option ℕ) (later : ServerState) (h2 : Option (List ℕ))
       → is_too_long was ≡ false → rest ≡ front ++ behind → TakesUp is front (Complete call)
       → later ≡ (step now call moment choice).state → AppendsFront h1 h2 (spell_answer form conn (step now call moment choice).reply)
       → FeedsInto old later was conn moment piece form h0 h2

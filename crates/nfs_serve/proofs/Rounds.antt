@@ -2,7 +2,7 @@
 use Rattle.std.proofs.Common.{◌≡◌, ◌≢◌, ℕ, ◌<◌, List, [], ◌∷◌, ◌++◌, length, map, set, get_or, flat_map, Option, refl, sym, ap, subst, ◌∙◌, append-nil, length-append, arith, ◌+◌, ◌⊎◌, true, false, eqb, inl, inr}
 use Rattle.std.proofs.{lemmas.Bool.Decides.eqb_tells, lemmas.List.{map-set, get_or-set_same, get_or-set_other, get_or-map, length-map}}
 use Rattle.std.proofs.lemmas.List.Concat.{flat_map-append}
-use Rattle.nfs_serve.specs.{Step.State, Desk.{Desk, closed, HasMore}, Told.{Told, Logs}, Deeds.Deed, Lane.{desk_of, desks_of}, declared.lane.Lane.Lane}
+use Rattle.nfs_serve.specs.{Step.ServerState, Desk.{Desk, closed, HasMore}, Told.{Told, Logs}, Deeds.Deed, Lane.{desk_of, desks_of}, declared.lane.Lane.Lane}
 use Rattle.nfs_serve.specs.Hub.{Desks, at, none_live, Round, Opens, Turns, OthersStay, Turning, shown_in, asked_of, Sweeps, Sweeping, ServesRounds}
 use Rattle.nfs_serve.proofs.Advancing.{Logs-nil, Logs-trans}
 
@@ -18,7 +18,7 @@ pub at_lane : (lanes : List Lane) (port : ℕ) (d : Lane) → port < length lane
 at_lane lanes port d within = get_or-map desk_of lanes port d closed within
 
 -- rounds from ports that stand alike
-turning_from : (s t : State) (old mid new : Desks) (rounds : List Round) → ((c : ℕ) → mid c ≡ old c) → Turning s mid rounds t new → Turning s old rounds t new
+turning_from : (s t : ServerState) (old mid new : Desks) (rounds : List Round) → ((c : ℕ) → mid c ≡ old c) → Turning s mid rounds t new → Turning s old rounds t new
 turning_from s t old mid new [] same h = (h.0, λ c. h.1 c ∙ same c)
 turning_from s t old mid new (Opens port ∷ rounds) same h =
     let (between, le, is, others, later) = h in
@@ -28,7 +28,7 @@ turning_from s t old mid new (Turns port acts ∷ rounds) same h =
     (v, between, le, rw (sym (same port)) goes, ends, λ c other. others c other ∙ same c, later)
 
 -- rounds, and then rounds
-pub turning_on : (s u t : State) (old mid new : Desks) (first later : List Round) → Turning s old first u mid → Turning u mid later t new
+pub turning_on : (s u t : ServerState) (old mid new : Desks) (first later : List Round) → Turning s old first u mid → Turning u mid later t new
     → Turning s old (first ++ later) t new
 turning_on s u t old mid new [] later p q = turning_from s t old mid new later p.1 (subst (λ x. Turning x mid later t new) p.0 q)
 turning_on s u t old mid new (Opens port ∷ first) later p q =
@@ -39,7 +39,7 @@ turning_on s u t old mid new (Turns port acts ∷ first) later p q =
     (v, between, le, goes, ends, others, turning_on v u t between mid new first later more q)
 
 -- sweeps, and then one
-sweeping_on : (s u t : State) (old mid new : Desks) (sweeps : List (List Round)) (sweep : List Round) → Sweeping s old sweeps u mid → Sweeps u mid sweep t new
+sweeping_on : (s u t : ServerState) (old mid new : Desks) (sweeps : List (List Round)) (sweep : List Round) → Sweeping s old sweeps u mid → Sweeps u mid sweep t new
     → Sweeping s old (sweeps ++ sweep ∷ []) t new
 sweeping_on s u t old mid new [] sweep p q = (
   t,
@@ -56,7 +56,7 @@ sweeping_on s u t old mid new (first ∷ sweeps) sweep p q =
     let (v, between, one, more) = p in
     (v, between, one, sweeping_on v u t between mid new sweeps sweep more q)
 
-pub start : (s : State) (lanes : List Lane) (l : Option (List Deed)) (c : Option (List Told)) → ((port : ℕ) → at (desks_of lanes) port ≡ closed)
+pub start : (s : ServerState) (lanes : List Lane) (l : Option (List Deed)) (c : Option (List Told)) → ((port : ℕ) → at (desks_of lanes) port ≡ closed)
     → ServesRounds s s (desks_of lanes) 0 l l c c
 start s lanes l c all = record {
   sweeps = [];
@@ -70,7 +70,7 @@ start s lanes l c all = record {
 }
 
 -- one sweep more
-pub more : (s t u : State) (old new : List Desk) (n : ℕ) (l0 l1 l2 : Option (List Deed)) (c0 c1 c2 : Option (List Told)) (sweep : List Round)
+pub more : (s t u : ServerState) (old new : List Desk) (n : ℕ) (l0 l1 l2 : Option (List Deed)) (c0 c1 c2 : Option (List Told)) (sweep : List Round)
     → ServesRounds s t old n l0 l1 c0 c1 → Sweeps t (at old) sweep u (at new) → Logs l1 l2 (flat_map shown_in sweep) → Logs c1 c2 (asked_of sweep)
     → ServesRounds s u new (n + 1) l0 l2 c0 c2
 more s t u old new n l0 l1 l2 c0 c1 c2 sweep before round logs clock = record {

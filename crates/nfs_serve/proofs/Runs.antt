@@ -7,7 +7,7 @@ use Rattle.std.specs.Io.KnownBytes.{Consumes, Appends}
 use Rattle.nfs_rpc.specs.{RecordMarking.Gathered, Stream.{End, Open}}
 use Rattle.nfs_serve.specs.{declared.fault.Stop.Stop, declared.fault.Stop.TheVariants.{Cut, Connection, Long, Late, Many, ReadFailed, WriteFailed}}
 use Rattle.nfs_serve.specs.{declared.fault.ReplayFault.ReplayFault, declared.form.Form.TheVariants.Tagged}
-use Rattle.nfs_serve.specs.{Script.{Entry, spell_entry, Fits, max_entries, StopsAt, IsStopped}, Ends.IsReported, Step.State}
+use Rattle.nfs_serve.specs.{Script.{Entry, spell_entry, Fits, max_entries, StopsAt, IsStopped}, Ends.IsReported, Step.ServerState}
 use Rattle.nfs_serve.specs.Run.{Streams, with_stream, all_closed, Brings, TakesPiece, StreamEvent, events, output, Runs}
 use Rattle.nfs_serve.specs.{Server.{fresh, held_on, IsWith, Feeds, FeedsInto}, Replay.{AllStand, RunsOn, ReplaysFault, Replays, Reports}}
 use Rattle.nfs_serve.specs.Running.{RunsEntry, RunsEntryOr, EndsBehind}
@@ -28,7 +28,7 @@ pub takes_piece : (streams : Streams) (moment conn : ℕ) (piece : List ℕ) (br
 takes_piece streams moment conn [] brought end some brings = absurd (some refl)
 takes_piece streams moment conn (b ∷ bytes) brought end some brings = (end, brings, refl)
 
-pub entry_fed : {old new : State} {h0 h1 : Option (List ℕ)} (was : List Gathered) (now : Gathered) (e : Entry) → e.conn < length was → e.piece ≢ []
+pub entry_fed : {old new : ServerState} {h0 h1 : Option (List ℕ)} (was : List Gathered) (now : Gathered) (e : Entry) → e.conn < length was → e.piece ≢ []
     → Feeds old new (held_on was e.conn) now e.conn e.moment e.piece Tagged h0 h1 → RunsEntry old new was (set was e.conn now) e h0 h1
 entry_fed was now e within some f = record {
   moves = f.moves;
@@ -42,7 +42,7 @@ entry_fed was now e within some f = record {
       );
 }
 
-pub entry_closed : (s : State) (h : Option (List ℕ)) (was : List Gathered) (e : Entry)
+pub entry_closed : (s : ServerState) (h : Option (List ℕ)) (was : List Gathered) (e : Entry)
     → e.conn < length was → e.piece ≡ [] → RunsEntry s s was (set was e.conn fresh) e h h
 entry_closed s h was e within none = record {
   moves = [];
@@ -56,7 +56,7 @@ entry_closed s h was e within none = record {
 }
 
 -- An entry ran, by what the answer says: all of it, or up to a reply that could not be written.
-module _ {old new : State} (was is : List Gathered) (e : Entry) {h0 h1 : Option (List ℕ)} (failed : Bool) where
+module _ {old new : ServerState} (was is : List Gathered) (e : Entry) {h0 h1 : Option (List ℕ)} (failed : Bool) where
   pub ran_well : (ran : Result (Unit {0}) moving.WriteFailed) → is_err ran ≡ false → RunsEntryOr ran old new was is e h0 h1 failed
       → RunsEntry old new was is e h0 h1 × (failed ≡ false)
   ran_well (Ok u) well ran = ran
@@ -68,7 +68,7 @@ module _ {old new : State} (was is : List Gathered) (e : Entry) {h0 h1 : Option 
   ran_broken (Err f) broken ran = (ran.0, ran.1)
 
 -- A run that has gone on for n entries.
-pub record Going (old now : State) (held : List Gathered) (n : ℕ) (l0 l1 h0 h1 : Option (List ℕ)) : Type 0 where
+pub record Going (old now : ServerState) (held : List Gathered) (n : ℕ) (l0 l1 h0 h1 : Option (List ℕ)) : Type 0 where
   pub entries : List Entry
   pub count : length entries ≡ n
   pub fits : All Fits entries
@@ -82,7 +82,7 @@ pub record Going (old now : State) (held : List Gathered) (n : ℕ) (l0 l1 h0 h1
 flat_map-last : (es : List Entry) (e : Entry) → flat_map spell_entry (es ++ e ∷ []) ≡ flat_map spell_entry es ++ spell_entry e
 flat_map-last es e = flat_map-append spell_entry es (e ∷ []) ∙ ap (λ l. flat_map spell_entry es ++ l) (append-nil (spell_entry e))
 
-pub going_start : (s : State) (held : List Gathered) (l h : Option (List ℕ)) → AllStand all_closed held → Going s s held 0 l l h h
+pub going_start : (s : ServerState) (held : List Gathered) (l h : Option (List ℕ)) → AllStand all_closed held → Going s s held 0 l l h h
 going_start s held l h all = record {
   entries = [];
   count = refl;
@@ -95,11 +95,11 @@ going_start s held l h all = record {
   stands = all;
 }
 
-module _ {old now : State} {held : List Gathered} {n : ℕ} {l0 l1 h0 h1 : Option (List ℕ)} (g : Going old now held n l0 l1 h0 h1) where
+module _ {old now : ServerState} {held : List Gathered} {n : ℕ} {l0 l1 h0 h1 : Option (List ℕ)} (g : Going old now held n l0 l1 h0 h1) where
   count_more : (e : Entry) → length (g.entries ++ e ∷ []) ≡ n + 1
   count_more e = length-append g.entries (e ∷ []) ∙ ap (λ k. k + 1) g.count
 
-  pub going_more : (l2 h2 : Option (List ℕ)) (new : State) (held_new : List Gathered) (e : Entry) → Consumes l1 l2 (spell_entry e)
+  pub going_more : (l2 h2 : Option (List ℕ)) (new : ServerState) (held_new : List Gathered) (e : Entry) → Consumes l1 l2 (spell_entry e)
       → Fits e → RunsEntry now new held held_new e h1 h2 → Going old new held_new (n + 1) l0 l2 h0 h2
   going_more l2 h2 new held_new e read fits ran =
       let (end, takes, all) = ran.takes g.streams g.stands in record {
@@ -158,7 +158,7 @@ module _ {old now : State} {held : List Gathered} {n : ℕ} {l0 l1 h0 h1 : Optio
           false≢true e = cc
 
   -- the writer failed in a reply of an entry
-  pub going_breaks : (f : ReplayFault) (l2 h2 : Option (List ℕ)) (new : State) (held_new : List Gathered) (e : Entry)
+  pub going_breaks : (f : ReplayFault) (l2 h2 : Option (List ℕ)) (new : ServerState) (held_new : List Gathered) (e : Entry)
       → f.number ≡ WriteFailed → f.entry ≡ suc n → n < max_entries → Consumes l1 l2 (spell_entry e) → Fits e
       → FeedsInto now new (held_on held e.conn) e.conn e.moment e.piece Tagged h1 h2
       → IsWith held_new held e.conn fresh → Replays {U = Unit {0}} (Err f) old new held_new l0 l2 h0 h2

@@ -5,13 +5,13 @@ use Rattle.std.proofs.{lemmas.List.Elements.{All-nil, All-push}, lemmas.List.Con
 use Rattle.std.specs.Io.KnownBytes.{Consumes, Appends}
 use Rattle.nfs_rpc.specs.{RecordMarking.{Gathered, Begun, Complete, Failed, is_too_long}, Stream.{End, Open, TooLong}}
 use Rattle.nfs_serve.specs.{declared.form.Form.TheVariants.Plain, declared.talking.Talk.TheVariants.{Ended, Shut, ReadFailed, WriteFailed, TooMany}}
-use Rattle.nfs_serve.specs.{Script.Entry, Step.State, Run.{Streams, with_stream, all_closed, events, output, Runs}}
+use Rattle.nfs_serve.specs.{Script.Entry, Step.ServerState, Run.{Streams, with_stream, all_closed, events, output, Runs}}
 use Rattle.nfs_serve.specs.{Server.{fresh, Stands, Feeds, FeedsInto, flow_of}, Told.{Told, Moment, Logs}, Talk.{max_reads, IsPiece, Speaks, Talks}}
 use Rattle.nfs_serve.specs.declared.form.Flow.TheVariants as Flow
 use Rattle.nfs_serve.proofs.{Moves.{runs_more, runs_into}, Pieces.{start_holds, no_bytes, stands_open}, Runs.takes_piece, Advancing.{Logs-nil, Logs-trans}}
 
 -- A talk that has gone on for n pieces.
-pub record Speaking (old now : State) (is : Gathered) (n : ℕ) (l0 l1 h0 h1 : Option (List ℕ)) (c0 c1 : Option (List Told)) : Type 0 where
+pub record Speaking (old now : ServerState) (is : Gathered) (n : ℕ) (l0 l1 h0 h1 : Option (List ℕ)) (c0 c1 : Option (List Told)) : Type 0 where
   pub pieces : List Entry
   pub count : length pieces ≡ n
   pub each : All IsPiece pieces
@@ -23,7 +23,7 @@ pub record Speaking (old now : State) (is : Gathered) (n : ℕ) (l0 l1 h0 h1 : O
   pub runs : Runs Plain old now pieces streams written
   pub stands : Stands (streams 0) is
 
-pub speaking_start : (s : State) (l h : Option (List ℕ)) (c : Option (List Told)) → Speaking s s fresh 0 l l h h c c
+pub speaking_start : (s : ServerState) (l h : Option (List ℕ)) (c : Option (List Told)) → Speaking s s fresh 0 l l h h c c
 speaking_start s l h c = record {
   pieces = [];
   count = refl;
@@ -52,7 +52,7 @@ stands_long : (s : End) → Stands s Failed → s ≡ TooLong
 stands_long (Open rest) h = absurd h
 stands_long TooLong h = refl
 
-module _ {old now : State} {is : Gathered} {n : ℕ} {l0 l1 h0 h1 : Option (List ℕ)} {c0 c1 : Option (List Told)} (g : Speaking old now is n l0 l1 h0 h1 c0 c1) where
+module _ {old now : ServerState} {is : Gathered} {n : ℕ} {l0 l1 h0 h1 : Option (List ℕ)} {c0 c1 : Option (List Told)} (g : Speaking old now is n l0 l1 h0 h1 c0 c1) where
   pieces_read : (l2 : Option (List ℕ)) (e : Entry) → Consumes l1 l2 e.piece → Consumes l0 l2 (flat_map (λ d. d.piece) (g.pieces ++ e ∷ []))
   pieces_read l2 e read = subst (Consumes l0 l2)
       (sym (flat_map-append (λ d. d.piece) g.pieces (e ∷ []) ∙ ap (λ l. flat_map (λ d. d.piece) g.pieces ++ l) (append-nil e.piece)))
@@ -67,7 +67,7 @@ module _ {old now : State} {is : Gathered} {n : ℕ} {l0 l1 h0 h1 : Option (List
   nonempty : (e : Entry) → IsPiece e → e.piece ≢ []
   nonempty e each none = omega (arith, ap length none, each.2)
 
-  pub speaking_more : (l2 h2 : Option (List ℕ)) (c2 : Option (List Told)) (new : State) (held : Gathered) (e : Entry) → Consumes l1 l2 e.piece
+  pub speaking_more : (l2 h2 : Option (List ℕ)) (c2 : Option (List Told)) (new : ServerState) (held : Gathered) (e : Entry) → Consumes l1 l2 e.piece
       → Logs c1 c2 (Moment e.moment ∷ []) → IsPiece e → Feeds now new is held e.conn e.moment e.piece Plain h1 h2
       → Speaking old new held (n + 1) l0 l2 h0 h2 c0 c2
   speaking_more l2 h2 c2 new held e read told each fed =
@@ -98,7 +98,7 @@ module _ {old now : State} {is : Gathered} {n : ℕ} {l0 l1 h0 h1 : Option (List
   is_shut flow = speaks TooLong (stands_long (g.streams 0) (subst (Stands (g.streams 0)) (shut_is is flow) g.stands))
 
   -- the writer failed in a reply of a piece
-  pub speaking_breaks : (l2 h2 : Option (List ℕ)) (c2 : Option (List Told)) (new : State) (e : Entry) → Consumes l1 l2 e.piece
+  pub speaking_breaks : (l2 h2 : Option (List ℕ)) (c2 : Option (List Told)) (new : ServerState) (e : Entry) → Consumes l1 l2 e.piece
       → Logs c1 c2 (Moment e.moment ∷ []) → IsPiece e → n < max_reads → FeedsInto now new is e.conn e.moment e.piece Plain h1 h2
       → Talks WriteFailed old new l0 l2 h0 h2 c0 c2
   speaking_breaks l2 h2 c2 new e read told each few b =

@@ -7,12 +7,12 @@ use Rattle.nfs_rpc.specs.{HeadCodec.header, CallHead.{Call, Called, Accepted, ca
 use Rattle.nfs_rpc.proofs.HeadLaws.{call_taken}
 use Rattle.nfs_lease.specs.{Renewals.has_run_out, Queue.IsLatest}
 use Rattle.nfs_exec.specs.{Step.Machine.Machine, Step.Expiry.expired}
-use Rattle.nfs_serve.specs.{Step.{State, Stepped, refused, reply_to, step}, Server.IsAnswer, Engine.{PutsReply, PutsAnswer, outcome_of}}
+use Rattle.nfs_serve.specs.{Step.{ServerState, Stepped, refused, reply_to, step}, Server.IsAnswer, Engine.{PutsReply, PutsAnswer, outcome_of}}
 use Rattle.nfs_serve.specs.declared.form.Outcome.{Outcome}
 use Rattle.nfs_serve.specs.declared.form.Outcome.TheVariants as Outcomes
 
 -- what a step is, once its call is known
-pub step_of : (s : State) (bytes : List ℕ) (now moment : ℕ) (choice : Option ℕ) (tables : Machine) (called : Called)
+pub step_of : (s : ServerState) (bytes : List ℕ) (now moment : ℕ) (choice : Option ℕ) (tables : Machine) (called : Called)
     → moment ≡ max s.moment now → tables ≡ expired moment s.machine → call_of bytes ≡ called
     → step s bytes now choice ≡ reply_to (record { machine = tables; moment = moment }) (length bytes) choice called
 unfolding step
@@ -21,7 +21,7 @@ step_of s bytes now moment choice tables called taken is read =
     ≡ reply_to (record { machine = expired moment s.machine; moment = moment }) (length bytes) choice called) taken refl)
 
 -- a reply that was put behind the front of the sheet
-pub lies_behind : {r : Stepped} {old new : SheetState} {left : State} → length old.bytes ≡ 8 → PutsReply r old new left → r.reply ≡ Some (drop 8 new.bytes)
+pub lies_behind : {r : Stepped} {old new : SheetState} {left : ServerState} → length old.bytes ≡ 8 → PutsReply r old new left → r.reply ≡ Some (drop 8 new.bytes)
 lies_behind {r} {old} front h = h.reply ∙ ap Some (sym (ap (drop 8) h.put.bytes ∙ drop_at old.bytes h.text 8 front))
 
 silence : spell_refusal Silent ≡ []
@@ -29,7 +29,7 @@ unfolding spell_refusal
 silence = refl
 
 -- what a refusal puts is its reply, where it is answered
-pub refusal_puts : (s : State) (refusal : Refusal) (old new : SheetState) → Puts old new (spell_refusal refusal)
+pub refusal_puts : (s : ServerState) (refusal : Refusal) (old new : SheetState) → Puts old new (spell_refusal refusal)
     → PutsAnswer (outcome_of refusal) (refused s refusal) old new s
 refusal_puts s Silent old new put = (refl, subst (Puts old new) silence put, refl)
 refusal_puts s (Mismatch xid) old new put = record { text = _; reply = refl; put = put; state = refl }
@@ -37,13 +37,13 @@ refusal_puts s (Auth xid stat) old new put = record { text = _; reply = refl; pu
 refusal_puts s (Accept xid stat) old new put = record { text = _; reply = refl; put = put; state = refl }
 
 -- what was put behind the front of the sheet is the answer
-pub answer_lies : (outcome : Outcome) (r : Stepped) (old new : SheetState) (left : State) → length old.bytes ≡ 8 → PutsAnswer outcome r old new left
+pub answer_lies : (outcome : Outcome) (r : Stepped) (old new : SheetState) (left : ServerState) → length old.bytes ≡ 8 → PutsAnswer outcome r old new left
     → IsAnswer outcome r.reply (drop 8 new.bytes) × (left ≡ r.state)
 answer_lies Outcomes.Reply r old new left front h = (lies_behind front h, h.state)
 answer_lies Outcomes.Silent r old new left front h = ((h.0, ap (drop 8) h.1.bytes ∙ drop_at old.bytes [] 8 front), h.2)
 
 -- and nothing in front of it has changed
-pub answer_behind : (outcome : Outcome) (r : Stepped) (old new : SheetState) (left : State) → PutsAnswer outcome r old new left
+pub answer_behind : (outcome : Outcome) (r : Stepped) (old new : SheetState) (left : ServerState) → PutsAnswer outcome r old new left
     → (length old.bytes ≤ length new.bytes) × (new.room ≡ old.room)
 answer_behind Outcomes.Reply r old new left h =
     let long = ap length h.put.bytes ∙ length-append old.bytes h.text in
@@ -57,7 +57,7 @@ answer_behind Outcomes.Silent r old new left h =
 -- what has run out takes its lease with it, and what is left was renewed no later
 pub latest_expired : (m left : Machine) (before now : ℕ) → left ≡ expired now m → before ≤ now → IsLatest m.leases before → IsLatest left.leases now
 latest_expired m left before now is le latest = subst (λ (k : Machine). IsLatest k.leases now) (sym is) (record {
-  each = λ client moment e. elim (cases_Bool (has_run_out m.leases now client)) [
+  each = λ client moment e. elim (cases_Bool (has_run_out m.store.lease m.leases now client)) [
     | inl out ↦ absurd (let bad : None ≡ Some moment = rw out at e in cc)
     | inr stays ↦ (let h = latest.each client moment (rw stays at e) in omega (arith, h, le))
   ];

@@ -1,7 +1,7 @@
 -- A sweep, port after port; who begins before it; and how few others have their turn between two turns of a port.
 use Rattle.std.proofs.Common.{◌≡◌, ◌≢◌, ℕ, suc, ◌+◌, ◌*◌, ◌<◌, ◌≤◌, ◌⊎◌, List, [], ◌∷◌, ◌++◌, length, set, get_or, flat_map, Option, true, false, refl, sym, ap, subst, ◌∙◌, append-nil, arith, inl, inr, eqb}
 use Rattle.std.proofs.{lemmas.Bool.Decides.eqb_tells, lemmas.List.Concat.flat_map-append}
-use Rattle.nfs_serve.specs.{Step.State, Script.{last_connection, connection_count}}
+use Rattle.nfs_serve.specs.{Step.ServerState, Script.{last_connection, connection_count}}
 use Rattle.nfs_serve.specs.{Desk.{Desk, opened, Act, Opened, HasMore, IsPassed, Goes, most_steps, step_count}, Told.{Told, Sweep, Logs}, Deeds.Deed}
 use Rattle.nfs_serve.specs.{Lane.{desk_of, desks_of, Visits}, declared.lane.Lane.Lane}
 use Rattle.nfs_serve.specs.Hub.{Desks, at, Round, Opens, Turns, OthersStay, Turning, InOrder, IsOf, IsServed, HasTurn, Sweeps, shown_in, asked_in, asked_of, steps_in}
@@ -35,12 +35,12 @@ turn_last port acts (Opens p ∷ rounds) = turn_last port acts rounds
 turn_last port acts (Turns p done ∷ rounds) = inr (turn_last port acts rounds)
 
 -- where something waits a port is not passed over
-not_passed : (port : ℕ) (acts : List Act) (s t : State) (d e : Desk) → Goes port s d acts t e → HasMore d → IsPassed acts → ⊥
+not_passed : (port : ℕ) (acts : List Act) (s t : ServerState) (d e : Desk) → Goes port s d acts t e → HasMore d → IsPassed acts → ⊥
 not_passed port acts s t d e goes more passed =
     let (u, c, does, rest) = subst (λ l. Goes port s d l t e) passed goes in
     does.1 more
 
-pub sweep_start : (s : State) (old : Desks) (l : Option (List Deed)) (c : Option (List Told)) → SweepsBelow 0 s old s old l l c c
+pub sweep_start : (s : ServerState) (old : Desks) (l : Option (List Deed)) (c : Option (List Told)) → SweepsBelow 0 s old s old l l c c
 sweep_start s old l c = record {
   sweep = [];
   turning = (refl, λ p. refl);
@@ -53,7 +53,7 @@ sweep_start s old l c = record {
 }
 
 -- the next port has its turn
-turned : (s t u : State) (old : Desks) (lanes : List Lane) (port : ℕ) (d lane : Lane) (l0 l1 l2 : Option (List Deed)) (c0 c1 c2 : Option (List Told))
+turned : (s t u : ServerState) (old : Desks) (lanes : List Lane) (port : ℕ) (d lane : Lane) (l0 l1 l2 : Option (List Deed)) (c0 c1 c2 : Option (List Told))
     → SweepsBelow port s old t (at (desks_of lanes)) l0 l1 c0 c1 → port ≤ last_connection → port < length lanes
     → Visits port (stands t (desk_of (get_or lanes port d)) l1 c1) (stands u (desk_of lane) l2 c2)
     → SweepsBelow (suc port) s old u (at (desks_of (set lanes port lane))) l0 l2 c0 c2
@@ -89,7 +89,7 @@ turned s t u old lanes port d lane l0 l1 l2 c0 c1 c2 before le within (begun, be
         rw h.1 (served_last port acts before.sweep (not_passed port acts t u _ _ advances.goes (subst HasMore is more)))
     cases q less more (inr h) = served_more q before.sweep (Turns port acts ∷ []) (before.none_passed q (omega (arith, less, h.1)) more)
 
-pub visited : (s t u : State) (old : Desks) (lanes : List Lane) (port : ℕ) (d lane : Lane) (l0 l1 l2 : Option (List Deed)) (c0 c1 c2 : Option (List Told))
+pub visited : (s t u : ServerState) (old : Desks) (lanes : List Lane) (port : ℕ) (d lane : Lane) (l0 l1 l2 : Option (List Deed)) (c0 c1 c2 : Option (List Told))
     → SweepsBelow port s old t (at (desks_of lanes)) l0 l1 c0 c1 → port ≤ last_connection → port < length lanes
     → Visits port (stands t (desk_of (get_or lanes port d)) l1 c1) (stands u (desk_of lane) l2 c2)
     → SweepsBelow (port + 1) s old u (at (desks_of (set lanes port lane))) l0 l2 c0 c2
@@ -109,16 +109,16 @@ none_more lanes port d before within none p less more = cases (eqb_tells p port)
 
 -- Whoever begins, and then a whole sweep.
 
-pub record Swept (s : State) (old : Desks) (u : State) (new : Desks) (l0 l1 : Option (List Deed)) (c0 c1 : Option (List Told)) : Type 0 where
+pub record Swept (s : ServerState) (old : Desks) (u : ServerState) (new : Desks) (l0 l1 : Option (List Deed)) (c0 c1 : Option (List Told)) : Type 0 where
   pub sweep : List Round
   pub sweeps : Sweeps s old sweep u new
   pub logs : Logs l0 l1 (flat_map shown_in sweep)
   pub clock : Logs c0 c1 (asked_of sweep)
 
-from_alike : (s t : State) (old mid new : Desks) (rounds : List Round) → ((c : ℕ) → mid c ≡ old c) → Turning s mid rounds t new → Turning s old rounds t new
+from_alike : (s t : ServerState) (old mid new : Desks) (rounds : List Round) → ((c : ℕ) → mid c ≡ old c) → Turning s mid rounds t new → Turning s old rounds t new
 from_alike s t old mid new rounds same h = turning_on s s t old mid new [] rounds (refl, same) h
 
-pub swept : (s u : State) (old mid new : Desks) (l0 l1 l2 : Option (List Deed)) (c0 c1 c2 : Option (List Told))
+pub swept : (s u : ServerState) (old mid new : Desks) (l0 l1 l2 : Option (List Deed)) (c0 c1 c2 : Option (List Told))
     → Begins true old mid l0 l1 → Logs c0 c1 (Sweep ∷ []) → SweepsBelow connection_count s mid u new l1 l2 c1 c2 → Swept s old u new l0 l2 c0 c2
 swept s u old mid new l0 l1 l2 c0 c1 c2 (inl nobody) begins w = record {
   sweep = w.sweep;
@@ -157,7 +157,7 @@ Few [] = Unit {0}
 Few (Opens port ∷ rounds) = Few rounds
 Few (Turns port acts ∷ rounds) = (step_count acts ≤ most_steps) × Few rounds
 
-few : (s t : State) (old new : Desks) (rounds : List Round) → Turning s old rounds t new → Few rounds
+few : (s t : ServerState) (old new : Desks) (rounds : List Round) → Turning s old rounds t new → Few rounds
 unfolding Few
 few s t old new [] h = tt
 few s t old new (Opens port ∷ rounds) h =

@@ -2,7 +2,7 @@
 use Rattle.std.proofs.Common.{◌≡◌, ◌≢◌, ℕ, ◌≤◌, List, [], ◌∷◌, ◌++◌, length, flat_map, true, false, All, refl, sym, ap, subst, ◌∙◌, append_assoc}
 use Rattle.std.proofs.{Common.{append-nil, map, arith}, lemmas.Bool.{eq-eqb, ne_eqb}, lemmas.List.Elements.{All-nil, All-cons}}
 use Rattle.nfs_rpc.specs.Stream.{End, Open, TooLong}
-use Rattle.nfs_serve.specs.{declared.form.Form.TheVariants.Plain, Script.{Entry, Fits, last_connection}, Step.State}
+use Rattle.nfs_serve.specs.{declared.form.Form.TheVariants.Plain, Script.{Entry, Fits, last_connection}, Step.ServerState}
 use Rattle.nfs_serve.specs.Run.{Streams, with_stream, TakesAll, StreamEvent, Arrives, overflow, Brings, Move, events, after, after_event, output, output_of}
 use Rattle.nfs_serve.specs.Server.{Stands}
 use Rattle.nfs_serve.specs.Desk.{Desk, closed, leaving, Act, Opened, Over, Unready, Counted, Came, ReadBlocked, Ended, Took, WriteBlocked, Failed, Closed, Stepped, Goes}
@@ -36,12 +36,12 @@ own_brought conn moment (Open rest) piece brought end h =
 own_brought conn moment TooLong piece brought end h = rw h.0 tt
 
 -- what moves of one connection put out there, and elsewhere
-pub output_own : (conn : ℕ) (s : State) (moves : List Move) → Own conn (events moves) → output_on conn s moves ≡ output Plain s moves
+pub output_own : (conn : ℕ) (s : ServerState) (moves : List Move) → Own conn (events moves) → output_on conn s moves ≡ output Plain s moves
 output_own conn s [] h = refl
 output_own conn s (m ∷ moves) h = rw (eq-eqb (port_of m.event) conn h.0)
     (ap (λ l. output_of Plain s m.event m.choice ++ l) (output_own conn (after_event s m.event m.choice) moves h.1))
 
-pub output_other : (conn port : ℕ) (s : State) (moves : List Move) → Own conn (events moves) → port ≢ conn → output_on port s moves ≡ []
+pub output_other : (conn port : ℕ) (s : ServerState) (moves : List Move) → Own conn (events moves) → port ≢ conn → output_on port s moves ≡ []
 output_other conn port s [] h other = refl
 output_other conn port s (m ∷ moves) h other = rw (ne_eqb (port_of m.event) port (λ e. other (sym e ∙ h.0)))
     (output_other conn port (after_event s m.event m.choice) moves h.1 other)
@@ -71,7 +71,7 @@ pub record Flow (d : Desk) (acts : List Act) (outs : List ℕ) (e : Desk) : Type
   pub in_order : Flows d.unread (flat_map came acts) (flat_map part_of acts) e.unread
   pub out_order : Flows d.owed outs (flat_map taken acts) e.owed
 
-pub record Ran (port : ℕ) (acts : List Act) (s : State) (d : Desk) (from : Streams) (t : State) (e : Desk) : Type 0 where
+pub record Ran (port : ℕ) (acts : List Act) (s : ServerState) (d : Desk) (from : Streams) (t : ServerState) (e : Desk) : Type 0 where
   pub moves : List Move
   pub to : Streams
   pub fits : All Fits (flat_map (entries_of port) acts)
@@ -84,7 +84,7 @@ pub record Ran (port : ℕ) (acts : List Act) (s : State) (d : Desk) (from : Str
   pub open_on : e.live ≡ true → NoneCloses port (flat_map (entries_of port) acts)
 
 -- an act that steps and closes nothing
-module _ {port : ℕ} {acts : List Act} {s t : State} {c e : Desk} {from : Streams} (r : Ran port acts s c from t e) where
+module _ {port : ℕ} {acts : List Act} {s t : ServerState} {c e : Desk} {from : Streams} (r : Ran port acts s c from t e) where
   passes : (a : Act) (d : Desk) → entries_of port a ≡ [] → ((outs : List ℕ) → Flow c acts outs e → Flow d (a ∷ acts) outs e) → Ran port (a ∷ acts) s d from t e
   passes a d none flow = record {
     moves = r.moves;
@@ -99,10 +99,10 @@ module _ {port : ℕ} {acts : List Act} {s t : State} {c e : Desk} {from : Strea
     open_on = λ on. rw none (r.open_on on);
   }
 
-goes_from : (port : ℕ) (s u t : State) (b c e : Desk) (acts : List Act) → u ≡ s → c ≡ b → Goes port u c acts t e → Goes port s b acts t e
+goes_from : (port : ℕ) (s u t : ServerState) (b c e : Desk) (acts : List Act) → u ≡ s → c ≡ b → Goes port u c acts t e → Goes port s b acts t e
 goes_from port s u t b c e acts same is h = subst (λ x. Goes port s x acts t e) is (subst (λ x. Goes port x c acts t e) same h)
 
-pub ran : (port : ℕ) (s t : State) (d e : Desk) (acts : List Act) (from : Streams) → port ≤ last_connection → Holds (from port) d
+pub ran : (port : ℕ) (s t : ServerState) (d e : Desk) (acts : List Act) (from : Streams) → port ≤ last_connection → Holds (from port) d
     → Goes port s d acts t e → Ran port acts s d from t e
 ran port s t d e [] from le holds h = record {
   moves = [];

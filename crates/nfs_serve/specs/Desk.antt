@@ -3,7 +3,7 @@
 use Rattle.std.specs.Prelude.{◌≡◌, ◌⊎◌, ℕ, ◌+◌, ◌*◌, ◌<◌, ◌≤◌, List, [], ◌∷◌, ◌++◌, length, filter, Bool, true, false, not, ◌&&◌, ◌||◌}
 use Rattle.nfs_xdr.specs.Limits.{most_record}
 use Rattle.nfs_rpc.specs.{RecordMarking.{Gathered, is_too_long}, Stream.End}
-use Rattle.nfs_serve.specs.{declared.form.Form.TheVariants.Plain, Script.{last_moment, most_piece}, Step.State, Run.{Brings, Move, events, after, output}}
+use Rattle.nfs_serve.specs.{declared.form.Form.TheVariants.Plain, Script.{last_moment, most_piece}, Step.ServerState, Run.{Brings, Move, events, after, output}}
 use Rattle.nfs_serve.specs.{Server.{fresh, Stands}, Talk.max_reads, Sequenced.answers_sequence}
 
 -- the most bytes that one read brings: two records of the greatest length, each with one mark
@@ -64,7 +64,7 @@ pub data Act : Type 0 where
 
 -- A part of a stream that ends no more than one record, which was stepped: the state and the output are those of its moves, of which
 -- there is one at most. `was` and `is` are held of the stream.
-pub record TakesPart (conn : ℕ) (s : State) (was : Gathered) (moment : ℕ) (part : List ℕ) (t : State) (is : Gathered) (out : List ℕ) : Type 0 where
+pub record TakesPart (conn : ℕ) (s : ServerState) (was : Gathered) (moment : ℕ) (part : List ℕ) (t : ServerState) (is : Gathered) (out : List ℕ) : Type 0 where
   pub moves : List Move
   pub one : length moves ≤ 1
   pub state : t ≡ after s moves
@@ -86,7 +86,7 @@ MayClose d = (d.gone ≡ true) ⊎ ((d.live ≡ true) × (d.owed ≡ []) × ((is
 
 -- A front of what waits is stepped, where few enough bytes are owed: this part of it, no longer than a piece of a script, to this stream and
 -- output.
-pub record StepsPart (port : ℕ) (s : State) (d : Desk) (moment : ℕ) (part : List ℕ) (t : State) (is : Gathered) (rest out : List ℕ) : Type 0 where
+pub record StepsPart (port : ℕ) (s : ServerState) (d : Desk) (moment : ℕ) (part : List ℕ) (t : ServerState) (is : Gathered) (rest out : List ℕ) : Type 0 where
   pub live : d.live ≡ true
   pub short : is_too_long d.stream ≡ false
   pub room : length d.owed ≤ most_owed
@@ -103,7 +103,7 @@ pub record HasMore (d : Desk) : Type 0 where
   pub unread : 0 < length d.unread
 
 -- what an act does to the state of the server and to its connection
-abbrev pub Does : ℕ → State → Desk → Act → State → Desk → Type 0
+abbrev pub Does : ℕ → ServerState → Desk → Act → ServerState → Desk → Type 0
 Does port s d (Came bytes) t e = (t ≡ s) × IsHungry d × (0 < length bytes) × (length bytes ≤ most_read)
     × (e ≡ record d { reads = d.reads + 1; unread = bytes })
 Does port s d Unready t e = (t ≡ s) × (HasMore d → ⊥) × (e ≡ d)
@@ -120,9 +120,9 @@ Does port s d (Stepped moment part late first) t e = (is : Gathered) × (rest : 
 Does port s d act t e = ⊥
 
 -- the acts, one after the other
-abbrev pub Goes : ℕ → State → Desk → List Act → State → Desk → Type 0
+abbrev pub Goes : ℕ → ServerState → Desk → List Act → ServerState → Desk → Type 0
 Goes port s d [] t e = (t ≡ s) × (e ≡ d)
-Goes port s d (a ∷ acts) t e = (u : State) × (c : Desk) × Does port s d a u c × Goes port u c acts t e
+Goes port s d (a ∷ acts) t e = (u : ServerState) × (c : Desk) × Does port s d a u c × Goes port u c acts t e
 
 -- the peer took no more
 abbrev pub IsStuck : List Act → Desk → Type 0

@@ -5,7 +5,7 @@ use Rattle.nfs_xdr.specs.SheetState.{SheetState, Puts}
 use Rattle.nfs_rpc.specs.declared.refusal.Refusal.{Refusal}
 use Rattle.nfs_rpc.specs.declared.refusal.Refusal.TheVariants as Refusals
 use Rattle.nfs_serve.specs.{declared.form.Form.Form, declared.form.Form.TheVariants.{Tagged, Plain}, declared.form.Outcome.Outcome}
-use Rattle.nfs_serve.specs.{declared.form.Outcome.TheVariants.{Reply, Silent}, Step.{State, Stepped}, Run.spell_reply, Server.{KeptServer, state_of}}
+use Rattle.nfs_serve.specs.{declared.form.Outcome.TheVariants.{Reply, Silent}, Step.{ServerState, Stepped}, Run.spell_reply, Server.{KeptServer, state_of}}
 use Rattle.nfs_exec.specs.Step.Machine.{KeptTables}
 
 -- what lasts from one record to the next, and the reply that is lent
@@ -14,7 +14,7 @@ pub record EngineModel : Type 0 where
   pub reply : List ℕ
 
 -- the state that tables are at a moment
-abbrev pub at_moment : KeptTables → ℕ → State
+abbrev pub at_moment : KeptTables → ℕ → ServerState
 at_moment world moment = state_of (record { world = world; moment = moment })
 
 -- whether a refusal of a call is answered
@@ -25,14 +25,14 @@ outcome_of (Refusals.Auth xid stat) = Reply
 outcome_of (Refusals.Accept xid stat) = Reply
 
 -- The reply was put at the end of the sheet, and this state is left.
-pub record PutsReply (stepped : Stepped) (old new : SheetState) (left : State) : Type 0 where
+pub record PutsReply (stepped : Stepped) (old new : SheetState) (left : ServerState) : Type 0 where
   pub text : List ℕ
   pub reply : stepped.reply ≡ Some text
   pub put : Puts old new text
   pub state : left ≡ stepped.state
 
 -- or there is none
-abbrev pub PutsAnswer : Outcome → Stepped → SheetState → SheetState → State → Type 0
+abbrev pub PutsAnswer : Outcome → Stepped → SheetState → SheetState → ServerState → Type 0
 PutsAnswer Reply stepped old new left = PutsReply stepped old new left
 PutsAnswer Silent stepped old new left = (stepped.reply ≡ None) × Puts old new [] × (left ≡ stepped.state)
 

@@ -1,9 +1,10 @@
 -- What the first record of a piece comes to; private contracts alone speak of it.
-use Rattle.std.specs.Prelude.{◌≡◌, ℕ, ◌<◌, ◌≤◌, List, ◌++◌, length, take, false, Option}
+use Rattle.std.specs.Prelude.{◌≡◌, ℕ, ◌<◌, ◌≤◌, List, ◌++◌, length, take, Bool, false, Option, Result}
 use Rattle.nfs_xdr.specs.Text.{IsBytes}
 use Rattle.nfs_rpc.specs.{RecordMarking.{Gathered, Complete, Failed, is_too_long}, Feeding.{waits, Holds}}
-use Rattle.nfs_serve.specs.{declared.connection.First.First, declared.connection.First.TheVariants.{Nothing, Record, TooLong}, Step.step, Engine.EngineModel}
-use Rattle.nfs_serve.specs.Server.{fresh, IsAnswer, state_of}
+use Rattle.nfs_serve.specs.{declared.connection.First.First, declared.connection.First.TheVariants.{Nothing, Record, TooLong}, Step.{ServerState, step}}
+use Rattle.nfs_serve.specs.Engine.{EngineModel}
+use Rattle.nfs_serve.specs.{Server.{fresh, IsAnswer, FeedsOr, state_of}, declared.form.{Flow.Flow, Form.Form}, declared.script.Entry.Entry}
 
 -- with these bytes what is held comes to this
 abbrev pub TakesUp : Gathered → List ℕ → Gathered → Type 0
@@ -19,3 +20,7 @@ TakesFirst (Record used outcome) old new was is moment piece = (call : List ℕ)
     × (state_of new.kept ≡ (step (state_of old.kept) call moment choice).state)
     × IsAnswer outcome (step (state_of old.kept) call moment choice).reply new.reply
 TakesFirst TooLong old new was is moment piece = (new ≡ old) × (is ≡ Failed) × RunsOver was piece
+
+-- what taking the piece of an entry did
+abbrev pub FeedsEntry : {E : Type 0} → Result Flow E → ServerState → ServerState → Gathered → Gathered → Entry → Form → Option (List ℕ) → Option (List ℕ) → Bool → Type 0
+FeedsEntry result old new was is e = FeedsOr result old new was is e.conn e.moment e.piece.now

@@ -1,7 +1,7 @@
 -- Many connections over one server: the ports have their turns in the order of their numbers, sweep after sweep. Who is ready, and who
 -- begins, comes from outside.
 use Rattle.std.specs.Prelude.{length, ◌≡◌, ◌≢◌, ◌≤◌, ◌⊎◌, ◌^◌, ◌-◌, ℕ, suc, ◌+◌, List, [], ◌∷◌, flat_map, get_or, Option}
-use Rattle.nfs_serve.specs.{Step.State, Script.{last_connection, connection_count}, Told.{Told, Sweep, Turn, Logs}}
+use Rattle.nfs_serve.specs.{Step.ServerState, Script.{last_connection, connection_count}, Told.{Told, Sweep, Turn, Logs}}
 use Rattle.nfs_serve.specs.{Desk.{Desk, closed, opened, Act, Opened, Goes, EndsTurn, IsPassed, HasMore, step_count}, Deeds.{Deed, over, shown, asked}}
 
 abbrev pub Desks : Type 0
@@ -24,11 +24,11 @@ abbrev pub OthersStay : Desks → Desks → ℕ → Type 0
 OthersStay old new port = (c : ℕ) → c ≢ port → new c ≡ old c
 
 -- The rounds, one after the other: one port alone changes in each, and each turn ends as turns end.
-abbrev pub Turning : State → Desks → List Round → State → Desks → Type 0
+abbrev pub Turning : ServerState → Desks → List Round → ServerState → Desks → Type 0
 Turning s old [] t new = (t ≡ s) × ((c : ℕ) → new c ≡ old c)
 Turning s old (Opens port ∷ rounds) t new = (between : Desks) × (port ≤ last_connection) × (between port ≡ opened) × OthersStay old between port
     × Turning s between rounds t new
-Turning s old (Turns port acts ∷ rounds) t new = (u : State) × (between : Desks) × (port ≤ last_connection) × Goes port s (old port) acts u (between port)
+Turning s old (Turns port acts ∷ rounds) t new = (u : ServerState) × (between : Desks) × (port ≤ last_connection) × Goes port s (old port) acts u (between port)
     × EndsTurn acts (between port) × OthersStay old between port × Turning u between rounds t new
 
 abbrev pub shown_in : Round → List Deed
@@ -72,19 +72,19 @@ HasTurn port (Turns p acts ∷ rounds) = (p ≡ port) ⊎ HasTurn port rounds
 
 -- One sweep over the ports: each has one turn, and a port on which something waits to be stepped is not passed over in it. One that is passed over
 -- said that it is not ready.
-pub record Sweeps (s : State) (old : Desks) (sweep : List Round) (t : State) (new : Desks) : Type 0 where
+pub record Sweeps (s : ServerState) (old : Desks) (sweep : List Round) (t : ServerState) (new : Desks) : Type 0 where
   pub turning : Turning s old sweep t new
   pub in_order : InOrder 0 connection_count sweep
   pub each : (port : ℕ) → port ≤ last_connection → HasTurn port sweep
   pub none_passed : (port : ℕ) → port ≤ last_connection → HasMore (old port) → IsServed port sweep
 
-abbrev pub Sweeping : State → Desks → List (List Round) → State → Desks → Type 0
+abbrev pub Sweeping : ServerState → Desks → List (List Round) → ServerState → Desks → Type 0
 Sweeping s old [] t new = (t ≡ s) × ((c : ℕ) → new c ≡ old c)
-Sweeping s old (sweep ∷ sweeps) t new = (u : State) × (between : Desks) × Sweeps s old sweep u between × Sweeping u between sweeps t new
+Sweeping s old (sweep ∷ sweeps) t new = (u : ServerState) × (between : Desks) × Sweeps s old sweep u between × Sweeping u between sweeps t new
 
 -- From ports without a connection on: for some sweeps, what the connections show and the state left are those of their rounds, and the clock told
 -- of each sweep its begin and what it told of its rounds, and nothing else.
-pub record ServesRounds (old new : State) (desks : List Desk) (count : ℕ) (l0 l1 : Option (List Deed)) (c0 c1 : Option (List Told)) : Type 0 where
+pub record ServesRounds (old new : ServerState) (desks : List Desk) (count : ℕ) (l0 l1 : Option (List Deed)) (c0 c1 : Option (List Told)) : Type 0 where
   pub sweeps : List (List Round)
   pub rounds : List Round
   pub are : rounds ≡ flat_map (λ sweep. sweep) sweeps
@@ -95,6 +95,6 @@ pub record ServesRounds (old new : State) (desks : List Desk) (count : ℕ) (l0 
   pub clock : Logs c0 c1 (flat_map asked_of sweeps)
 
 -- The same to the end: until no connection is left and none will come, or for 2^64 - 1 sweeps.
-abbrev pub Serves : State → State → List Desk → Option (List Deed) → Option (List Deed) → Option (List Told) → Option (List Told) → Type 0
+abbrev pub Serves : ServerState → ServerState → List Desk → Option (List Deed) → Option (List Deed) → Option (List Told) → Option (List Told) → Type 0
 Serves old new desks l0 l1 c0 c1 = (count : ℕ) × (before : Option (List Deed)) × ServesRounds old new desks count l0 before c0 c1
     × (Logs before l1 over ⊎ ((count ≡ 2 ^ 64 - 1) × (before ≡ l1)))

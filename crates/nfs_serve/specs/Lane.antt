@@ -1,7 +1,7 @@
 -- What a port's fields stand for, and how far its functions bring it; private contracts alone speak of it.
 use Rattle.std.specs.Prelude.{◌≡◌, ◌⊎◌, ℕ, ◌+◌, ◌-◌, ◌<◌, List, [], ◌∷◌, ◌++◌, length, map, filter, flat_map, true, false, not, ◌&&◌, ◌||◌, Bool, Option}
 use Rattle.nfs_rpc.specs.RecordMarking.{is_too_long}
-use Rattle.nfs_serve.specs.{Step.State, Told.{Told, Turn, Moment, Late, Logs}, Sequenced.answers_sequence, Server.{KeptServer, state_of}}
+use Rattle.nfs_serve.specs.{Step.ServerState, Told.{Told, Turn, Moment, Late, Logs}, Sequenced.answers_sequence, Server.{KeptServer, state_of}}
 use Rattle.nfs_serve.specs.Desk.{Desk, Act, StepsPart, Goes, MayClose, IsStuck, ReadsOnce, is_of_read, is_step, step_count, taken_by, taken_count, late_by, is_late, EndsTurn}
 use Rattle.nfs_serve.specs.{Deeds.{Deed, counted, shown, asked}, declared.lane.Budget.Budget, declared.lane.Lane.Lane, declared.lane.Rest.Rest}
 use Rattle.nfs_serve.specs.declared.lane.Rest.TheVariants.{Clear, Stuck, Gone}
@@ -22,7 +22,7 @@ desks_of lanes = map desk_of lanes
 
 -- what a port's acts go from and lead to: the server, the port, what the connections have shown and what the clock has told
 pub record Stand : Type 0 where
-  pub state : State
+  pub state : ServerState
   pub desk : Desk
   pub log : Option (List Deed)
   pub told : Option (List Told)
@@ -44,7 +44,7 @@ FlushesTo Gone acts d e = MayClose e
 
 -- acts that need no clock, leave the state as it is and read nothing
 pub record Quiet (port : ℕ) (acts : List Act) (d e : Desk) (l0 l1 : Option (List Deed)) : Type 0 where
-  pub goes : (s : State) → Goes port s d acts s e
+  pub goes : (s : ServerState) → Goes port s d acts s e
   pub logs : Logs l0 l1 (flat_map (shown port) acts)
   pub unasked : flat_map asked acts ≡ []
   pub no_reads : filter is_of_read acts ≡ []

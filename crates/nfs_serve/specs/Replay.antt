@@ -3,7 +3,7 @@ use Rattle.std.specs.Prelude.{◌≡◌, ◌≢◌, ℕ, suc, List, [], ◌∷�
 use Rattle.std.specs.Io.KnownBytes.{Consumes, Appends, IsAtEnd}
 use Rattle.nfs_rpc.specs.{RecordMarking.Gathered, Stream.Open}
 use Rattle.nfs_serve.specs.{declared.fault.Stop.Stop, declared.fault.Stop.TheVariants.{ReadFailed, WriteFailed}, declared.fault.ReplayFault.ReplayFault}
-use Rattle.nfs_serve.specs.{declared.form.Form.TheVariants.Tagged, Script.{Entry, IsStopped, IsWhole}, Ends.IsReported, Step.State}
+use Rattle.nfs_serve.specs.{declared.form.Form.TheVariants.Tagged, Script.{Entry, IsStopped, IsWhole}, Ends.IsReported, Step.ServerState}
 use Rattle.nfs_serve.specs.{Run.{Streams, with_stream, Runs, RunsInto}, Server.{ServerModel, held_on, Stands, state_of}}
 
 -- what is held of each connection stands for its stream
@@ -11,28 +11,28 @@ abbrev pub AllStand : Streams → List Gathered → Type 0
 AllStand streams held = (conn : ℕ) → Stands (streams conn) (held_on held conn)
 
 -- the entries ran, and what is held of each connection stands for its stream
-abbrev pub RunsOn : State → State → List Gathered → List Entry → List ℕ → Type 0
+abbrev pub RunsOn : ServerState → ServerState → List Gathered → List Entry → List ℕ → Type 0
 RunsOn old new held entries written = (streams : Streams) × Runs Tagged old new entries streams written × AllStand streams held
 
 -- the writer failed in the output of the last entry, whose connection was closed
-abbrev pub BreaksOn : State → State → List Gathered → List Entry → Entry → List ℕ → Type 0
+abbrev pub BreaksOn : ServerState → ServerState → List Gathered → List Entry → Entry → List ℕ → Type 0
 BreaksOn old new held entries last written =
     (streams : Streams) × RunsInto Tagged old new entries last streams written × AllStand (with_stream streams last.conn (Open [])) held
 
 -- what was read and run before a fault, which bears the entry that was being read or run
-abbrev pub ReplaysFault : Stop → ℕ → State → State → List Gathered → List ℕ → List ℕ → Type 0
+abbrev pub ReplaysFault : Stop → ℕ → ServerState → ServerState → List Gathered → List ℕ → List ℕ → Type 0
 ReplaysFault WriteFailed entry old new held read written =
     (entries : List Entry) × (last : Entry) × IsStopped read WriteFailed (entries ++ last ∷ []) []
     × (entry ≡ suc (length entries)) × BreaksOn old new held entries last written
 ReplaysFault stop entry old new held read written =
     (entries : List Entry) × (rest : List ℕ) × IsStopped read stop entries rest × (entry ≡ suc (length entries)) × RunsOn old new held entries written
 
-abbrev pub Replayed : {U : Type 0} → Result U ReplayFault → State → State → List Gathered → List ℕ → List ℕ → Type 0
+abbrev pub Replayed : {U : Type 0} → Result U ReplayFault → ServerState → ServerState → List Gathered → List ℕ → List ℕ → Type 0
 Replayed (Ok u) old new held read written = (entries : List Entry) × IsWhole read entries × RunsOn old new held entries written
 Replayed (Err fault) old new held read written = ReplaysFault fault.number fault.entry old new held read written
 
 -- the same of what the ends show
-abbrev pub Replays : {U : Type 0} → Result U ReplayFault → State → State → List Gathered
+abbrev pub Replays : {U : Type 0} → Result U ReplayFault → ServerState → ServerState → List Gathered
     → Option (List ℕ) → Option (List ℕ) → Option (List ℕ) → Option (List ℕ) → Type 0
 Replays result old new held l0 l1 h0 h1 =
     (read : List ℕ) × (written : List ℕ) × Consumes l0 l1 read × Appends h0 h1 written × Replayed result old new held read written
@@ -51,11 +51,11 @@ pub record IsReplay {U : Type 0} (result : Result U ReplayFault) (old new : Serv
 
 -- The whole script ran: the answer is the script's own fault, if it has one, and what was written is the output of its
 -- whole entries.
-abbrev pub RunsScript : {U : Type 0} → Result U ReplayFault → State → State → List Gathered → List ℕ → List ℕ → Type 0
+abbrev pub RunsScript : {U : Type 0} → Result U ReplayFault → ServerState → ServerState → List Gathered → List ℕ → List ℕ → Type 0
 RunsScript answer old new held script written =
     Replayed answer old new held script written × IfErr answer (λ fault. (fault.number ≢ ReadFailed) × (fault.number ≢ WriteFailed))
 
 -- A front of the script ran up to a reply that could not be written whole.
-abbrev pub RunsFront : State → State → List Gathered → List ℕ → Type 0
+abbrev pub RunsFront : ServerState → ServerState → List Gathered → List ℕ → Type 0
 RunsFront old new held script = (entry : ℕ) × (read : List ℕ) × (left : List ℕ) × (written : List ℕ)
     × (script ≡ read ++ left) × ReplaysFault WriteFailed entry old new held read written

@@ -3,7 +3,7 @@
 use Rattle.std.specs.Prelude.{◌≡◌, ℕ, ◌<◌, true, List, [], ◌∷◌, ◌++◌, length, map, Option, Some, None, if◌then◌else◌, nat_eq}
 use Rattle.nfs_xdr.specs.Spelling.{number}
 use Rattle.nfs_rpc.specs.{RecordMarking.spell_mark, Stream.{End, Open, TooLong, IsReading}}
-use Rattle.nfs_serve.specs.{declared.form.Form.Form, declared.form.Form.TheVariants.{Tagged, Plain}, Script.Entry, Step.{State, step}}
+use Rattle.nfs_serve.specs.{declared.form.Form.Form, declared.form.Form.TheVariants.{Tagged, Plain}, Script.Entry, Step.{ServerState, step}}
 
 -- for each connection the bytes behind its last whole record since it was last closed, or that its stream is too long and ignored
 abbrev pub Streams : Type 0
@@ -55,12 +55,12 @@ pub record Move : Type 0 where
 abbrev pub events : List Move → List StreamEvent
 events moves = map (λ m. m.event) moves
 
-abbrev pub after_event : State → StreamEvent → Option ℕ → State
+abbrev pub after_event : ServerState → StreamEvent → Option ℕ → ServerState
 after_event s (Arrives conn moment call) choice = (step s call moment choice).state
 after_event s (Overflows conn) choice = s
 
 -- the state that the moves leave
-abbrev pub after : State → List Move → State
+abbrev pub after : ServerState → List Move → ServerState
 after s [] = s
 after s (m ∷ moves) = after (after_event s m.event m.choice) moves
 
@@ -81,17 +81,17 @@ abbrev pub spell_answer : Form → ℕ → Option (List ℕ) → List ℕ
 spell_answer form conn None = []
 spell_answer form conn (Some reply) = spell_reply form conn reply
 
-abbrev pub output_of : Form → State → StreamEvent → Option ℕ → List ℕ
+abbrev pub output_of : Form → ServerState → StreamEvent → Option ℕ → List ℕ
 output_of form s (Arrives conn moment call) choice = spell_answer form conn (step s call moment choice).reply
 output_of form s (Overflows conn) choice = spell_overflow form conn
 
 -- what is put out, in the order of the moves
-abbrev pub output : Form → State → List Move → List ℕ
+abbrev pub output : Form → ServerState → List Move → List ℕ
 output form s [] = []
 output form s (m ∷ moves) = output_of form s m.event m.choice ++ output form (after_event s m.event m.choice) moves
 
 -- The entries ran from closed connections: for some choices, what was written and the state left are the run's.
-pub record Runs (form : Form) (old new : State) (entries : List Entry) (streams : Streams) (written : List ℕ) : Type 0 where
+pub record Runs (form : Form) (old new : ServerState) (entries : List Entry) (streams : Streams) (written : List ℕ) : Type 0 where
   pub moves : List Move
   pub reads : TakesAll all_closed entries (events moves) streams
   pub state : new ≡ after old moves
@@ -99,7 +99,7 @@ pub record Runs (form : Form) (old new : State) (entries : List Entry) (streams 
 
 -- These moves ran, and behind them a last one, in whose output the writer failed: a front of that was written and not the
 -- whole. The state is the one behind the last move.
-pub record Breaks (form : Form) (old new : State) (moves : List Move) (last : Move) (written : List ℕ) : Type 0 where
+pub record Breaks (form : Form) (old new : ServerState) (moves : List Move) (last : Move) (written : List ℕ) : Type 0 where
   pub front : List ℕ
   pub unwritten : List ℕ
   pub state : new ≡ after_event (after old moves) last.event last.choice
@@ -109,7 +109,7 @@ pub record Breaks (form : Form) (old new : State) (moves : List Move) (last : Mo
 
 -- The entries ran from closed connections, and of one more entry its own events up to the one in whose output the writer
 -- failed. The rest of that entry's piece was dropped. The streams are those before it.
-pub record RunsInto (form : Form) (old new : State) (entries : List Entry) (last : Entry) (streams : Streams) (written : List ℕ) : Type 0 where
+pub record RunsInto (form : Form) (old new : ServerState) (entries : List Entry) (last : Entry) (streams : Streams) (written : List ℕ) : Type 0 where
   pub earlier : List Move
   pub own : List Move
   pub breaking : Move

@@ -4,7 +4,7 @@ use Rattle.std.specs.Io.KnownBytes.{Appends}
 use Rattle.nfs_xdr.specs.Text.{IsBytes}
 use Rattle.nfs_rpc.specs.{RecordMarking.{Gathered, Begun, Failed, IsPart, start}, Stream.{End, Open, TooLong}}
 use Rattle.nfs_serve.specs.{declared.form.Form.Form, declared.form.Flow.Flow, declared.form.Outcome.Outcome, declared.form.Outcome.TheVariants.{Reply, Silent}}
-use Rattle.nfs_serve.specs.{Script.connection_count, Step.{State, new_state, step}, Run.{Brings, Move, events, after, output, Breaks}}
+use Rattle.nfs_serve.specs.{Script.connection_count, Step.{ServerState, new_state, step}, Run.{Brings, Move, events, after, output, Breaks}}
 use Rattle.nfs_exec.specs.Step.Machine as exec
 use Rattle.nfs_exec.specs.Step.Machine.{machine_of}
 
@@ -17,7 +17,7 @@ pub record KeptServer : Type 0 where
   pub world : exec.KeptTables
   pub moment : ℕ
 
-abbrev pub state_of : KeptServer → State
+abbrev pub state_of : KeptServer → ServerState
 state_of k = record { machine = machine_of k.world; moment = k.moment }
 
 -- what is kept, what is held of the stream of each connection, and the reply that is lent
@@ -68,14 +68,14 @@ flow_of Failed = Flow.Shut
 flow_of held = Flow.Open
 
 -- The piece was taken: its moves ran, and each reply was written. `was` and `is` are held of the connection's stream.
-pub record Feeds (old new : State) (was is : Gathered) (conn moment : ℕ) (piece : List ℕ) (form : Form) (h0 h1 : Option (List ℕ)) : Type 0 where
+pub record Feeds (old new : ServerState) (was is : Gathered) (conn moment : ℕ) (piece : List ℕ) (form : Form) (h0 h1 : Option (List ℕ)) : Type 0 where
   pub moves : List Move
   pub state : new ≡ after old moves
   pub wrote : Appends h0 h1 (output form old moves)
   pub stream : (before : End) → Stands before was → (end : End) × Brings conn moment before piece (events moves) end × Stands end is
 
 -- A front of the piece was taken, the writer failed in what its last move put out, and the rest of the piece was dropped.
-pub record FeedsInto (old new : State) (was : Gathered) (conn moment : ℕ) (piece : List ℕ) (form : Form) (h0 h1 : Option (List ℕ)) : Type 0 where
+pub record FeedsInto (old new : ServerState) (was : Gathered) (conn moment : ℕ) (piece : List ℕ) (form : Form) (h0 h1 : Option (List ℕ)) : Type 0 where
   pub moves : List Move
   pub last : Move
   pub taken : List ℕ
@@ -87,7 +87,7 @@ pub record FeedsInto (old new : State) (was : Gathered) (conn moment : ℕ) (pie
   pub stream : (before : End) → Stands before was → (end : End) × Brings conn moment before taken (events (moves ++ last ∷ [])) end
 
 -- what taking a piece did, by whether the writer failed
-abbrev pub FeedsOr : {E : Type 0} → Result Flow E → State → State → Gathered → Gathered → ℕ → ℕ → List ℕ → Form
+abbrev pub FeedsOr : {E : Type 0} → Result Flow E → ServerState → ServerState → Gathered → Gathered → ℕ → ℕ → List ℕ → Form
     → Option (List ℕ) → Option (List ℕ) → Bool → Type 0
 FeedsOr (Ok flow) old new was is conn moment piece form h0 h1 failed =
     Feeds old new was is conn moment piece form h0 h1 × (flow ≡ flow_of is) × (failed ≡ false)

@@ -1,10 +1,11 @@
 -- What comes of a sweep in the midst, and of who begins before it; private contracts alone speak of it.
 use Rattle.std.specs.Prelude.{◌≡◌, ◌⊎◌, ℕ, ◌<◌, ◌≤◌, List, [], ◌∷◌, flat_map, Bool, true, false, Option}
-use Rattle.nfs_serve.specs.{Step.State, Script.last_connection, Told.{Told, Logs}, Desk.{opened, HasMore, Opened}, Deeds.{Deed, over}}
-use Rattle.nfs_serve.specs.Hub.{Desks, Round, OthersStay, Turning, InOrder, HasTurn, IsServed, shown_in, asked_in}
+use Rattle.nfs_serve.specs.{Step.ServerState, Script.{last_connection, connection_count}, Told.{Told, Logs}, Desk.{Desk, opened, HasMore, Opened}}
+use Rattle.nfs_serve.specs.Deeds.{Deed, over}
+use Rattle.nfs_serve.specs.Hub.{Desks, at, Round, OthersStay, Turning, InOrder, HasTurn, IsServed, shown_in, asked_in}
 
 -- the ports below one had their turns
-pub record SweepsBelow (to : ℕ) (s : State) (old : Desks) (t : State) (new : Desks) (l0 l1 : Option (List Deed)) (c0 c1 : Option (List Told)) : Type 0 where
+pub record SweepsBelow (to : ℕ) (s : ServerState) (old : Desks) (t : ServerState) (new : Desks) (l0 l1 : Option (List Deed)) (c0 c1 : Option (List Told)) : Type 0 where
   pub sweep : List Round
   pub turning : Turning s old sweep t new
   pub in_order : InOrder 0 to sweep
@@ -13,6 +14,10 @@ pub record SweepsBelow (to : ℕ) (s : State) (old : Desks) (t : State) (new : D
   pub others : (port : ℕ) → to ≤ port → new port ≡ old port
   pub logs : Logs l0 l1 (flat_map shown_in sweep)
   pub clock : Logs c0 c1 (flat_map asked_in sweep)
+
+-- all ports had them
+abbrev pub SweepsAll : ServerState → List Desk → ServerState → List Desk → Option (List Deed) → Option (List Deed) → Option (List Told) → Option (List Told) → Type 0
+SweepsAll s old t new = SweepsBelow connection_count s (at old) t (at new)
 
 -- nobody begins, or a connection on one port; or no connection is left
 abbrev pub Begins : Bool → Desks → Desks → Option (List Deed) → Option (List Deed) → Type 0

@@ -5,7 +5,7 @@ use Rattle.std.specs.Io.KnownBytes.{Consumes, Appends, IsAtEnd}
 use Rattle.nfs_rpc.specs.Stream.{End, Open, TooLong}
 use Rattle.nfs_serve.specs.{Told.{Told, Moment, Logs}, declared.talking.Talk.Talk}
 use Rattle.nfs_serve.specs.{declared.talking.Talk.TheVariants.{Ended, Shut, ReadFailed, WriteFailed, TooMany}, declared.form.Form.TheVariants.Plain}
-use Rattle.nfs_serve.specs.{Script.{Entry, Fits}, Step.State, Run.{Streams, Runs, RunsInto}}
+use Rattle.nfs_serve.specs.{Script.{Entry, Fits}, Step.ServerState, Run.{Streams, Runs, RunsInto}}
 
 abbrev pub max_reads : ℕ
 max_reads = 1000000
@@ -15,11 +15,11 @@ abbrev pub IsPiece : Entry → Type 0
 IsPiece e = Fits e × (e.conn ≡ 0) × (0 < length e.piece)
 
 -- the pieces ran from a closed connection, and its stream ends so
-abbrev pub Speaks : State → State → List Entry → End → List ℕ → Type 0
+abbrev pub Speaks : ServerState → ServerState → List Entry → End → List ℕ → Type 0
 Speaks old new pieces end written = (streams : Streams) × Runs Plain old new pieces streams written × (streams 0 ≡ end)
 
 -- What the pieces came to by how the talk ended. The read that ended it, where it gave no piece, is one of the reads.
-abbrev pub SpeaksUntil : Talk → State → State → List Entry → List ℕ → Type 0
+abbrev pub SpeaksUntil : Talk → ServerState → ServerState → List Entry → List ℕ → Type 0
 SpeaksUntil Ended old new pieces written = (length pieces < max_reads) × (rest : List ℕ) × Speaks old new pieces (Open rest) written
 SpeaksUntil ReadFailed old new pieces written = (length pieces < max_reads) × (rest : List ℕ) × Speaks old new pieces (Open rest) written
 SpeaksUntil TooMany old new pieces written = (length pieces ≡ max_reads) × (rest : List ℕ) × Speaks old new pieces (Open rest) written
@@ -29,7 +29,7 @@ SpeaksUntil WriteFailed old new pieces written =
     × (streams : Streams) × RunsInto Plain old new before last streams written
 
 -- the same of what the ends and the clock show: one answer of the clock a piece, and no other
-abbrev pub Talks : Talk → State → State → Option (List ℕ) → Option (List ℕ) → Option (List ℕ) → Option (List ℕ) → Option (List Told) → Option (List Told) → Type 0
+abbrev pub Talks : Talk → ServerState → ServerState → Option (List ℕ) → Option (List ℕ) → Option (List ℕ) → Option (List ℕ) → Option (List Told) → Option (List Told) → Type 0
 Talks talk old new l0 l1 h0 h1 c0 c1 = (pieces : List Entry) × (written : List ℕ)
     × Consumes l0 l1 (flat_map (λ e. e.piece) pieces) × Appends h0 h1 written × Logs c0 c1 (map (λ e. Moment e.moment) pieces)
     × All IsPiece pieces × SpeaksUntil talk old new pieces written

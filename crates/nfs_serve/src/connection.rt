@@ -7,9 +7,9 @@ ghost use Rattle.nfs_rpc.specs.Feeding.{waits};
 ghost use Rattle.nfs_rpc.specs.RecordMarking.{is_too_long};
 ghost use Rattle.nfs_serve.specs.Ends.{Writes};
 ghost use Rattle.nfs_serve.specs.Run.{spell_overflow};
-ghost use Rattle.nfs_serve.specs.Server.{fresh, FeedsOr, state_of};
+ghost use Rattle.nfs_serve.specs.Server.{fresh, state_of};
 ghost use Rattle.nfs_serve.specs.Script.{last_moment};
-ghost use Rattle.nfs_serve.specs.First.{TakesFirst};
+ghost use Rattle.nfs_serve.specs.First.{TakesFirst, FeedsEntry};
 ghost use Rattle.nfs_serve.specs.Desk.{TakesPart, most_owed};
 
 use crate::Sink;
@@ -124,7 +124,7 @@ impl Connection {
         requires bytes { IsBytes entry.now.piece.now }
         requires moment { entry.now.moment ≤ last_moment }
         requires out { W.has_failed out.old ≡ false }
-        ensures fed { FeedsOr result (state_of engine.old.kept) (state_of engine.new.kept) self.old self.new entry.now.conn entry.now.moment entry.now.piece.now form (W.held out.old) (W.held out.new) (W.has_failed out.new) }
+        ensures fed { FeedsEntry result (state_of engine.old.kept) (state_of engine.new.kept) self.old self.new entry.now form (W.held out.old) (W.held out.new) (W.has_failed out.new) }
         ensures closed { OnErr result (self.new ≡ fresh) }
         ensures empty { entry.now.piece.now ≡ [] → (engine.new ≡ engine.old) × (self.new ≡ self.old) }
     {
@@ -158,7 +158,7 @@ fn take_piece<W: Sink>(
     requires bytes { IsBytes entry.now.piece.now }
     requires moment { entry.now.moment ≤ last_moment }
     requires out { W.has_failed out.old ≡ false }
-    ensures taken { FeedsOr result (state_of engine.old.kept) (state_of engine.new.kept) records.old records.new entry.now.conn entry.now.moment entry.now.piece.now form (W.held out.old) (W.held out.new) (W.has_failed out.new) }
+    ensures taken { FeedsEntry result (state_of engine.old.kept) (state_of engine.new.kept) records.old records.new entry.now form (W.held out.old) (W.held out.new) (W.has_failed out.new) }
     ensures waits { OnOk result (waits records.new ≡ false) }
 {
     let mut rest = entry.piece;

@@ -7,7 +7,7 @@ ghost use Rattle.nfs_serve.specs.Told.{Sweep, Logs};
 ghost use Rattle.nfs_serve.specs.Desk.{closed, HasMore};
 ghost use Rattle.nfs_serve.specs.Hub.{Serves, at};
 ghost use Rattle.nfs_serve.specs.Lane.{desks_of};
-ghost use Rattle.nfs_serve.specs.Sweep.{Begins, SweepsBelow};
+ghost use Rattle.nfs_serve.specs.Sweep.{Begins, SweepsAll};
 
 use crate::engine::Engine;
 use crate::lane::Lane;
@@ -170,7 +170,7 @@ fn sweep<P: Ports, C: Clock>(
 )
     requires ports { length lanes.old ≡ connection_count }
     ensures length { length lanes.new ≡ connection_count }
-    ensures sweeps { SweepsBelow connection_count (state_of engine.old.kept) (at (desks_of lanes.old)) (state_of engine.new.kept) (at (desks_of lanes.new)) (P.log ports.old) (P.log ports.new) (C.told clock.old) (C.told clock.new) }
+    ensures sweeps { SweepsAll (state_of engine.old.kept) (desks_of lanes.old) (state_of engine.new.kept) (desks_of lanes.new) (P.log ports.old) (P.log ports.new) (C.told clock.old) (C.told clock.new) }
 {
     for port in 0..PORTS {
         lanes[port].visit(alloc, engine, port as u32, ports, clock);

@@ -5,8 +5,8 @@ use Rattle.std.specs.{Prelude.{◌==◌, if◌then◌else◌, find, option_map, 
 use Rattle.nfs_xdr.specs.Tables.{IsRising}
 use Rattle.nfs_xdr.proofs.{Tables.{IsRising-from, in_bounds}, Lists.{find_none, find_out, find_past, find_map_as, find_push, find_push_other}}
 use Rattle.nfs_sessions.specs.{declared.channel.Wish.Wish, declared.id.SessionId.SessionId, declared.sessions.SessionFault.SessionFault, Channel.granted}
-use Rattle.nfs_sessions.specs.SessionSlots.{GrantedSlots, unused}
-use Rattle.nfs_sessions.specs.Sessions.{Session, SessionTable, is_session, session_at, create_fault, create_unless, with_session, destroyed}
+use Rattle.nfs_slots.specs.Slot.{SlotState}
+use Rattle.nfs_sessions.specs.Sessions.{Session, SessionTable, new_session, is_session, session_at, create_fault, create_unless, with_session, destroyed}
 use Rattle.nfs_sessions.specs.{SessionTables.IsSessions, Sessions.{without_client, with_slots}}
 use Rattle.nfs_sessions.specs.Laws.{is_id, SessionsAreAMap, Call, Create, Destroy, DropClient, Change, all_after, all_given, IdsRise}
 
@@ -77,7 +77,7 @@ dropped_at t client id =
       )
     ]
 
-same_session : (at id : SessionId) (change : GrantedSlots → GrantedSlots) (s : Session)
+same_session : (at id : SessionId) (change : List SlotState → List SlotState) (s : Session)
     → is_session id (if is_session at s then record s { slots = change s.slots } else s) ≡ is_session id s
 same_session at id change s =
     elim (is_session at s) as (λ b. is_session id (if b then record s { slots = change s.slots } else s) ≡ is_session id s)
@@ -87,7 +87,7 @@ option_map_same : {X : Type 0} (o : Option X) → option_map (λ (x : X). x) o �
 option_map_same None = refl
 option_map_same (Some x) = refl
 
-changed_at : (t : SessionTable) (at id : SessionId) (change : GrantedSlots → GrantedSlots) → session_at (with_slots t at change) id
+changed_at : (t : SessionTable) (at id : SessionId) (change : List SlotState → List SlotState) → session_at (with_slots t at change) id
     ≡ (if is_id id at then option_map (λ (s : Session). record s { slots = change s.slots }) (session_at t id) else session_at t id)
 changed_at t at id change =
     let p = is_session id in
@@ -108,10 +108,10 @@ changed_at t at id change =
 
 created : (t : SessionTable) → IsSessions t → (client : ℕ) (wish : Wish) (id : SessionId)
     → session_at (with_session t client wish) id ≡ (if is_id id (record { client = client; counter = t.last + 1 })
-    then Some (record { counter = t.last + 1; client = client; slots = unused (granted wish.fore) }) else session_at t id)
+    then Some (new_session (t.last + 1) client (granted wish.fore)) else session_at t id)
 created t is client wish id =
     let p = is_session id in
-    let new : Session = record { counter = t.last + 1; client = client; slots = unused (granted wish.fore) } in
+    let new = new_session (t.last + 1) client (granted wish.fore) in
     let new_id : SessionId = record { client = client; counter = t.last + 1 } in
     elim (cases_Bool (is_id id new_id)) [
       | inl same ↦ (

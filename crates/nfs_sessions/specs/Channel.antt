@@ -1,7 +1,7 @@
 -- What is granted of a channel that is asked for (RFC 8881 section 18.36; the limits are this server's profile).
-use Rattle.std.specs.Prelude.{ℕ, min, nat_lt, ◌==◌, Bool, ◌||◌}
+use Rattle.std.specs.Prelude.{ℕ, min, nat_lt, ◌==◌, Bool, ◌||◌, None}
 use Rattle.nfs_xdr.specs.Limits.{most_record}
-use Rattle.nfs_sessions.specs.declared.channel.Channel.{Channel}
+use Rattle.nfs_compound.specs.declared.channel_attrs.ChannelAttrs.{ChannelAttrs}
 
 -- the most operations of a compound, the most slots of a session, and the least bytes of its longest request and of its longest reply
 abbrev pub most_operations : ℕ
@@ -13,14 +13,21 @@ most_slots = 16
 abbrev pub least_bytes : ℕ
 least_bytes = 2048
 
-abbrev pub granted : Channel → Channel
-granted c = record {
-  request = min c.request most_record;
-  response = min c.response most_record;
-  cached = min c.cached most_record;
-  operations = min c.operations most_operations;
-  slots = min c.slots most_slots;
+-- the bytes of an accepted reply's RPC head (RFC 5531 section 9), which a slot does not keep
+abbrev pub rpc_head : ℕ
+rpc_head = 24
+
+-- there is no header padding and no RDMA
+abbrev pub granted : ChannelAttrs → ChannelAttrs
+granted a = record {
+  headerpadsize = 0;
+  maxrequestsize = min a.maxrequestsize most_record;
+  maxresponsesize = min a.maxresponsesize most_record;
+  maxresponsesize_cached = min a.maxresponsesize_cached most_record;
+  maxoperations = min a.maxoperations most_operations;
+  maxrequests = min a.maxrequests most_slots;
+  rdma_ird = None;
 }
 
-abbrev pub is_too_small : Channel → Bool
-is_too_small c = nat_lt c.request least_bytes || nat_lt c.response least_bytes || (c.operations == 0) || (c.slots == 0)
+abbrev pub is_too_small : ChannelAttrs → Bool
+is_too_small a = nat_lt a.maxrequestsize least_bytes || nat_lt a.maxresponsesize least_bytes || (a.maxoperations == 0) || (a.maxrequests == 0)

@@ -2,8 +2,9 @@
 use Rattle.std.specs.Prelude.{◌≡◌, ℕ, ◌+◌, ◌==◌, suc, Bool, ◌&&◌, if◌then◌else◌, List, [], ◌∷◌, ◌++◌, Option, Some, None, option_map, option_to_list}
 use Rattle.std.specs.Result.{result_ok}
 use Rattle.nfs_xdr.specs.Tables.{IsRising}
-use Rattle.nfs_sessions.specs.{declared.channel.Wish.Wish, declared.id.SessionId.SessionId, Channel.granted, SessionSlots.{GrantedSlots, unused}}
-use Rattle.nfs_sessions.specs.Sessions.{Session, SessionTable, session_at, create, with_session, destroyed, without_client, with_slots}
+use Rattle.nfs_slots.specs.Slot.{SlotState}
+use Rattle.nfs_sessions.specs.{declared.channel.Wish.Wish, declared.id.SessionId.SessionId, Channel.granted}
+use Rattle.nfs_sessions.specs.Sessions.{Session, SessionTable, new_session, session_at, create, with_session, destroyed, without_client, with_slots}
 use Rattle.nfs_sessions.specs.SessionTables.{IsSessions}
 
 abbrev pub is_id : SessionId → SessionId → Bool
@@ -14,10 +15,10 @@ pub record IsMap (t : SessionTable) : Type 0 where
   pub created : (client : ℕ) (wish : Wish) (id : SessionId) →
       session_at (with_session t client wish) id
       ≡ (if is_id id (record { client = client; counter = t.last + 1 })
-      then Some (record { counter = t.last + 1; client = client; slots = unused (granted wish.fore) }) else session_at t id)
+      then Some (new_session (t.last + 1) client (granted wish.fore)) else session_at t id)
   pub destroyed_at : (gone id : SessionId) → session_at (destroyed t gone) id ≡ (if is_id id gone then None else session_at t id)
   pub dropped_at : (client : ℕ) (id : SessionId) → session_at (without_client t client) id ≡ (if id.client == client then None else session_at t id)
-  pub changed_at : (at id : SessionId) (change : GrantedSlots → GrantedSlots) →
+  pub changed_at : (at id : SessionId) (change : List SlotState → List SlotState) →
       session_at (with_slots t at change) id
       ≡ (if is_id id at then option_map (λ (s : Session). record s { slots = change s.slots }) (session_at t id) else session_at t id)
 
@@ -29,7 +30,7 @@ pub data Call : Type 0 where
   Create : (client : ℕ) (wish : Wish) → Call
   Destroy : (id : SessionId) → Call
   DropClient : (client : ℕ) → Call
-  Change : (id : SessionId) (change : GrantedSlots → GrantedSlots) → Call
+  Change : (id : SessionId) (change : List SlotState → List SlotState) → Call
 
 abbrev pub after : SessionTable → Call → SessionTable
 after t (Create client wish) = (create t client wish).after

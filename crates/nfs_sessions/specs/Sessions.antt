@@ -1,22 +1,24 @@
 -- The sessions as a table by id (RFC 8881 sections 2.10, 18.36 and 18.37).
 use Rattle.std.specs.Prelude.{ℕ, ◌+◌, ◌==◌, nat_le, Bool, true, not, ◌&&◌, if◌then◌else◌, List, [], ◌∷◌, ◌++◌, Option, Some, None, Result, Ok, Err, filter, map}
-use Rattle.std.specs.Prelude.{find, count_by}
+use Rattle.std.specs.Prelude.{find, count_by, replicate}
 use Rattle.nfs_xdr.specs.{Checks.first_fault, declared.status.Status.Status}
 use Rattle.nfs_xdr.specs.declared.status.Status.TheVariants as status
+use Rattle.nfs_slots.specs.Slot.{SlotState, unused_slot}
+use Rattle.nfs_slots.specs.Slot as slots
+use Rattle.nfs_compound.specs.declared.channel_attrs.ChannelAttrs.{ChannelAttrs}
 use Rattle.nfs_sessions.specs.{declared.channel.Wish.Wish, declared.id.SessionId.SessionId, declared.sessions.SessionFault.SessionFault}
 use Rattle.nfs_sessions.specs.{declared.sessions.SessionFault.TheVariants.{TooSmall, NoSpc, ServerFault, Memory}, Channel.{granted, is_too_small}}
-use Rattle.nfs_sessions.specs.SessionSlots.{GrantedSlots, unused}
-use Rattle.nfs_sessions.specs.SessionSlots as slots
 
 -- the most sessions that stand at once (this server's profile)
 abbrev pub most_sessions : ℕ
 most_sessions = 64
 
--- a session: its counter, the id of its client, and its slots
+-- a session: its counter, the id of its client, what was granted of its fore channel, and its slots (section 2.10.6.1)
 pub record Session : Type 0 where
   pub counter : ℕ
   pub client : ℕ
-  pub slots : GrantedSlots
+  pub channel : ChannelAttrs
+  pub slots : List SlotState
 
 -- the sessions that stand, and the last counter that was given, 0 before the first
 pub record SessionTable : Type 0 where
@@ -26,6 +28,10 @@ pub record SessionTable : Type 0 where
 -- the table of a new server
 abbrev pub no_sessions : SessionTable
 no_sessions = record { sessions = []; last = 0 }
+
+-- as many slots as its channel has, and none took a request
+abbrev pub new_session : (counter client : ℕ) → ChannelAttrs → Session
+new_session counter client channel = record { counter = counter; client = client; channel = channel; slots = replicate channel.maxrequests unused_slot }
 
 abbrev pub is_session : SessionId → Session → Bool
 is_session id s = (s.counter == id.counter) && (s.client == id.client)
@@ -38,21 +44,21 @@ abbrev pub last_counter : ℕ
 last_counter = 0xffff_ffff_ffff_ffff
 
 -- the status that a fault is answered with
-abbrev pub fault_status : SessionFault → Status
-fault_status TooSmall = status.TooSmall
-fault_status NoSpc = status.NoSpc
-fault_status ServerFault = status.ServerFault
-fault_status Memory = status.Delay
+abbrev pub session_fault_status : SessionFault → Status
+session_fault_status TooSmall = status.TooSmall
+session_fault_status NoSpc = status.NoSpc
+session_fault_status ServerFault = status.ServerFault
+session_fault_status Memory = status.Delay
 
 -- whether a session stays where the client record that is leaving goes
-abbrev pub stays : Option ℕ → Session → Bool
-stays None s = true
-stays (Some client) s = not (s.client == client)
+abbrev pub outlasts : Option ℕ → Session → Bool
+outlasts None s = true
+outlasts (Some client) s = not (s.client == client)
 
 abbrev pub create_checks : SessionTable → Wish → List (Bool × SessionFault)
 create_checks t wish =
     (is_too_small wish.fore, TooSmall)
-    ∷ (nat_le most_sessions (count_by (stays wish.leaving) t.sessions), NoSpc)
+    ∷ (nat_le most_sessions (count_by (outlasts wish.leaving) t.sessions), NoSpc)
     ∷ (t.last == last_counter, ServerFault)
     ∷ []
 
@@ -62,7 +68,7 @@ create_fault t wish = first_fault (create_checks t wish)
 -- the table with a session of what is granted, under the next counter
 abbrev pub with_session : SessionTable → ℕ → Wish → SessionTable
 with_session t client wish = record {
-  sessions = t.sessions ++ record { counter = t.last + 1; client = client; slots = unused (granted wish.fore) } ∷ [];
+  sessions = t.sessions ++ new_session (t.last + 1) client (granted wish.fore) ∷ [];
   last = t.last + 1;
 }
 
@@ -86,9 +92,9 @@ abbrev pub without_client : SessionTable → ℕ → SessionTable
 without_client t client = record t { sessions = filter (λ s. not (s.client == client)) t.sessions }
 
 -- the table with other slots of one session, and all else as it was
-abbrev pub with_slots : SessionTable → SessionId → (GrantedSlots → GrantedSlots) → SessionTable
+abbrev pub with_slots : SessionTable → SessionId → (List SlotState → List SlotState) → SessionTable
 with_slots t id change = record t { sessions = map (λ s. if is_session id s then record s { slots = change s.slots } else s) t.sessions }
 
--- a session's slot keeps a reply
+-- a session's slot keeps a reply, without its RPC head
 abbrev pub keep : SessionTable → SessionId → ℕ → ℕ → ℕ → List ℕ → List ℕ → SessionTable
-keep t id slot number uid args reply = with_slots t id (λ g. slots.keep g slot number uid args reply)
+keep t id slot number uid args reply = with_slots t id (λ was. slots.keep was slot number uid args reply)

@@ -4,7 +4,7 @@
 //!
 //! ```text
 //! let id = sessions.create(alloc, client, &wish)?;
-//! match sessions.slots(&id).map(|s| s.judge(slot, number, uid, head, tail)) { .. }
+//! match sessions.session(&id).map(|s| s.judge(slot, number, uid, head, tail)) { .. }
 //! sessions.keep(&id, slot, number, uid, head, tail, reply);
 //! ```
 //!
@@ -14,12 +14,12 @@
 mod channel;
 mod id;
 pub mod laws;
+mod session;
 mod sessions;
-mod slots;
 #[cfg(test)]
 mod tests;
 
-pub use channel::{Channel, Wish};
+pub use channel::{Wish, granted};
 pub use id::SessionId;
+pub use session::{RPC_HEAD, Session};
 pub use sessions::{SessionFault, Sessions};
-pub use slots::{RPC_HEAD, SessionSlots};

@@ -1,37 +1,20 @@
 //! The table of sessions (RFC 8881 sections 2.10, 18.36 and 18.37).
 
-ghost use Rattle.std.specs.Prelude.{◌≡◌, ◌≤◌, ◌+◌, ◌++◌, ◌==◌, None, IfOk, OnOk, OnErr, IsSomeAnd, is_some, length, option_map, count_by, find, filter, not, position};
-ghost use Rattle.std.specs.Borrow.{sem};
-ghost use Rattle.std.specs.Option.{option_copied, option_copied_mut};
+ghost use Rattle.std.specs.Prelude.{◌≡◌, ◌≤◌, ◌+◌, ◌++◌, ◌==◌, None, IfOk, OnOk, OnErr, IsSomeAnd, is_some, length, count_by, find, filter, not, position};
+ghost use Rattle.std.specs.Option.{option_copied};
 ghost use Rattle.std.specs.List.{list_any};
 ghost use Rattle.nfs_xdr.specs.Checks.{judged};
 ghost use Rattle.nfs_sessions.specs.declared.sessions.SessionFault.TheVariants.{Memory};
-ghost use Rattle.nfs_sessions.specs.Sessions.{no_sessions, is_session, session_at, stays, create, create_fault, with_session, destroyed, without_client, keep};
-ghost use Rattle.nfs_sessions.specs.Sessions.{fault_status};
+ghost use Rattle.nfs_sessions.specs.Sessions.{no_sessions, is_session, session_at, create, create_fault, with_session, destroyed, without_client, keep};
+ghost use Rattle.nfs_sessions.specs.Sessions.{session_fault_status};
 ghost use Rattle.nfs_sessions.specs.SessionTables.{IsSessions, CreatesOrWants, MayKeep};
 
-use crate::channel::Wish;
+use crate::channel::{Wish, granted, is_too_small};
 use crate::id::SessionId;
-use crate::slots::SessionSlots;
+use crate::session::Session;
 use nfs_xdr::Status;
 use std::alloc::{AllocError, Global};
 use std::marker::Model;
-
-/// One session: the counter and the client that stand in its id, and its slots.
-#[derive(Drop)]
-struct Session {
-    counter: u64,
-    client: u64,
-    slots: SessionSlots,
-}
-
-impl Model for Session {
-    ghost use Rattle.nfs_sessions.specs.Sessions.{Session as Seen};
-
-    ghost Value = { Seen };
-
-    ghost view = { λ s. record { counter = s.counter; client = s.client; slots = s.slots } };
-}
 
 /// Why there is no new session.
 #[derive(Clone, Copy, Debug, PartialEq, Eq)]
@@ -49,7 +32,7 @@ pub enum SessionFault {
 impl SessionFault {
     /// The status that CREATE_SESSION answers: the fault's own, and NFS4ERR_DELAY for want of memory.
     pub fn status(self) -> Status
-        ensures { result ≡ fault_status self }
+        ensures { result ≡ session_fault_status self }
     {
         match self {
             SessionFault::TooSmall => Status::TooSmall,
@@ -86,47 +69,13 @@ impl Model for Sessions {
     ghost invariant = { λ t. IsSessions (record { sessions = t.sessions.items; last = t.last }) };
 }
 
-impl Session {
-    ghost use Rattle.nfs_sessions.specs.Lends.{LendsOwnSlots};
-
-    fn counter(&self) -> u64
-        ensures { result ≡ self.now.counter }
-    {
-        self.counter
-    }
-
-    fn is(&self, id: &SessionId) -> bool
-        ensures { result ≡ is_session id.now self.now }
-    {
-        self.counter == id.counter && self.client == id.client
-    }
-
-    fn slots_mut(&mut self) -> &mut SessionSlots
-        ensures* lends { sem 𝓛 (LendsOwnSlots self.entry result) }
-        ensures own { result.now ≡ self.old.slots }
-    {
-        &mut self.slots
-    }
-
-    fn stays(&self, leaving: Option<u64>) -> bool
-        ensures { result ≡ stays leaving self.now }
-    {
-        match leaving {
-            Some(client) => self.client != client,
-            None => true,
-        }
-    }
-}
-
 fn drop_sessions_of(sessions: &mut Vec<Session>, client: u64)
     ensures { sessions.new.items ≡ filter (λ s. not (s.client == client)) sessions.old.items }
 {
-    sessions.retain(|s| s.client != client);
+    sessions.retain(|s| s.client() != client);
 }
 
 impl Sessions {
-    ghost use Rattle.nfs_sessions.specs.Lends.{LendsSlots};
-
     /// The most sessions that stand at once (this server's profile).
     pub const MAX: usize = 64;
 
@@ -150,7 +99,7 @@ impl Sessions {
     fn judge_create(&self, wish: &Wish) -> Result<(), SessionFault>
         ensures { result ≡ judged (create_fault self.now wish.now) }
     {
-        if wish.fore.is_too_small() {
+        if is_too_small(&wish.fore) {
             return Err(SessionFault::TooSmall);
         }
         let staying = self
@@ -173,16 +122,10 @@ impl Sessions {
         ensures id { IfOk result (λ id. id ≡ record { client = client; counter = self.old.last + 1 }) }
         ensures err { OnErr result (self.new ≡ self.old) }
     {
-        let slots = SessionSlots::new(alloc, wish.fore.granted())?;
-        self.sessions.reserve(1)?;
         let counter = self.last + 1;
-        self.sessions
-            .push(Session {
-                counter,
-                client,
-                slots,
-            })
-            .unwrap();
+        let session = Session::new(alloc, counter, client, granted(&wish.fore))?;
+        self.sessions.reserve(1)?;
+        self.sessions.push(session).unwrap();
         self.last = counter;
         Ok(SessionId { client, counter })
     }
@@ -204,25 +147,13 @@ impl Sessions {
         Ok(self.insert(alloc, client, wish)?)
     }
 
-    /// The slots of the session with this id, under the channel that was granted.
-    pub fn slots(&self, id: &SessionId) -> Option<&SessionSlots>
-        ensures found { option_copied result ≡ option_map (λ s. s.slots) (session_at self.now id.now) }
+    /// The session with this id, under the channel that was granted.
+    pub fn session(&self, id: &SessionId) -> Option<&Session>
+        ensures found { option_copied result ≡ session_at self.now id.now }
         ensures rising { IsSessions self.now }
     {
         let place = self.find(id)?;
-        Some(&self.sessions[place].slots)
-    }
-
-    /// The same slots, lent for changes. Whatever they are left as, they are that session's afterwards, and nothing else
-    /// of the table changes.
-    pub fn slots_mut(&mut self, id: &SessionId) -> Option<&mut SessionSlots>
-        ensures* lends { sem 𝓛 (LendsSlots self.entry id.now result) }
-        ensures found { option_copied_mut result ≡ option_map (λ s. s.slots) (session_at self.old id.now) }
-        ensures rising { IsSessions self.old }
-    {
-        let place = self.find(id)?;
-        let session = &mut self.sessions[place];
-        Some(session.slots_mut())
+        Some(&self.sessions[place])
     }
 
     /// Where the session with this id stands among those that stand, in the order in which they were made: 0 is the oldest.
@@ -246,7 +177,7 @@ impl Sessions {
     pub fn has_client(&self, client: u64) -> bool
         ensures { result ≡ list_any (λ s. s.client == client) self.now.sessions }
     {
-        self.sessions.iter().any(|s| s.client == client)
+        self.sessions.iter().any(|s| s.client() == client)
     }
 
     /// Keeps the reply to a request that was fresh on a session's slot and has run. Its argument bytes are `head` and behind
@@ -261,11 +192,12 @@ impl Sessions {
         tail: &[u8],
         reply: &[u8],
     )
-        requires { IsSomeAnd (session_at self.old id.now) (λ s. MayKeep s.slots slot number uid (head.now ++ tail.now) reply.now) }
+        requires { IsSomeAnd (session_at self.old id.now) (λ s. MayKeep s slot number uid (head.now ++ tail.now) reply.now) }
         ensures { self.new ≡ keep self.old id.now slot number uid (head.now ++ tail.now) reply.now }
     {
-        if let Some(slots) = self.slots_mut(id) {
-            slots.keep(slot, number, uid, head, tail, reply);
+        if let Some(place) = self.find(id) {
+            let session = &mut self.sessions[place];
+            session.keep(slot, number, uid, head, tail, reply);
         }
     }
 

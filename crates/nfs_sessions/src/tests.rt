@@ -1,6 +1,7 @@
 //! The longest reply that a slot keeps (RFC 8881 section 2.10.6.1.3).
 
 use super::*;
+use nfs_compound::ChannelAttrs;
 use nfs_slots::Verdict;
 use std::test::Fail;
 
@@ -13,12 +14,14 @@ const LEAST: Wish = Wish {
     leaving: None,
 };
 
-const SMALL: Channel = Channel {
-    request: 2_048,
-    response: 2_048,
-    cached: 7_584,
-    operations: 1,
-    slots: 1,
+const SMALL: ChannelAttrs = ChannelAttrs {
+    headerpadsize: 0,
+    maxrequestsize: 2_048,
+    maxresponsesize: 2_048,
+    maxresponsesize_cached: 7_584,
+    maxoperations: 1,
+    maxrequests: 1,
+    rdma_ird: None,
 };
 
 /// Judges a request on slot 0 of a session, and keeps its reply where it is fresh and both fit.
@@ -29,11 +32,13 @@ fn serve(
     args: &[u8],
     reply: &[u8],
 ) -> Option<Verdict> {
-    let slots = sessions.slots(id)?;
+    let session = sessions.session(id)?;
     let (head, tail) = args.split_at(args.len() / 2);
-    let verdict = slots.judge(0, number, 0, head, tail);
-    let channel = slots.channel();
-    if args.len() > channel.request as usize || reply.len() + 24 > channel.response as usize {
+    let verdict = session.judge(0, number, 0, head, tail);
+    let channel = session.channel();
+    if args.len() > channel.maxrequestsize as usize
+        || reply.len() + 24 > channel.maxresponsesize as usize
+    {
         return Some(verdict);
     }
     let Verdict::Fresh = verdict else {
@@ -45,7 +50,7 @@ fn serve(
 
 /// What slot 0 of a session keeps.
 fn kept<'a>(sessions: &'a Sessions, id: &SessionId) -> Option<&'a [u8]> {
-    Some(sessions.slots(id)?.kept(0))
+    Some(sessions.session(id)?.kept(0))
 }
 
 #[test]

@@ -3,8 +3,9 @@ use Rattle.std.proofs.Common.{◌≡◌, inl, inr, ℕ, ◌+◌, ◌-◌, ◌<�
 use Rattle.std.proofs.{Common.{refl, sym, ◌∙◌, ap, arith, zero-add}, lemmas.Bool.{cases_eq, ne_eqb, eq-eqb, eqb-true}, lemmas.List.map-set}
 use Rattle.std.proofs.{lemmas.List.Elements.{All-head, All-tail}, lemmas.List.Sums.sum_by-cons, lemmas.Slice.Eq.bytes_eq-Decides}
 use Rattle.std.specs.{Prelude.{◌==◌, if◌then◌else◌, not, ◌&&◌, slice_get, count_by, bytes_eq, length, All}, Option.option_map_or}
+use Rattle.nfs_xdr.specs.Numbers.{next_number}
 use Rattle.nfs_slots.specs.{declared.slot.Slot.Slot, declared.slot.Verdict.TheVariants.{Fresh, Again, FalseRetry, Misordered, NoSlot}}
-use Rattle.nfs_slots.specs.{Slot.{SlotState, next_number, judge_slot, judge, keep}, SlotTables.IsBounded, Buffers.{state_of, IsWithinRoom}}
+use Rattle.nfs_slots.specs.{Slot.{SlotState, judge_slot, judge, keep}, SlotTables.IsBounded, Buffers.{state_of, IsWithinRoom}}
 use Rattle.nfs_slots.specs.Laws.{Request, is_on, Keeps, OnePlace, RepeatsAreAnswered}
 
 -- what a slot's buffers stand for, put into the table

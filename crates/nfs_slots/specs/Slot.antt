@@ -1,6 +1,7 @@
 -- A slot of a session, and what it says of a request's number (RFC 8881 section 2.10.6.1).
-use Rattle.std.specs.Prelude.{ℕ, ◌+◌, ◌%◌, ◌^◌, ◌==◌, Bool, true, false, not, ◌&&◌, if◌then◌else◌, List, [], Option, bytes_eq, slice_get, slice_set}
+use Rattle.std.specs.Prelude.{ℕ, ◌==◌, Bool, true, false, not, ◌&&◌, if◌then◌else◌, List, [], Option, bytes_eq, slice_get, slice_set}
 use Rattle.std.specs.Option.{option_map_or}
+use Rattle.nfs_xdr.specs.Numbers.{next_number}
 use Rattle.nfs_slots.specs.{declared.slot.Verdict.Verdict, declared.slot.Verdict.TheVariants.{Fresh, Again, FalseRetry, Misordered, NoSlot}}
 
 -- a slot: the number of its last request, whether it took one, and of that request the caller, the argument bytes that a repeat is compared by, and the
@@ -15,10 +16,6 @@ pub record SlotState : Type 0 where
 -- a slot that took no request
 abbrev pub unused_slot : SlotState
 unused_slot = record { number = 0; used = false; uid = 0; args = []; reply = [] }
-
--- numbers go round: 0 stands behind 2^32 - 1
-abbrev pub next_number : ℕ → ℕ
-next_number number = (number + 1) % 2 ^ 32
 
 -- so 0 is misordered on a slot that took no request
 abbrev pub judge_slot : SlotState → ℕ → ℕ → List ℕ → Verdict

@@ -6,13 +6,13 @@ ghost use Rattle.nfs_results.specs.OpenHead.{HasHead};
 use nfs_compound::OpNum;
 use nfs_results::{
     Entry, OpenHead, Res, read_reply, write_done_head, write_entry, write_list_end,
-    write_read_dir_head, write_read_end, write_read_head, write_test_stateid_head,
+    write_read_dir_head, write_read_head, write_test_stateid_head,
 };
 use nfs_testing::bytes_of;
 use nfs_xdr::{Sheet, Status};
 use std::test::Fail;
 
-/// A READ of two bytes.
+/// A READ of two bytes, and the zeros that fill up their word.
 #[tactic(auto, using(nfs_results::proofs::Lengths::lengths))]
 fn put_read(out: &mut Sheet)
     requires room { length out.old.bytes + 20 ≤ out.old.room }
@@ -21,8 +21,7 @@ fn put_read(out: &mut Sheet)
     ensures stands { (status_at count_at : ℕ) → HasHead status_at count_at out.old.bytes → HasHead status_at count_at out.new.bytes }
 {
     write_read_head(true, 2, out);
-    out.put_bytes(b"xy");
-    write_read_end(2, out);
+    out.put_bytes(&[0x78, 0x79, 0, 0]);
 }
 
 /// A READDIR of one entry with no attributes.

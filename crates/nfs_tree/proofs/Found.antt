@@ -5,7 +5,8 @@ use Rattle.std.specs.{Prelude.{◌==◌, filter, option_map, unwrap_or, Ok}, Lis
 use Rattle.nfs_xdr.specs.{Tables.In, declared.time.Time.Time}
 use Rattle.nfs_xdr.proofs.Lists.{in_filter, in_push, in_any, find_in, find_out, find_push_none, none_left}
 use Rattle.nfs_tree.specs.{declared.row.Row.Row, declared.sets.Sets.Sets, declared.done.Created.Created, declared.done.Removed.Removed}
-use Rattle.nfs_tree.specs.{declared.fault.TreeFault.TreeFault, Files.{Files, root, is_entry, entry, lookup, named, has_entries, without_entry, raised}}
+use Rattle.nfs_tree.specs.declared.fault.TreeFault.{TreeFault}
+use Rattle.nfs_tree.specs.Files.{Files, root, is_entry, entry, object_named, number_named, has_entries, without_entry, raised}
 use Rattle.nfs_tree.specs.{Calls.{does_unless, create, create_fault, remove, remove_fault}, Create.{New, with_new}, Names.without_name, TreeInvariants.IsTree}
 use Rattle.nfs_tree.specs.Laws.{CreatedIsFound, RemovedIsAbsent, RemovedIsEmpty, IsUnused, NewIsUnused, UnlinkedIsUnnamed}
 use Rattle.nfs_tree.proofs.{RowsKept.entry_self, Objects.stored_within, Trees.{remove_granted, row_of}, Put.{create_granted, directory_there}}
@@ -25,35 +26,35 @@ created_is_found t d name new sets now made e =
     let to : Row = record { directory = d; name = name; object = t.last_object + 1; cookie = t.last_cookie + 1 } in
     let found : entry after.rows d name ≡ Some to =
     find_push_none (is_entry d name) t.rows to (create_granted t d name new done.0).vacant (entry_self to) in
-    ap (λ o. lookup (does_unless t o answer after).after d name) done.0
+    ap (λ o. object_named (does_unless t o answer after).after d name) done.0
     ∙ (ap (λ o. option_map (λ (r : Row). r.object) o) found ∙ ap (λ (c : Created). Some c.number) done.1)
 
 pub removed_is_absent : RemovedIsAbsent
 removed_is_absent t d name now gone e =
-    let answer : Removed = record { number = named t d name; directory = raised t d } in
+    let answer : Removed = record { number = number_named t d name; directory = raised t d } in
     let after = without_name t d name now in
     let done = went t (remove_fault t d name) answer gone after e in
     let out : entry after.rows d name ≡ None = find_out (is_entry d name) (λ r. not (is_entry d name r)) t.rows (λ r is. rw is refl) in
-    ap (λ o. lookup (does_unless t o answer after).after d name) done.0 ∙ ap (λ o. option_map (λ (r : Row). r.object) o) out
+    ap (λ o. object_named (does_unless t o answer after).after d name) done.0 ∙ ap (λ o. option_map (λ (r : Row). r.object) o) out
 
 -- what is removed is not the root
-not_root : (t : Files) (d : ℕ) (name : List ℕ) → IsTree t → remove_fault t d name ≡ None → named t d name ≢ root
+not_root : (t : Files) (d : ℕ) (name : List ℕ) → IsTree t → remove_fault t d name ≡ None → number_named t d name ≢ root
 not_root t d name is none e =
     let r = row_of t.rows d name (remove_granted t d name none).0 in
     let there = find_in (is_entry d name) t.rows r.0 r.1 in
-    let object : r.0.object ≡ named t d name = sym (ap (λ o. unwrap_or (option_map (λ (r : Row). r.object) o) 0) r.1) in
+    let object : r.0.object ≡ number_named t d name = sym (ap (λ o. unwrap_or (option_map (λ (r : Row). r.object) o) 0) r.1) in
     is.rows.free r.0 there.0 (object ∙ e)
 
-still_empty : (t : Files) (d : ℕ) (name : List ℕ) → remove_fault t d name ≡ None → has_entries (without_entry d name t.rows) (named t d name) ≡ false
+still_empty : (t : Files) (d : ℕ) (name : List ℕ) → remove_fault t d name ≡ None → has_entries (without_entry d name t.rows) (number_named t d name) ≡ false
 still_empty t d name none =
-    none_left (λ r. r.directory == named t d name) (λ r. not (is_entry d name r)) t.rows (remove_granted t d name none).1
+    none_left (λ r. r.directory == number_named t d name) (λ r. not (is_entry d name r)) t.rows (remove_granted t d name none).1
 
 pub removed_is_empty : RemovedIsEmpty
 removed_is_empty t d name now gone is e =
-    let answer : Removed = record { number = named t d name; directory = raised t d } in
+    let answer : Removed = record { number = number_named t d name; directory = raised t d } in
     let after = without_name t d name now in
     let done = went t (remove_fault t d name) answer gone after e in
-    let same : named t d name ≡ gone.number = ap (λ (g : Removed). g.number) done.1 in (
+    let same : number_named t d name ≡ gone.number = ap (λ (g : Removed). g.number) done.1 in (
       ap (λ o. has_entries (does_unless t o answer after).after.rows gone.number) done.0
           ∙ (ap (has_entries after.rows) (sym same) ∙ still_empty t d name done.0),
       λ root. not_root t d name is done.0 (same ∙ root),
@@ -73,8 +74,8 @@ new_unused t d name new sets now later gone is granted e =
     let to : Row = record { directory = d; name = name; object = n; cookie = t.last_cookie + 1 } in
     let found : entry u.rows d name ≡ Some to =
     find_push_none (is_entry d name) t.rows to (create_granted t d name new granted).vacant (entry_self to) in
-    let number : named u d name ≡ n = ap (λ o. unwrap_or (option_map (λ (r : Row). r.object) o) 0) found in
-    let answer : Removed = record { number = named u d name; directory = raised u d } in
+    let number : number_named u d name ≡ n = ap (λ o. unwrap_or (option_map (λ (r : Row). r.object) o) 0) found in
+    let answer : Removed = record { number = number_named u d name; directory = raised u d } in
     let after = without_name u d name later in
     let done = went u (remove_fault u d name) answer gone after e in
     let low = stored_within root n t.objects root is.objects (directory_there t root is.root) in

@@ -6,7 +6,7 @@ use Rattle.std.specs.{BTreeMap.{is_at, insert_entry}, Map.{lookup, remove_entry}
 use Rattle.slab.specs.Slab.{with_value, Slab, get, Updates}
 use Rattle.nfs_xdr.specs.{Tables.IsRising, declared.time.Time.Time}
 use Rattle.nfs_xdr.proofs.Tables.{IsRising-push}
-use Rattle.nfs_tree.specs.{declared.stored.Body.Body, declared.stored.Stored.Stored, declared.sets.Sets.Sets}
+use Rattle.nfs_tree.specs.{declared.object.Object.Object, declared.stored.Body.Body, declared.stored.Stored.Stored, declared.sets.Sets.Sets}
 use Rattle.nfs_tree.specs.{Files.{root, last_count, change_at, with_changed, stored_in}, Calls.CanChange, Indexed.{stored, numbered, AreObjects}}
 use Rattle.nfs_tree.proofs.StoredLemmas.{insert_last, free_vacant, stored_push, stored_apart, stored_remove, AreStored-push, stored_find, stored_write, filter_none, map_none, found_keeps, rising_keys, led_new, led_without, led_write}
 
@@ -139,13 +139,15 @@ objects_none s es empty none = subst (AreObjects (get s)) (sym none) (record {
   led = λ k x here. absurd (let bad : None ≡ Some x = rw empty at here in cc);
 })
 
-bare : (n : ℕ) (o : Option Body) → option_map (λ (s : Stored). s.object) (option_map (numbered n) o) ≡ option_map (λ (b : Body). b.object) o
+bare : (n : ℕ) (o : Option Body)
+    → option_map {U = Object × ℕ} (λ (s : Stored). (s.object, length s.bytes)) (option_map (numbered n) o) ≡ option_map {U = Object × ℕ} (λ (b : Body). (b.object, length b.bytes)) o
 bare n None = refl
 bare n (Some b) = refl
 
--- the object of a number is the one at the key to which it leads
+-- the object of a number is the one at the key to which it leads, and has as many bytes
 pub object_led : (s : Slab Body) (es : List (ℕ × ℕ)) (n : ℕ) (key : Option ℕ) → AreObjects (get s) es → lookup (is_at (nat_cmp n)) es ≡ key
-    → option_map (λ (b : Body). b.object) (option_and_then (get s) key) ≡ option_map (λ (s : Stored). s.object) (stored_in (stored numbered (get s) es) n)
+    → option_map {U = Object × ℕ} (λ (b : Body). (b.object, length b.bytes)) (option_and_then (get s) key)
+    ≡ option_map {U = Object × ℕ} (λ (s : Stored). (s.object, length s.bytes)) (stored_in (stored numbered (get s) es) n)
 object_led s es n key are leads =
     let seen = find_same s es n are ∙ ap (λ k. option_map (numbered n) (option_and_then (get s) k)) leads in
-    sym (ap (option_map (λ (s : Stored). s.object)) seen ∙ bare n (option_and_then (get s) key))
+    sym (ap (option_map {U = Object × ℕ} (λ (s : Stored). (s.object, length s.bytes))) seen ∙ bare n (option_and_then (get s) key))

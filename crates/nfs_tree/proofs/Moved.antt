@@ -6,7 +6,8 @@ use Rattle.nfs_xdr.specs.{Tables.In, declared.time.Time.Time}
 use Rattle.nfs_xdr.proofs.{Lists.{in_filter, stays_in, find_in, find_none, filter_swap}, Tables.{IsRising-push, IsRising-filter}, Checks.all_passed}
 use Rattle.nfs_tree.specs.{declared.row.Row.Row, Object.{no_sets, modified}}
 use Rattle.nfs_tree.specs.Files.{Files, root, last_count, is_name, is_there, is_directory_at, can_change, is_entry, entry, has_name}
-use Rattle.nfs_tree.specs.{Calls.{CanChange, IsReached, rename_fault}, Files.{named, has_entries, with_entries_changed, with_links_changed, without_entry}}
+use Rattle.nfs_tree.specs.Calls.{CanChange, IsReached, rename_fault}
+use Rattle.nfs_tree.specs.Files.{number_named, has_entries, with_entries_changed, with_links_changed, without_entry}
 use Rattle.nfs_tree.specs.Names.{is_at_or_below, Move, moved_object, replaced_object, moves, is_below_itself, is_unlike, is_in_the_way, can_move}
 use Rattle.nfs_tree.specs.{Names.{rename_checks, with_both_changed, with_moved}, TreeInvariants.{Grounded, AreRows, IsTree}}
 use Rattle.nfs_tree.proofs.{RowsKept.{entry_parts, reached, grounded_without, no_entries}, Objects.{stored_within, can_change_all, can_change_none}}
@@ -174,7 +175,7 @@ tree_moved t m now is granted go condition =
 pub moved_apart : (t : Files) (m : Move) (n k : ℕ) → moves t m ≡ true → is_entry m.source m.old (let r : Row = record { directory = m.target; name = m.name; object = n; cookie = k } in r) ≡ false
 moved_apart t m n k go = elim (cases_Bool (is_entry m.source m.old (let r : Row = record { directory = m.target; name = m.name; object = n; cookie = k } in r))) [
   | inl is ↦ (let parts = entry_parts m.source m.old (record { directory = m.target; name = m.name; object = n; cookie = k }) is in
-      let same : moved_object t m ≡ replaced_object t m = ap (λ d. named t d m.old) (sym parts.0) ∙ ap (named t m.target) (sym parts.1) in
+      let same : moved_object t m ≡ replaced_object t m = ap (λ d. number_named t d m.old) (sym parts.0) ∙ ap (number_named t m.target) (sym parts.1) in
       absurd (let bad : false ≡ true = rw (eq-eqb (moved_object t m) (replaced_object t m) same) at go in false≢true bad))
   | inr other ↦ other
 ]

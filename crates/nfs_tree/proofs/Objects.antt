@@ -6,9 +6,13 @@ use Rattle.std.specs.{Prelude.{◌==◌, filter, option_map, is_some}, Option.op
 use Rattle.nfs_xdr.specs.{declared.time.Time.Time, Tables.{IsRising, In}}
 use Rattle.nfs_xdr.proofs.{Lists.{find_map, find_in, find_past, find_push_some, find_push_none}, Tables.{all_one, at_above, in_bounds, none_below}}
 use Rattle.nfs_tree.specs.{declared.sets.Sets.Sets, declared.stored.Stored.Stored, Object.{is_directory, changed}}
-use Rattle.nfs_tree.specs.{Files.{last_count, stored_in, is_directory_in, change_at, with_changed}, Calls.CanChange, TreeInvariants.IsSized}
+use Rattle.nfs_tree.specs.{Files.{last_count, most_of, stored_in, is_directory_in, change_at, with_changed}, Calls.CanChange}
 
--- a change of objects that keeps numbers, types and sizes
+-- an object has no more bytes than its type may have
+abbrev pub IsSized : Stored → Type 0
+IsSized s = length s.bytes ≤ most_of s.object.kind
+
+-- a change of objects that keeps numbers, types and bounds of bytes
 pub record Keeps (objects : List Stored) (f : Stored → Stored) : Type 0 where
   pub number : (s : Stored) → (f s).number ≡ s.number
   pub kind : (s : Stored) → (f s).object.kind ≡ s.object.kind
@@ -20,7 +24,7 @@ keeps_changed n now sets objects = record {
   kind = λ s. elim (s.number == n) as (λ v. (cond v (record s { object = changed now sets s.object }) s).object.kind ≡ s.object.kind)
       [ true ↦ refl | false ↦ refl ];
   sized = λ s is sized. elim (s.number == n) as (λ v. IsSized (cond v (record s { object = changed now sets s.object }) s))
-      [ true ↦ record { size = sized.size; most = sized.most } | false ↦ sized ];
+      [ true ↦ sized | false ↦ sized ];
 }
 
 pub stored_map : (objects : List Stored) (f : Stored → Stored) (n : ℕ)

@@ -2,18 +2,18 @@
 use Rattle.std.proofs.Common.{◌≡◌, ◌≢◌, ℕ, ◌+◌, ◌<◌, ◌≤◌, Bool, true, false, not, List, [], ◌∷◌, ◌++◌, length, Option}
 use Rattle.std.proofs.Common.{Some, None, refl, sym, ◌∙◌, ap, subst, arith, inl, inr, length-append}
 use Rattle.std.proofs.lemmas.Bool.{and_parts, ne_eqb, ltb-true, ltb-false, leb-true, leb-false, not-false, false≢true}
-use Rattle.std.proofs.lemmas.List.{length-replicate, length-map}
-use Rattle.std.specs.{Prelude.{nat_lt, nat_le, ◌==◌, ◌&&◌, is_some, replicate}, List.list_any, Option.option_map_or}
+use Rattle.std.proofs.lemmas.List.{length-map}
+use Rattle.std.specs.{Prelude.{nat_lt, nat_le, ◌==◌, ◌&&◌, is_some}, List.list_any, Option.option_map_or}
 use Rattle.nfs_xdr.proofs.{Checks.all_passed, Lists.in_push, Tables.IsRising-push}
 use Rattle.nfs_xdr.specs.{Tables.In, declared.time.Time.Time}
 use Rattle.nfs_tree.specs.{declared.row.Row.Row, declared.sets.Sets.Sets, declared.stored.Stored.Stored, Object.{is_directory, no_sets, modified}}
-use Rattle.nfs_tree.specs.Files.{Files, root, last_count, most_objects, most_links, most_bytes, most_text, is_name, stored_in, is_there, is_directory_in}
+use Rattle.nfs_tree.specs.Files.{Files, root, last_count, most_objects, most_links, is_name, stored_in, is_there, is_directory_in}
 use Rattle.nfs_tree.specs.Files.{is_directory_at, can_change, entry, has_row, links_in, change_at, with_entries_changed, with_links_changed}
 use Rattle.nfs_tree.specs.Calls.{IsReached, create_fault, link_fault}
-use Rattle.nfs_tree.specs.Create.{New, File, Directory, Link, size_of, data_of, kind_of, new_object, is_bad_text, is_too_big, create_checks, with_new}
-use Rattle.nfs_tree.specs.{Names.{link_checks, with_link}, TreeInvariants.{IsSized, IsTree, most_of}}
+use Rattle.nfs_tree.specs.Create.{New, new_object, is_bad_text, is_too_big, create_checks, with_new}
+use Rattle.nfs_tree.specs.{Names.{link_checks, with_link}, TreeInvariants.IsTree}
 use Rattle.nfs_tree.proofs.RowsKept.{rows_same, rows_put, CanPut, reached}
-use Rattle.nfs_tree.proofs.{Objects.{keeps_changed, there_map, directory_map, stored_within, stored_push, new_there}, Trees.tree_changed}
+use Rattle.nfs_tree.proofs.{Objects.{IsSized, keeps_changed, there_map, directory_map, stored_within, stored_push, new_there}, Trees.tree_changed}
 
 pub vacant_of : (o : Option Row) → is_some o ≡ false → o ≡ None
 vacant_of None e = refl
@@ -160,34 +160,17 @@ no_links : (rows : List Row) (n : ℕ) → ((r : Row) → In r rows → r.object
 no_links [] n none = refl
 no_links (r ∷ rows) n none = rw (ne_eqb r.object n (none r (inl refl))) (no_links rows n (λ r there. none r (inr there)))
 
-size_bound : (size : ℕ) → nat_lt most_bytes size ≡ false → size ≤ most_bytes
-size_bound size e = ltb-false _ _ e
-
-text_bound : (text : List ℕ) → not (nat_lt 0 (length text) && nat_le (length text) most_text) ≡ false → length text ≤ most_text
-text_bound text e = leb-true (length text) most_text (and_parts (nat_lt 0 (length text)) (nat_le (length text) most_text) (not-false _ e)).1
-
-new_size : (new : New) → size_of new ≡ length (data_of new)
-new_size (File size verifier) = sym (length-replicate size 0)
-new_size Directory = refl
-new_size (Link text) = refl
-
-new_most : (new : New) → is_bad_text new ≡ false → is_too_big new ≡ false → length (data_of new) ≤ most_of (kind_of new)
-new_most (File size verifier) good small = let l : length (replicate {A = ℕ} size 0) ≡ size = length-replicate size 0 in
-    let le = size_bound size small in omega arith
-new_most Directory good small = omega arith
-new_most (Link text) good small = text_bound text good
-
 pub tree_created : (t : Files) (d : ℕ) (name : List ℕ) (new : New) (sets : Sets) (now : Time)
     → IsTree t → create_fault t d name new ≡ None → IsReached t d → IsTree (with_new t d name new sets now)
 tree_created t d name new sets now is granted condition =
     let can = create_granted t d name new granted in
     let one = record t { objects = with_entries_changed d now t.objects } in
     let is_one : IsTree one = tree_changed t d now (modified now no_sets) is in
-    let x : Stored = record { number = t.last_object + 1; object = new_object now new sets; bytes = data_of new } in
+    let x : Stored = record { number = t.last_object + 1; object = new_object now new sets; bytes = new.bytes } in
     let two = record one { objects = one.objects ++ x ∷ []; last_object = t.last_object + 1 } in
     let room : length one.objects < most_objects =
     subst (λ l. l < most_objects) (sym (length-map t.objects (change_at d now (modified now no_sets)))) can.room in
-    let is_two : IsTree two = tree_put_object one x is_one refl can.object room (record { size = new_size new; most = new_most new can.good can.small }) in
+    let is_two : IsTree two = tree_put_object one x is_one refl can.object room (ltb-false _ _ can.small) in
     let kind = directory_map t.objects (change_at d now (modified now no_sets)) d (keeps_changed d now (modified now no_sets) t.objects) ∙ can.directory in
     let pushed = stored_push one.objects x d (directory_there one d kind) in
     let last = stored_within root (t.last_object + 1) t.objects root is.objects (directory_there t root is.root) in

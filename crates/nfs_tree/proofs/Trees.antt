@@ -6,10 +6,10 @@ use Rattle.nfs_xdr.specs.{Tables.In, declared.time.Time.Time}
 use Rattle.nfs_xdr.proofs.{Lists.{in_filter, in_map, find_in, length_filter, any_in}, Tables.{IsRising-map, IsRising-filter}, Checks.all_passed}
 use Rattle.nfs_tree.specs.{declared.row.Row.Row, declared.sets.Sets.Sets, declared.stored.Stored.Stored, Object.{is_directory, no_sets, modified}}
 use Rattle.nfs_tree.specs.Files.{Files, root, stored_in, is_there, is_directory_in, is_directory_at, can_change, is_entry, with_links_changed, without_entry}
-use Rattle.nfs_tree.specs.Files.{entry, has_name, named, has_row, has_entries, change_at, with_changed, with_entries_changed}
-use Rattle.nfs_tree.specs.{Names.{forget, remove_checks, without_name}, Calls.{remove_fault, set_checks, set_fault}, TreeInvariants.{IsSized, IsTree}}
+use Rattle.nfs_tree.specs.Files.{entry, has_name, number_named, has_row, has_entries, change_at, with_changed, with_entries_changed}
+use Rattle.nfs_tree.specs.{Names.{forget, remove_checks, without_name}, Calls.{remove_fault, set_checks, set_fault}, TreeInvariants.IsTree}
 use Rattle.nfs_tree.proofs.RowsKept.{rows_same, rows_dropped, no_entries, no_row, only_entry, entry_parts}
-use Rattle.nfs_tree.proofs.Objects.{Keeps, keeps_changed, there_map, directory_map, stored_dropped}
+use Rattle.nfs_tree.proofs.Objects.{IsSized, Keeps, keeps_changed, there_map, directory_map, stored_dropped}
 
 -- the same of parts that are equal to those
 pub tree_of : (t : Files) → IsTree t → (objects : List Stored) (rows : List Row) (n k : ℕ)
@@ -59,7 +59,7 @@ set_granted t n e = let checks = all_passed (set_checks t n) e in not-false _ ch
 
 -- REMOVE
 pub remove_granted : (t : Files) (d : ℕ) (name : List ℕ) → remove_fault t d name ≡ None
-    → (has_name t d name ≡ true) × (has_entries t.rows (named t d name) ≡ false) × (can_change t d ≡ true) × (can_change t (named t d name) ≡ true)
+    → (has_name t d name ≡ true) × (has_entries t.rows (number_named t d name) ≡ false) × (can_change t d ≡ true) × (can_change t (number_named t d name) ≡ true)
 remove_granted t d name e =
     let checks = all_passed (remove_checks t d name) e in
     let change = and_parts _ _ (not-false _ checks.1.1.1.1.0) in
@@ -84,14 +84,14 @@ has_one t d name e =
 pub apart : (t : Files) (d n : ℕ) → has_entries t.rows d ≡ true → has_entries t.rows n ≡ false → n ≢ d
 apart t d n some none same = false≢true (sym none ∙ ap (has_entries t.rows) same ∙ some)
 
-pub entry_names : (t : Files) (d : ℕ) (name : List ℕ) → IsTree t → (r : Row) → In r t.rows → is_entry d name r ≡ true → r.object ≡ named t d name
+pub entry_names : (t : Files) (d : ℕ) (name : List ℕ) → IsTree t → (r : Row) → In r t.rows → is_entry d name r ≡ true → r.object ≡ number_named t d name
 entry_names t d name is r there e =
     let found = only_entry t.rows (λ n. is_directory_at t n) (λ n. is_there t n) is.rows d name r there e in
     sym (ap (λ o. unwrap_or (option_map (λ (r : Row). r.object) o) 0) found)
 
 -- rows dropped from a tree: what the entry names has no entries
 pub tree_dropped : (t : Files) (d : ℕ) (name : List ℕ) → IsTree t
-    → has_entries t.rows (named t d name) ≡ false → IsTree (record t { rows = without_entry d name t.rows })
+    → has_entries t.rows (number_named t d name) ≡ false → IsTree (record t { rows = without_entry d name t.rows })
 tree_dropped t d name is empty = record {
   objects = is.objects;
   cookies = IsRising-filter (λ (r : Row). r.cookie) (λ r. not (is_entry d name r)) 3 (t.last_cookie + 1) t.rows is.cookies;
@@ -100,12 +100,12 @@ tree_dropped t d name is empty = record {
   sized = is.sized;
   root = is.root;
   rows = rows_dropped t.rows (λ n. is_directory_at t n) (λ n. is_there t n) d name
-      (named t d name) is.rows (entry_names t d name is) (no_entries t.rows (named t d name) empty);
+      (number_named t d name) is.rows (entry_names t d name is) (no_entries t.rows (number_named t d name) empty);
 }
 
 pub tree_removed : (t : Files) (d : ℕ) (name : List ℕ) (now : Time) → IsTree t → remove_fault t d name ≡ None → IsTree (without_name t d name now)
 tree_removed t d name now is granted =
-    let n = named t d name in
+    let n = number_named t d name in
     let one = record t { objects = with_entries_changed d now t.objects } in
     let both = record one { objects = with_links_changed n now one.objects } in
     tree_dropped both d name

@@ -3,8 +3,9 @@ use Rattle.std.specs.Prelude.{◌≡◌, Bool, true, Option, Some, None, Result,
 use Rattle.std.specs.{Prelude.{◌&&◌, [], ◌∷◌, length}, Option.option_map_or}
 use Rattle.nfs_xdr.specs.{Checks.first_fault, declared.time.Time.Time}
 use Rattle.nfs_tree.specs.{declared.fault.TreeFault.TreeFault, declared.fault.TreeFault.TheVariants.{Memory, NoEnt, IsDir, Inval, Fbig, Counter}}
-use Rattle.nfs_tree.specs.Files.{Files, root, last_count, stored_in, is_directory_at, has_row, raised, lookup, named, stays, most_bytes, is_there, can_change}
-use Rattle.nfs_tree.specs.{Files.with_changed, declared.stored.Stored.Stored, Object.is_regular, Create.{New, File, Directory, Link, create_checks, with_new}}
+use Rattle.nfs_tree.specs.Files.{Files, root, last_count, stored_in, is_directory_at, has_row, raised, object_named, number_named, unraised, most_bytes}
+use Rattle.nfs_tree.specs.Files.{is_there, can_change}
+use Rattle.nfs_tree.specs.{Files.with_changed, declared.stored.Stored.Stored, Object.is_regular, Create.{New, new_file, new_directory, new_link, create_checks, with_new}}
 use Rattle.nfs_tree.specs.{declared.sets.Sets.Sets, declared.create.New.{New as Code}, declared.done.Created.Created}
 use Rattle.nfs_tree.specs.{Names.{link_checks, with_link, remove_checks, without_name, Move, moves, rename_checks, with_moved}, declared.rename.Place.Place}
 use Rattle.nfs_tree.specs.{declared.done.Change.Change, declared.done.Removed.Removed, declared.done.Renamed.Renamed}
@@ -36,9 +37,9 @@ IsReached t d = is_directory_at t d ≡ true → (d == root) || has_row t.rows d
 
 -- what the code's value says, wherever its bytes lie
 abbrev pub new_of : Code → New
-new_of (code.File size verifier) = File size verifier
-new_of code.Directory = Directory
-new_of (code.Link text) = Link text.now
+new_of (code.File size verifier) = new_file size verifier
+new_of code.Directory = new_directory
+new_of (code.Link text) = new_link text.now
 
 abbrev pub create_fault : Files → ℕ → List ℕ → New → Option TreeFault
 create_fault t d name new = first_fault (create_checks t d name new)
@@ -57,7 +58,7 @@ abbrev pub remove_fault : Files → ℕ → List ℕ → Option TreeFault
 remove_fault t d name = first_fault (remove_checks t d name)
 
 abbrev pub remove : Files → ℕ → List ℕ → Time → Did Removed
-remove t d name now = does_unless t (remove_fault t d name) (record { number = named t d name; directory = raised t d }) (without_name t d name now)
+remove t d name now = does_unless t (remove_fault t d name) (record { number = number_named t d name; directory = raised t d }) (without_name t d name now)
 
 -- what the code's value says, wherever its names lie
 abbrev pub move_of : Place → Move
@@ -69,13 +70,13 @@ rename_fault t m = first_fault (rename_checks t m)
 -- what is answered and left where an entry moves ..
 abbrev pub moved : Files → Move → Time → Did Renamed
 moved t m now = record {
-  answer = Ok (record { source = raised t m.source; target = raised t m.target; replaced = lookup t m.target m.name });
+  answer = Ok (record { source = raised t m.source; target = raised t m.target; replaced = object_named t m.target m.name });
   after = with_moved t m now;
 }
 
 -- .. and where nothing does
 abbrev pub unmoved : Files → Move → Did Renamed
-unmoved t m = record { answer = Ok (record { source = stays t m.source; target = stays t m.target; replaced = None }); after = t }
+unmoved t m = record { answer = Ok (record { source = unraised t m.source; target = unraised t m.target; replaced = None }); after = t }
 
 abbrev pub rename_unless : Files → Option TreeFault → Did Renamed → Did Renamed
 rename_unless t None did = did

@@ -1,57 +1,46 @@
 -- A new tree, and a new object in a directory (RFC 8881 sections 18.4 and 18.16).
-use Rattle.std.specs.Prelude.{ℕ, ◌+◌, nat_lt, nat_le, Bool, false, not, ◌&&◌, List, [], ◌∷◌, ◌++◌, length, Option, Some, None, unwrap_or, replicate}
+use Rattle.std.specs.Prelude.{ℕ, ◌+◌, nat_lt, nat_le, Bool, not, ◌&&◌, List, [], ◌∷◌, ◌++◌, length, Option, Some, None, unwrap_or, replicate}
 use Rattle.nfs_xdr.specs.declared.time.Time.{Time}
 use Rattle.nfs_tree.specs.{declared.object.FileType.FileType, declared.object.Object.Object, declared.sets.Sets.Sets, declared.fault.TreeFault.TreeFault}
-use Rattle.nfs_tree.specs.{declared.fault.TreeFault.TheVariants.{NoEnt, Exist, NotDir, Inval, Fbig, NoSpc, Counter}, Object.no_sets}
-use Rattle.nfs_tree.specs.Files.{Files, root, last_count, most_objects, most_bytes, most_text, is_name, is_there, is_directory_at, has_name, can_change}
+use Rattle.nfs_tree.specs.{declared.fault.TreeFault.TheVariants.{NoEnt, Exist, NotDir, Inval, Fbig, NoSpc, Counter}, Object.{is_link, no_sets}}
+use Rattle.nfs_tree.specs.Files.{Files, root, last_count, most_objects, most_text, most_of, is_name, is_there, is_directory_at, has_name, can_change}
 use Rattle.nfs_tree.specs.Files.{with_entries_changed}
-use Rattle.nfs_tree.specs.declared.object.FileType.TheVariants as kind
+use Rattle.nfs_tree.specs.declared.object.FileType.TheVariants.{Regular, Directory, Link}
 
--- What is made: a file of so many zeros, with the verifier of an exclusive create; a directory; a symbolic link with its text.
-pub data New : Type 0 where
-  File : ℕ → Option (List ℕ) → New
-  Directory : New
-  Link : List ℕ → New
+-- What is made: its type, the bytes that it begins with, and the verifier of an exclusive create.
+pub record New : Type 0 where
+  pub kind : FileType
+  pub bytes : List ℕ
+  pub verifier : Option (List ℕ)
 
-abbrev pub kind_of : New → FileType
-kind_of (File size verifier) = kind.Regular
-kind_of Directory = kind.Directory
-kind_of (Link text) = kind.Link
+-- a file of so many zeros, a directory, and a symbolic link with its text
+abbrev pub new_file : ℕ → Option (List ℕ) → New
+new_file size verifier = record { kind = Regular; bytes = replicate size 0; verifier = verifier }
 
-abbrev pub size_of : New → ℕ
-size_of (File size verifier) = size
-size_of Directory = 0
-size_of (Link text) = length text
+abbrev pub new_directory : New
+new_directory = record { kind = Directory; bytes = []; verifier = None }
 
-abbrev pub data_of : New → List ℕ
-data_of (File size verifier) = replicate size 0
-data_of Directory = []
-data_of (Link text) = text
-
-abbrev pub verifier_of : New → Option (List ℕ)
-verifier_of (File size verifier) = verifier
-verifier_of Directory = None
-verifier_of (Link text) = None
+abbrev pub new_link : List ℕ → New
+new_link text = record { kind = Link; bytes = text; verifier = None }
 
 -- a new object: mode, owner and group are 0 and the times now where they are not set
 abbrev pub new_object : Time → New → Sets → Object
 new_object now new sets = record {
-  kind = kind_of new;
+  kind = new.kind;
   mode = unwrap_or sets.mode 0;
   owner = unwrap_or sets.owner 0;
   group = unwrap_or sets.group 0;
   change = 1;
-  size = size_of new;
   access = unwrap_or sets.access now;
   metadata = now;
   modify = unwrap_or sets.modify now;
-  verifier = verifier_of new;
+  verifier = new.verifier;
 }
 
 -- a tree of nothing but the root
 abbrev pub new_tree : ℕ → Time → Files
 new_tree mode now = record {
-  objects = record { number = root; object = new_object now Directory (record no_sets { mode = Some mode }); bytes = [] } ∷ [];
+  objects = record { number = root; object = new_object now new_directory (record no_sets { mode = Some mode }); bytes = [] } ∷ [];
   rows = [];
   last_object = root;
   last_cookie = 2;
@@ -59,15 +48,11 @@ new_tree mode now = record {
 
 -- a symbolic link's text that is empty or too long
 abbrev pub is_bad_text : New → Bool
-is_bad_text (File size verifier) = false
-is_bad_text Directory = false
-is_bad_text (Link text) = not (nat_lt 0 (length text) && nat_le (length text) most_text)
+is_bad_text new = is_link new.kind && not (nat_lt 0 (length new.bytes) && nat_le (length new.bytes) most_text)
 
--- a file of more bytes than one may have
+-- more bytes than an object of the type may have
 abbrev pub is_too_big : New → Bool
-is_too_big (File size verifier) = nat_lt most_bytes size
-is_too_big Directory = false
-is_too_big (Link text) = false
+is_too_big new = nat_lt (most_of new.kind) (length new.bytes)
 
 -- whether a directory can get one more object
 abbrev pub room_checks : Files → ℕ → List (Bool × TreeFault)
@@ -89,7 +74,7 @@ create_checks t d name new =
 -- the directory changes, and the new object and its row get the next number and cookie
 abbrev pub with_new : Files → ℕ → List ℕ → New → Sets → Time → Files
 with_new t d name new sets now = record {
-  objects = with_entries_changed d now t.objects ++ record { number = t.last_object + 1; object = new_object now new sets; bytes = data_of new } ∷ [];
+  objects = with_entries_changed d now t.objects ++ record { number = t.last_object + 1; object = new_object now new sets; bytes = new.bytes } ∷ [];
   rows = t.rows ++ record { directory = d; name = name; object = t.last_object + 1; cookie = t.last_cookie + 1 } ∷ [];
   last_object = t.last_object + 1;
   last_cookie = t.last_cookie + 1;

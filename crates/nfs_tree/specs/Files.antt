@@ -2,6 +2,7 @@
 use Rattle.std.specs.Prelude.{ℕ, ◌==◌, nat_lt, nat_le, Bool, false, not, ◌&&◌, if◌then◌else◌, List, [], length, Option, filter, map, find, is_some, option_map}
 use Rattle.std.specs.{Prelude.{unwrap_or, bytes_eq, ◌+◌}, List.list_any, Option.option_map_or}
 use Rattle.nfs_xdr.specs.declared.time.Time.{Time}
+use Rattle.nfs_tree.specs.{declared.object.FileType.FileType, declared.object.FileType.TheVariants.{Regular, Directory, Link}}
 use Rattle.nfs_tree.specs.{declared.object.Object.Object, declared.row.Row.Row, declared.sets.Sets.Sets, declared.stored.Stored.Stored}
 use Rattle.nfs_tree.specs.{Object.{is_directory, changed, modified, no_sets}, declared.done.Change.Change}
 
@@ -35,6 +36,12 @@ most_name = 255
 
 abbrev pub most_text : ℕ
 most_text = 1024
+
+-- the most bytes that an object of a type may have
+abbrev pub most_of : FileType → ℕ
+most_of Regular = most_bytes
+most_of Directory = 0
+most_of Link = most_text
 
 -- a name that a row can have
 abbrev pub is_name : List ℕ → Bool
@@ -77,12 +84,12 @@ entry rows d name = find (is_entry d name) rows
 abbrev pub has_name : Files → ℕ → List ℕ → Bool
 has_name t d name = is_some (entry t.rows d name)
 
-abbrev pub lookup : Files → ℕ → List ℕ → Option ℕ
-lookup t d name = option_map (λ r. r.object) (entry t.rows d name)
+abbrev pub object_named : Files → ℕ → List ℕ → Option ℕ
+object_named t d name = option_map (λ r. r.object) (entry t.rows d name)
 
 -- its number, or 0, which no object has
-abbrev pub named : Files → ℕ → List ℕ → ℕ
-named t d name = unwrap_or (lookup t d name) 0
+abbrev pub number_named : Files → ℕ → List ℕ → ℕ
+number_named t d name = unwrap_or (object_named t d name) 0
 
 -- the directory of the first row that names the object: of its one row, if it is a directory
 abbrev pub parent_in : List Row → ℕ → Option ℕ
@@ -134,5 +141,5 @@ without_entry d name rows = filter (λ r. not (is_entry d name r)) rows
 abbrev pub raised : Files → ℕ → Change
 raised t d = record { before = change_of t d; after = change_of t d + 1 }
 
-abbrev pub stays : Files → ℕ → Change
-stays t d = record { before = change_of t d; after = change_of t d }
+abbrev pub unraised : Files → ℕ → Change
+unraised t d = record { before = change_of t d; after = change_of t d }

@@ -2,7 +2,7 @@
 use Rattle.std.specs.Prelude.{◌≡◌, ◌≢◌, ◌↔◌, ℕ, IsTrue, true, false, List, length, Some, None, Ok}
 use Rattle.nfs_xdr.specs.declared.time.Time.{Time}
 use Rattle.nfs_tree.specs.{declared.done.Created.Created, declared.done.Removed.Removed, declared.sets.Sets.Sets}
-use Rattle.nfs_tree.specs.{Files.{Files, root, is_directory_at, lookup, links_in, has_row, has_entries}, Create.New, Calls.{create, remove}}
+use Rattle.nfs_tree.specs.{Files.{Files, root, is_directory_at, object_named, links_in, has_row, has_entries}, Create.New, Calls.{create, remove}}
 use Rattle.nfs_tree.specs.{Names.is_at_or_below, Walks.{IsWellFormed, walk}, TreeInvariants.IsTree}
 
 -- what every tree keeps makes it well formed
@@ -12,12 +12,12 @@ TreesAreWellFormed = (t : Files) → IsTree t → IsWellFormed t
 -- behind CREATE the name is that of the new object
 abbrev pub CreatedIsFound : Type 0
 CreatedIsFound = (t : Files) (d : ℕ) (name : List ℕ) (new : New) (sets : Sets) (now : Time) (made : Created)
-    → (create t d name new sets now).answer ≡ Ok made → lookup (create t d name new sets now).after d name ≡ Some made.number
+    → (create t d name new sets now).answer ≡ Ok made → object_named (create t d name new sets now).after d name ≡ Some made.number
 
 -- behind REMOVE no object has the name
 abbrev pub RemovedIsAbsent : Type 0
 RemovedIsAbsent = (t : Files) (d : ℕ) (name : List ℕ) (now : Time) (gone : Removed)
-    → (remove t d name now).answer ≡ Ok gone → lookup (remove t d name now).after d name ≡ None
+    → (remove t d name now).answer ≡ Ok gone → object_named (remove t d name now).after d name ≡ None
 
 -- what REMOVE takes a name from has no entries, and is not the root
 abbrev pub RemovedIsEmpty : Type 0

@@ -4,7 +4,8 @@ use Rattle.std.specs.Prelude.{ℕ, zero, suc, ◌+◌, ◌==◌, nat_lt, nat_le,
 use Rattle.nfs_xdr.specs.declared.time.Time.{Time}
 use Rattle.nfs_tree.specs.{declared.row.Row.Row, declared.stored.Stored.Stored, declared.fault.TreeFault.TreeFault}
 use Rattle.nfs_tree.specs.declared.fault.TreeFault.TheVariants.{NoEnt, Exist, NotDir, IsDir, NotEmpty, Inval, Mlink, Counter}
-use Rattle.nfs_tree.specs.Files.{Files, last_count, most_links, is_name, is_there, is_directory_at, has_name, named, parent_in, links_in, has_row, has_entries}
+use Rattle.nfs_tree.specs.Files.{Files, last_count, most_links, is_name, is_there, is_directory_at, has_name, number_named, parent_in, links_in, has_row}
+use Rattle.nfs_tree.specs.Files.{has_entries}
 use Rattle.nfs_tree.specs.Files.{can_change, with_entries_changed, with_links_changed, without_entry}
 
 -- a row more
@@ -37,13 +38,13 @@ remove_checks t d name =
     (not (is_there t d), NoEnt)
     ∷ (not (is_directory_at t d), NotDir)
     ∷ (not (has_name t d name), NoEnt)
-    ∷ (has_entries t.rows (named t d name), NotEmpty)
-    ∷ (not (can_change t d && can_change t (named t d name)), Counter)
+    ∷ (has_entries t.rows (number_named t d name), NotEmpty)
+    ∷ (not (can_change t d && can_change t (number_named t d name)), Counter)
     ∷ []
 
 abbrev pub without_name : Files → ℕ → List ℕ → Time → Files
 without_name t d name now = record t {
-  objects = with_links_changed (named t d name) now (with_entries_changed d now t.objects);
+  objects = with_links_changed (number_named t d name) now (with_entries_changed d now t.objects);
   rows = without_entry d name t.rows;
 }
 
@@ -67,11 +68,11 @@ abbrev pub move : ℕ → List ℕ → ℕ → List ℕ → Move
 move source old target name = record { source = source; old = old; target = target; name = name }
 
 abbrev pub moved_object : Files → Move → ℕ
-moved_object t m = named t m.source m.old
+moved_object t m = number_named t m.source m.old
 
 -- the object that has the new name, or 0
 abbrev pub replaced_object : Files → Move → ℕ
-replaced_object t m = named t m.target m.name
+replaced_object t m = number_named t m.target m.name
 
 -- both names are of one object: then nothing changes
 abbrev pub moves : Files → Move → Bool

@@ -14,6 +14,11 @@ is_regular Regular = true
 is_regular Directory = false
 is_regular Link = false
 
+abbrev pub is_link : FileType → Bool
+is_link Regular = false
+is_link Directory = false
+is_link Link = true
+
 -- nothing is set
 abbrev pub no_sets : Sets
 no_sets = record { mode = None; owner = None; group = None; access = None; modify = None }

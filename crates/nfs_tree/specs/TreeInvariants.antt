@@ -1,8 +1,8 @@
 -- What every tree keeps: the facts of a well-formed tree in a local form, the limits and the counters.
 use Rattle.std.specs.Prelude.{◌≡◌, ◌≢◌, ℕ, ◌+◌, ◌≤◌, zero, suc, Bool, true, List, length, Some}
-use Rattle.nfs_tree.specs.{declared.object.FileType.FileType, declared.object.FileType.TheVariants.{Regular, Directory, Link}, declared.row.Row.Row}
+use Rattle.nfs_tree.specs.declared.row.Row.{Row}
 use Rattle.nfs_tree.specs.declared.stored.Stored.{Stored}
-use Rattle.nfs_tree.specs.Files.{Files, root, last_count, most_objects, most_links, most_bytes, most_text, is_name, entry, is_there, is_directory_at, links_in}
+use Rattle.nfs_tree.specs.Files.{Files, root, last_count, most_objects, most_links, most_of, is_name, entry, is_there, is_directory_at, links_in}
 use Rattle.nfs_xdr.specs.Tables.{IsRising, In}
 
 -- n rows lead from the root down to d
@@ -25,21 +25,12 @@ pub record AreRows (rows : List Row) (directories there : ℕ → Bool) : Type 0
   pub short : (r : Row) → In r rows → is_name r.name ≡ true
   pub few : (n : ℕ) → links_in rows n ≤ most_links
 
-abbrev pub most_of : FileType → ℕ
-most_of Regular = most_bytes
-most_of Directory = 0
-most_of Link = most_text
-
--- an object's size is that of its bytes, of which it has no more than its type may have
-pub record IsSized (s : Stored) : Type 0 where
-  pub size : s.object.size ≡ length s.bytes
-  pub most : length s.bytes ≤ most_of s.object.kind
-
 pub record IsTree (t : Files) : Type 0 where
   pub objects : IsRising (λ s. s.number) root t.objects (t.last_object + 1)
   pub cookies : IsRising (λ r. r.cookie) 3 t.rows (t.last_cookie + 1)
   pub counters : (t.last_object ≤ last_count) × (t.last_cookie ≤ last_count)
   pub few : length t.objects ≤ most_objects
-  pub sized : (s : Stored) → In s t.objects → IsSized s
+  -- an object has no more bytes than its type may have
+  pub sized : (s : Stored) → In s t.objects → length s.bytes ≤ most_of s.object.kind
   pub root : is_directory_at t root ≡ true
   pub rows : AreRows t.rows (λ n. is_directory_at t n) (λ n. is_there t n)

@@ -1,7 +1,7 @@
 //! Bytes that are kept, the contents of files and the texts of links: in pages of 4,096. What no page holds is zeros, so
 //! a gap takes no memory.
 
-ghost use Rattle.std.specs.Prelude.{◌≡◌, ℕ, ◌+◌, ◌/◌, ◌^◌, ◌<◌, ◌≤◌, ◌++◌, [], length, take, drop, map, max, replicate, slice_index_or, IfOk, OnOk, OnErr};
+ghost use Rattle.std.specs.Prelude.{◌≡◌, ℕ, ◌+◌, ◌/◌, ◌^◌, ◌<◌, ◌≤◌, ◌++◌, [], length, take, drop, map, max, nat_le, replicate, slice_index_or, IfOk, OnOk, OnErr};
 ghost use Rattle.std.specs.List.{range_with_len};
 ghost use Rattle.nfs_xdr.specs.SheetState.{HasRoom, Puts};
 ghost use Rattle.nfs_xdr.specs.Spelling.{number, opaque, padding};
@@ -67,6 +67,14 @@ impl Bytes {
         ensures { result ≡ length self.now }
     {
         self.contents.size()
+    }
+
+    /// Whether at most `count` bytes from `offset` on reach the end.
+    pub(crate) fn reaches_end(&self, offset: u64, count: u32) -> bool
+        ensures { result ≡ nat_le (length self.now) (offset + length (take count (drop offset self.now))) }
+    {
+        let size = self.len() as u64;
+        size <= offset || size - offset <= count as u64
     }
 
     /// Puts at most `count` bytes from `offset` on, as an opaque.

@@ -1,7 +1,7 @@
 //! Objects that are looked up one after another.
 
-ghost use Rattle.std.specs.Prelude.{◌≡◌, option_map};
-ghost use Rattle.std.specs.Option.{option_copied};
+ghost use Rattle.std.specs.Prelude.{◌≡◌, ℕ, length, option_map};
+ghost use Rattle.nfs_tree.specs.declared.object.Object.{Object};
 ghost use Rattle.slab.specs.Slab.{get};
 ghost use Rattle.nfs_tree.specs.Files.{stored_in};
 
@@ -43,9 +43,9 @@ impl<'a> Model for InTurn<'a> {
 }
 
 impl<'a> InTurn<'a> {
-    /// The object of a number, by a search among all.
-    fn sought(&self, number: u64) -> Option<&'a Object>
-        ensures { option_copied result ≡ option_map (λ s. s.object) (stored_in self.now number) }
+    /// The object of a number and its size, by a search among all.
+    fn sought(&self, number: u64) -> Option<(&'a Object, u64)>
+        ensures { option_map {U = Object × ℕ} (λ p. (p.0.now, p.1)) result ≡ option_map {U = Object × ℕ} (λ s. (s.object, length s.bytes)) (stored_in self.now number) }
     {
         match self.keys.get(&number) {
             None => None,
@@ -53,9 +53,9 @@ impl<'a> InTurn<'a> {
         }
     }
 
-    /// The object of a number, if there is one.
-    pub fn object(&mut self, number: u64) -> Option<&'a Object>
-        ensures found { option_copied result ≡ option_map (λ s. s.object) (stored_in self.old number) }
+    /// The object of a number, if there is one, and how many bytes it has.
+    pub fn object_and_size(&mut self, number: u64) -> Option<(&'a Object, u64)>
+        ensures found { option_map {U = Object × ℕ} (λ p. (p.0.now, p.1)) result ≡ option_map {U = Object × ℕ} (λ s. (s.object, length s.bytes)) (stored_in self.old number) }
         ensures same { self.new ≡ self.old }
     {
         let ahead = number.wrapping_sub(self.last);
@@ -71,18 +71,18 @@ impl<'a> InTurn<'a> {
     }
 }
 
-/// The object at a key.
-fn object_at(slab: &Slab<Body>, key: u32) -> Option<&Object>
-    ensures { option_copied result ≡ option_map (λ b. b.object) (get slab.now key) }
+/// The object at a key, and how many bytes it has.
+fn object_at(slab: &Slab<Body>, key: u32) -> Option<(&Object, u64)>
+    ensures { option_map {U = Object × ℕ} (λ p. (p.0.now, p.1)) result ≡ option_map {U = Object × ℕ} (λ b. (b.object, length b.bytes)) (get slab.now key) }
 {
     match slab.get(key as usize) {
-        Some(body) => Some(&body.object),
+        Some(body) => Some((&body.object, body.bytes.len() as u64)),
         None => None,
     }
 }
 
 impl Tree {
-    /// The objects, to be looked up one after another: as [`Tree::object`], and sooner where each number is the next or
+    /// The objects, to be looked up one after another: as [`Tree::object_and_size`], and sooner where each number is the next or
     /// the one behind it, from this one on.
     pub fn in_turn(&self, number: u64) -> InTurn<'_>
         ensures { result ≡ self.now.objects }

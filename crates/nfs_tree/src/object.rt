@@ -50,8 +50,6 @@ pub struct Object {
     pub group: u32,
     /// Begins at 1 and rises by one with each change (attribute `change`).
     pub change: u64,
-    /// How many bytes a file has, or a symbolic link's text; 0 for a directory.
-    pub size: u64,
     /// When it was last read, as clients have set it (attribute `time_access`).
     pub access: Time,
     /// When its attributes, its bytes or its names last changed (attribute `time_metadata`).

@@ -18,3 +18,4 @@ pub mod Combinators
 pub mod Lawful
 pub mod Readers
 pub mod StatusCodec
+pub mod Numbers

@@ -8,13 +8,15 @@ use Rattle.nfs_compound.specs.{declared.name_args.ReadDir.ReadDir, declared.op.I
 use Rattle.nfs_compound.specs.declared.op.Op.TheVariants as Op
 use Rattle.nfs_results.specs.{declared.res.Entry.Entry, Largest.given, Results.{spell_result, status_of_result}}
 use Rattle.nfs_tree.specs.{declared.object.Object.Object, Files.{Listed, listing, object_at}}
-use Rattle.nfs_attrs.specs.{declared.mask.Mask.Mask, Mask.{mask_of, has}, Attributes.{values_in, attributes}}
-use Rattle.nfs_names.specs.{declared.node.Node.Node, Attributes.about, Outcome.is_ok, ReadDir.{attributes_at, entry_of, left, longest, fits, fitting, listed}}
+use Rattle.nfs_attrs.specs.{declared.mask.Mask.Mask, Mask.{mask_of, has}, Attributes.attributes}
+use Rattle.nfs_names.specs.{declared.node.Node.Node, Attributes.about, Outcome.is_ok, ReadDir.{attributes_at, entry_of, left, longest, fitting, listed}}
 use Rattle.nfs_names.specs.State.{State}
 use Rattle.nfs_names.specs.Outcome as of_store
 use Rattle.nfs_names.proofs.{Entering.listed_there, NameLaws.by_read_dir}
 use Rattle.nfs_exec.specs.{Runs.AttributesTold.{HasValue, EntriesTell}, Runs.Ops.RanOp}
 use Rattle.nfs_exec.proofs.{Runs.OneRun.{IsRun, by_ok}, Runs.AttributesTold.{lease_long, lease_cut}}
+use Rattle.nfs_exec.proofs.Runs.AttributesTold.{values_in}
+use Rattle.nfs_names.proofs.Terms.{fits}
 
 lease_at : (s : State) (asked : Mask) (n : ℕ) (o : Option Object) → has asked 10 ≡ true → is_some o ≡ true → HasValue 10 (number s.lease) asked (attributes_at s asked n o)
 lease_at s asked n None is there = absurd (false≢true there)

@@ -1,6 +1,7 @@
 -- GETATTR tells the change, the size and the lease in their places, whatever else is asked for.
 use Rattle.std.proofs.Common.{◌≡◌, ℕ, ◌+◌, Bool, true, false, cond, List, [], ◌∷◌, ◌++◌, length, take, drop, Option, Some, None, refl, sym, ◌∙◌, ap, arith}
 use Rattle.std.proofs.{lemmas.Bool.{false≢true}, lemmas.List.length-append, lemmas.Grind.flat_map-append}
+use Rattle.std.specs.{List.flat_map, Prelude.if◌then◌else◌}
 use Rattle.std.specs.{Option.option_map_or, Prelude.{option_map, is_some, Ok}}
 use Rattle.nfs_xdr.specs.{Spelling.{number, hyper}, Text.{uint32, uint64}}
 use Rattle.nfs_xdr.proofs.Putting.{length_number, length_hyper}
@@ -8,15 +9,19 @@ use Rattle.nfs_compound.specs.declared.op.Item.TheVariants.{Operation}
 use Rattle.nfs_compound.specs.declared.op.Op.TheVariants as Op
 use Rattle.nfs_results.specs.declared.res.Res.TheVariants as Res
 use Rattle.nfs_results.specs.Results.{spell_result, status_of_result}
-use Rattle.nfs_tree.specs.{declared.object.Object.Object, declared.stored.Stored.Stored, Files.{stored_in, change_of}}
+use Rattle.nfs_tree.specs.{declared.object.Object.Object, declared.stored.Stored.Stored, Files.{stored_in, data_at, change_of}}
 use Rattle.nfs_attrs.specs.{declared.about.About.About, declared.mask.Mask.Mask, Mask.{mask_of, has, trimmed_words, common}}
-use Rattle.nfs_attrs.specs.Attributes.{Attribute, read_only, read_write, type_number, value_of, values_in, readable, attributes, values}
+use Rattle.nfs_attrs.specs.Attributes.{Attribute, read_only, read_write, type_number, value_of, readable, attributes, values}
 use Rattle.nfs_names.specs.{declared.context.Context.Context, declared.node.Node.Node, Attributes.about, Checks.{current, node_at, node_as}, Outcome.is_ok}
 use Rattle.nfs_names.specs.State.{State}
 use Rattle.nfs_names.specs.Outcome as of_store
 use Rattle.nfs_names.proofs.NameLaws.{by_get_attr}
 use Rattle.nfs_exec.specs.{Runs.AttributesTold.{sizes, asked_from, TellsValue}, Runs.Ops.RanOp}
 use Rattle.nfs_exec.proofs.Runs.OneRun.{IsRun, by_ok}
+
+-- the values of some attributes
+abbrev pub values_in : List Attribute → Mask → About → Object → List ℕ
+values_in lines asked a o = flat_map (λ line. if has asked line.number then value_of line.value a o else []) lines
 
 -- the values of the lines in front of one, and those of it and of the lines behind it
 cut : (asked : Mask) (a : About) (o : Object) (front : List Attribute) (line : Attribute) (behind : List Attribute) → has asked line.number ≡ true
@@ -53,7 +58,7 @@ lease_long asked a o =
     (long_if (has asked 1) _ _ 4 _ (length_number (type_number o.kind))
     (long_if (has asked 2) _ _ 4 _ refl
     (long_if (has asked 3) _ _ 8 _ (length_hyper o.change)
-    (long_if (has asked 4) _ _ 8 _ (length_hyper o.size)
+    (long_if (has asked 4) _ _ 8 _ (length_hyper a.size)
     (long_if (has asked 5) _ _ 4 _ refl
     (long_if (has asked 6) _ _ 4 _ refl
     (long_if (has asked 7) _ _ 4 _ refl
@@ -66,9 +71,9 @@ unfolding values attributes
 change_cut asked a o is = cut asked a o (take 3 attributes) (read_only 3 uint64 (λ a o. o.change)) (drop 4 attributes) is
 
 size_cut : (asked : Mask) (a : About) (o : Object) → has asked 4 ≡ true
-    → values asked a o ≡ values_in (take 4 attributes) asked a o ++ (hyper o.size ++ values_in (drop 5 attributes) asked a o)
+    → values asked a o ≡ values_in (take 4 attributes) asked a o ++ (hyper a.size ++ values_in (drop 5 attributes) asked a o)
 unfolding values attributes
-size_cut asked a o is = cut asked a o (take 4 attributes) (read_write 4 uint64 (λ a o. o.size) (λ s. is_some s.size)) (drop 5 attributes) is
+size_cut asked a o is = cut asked a o (take 4 attributes) (read_write 4 uint64 (λ a o. a.size) (λ s. is_some s.size)) (drop 5 attributes) is
 
 pub lease_cut : (asked : Mask) (a : About) (o : Object) → has asked 10 ≡ true
     → values asked a o ≡ values_in (take 10 attributes) asked a o ++ (number a.lease ++ values_in (drop 11 attributes) asked a o)
@@ -111,7 +116,7 @@ change_in d r words n item is ok at =
     }))
 
 pub size_in : (d : RanOp) → IsRun d → (words : List ℕ) (size : ℕ) → d.item ≡ Operation (Op.GetAttr words) → has (mask_of words) 4 ≡ true → is_ok d.status ≡ true
-    → ((k : Node) → current d.before.store d.context ≡ Ok k → k.object.size ≡ size) → TellsValue 4 (hyper size) (mask_of words) d.result
+    → ((k : Node) → current d.before.store d.context ≡ Ok k → length (data_at d.before.store.tree k.number) ≡ size) → TellsValue 4 (hyper size) (mask_of words) d.result
 size_in d r words size item is ok found =
     told (TellsValue 4 (hyper size) (mask_of words)) d r words item ok (λ k there. (let a = about d.before.store k in
     record {

@@ -2,7 +2,7 @@
 use Rattle.std.proofs.{Common.{◌≡◌, ℕ, Bool, true, false, cond, eqb, List, [], ◌∷◌, Option, Some, None, refl, sym, subst, inl, inr}, lemmas.Bool.cases_Bool}
 use Rattle.std.specs.Prelude.{◌&&◌, is_some}
 use Rattle.nfs_xdr.specs.{Caller.Caller, declared.status.Status.Status, declared.status.Status.TheVariants.{Delay, MinorVersMismatch}}
-use Rattle.nfs_compound.specs.{declared.op.Item.Item, declared.op.Item.TheVariants.Operation, Request.{Request, item_number}}
+use Rattle.nfs_compound.specs.{declared.channel_attrs.ChannelAttrs.ChannelAttrs, declared.op.Item.Item, declared.op.Item.TheVariants.Operation, Request.{Request, item_number}}
 use Rattle.nfs_compound.specs.{declared.session_args.CreateSession.CreateSession, declared.session_args.ExchangeId.ExchangeId}
 use Rattle.nfs_compound.specs.declared.session_args.Sequence.{Sequence}
 use Rattle.nfs_compound.specs.declared.op.Op.TheVariants as Op
@@ -10,23 +10,24 @@ use Rattle.nfs_clients.specs.CreateSession as clients
 use Rattle.nfs_clients.specs.CreateSession.{create_verdict}
 use Rattle.nfs_clients.specs.declared.created.CreateResult.TheVariants as results
 use Rattle.nfs_results.specs.declared.res.Res.TheVariants as Res
-use Rattle.nfs_sessions.specs.{Id.id_of, Sessions.{session_at, create, destroyed}, declared.channel.Channel.Channel}
+use Rattle.nfs_sessions.specs.{Id.id_of, Sessions.{session_at, create, destroyed}}
 use Rattle.nfs_names.specs.Outcome.{is_ok}
-use Rattle.nfs_exec.specs.{Step.Machine.{by_fault, Machine, Outcome, refuses, with_result}, Step.Place.item_fault, Step.ExchangeId.exchange_id}
+use Rattle.nfs_exec.specs.{Step.Machine.{by_fault, Machine, MachineOutcome, with_refusal, with_result}, Step.Place.item_fault, Step.ExchangeId.exchange_id}
 use Rattle.nfs_exec.specs.Step.CreateSession.{wish_of}
-use Rattle.nfs_exec.specs.{Step.Destroy.{destroy_session, client_fault, client_ended}, Step.Run.{is_here, only}, Step.Sequence.{Sequenced, sequenced}}
+use Rattle.nfs_exec.specs.{Step.Destroy.{destroy_session, client_fault}, Step.Run.{is_here, only}, Step.Sequence.{Sequenced, sequenced}}
 use Rattle.nfs_exec.specs.Step.Compound.{Answered, answers, bare, carried_out, first_item, in_session, by_first, compound}
 use Rattle.nfs_exec.specs.{Step.Laws.{Asks, ran, first_runs, if_runs}, Runs.Ops.{RanOp, ops_in, ops_of, ops_by}}
 use Rattle.nfs_exec.specs.Step.Sequence as sequence
 use Rattle.nfs_exec.proofs.Step.InSteps.{exchange_id_is, create_session_is}
 use Rattle.nfs_exec.specs.Step.Parts.{by_number, creates, exchanged_by}
+use Rattle.nfs_exec.proofs.Step.Terms.{client_ended}
 
 -- A compound, by what it answered, the operations that it ran, and the SEQUENCE behind which it ran them.
 pub by_answered : (P : Answered → List RanOp → Option Sequence → Type 0) (m : Machine) (r : Request) (who : Caller) (size now : ℕ) (choice : Option ℕ)
     → ((text : List ℕ) → P (record { text = text; machine = m }) [] None)
     → ((item : Item) (more : List Item) → eqb r.minor 1 ≡ true → r.left ≡ item ∷ more
     → P (answers r (only (first_item m r.declared who now (is_here choice) item))) [] None)
-    → ((s : Sequence) (more : List Item) (c : Channel) → r.left ≡ Operation (Op.Sequence s) ∷ more → sequenced m r who size s ≡ sequence.Runs c
+    → ((s : Sequence) (more : List Item) (c : ChannelAttrs) → r.left ≡ Operation (Op.Sequence s) ∷ more → sequenced m r who size s ≡ sequence.Runs c
     → P (in_session m r who now choice s more (sequence.Runs c)) (ops_in m r who now choice s more (sequence.Runs c)) (Some s))
     → P (compound m r who size now choice) (ops_by m (Asks r who size now choice)) (ran m (Asks r who size now choice))
 by_answered P m r who size now choice none alone runs = go (eqb r.minor 1) refl
@@ -51,14 +52,14 @@ by_answered P m r who size now choice none alone runs = go (eqb r.minor 1) refl
 -- the same by the machine behind it
 pub by_compound : (P : Machine → List RanOp → Option Sequence → Type 0) (m : Machine) (r : Request) (who : Caller) (size now : ℕ) (choice : Option ℕ) → P m [] None
     → ((item : Item) → P (first_item m r.declared who now (is_here choice) item).machine [] None)
-    → ((s : Sequence) (more : List Item) (c : Channel) → sequenced m r who size s ≡ sequence.Runs c
+    → ((s : Sequence) (more : List Item) (c : ChannelAttrs) → sequenced m r who size s ≡ sequence.Runs c
     → P (in_session m r who now choice s more (sequence.Runs c)).machine (ops_in m r who now choice s more (sequence.Runs c)) (Some s))
     → P (compound m r who size now choice).machine (ops_by m (Asks r who size now choice)) (ran m (Asks r who size now choice))
 by_compound P m r who size now choice none alone runs =
     by_answered (λ a ds run. P a.machine ds run) m r who size now choice (λ text. none) (λ item more one at. alone item) (λ s more c at is. runs s more c is)
 
 -- An operation that stands alone: it leaves the machine as it was, or it is one of four that were carried out.
-pub by_alone : (P : Outcome → Type 0) (m : Machine) (declared : ℕ) (who : Caller) (now : ℕ) (refused : Bool) (i : Item)
+pub by_alone : (P : MachineOutcome → Type 0) (m : Machine) (declared : ℕ) (who : Caller) (now : ℕ) (refused : Bool) (i : Item)
     → ((status : Status) (result : List ℕ) → P (record { status = status; result = result; machine = m }))
     → ((e : ExchangeId) → i ≡ Operation (Op.ExchangeId e) → P (exchanged_by m who now e))
     → ((c : CreateSession) → i ≡ Operation (Op.CreateSession c) → create_verdict m.clients c.clientid c.sequence who.uid ≡ clients.Runs
@@ -69,7 +70,7 @@ pub by_alone : (P : Outcome → Type 0) (m : Machine) (declared : ℕ) (who : Ca
     → P (first_item m declared who now refused i)
 by_alone P m declared who now refused i same exchanges creates_it ends goes = by_place (item_fault declared i)
   where
-    by_delay : (b : Bool) (n : ℕ) (o : Outcome) → P o → P (cond b (refuses m n Delay) o)
+    by_delay : (b : Bool) (n : ℕ) (o : MachineOutcome) → P o → P (cond b (with_refusal m n Delay) o)
     by_delay true n o is = same _ _
     by_delay false n o is = is
 

@@ -69,16 +69,16 @@ found_number s x n d tree at there = by (stored_in s.tree.objects n) refl (sym (
         (ap (λ (d : Node). d.number) (sym one), omega (arith, below.1, last.0, named))
 
 pub record IsGiven (s : State) (n : ℕ) (h : List ℕ) : Type 0 where
-  pub is : h ≡ handle_in s.instance n
+  pub is : h ≡ handle_in s.opens.instance n
   pub small : n < 2 ^ 64
 
 given_by : (s : State) (x : Context) (n : ℕ) (h : List ℕ) → IsTree s.tree → x.current ≡ Some n → length h ≤ fhsize → (d : Node) → current s x ≡ Ok d
-    → spell_result (Res.GetFh (handle_in s.instance d.number)) ≡ spell_result (Res.GetFh h) → IsGiven s n h
+    → spell_result (Res.GetFh (handle_in s.opens.instance d.number)) ≡ spell_result (Res.GetFh h) → IsGiven s n h
 given_by s x n h tree at short d there told =
     let its = found_number s x n d tree at there in
-    let few = length_handle (record { instance = s.instance; number = d.number }) in
-    let same : handle_in s.instance d.number ≡ h = handle_same (handle_in s.instance d.number) h (omega (arith, few)) short told in
-    record { is = sym same ∙ ap (handle_in s.instance) its.0; small = its.1 }
+    let few = length_handle (record { instance = s.opens.instance; number = d.number }) in
+    let same : handle_in s.opens.instance d.number ≡ h = handle_same (handle_in s.opens.instance d.number) h (omega (arith, few)) short told in
+    record { is = sym same ∙ ap (handle_in s.opens.instance) its.0; small = its.1 }
 
 -- a refusal is too short to give one
 refused_short : (operation : ℕ) (status : Status) (h : List ℕ) → spell_result (Res.Refused operation status) ≡ spell_result (Res.GetFh h) → ⊥
@@ -136,9 +136,9 @@ put_not_bad e = let bad : ◌≡◌ {A = ℕ} 0 17 = ap (λ (text : List ℕ). g
 
 put_known : (s : State) (x : Context) (h : List ℕ) (k : Handle) → handle_of h ≡ Some k → spell_result (put_fh s x h).result ≡ spell_result (Res.Refused 22 BadHandle) → ⊥
 unfolding put_fh
-put_known s x h k is told = go (k.instance == s.instance) (is_some (object_at s.tree k.number)) refl refl
+put_known s x h k is told = go (k.instance == s.opens.instance) (is_some (object_at s.tree k.number)) refl refl
   where
-    go : (own there : Bool) → (k.instance == s.instance) ≡ own → is_some (object_at s.tree k.number) ≡ there → ⊥
+    go : (own there : Bool) → (k.instance == s.opens.instance) ≡ own → is_some (object_at s.tree k.number) ≡ there → ⊥
     go true true own there = put_not_bad (rw (is, own, there) at told)
     go true false own there = stale_not_bad (rw (is, own, there) at told)
     go false there own held = stale_not_bad (rw (is, own) at told)
@@ -166,7 +166,7 @@ item_in : (i : Item) (h : List ℕ) (limit sofar now : ℕ) (refused : Bool) (m 
 item_in i h limit sofar now refused m x is = ap (in_room limit sofar now refused m x) is
 
 leads_on : (instance n : ℕ) (h : List ℕ) → h ≡ handle_in instance n → instance < 2 ^ 32 → n < 2 ^ 64
-    → (limit sofar now : ℕ) (choice : Option ℕ) (m : Machine) (x : Context) (items : List Item) → Is m → m.store.instance ≡ instance
+    → (limit sofar now : ℕ) (choice : Option ℕ) (m : Machine) (x : Context) (items : List Item) → Is m → m.store.opens.instance ≡ instance
     → Leads n h (ops limit sofar now choice m x items)
 leads_on instance n h is small low limit sofar now choice m x [] whole own = tt
 leads_on instance n h is small low limit sofar now choice m x (i ∷ more) whole own =
@@ -199,15 +199,15 @@ leads_on instance n h is small low limit sofar now choice m x (i ∷ more) whole
     follow_leads false ds leads = tt
 
 session_leads : (instance n : ℕ) (h : List ℕ) → h ≡ handle_in instance n → instance < 2 ^ 32 → n < 2 ^ 64
-    → (m : Machine) (r : Request) (who : Caller) (now : ℕ) (choice : Option ℕ) (s : Sequence) (more : List Item) (v : Sequenced) → Is m → m.store.instance ≡ instance
+    → (m : Machine) (r : Request) (who : Caller) (now : ℕ) (choice : Option ℕ) (s : Sequence) (more : List Item) (v : Sequenced) → Is m → m.store.opens.instance ≡ instance
     → Leads n h (ops_in m r who now choice s more v)
 session_leads instance n h is small low m r who now choice s more (sequence.Refuses status) whole own = tt
 session_leads instance n h is small low m r who now choice s more (sequence.Repeats reply) whole own = tt
 session_leads instance n h is small low m r who now choice s more (sequence.Runs c) whole own =
-    leads_on instance n h is small low c.response (begun r s c) now (behind_here choice) (renewed m now s) (begins (id_of s.sessionid).client who) more whole own
+    leads_on instance n h is small low c.maxresponsesize (begun r s c) now (behind_here choice) (renewed m now s) (begins (id_of s.sessionid).client who) more whole own
 
 first_leads : (instance n : ℕ) (h : List ℕ) → h ≡ handle_in instance n → instance < 2 ^ 32 → n < 2 ^ 64
-    → (m : Machine) (r : Request) (who : Caller) (size now : ℕ) (choice : Option ℕ) (items : List Item) → Is m → m.store.instance ≡ instance
+    → (m : Machine) (r : Request) (who : Caller) (size now : ℕ) (choice : Option ℕ) (items : List Item) → Is m → m.store.opens.instance ≡ instance
     → Leads n h (ops_of m r who size now choice items)
 first_leads instance n h is small low m r who size now choice [] whole own = tt
 first_leads instance n h is small low m r who size now choice (Operation (Op.Sequence s) ∷ more) whole own =
@@ -215,7 +215,7 @@ first_leads instance n h is small low m r who size now choice (Operation (Op.Seq
 first_leads instance n h is small low m r who size now choice (item ∷ more) whole own = tt
 
 pub event_leads : (instance n : ℕ) (h : List ℕ) → h ≡ handle_in instance n → instance < 2 ^ 32 → n < 2 ^ 64 → (m : Machine) (e : MachineEvent) → Is m
-    → m.store.instance ≡ instance → Leads n h (ops_by m e)
+    → m.store.opens.instance ≡ instance → Leads n h (ops_by m e)
 event_leads instance n h is small low m (Expires now) whole own = tt
 event_leads instance n h is small low m (Asks r who size now choice) whole own = go (eqb r.minor 1)
   where

@@ -120,13 +120,13 @@ record WholeBehind (left : Machine) (ds : List RanOp) : Type 0 where
 
 whole_behind : (m : Machine) (e : MachineEvent) → Is m → WholeBehind (stepped m e) (ops_by m e)
 whole_behind m (Expires now) is =
-    record { whole = whole_ended (λ client. not (has_run_out m.leases now client)) m.store is; each = λ d there. absurd there }
+    record { whole = whole_ended (λ client. not (has_run_out m.store.lease m.leases now client)) m.store is; each = λ d there. absurd there }
 whole_behind m (Asks r who size now choice) is = by_compound (λ left ds run. WholeBehind left ds) m r who size now choice
     (record { whole = is; each = λ d there. absurd there })
     (λ item. record { whole = holds_whoever IsWhole without_whole m r.declared who now (is_here choice) item is; each = λ d there. absurd there })
     (λ s more c same. (let x = begins (id_of s.sessionid).client who in record {
-      whole = whole_run c.response (begun r s c) now (behind_here choice) (renewed m now s) x more is;
-      each = whole_ops c.response (begun r s c) now (behind_here choice) (renewed m now s) x more is;
+      whole = whole_run c.maxresponsesize (begun r s c) now (behind_here choice) (renewed m now s) x more is;
+      each = whole_ops c.maxresponsesize (begun r s c) now (behind_here choice) (renewed m now s) x more is;
     }))
 
 pub event_ops : (m : Machine) (e : MachineEvent) → Is m → (d : RanOp) → In d (ops_by m e) → Around d

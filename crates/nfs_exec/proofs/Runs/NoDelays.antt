@@ -7,20 +7,22 @@ use Rattle.nfs_xdr.specs.declared.status.Status.TheVariants.{RepTooBig, NotSupp,
 use Rattle.nfs_xdr.specs.declared.status.Status.TheVariants.{ReqTooBig, TooManyOps, StaleClientId, ClidInUse, ClientIdBusy, NotOnlyOp, OpNotInSession}
 use Rattle.nfs_xdr.specs.declared.status.Status.TheVariants.{TooSmall, NoSpc, ServerFault, MinorVersMismatch}
 use Rattle.nfs_xdr.proofs.Lists.{in_filter, in_map, in_push, find_in}
+use Rattle.nfs_xdr.specs.Numbers.{next_number}
 use Rattle.nfs_compound.specs.{declared.op.Op.Op, declared.op.Item.Item, declared.op.Item.TheVariants.Operation, Arguments.arguments}
 use Rattle.nfs_compound.specs.{Request.{Request, item_number}, declared.session_args.CreateSession.CreateSession, declared.session_args.Sequence.Sequence}
 use Rattle.nfs_results.specs.{Largest.largest, Results.{status_of_result, refusal}}
 use Rattle.nfs_clients.specs.Roster.{ClientRecord, Roster, client_at, with_changed, is_unconfirmed_of, confirmed_of}
 use Rattle.nfs_clients.specs.ExchangeId.{carries_confirmed, updates, same_verifier, same_user}
-use Rattle.nfs_clients.specs.ExchangeId.{Ask, Case, Refuses, Stays, Adds, has_room, case_by, if_room, case_of, new_client, does, fault_status}
+use Rattle.nfs_clients.specs.ExchangeId.{Ask, Case, Refuses, Stays, Adds, has_room, case_by, if_room, case_of, new_client, does, client_fault_status}
 use Rattle.nfs_clients.specs.{Marks.has_reclaimed, declared.created.CreateResult.CreateResult, DestroyClientId.destroy_fault}
 use Rattle.nfs_clients.specs.declared.exchange_id.ClientFault.TheVariants as Faults
 use Rattle.nfs_clients.specs.CreateSession as clients
 use Rattle.nfs_clients.specs.declared.created.CreateResult.TheVariants as results
 use Rattle.nfs_lease.specs.Renewals.{has_run_out}
-use Rattle.nfs_slots.specs.{declared.slot.Verdict.Verdict, declared.slot.Verdict.TheVariants.{Fresh, Again, FalseRetry, Misordered, NoSlot}}
-use Rattle.nfs_sessions.specs.{Id.id_of, SessionSlots.{GrantedSlots, judge}}
-use Rattle.nfs_sessions.specs.Sessions.{Session, SessionTable, session_at, create, create_checks, create_unless, create_fault, fault_status as session_status}
+use Rattle.nfs_slots.specs.{Slot.judge, declared.slot.Verdict.Verdict, declared.slot.Verdict.TheVariants.{Fresh, Again, FalseRetry, Misordered, NoSlot}}
+use Rattle.nfs_sessions.specs.Id.{id_of}
+use Rattle.nfs_sessions.specs.Sessions.{Session, SessionTable, session_at, create, create_checks, create_unless, create_fault}
+use Rattle.nfs_sessions.specs.Sessions.{session_fault_status as session_status}
 use Rattle.nfs_sessions.specs.{declared.channel.Wish.Wish, declared.id.SessionId.SessionId, declared.sessions.SessionFault.SessionFault}
 use Rattle.nfs_sessions.specs.declared.sessions.SessionFault.TheVariants as Sessions
 use Rattle.nfs_names.specs.{declared.context.Context.Context, Context.begins, State.{State, moment}}
@@ -30,10 +32,10 @@ use Rattle.nfs_names.proofs.{Faulted.status_of_refusal, Ones.each_of}
 use Rattle.nfs_files.proofs.Outcomes as files
 use Rattle.nfs_files.proofs.{Outcomes.for_each, Prompt.{IsPrompt, all_pass, first_passes, not_true, first_prompt, current_prompt, names_prompt}}
 use Rattle.nfs_files.proofs.PromptFiles.{files_prompt}
-use Rattle.nfs_exec.specs.Step.Machine.{by_fault, Machine, Outcome, is_client, or_delay, refuses as exec_refuses, starts}
+use Rattle.nfs_exec.specs.Step.Machine.{by_fault, Machine, MachineOutcome, is_client, or_with_delay, with_refusal as exec_refuses, starts}
 use Rattle.nfs_exec.specs.Step.Behind.{step, on_store, otherwise}
 use Rattle.nfs_exec.specs.Step.CreateSession.{made_body, wish_of}
-use Rattle.nfs_exec.specs.{Step.Destroy.{destroy_session, has_session, client_fault, client_ended}, Step.ExchangeId.exchange_id}
+use Rattle.nfs_exec.specs.{Step.Destroy.{destroy_session, client_fault}, Step.ExchangeId.exchange_id}
 use Rattle.nfs_exec.specs.{Step.ReclaimComplete.{reclaim_complete, of_one, of_all}, Step.Run.{in_room, reserve, is_here, behind_here}}
 use Rattle.nfs_exec.specs.{Step.Place.{stands_alone, is_sequence, place_fault, item_fault, status_behind}, Step.Sequence.{compared, Sequenced, sequenced}}
 use Rattle.nfs_exec.specs.{Step.Compound.{carried_out, first_item, bare, renewed, begun, in_session, by_first}, Step.Delayed.NothingDelays}
@@ -43,6 +45,7 @@ use Rattle.nfs_exec.specs.Step.Parts as parts
 use Rattle.nfs_exec.proofs.Step.InSteps.{exchange_id_is, create_session_is}
 use Rattle.nfs_exec.specs.Step.Parts.{by_number, creates, by_created, did_exchange, ask_of}
 use Rattle.nfs_exec.proofs.{Step.Behind.{IsKeptByEach, by_step, kept_run}, Runs.KeptByRuns.in_more}
+use Rattle.nfs_exec.proofs.Step.Terms.{has_session, client_ended}
 
 -- One operation behind SEQUENCE.
 
@@ -116,7 +119,7 @@ session_prompt : (m : Machine) (r : Request) (who : Caller) (now : ℕ) (s : Seq
 session_prompt m r who now s more (sequence.Refuses status) d op there is = absurd there
 session_prompt m r who now s more (sequence.Repeats reply) d op there is = absurd there
 session_prompt m r who now s more (sequence.Runs c) d op there is =
-    ops_prompt c.response (begun r s c) now (renewed m now s) (begins (id_of s.sessionid).client who) more d op there is
+    ops_prompt c.maxresponsesize (begun r s c) now (renewed m now s) (begins (id_of s.sessionid).client who) more d op there is
 
 first_ops_prompt : (m : Machine) (r : Request) (who : Caller) (size now : ℕ) (items : List Item) (d : RanOp) (op : Op)
     → In d (ops_of m r who size now None items) → d.item ≡ Operation op → is_delay d.status ≡ false
@@ -134,24 +137,23 @@ refuses_prompt (Some fault) v status fails more e = let same : fault ≡ status 
 refuses_as : (fault status : Status) → sequence.Refuses fault ≡ sequence.Refuses status → is_delay fault ≡ false → is_delay status ≡ false
 refuses_as fault status e fails = let same : fault ≡ status = cc in ap is_delay (sym same) ∙ fails
 
-verdict_prompt : (r : Request) (size : ℕ) (s : Sequence) (g : GrantedSlots) (v : Verdict) (status : Status) → parts.slot_says r size s g v ≡ sequence.Refuses status
+verdict_prompt : (r : Request) (size : ℕ) (s : Sequence) (x : Session) (v : Verdict) (status : Status) → parts.slot_says r size s x v ≡ sequence.Refuses status
     → is_delay status ≡ false
-verdict_prompt r size s g NoSlot status e = refuses_as BadSlot status e refl
-verdict_prompt r size s g Misordered status e = refuses_as SeqMisordered status e refl
-verdict_prompt r size s g FalseRetry status e = refuses_as SeqFalseRetry status e refl
-verdict_prompt r size s g Again status e = absurd cc
-verdict_prompt r size s g Fresh status e =
-    refuses_prompt (parts.fresh_fault r size g.channel) (Ok (sequence.Runs g.channel)) status
-    (first_prompt ((nat_lt g.channel.request size, ReqTooBig) ∷ (nat_lt g.channel.operations r.declared, TooManyOps) ∷ []) refl) (λ e. absurd cc) e
+verdict_prompt r size s x NoSlot status e = refuses_as BadSlot status e refl
+verdict_prompt r size s x Misordered status e = refuses_as SeqMisordered status e refl
+verdict_prompt r size s x FalseRetry status e = refuses_as SeqFalseRetry status e refl
+verdict_prompt r size s x Again status e = absurd cc
+verdict_prompt r size s x Fresh status e =
+    refuses_prompt (parts.fresh_fault r size x.channel) (Ok (sequence.Runs x.channel)) status
+    (first_prompt ((nat_lt x.channel.maxrequestsize size, ReqTooBig) ∷ (nat_lt x.channel.maxoperations r.declared, TooManyOps) ∷ []) refl) (λ e. absurd cc) e
 
 by_session_prompt : (r : Request) (who : Caller) (size : ℕ) (s : Sequence) (o : Option Session) (status : Status) → parts.by_session r who size s o ≡ sequence.Refuses status
     → is_delay status ≡ false
 by_session_prompt r who size s None status e = refuses_as BadSession status e refl
 by_session_prompt r who size s (Some session) status e =
-    let g = session.slots in
-    refuses_prompt (parts.slot_fault s g.channel) (sequence.by_slot r size s g (judge g s.slotid s.sequenceid who.uid (compared r))) status
-    (first_prompt ((nat_le g.channel.slots s.slotid, BadSlot) ∷ (nat_le g.channel.slots s.highest_slotid, BadHighSlot) ∷ []) refl)
-    (verdict_prompt r size s g (judge g s.slotid s.sequenceid who.uid (compared r)) status) e
+    refuses_prompt (parts.slot_fault s session.channel) (sequence.by_slot r size s session (judge session.slots s.slotid s.sequenceid who.uid (compared r))) status
+    (first_prompt ((nat_le session.channel.maxrequests s.slotid, BadSlot) ∷ (nat_le session.channel.maxrequests s.highest_slotid, BadHighSlot) ∷ []) refl)
+    (verdict_prompt r size s session (judge session.slots s.slotid s.sequenceid who.uid (compared r)) status) e
 
 -- Outside a session. What a number of CREATE_SESSION came to is no NFS4ERR_DELAY.
 
@@ -162,7 +164,7 @@ abbrev pub AreCalm : Roster → Type 0
 AreCalm t = (c : ClientRecord) → In c t.records → IsCalm c
 
 abbrev calm_case : Case → Bool
-calm_case (Refuses fault) = not (is_delay (fault_status fault))
+calm_case (Refuses fault) = not (is_delay (client_fault_status fault))
 calm_case case = true
 
 rows_prompt : (rows : List (Bool × Case)) → all_pass calm_case rows ≡ true → calm_case (unwrap_or (first_fault rows) Adds) ≡ true
@@ -190,7 +192,7 @@ room_calm false (Stays c) e = e
 room_calm true v e = e
 
 exchanged_prompt : (m : Machine) (now : ℕ) (a : Ask) (v : Case) → calm_case v ≡ true → is_delay (did_exchange m now (does m.clients a v)).status ≡ false
-exchanged_prompt m now a (Refuses fault) e = not_true (is_delay (fault_status fault)) e
+exchanged_prompt m now a (Refuses fault) e = not_true (is_delay (client_fault_status fault)) e
 exchanged_prompt m now a (Stays c) e = refl
 exchanged_prompt m now a Adds e = refl
 
@@ -198,7 +200,7 @@ exchanged_prompt m now a Adds e = refl
 verdict_kept : (o : Option ClientRecord) (number uid : ℕ) (result : CreateResult) → clients.verdict_by o number uid ≡ clients.Again result
     → (c : ClientRecord) × (o ≡ Some c) × (c.kept ≡ Some result)
 verdict_kept None number uid result e = absurd cc
-verdict_kept (Some c) number uid result e = (c, refl, by_tests (number == c.number) (c.uid == uid) (clients.following number == c.number) c.kept e)
+verdict_kept (Some c) number uid result e = (c, refl, by_tests (number == c.number) (c.uid == uid) (next_number number == c.number) c.kept e)
   where
     by_tests : (here mine before : Bool) (k : Option CreateResult)
         → cond here (cond mine clients.Runs clients.InUse) (cond before (option_map_or clients.Again k clients.Misordered) clients.Misordered) ≡ clients.Again result
@@ -243,10 +245,10 @@ client_gone_prompt m client (Some fault) fails = refused_prompt 57 fault (fails 
 carried_prompt : (m : Machine) (who : Caller) (now : ℕ) (op : Op) → AreCalm m.clients → is_delay (carried_out m who now false (Operation op)).status ≡ false
 carried_prompt m who now (Op.ExchangeId e) calm =
     let a = ask_of m who e in
-    ap (λ (o : Outcome). is_delay o.status) (exchange_id_is m who now e)
+    ap (λ (o : MachineOutcome). is_delay o.status) (exchange_id_is m who now e)
     ∙ exchanged_prompt m now a (case_of m.clients a) (room_calm (has_room m.clients a.owner) (case_by a (confirmed_of m.clients a.owner)) (case_prompt a (confirmed_of m.clients a.owner)))
 carried_prompt m who now (Op.CreateSession c) calm =
-    ap (λ (o : Outcome). is_delay o.status) (create_session_is m who now false c)
+    ap (λ (o : MachineOutcome). is_delay o.status) (create_session_is m who now false c)
     ∙ created_prompt m now c (clients.create_verdict m.clients c.clientid c.sequence who.uid) (λ status e.
     (let (k, at, kept) = verdict_kept (client_at m.clients c.clientid) c.sequence who.uid (results.Refused status) e in
     calm k (find_in (λ (k : ClientRecord). k.id == c.clientid) m.clients.records k at).0 status kept))
@@ -258,7 +260,7 @@ carried_prompt m who now (Op.DestroyClientId client) calm =
     ∷ []) refl fault e))
 carried_prompt m who now op calm = refused_prompt (item_number (Operation op)) NotSupp refl
 
-placed_prompt : (m : Machine) (n : ℕ) (o : Option Status) (done : Outcome) → ((fault : Status) → o ≡ Some fault → is_delay fault ≡ false) → is_delay done.status ≡ false
+placed_prompt : (m : Machine) (n : ℕ) (o : Option Status) (done : MachineOutcome) → ((fault : Status) → o ≡ Some fault → is_delay fault ≡ false) → is_delay done.status ≡ false
     → is_delay (by_fault m n o done).status ≡ false
 placed_prompt m n None done fails is = is
 placed_prompt m n (Some fault) done fails is = refused_prompt n fault (fails fault refl)
@@ -306,7 +308,7 @@ calm_exchanged m now a Adds calm =
     calm_pushed m.clients (filter (λ c. not (is_unconfirmed_of a.owner c)) m.clients.records) (new_client m.clients a.owner a.verifier a.uid) (m.clients.last + 1)
     (calm_filtered m.clients (λ c. not (is_unconfirmed_of a.owner c)) calm) (none_kept (new_client m.clients a.owner a.verifier a.uid) refl)
 
-calm_delayed : (m : Machine) (o : Outcome) (refused : Bool) (n : ℕ) → AreCalm m.clients → AreCalm o.machine.clients → AreCalm (or_delay refused m n o).machine.clients
+calm_delayed : (m : Machine) (o : MachineOutcome) (refused : Bool) (n : ℕ) → AreCalm m.clients → AreCalm o.machine.clients → AreCalm (or_with_delay refused m n o).machine.clients
 calm_delayed m o refused n before after = go (refused && is_ok o.status)
   where
     go : (b : Bool) → AreCalm (cond b (exec_refuses m n Delay) o).machine.clients
@@ -346,10 +348,10 @@ calm_destroyed m client (Some fault) calm = calm
 calm_carried : (m : Machine) (who : Caller) (now : ℕ) (refused : Bool) (i : Item) → AreCalm m.clients → AreCalm (carried_out m who now refused i).machine.clients
 calm_carried m who now refused (Operation (Op.ExchangeId e)) calm =
     calm_delayed m (exchange_id m who now e) refused 42 calm
-    (subst (λ (o : Outcome). AreCalm o.machine.clients) (sym (exchange_id_is m who now e))
+    (subst (λ (o : MachineOutcome). AreCalm o.machine.clients) (sym (exchange_id_is m who now e))
     (calm_exchanged m now (ask_of m who e) (case_of m.clients (ask_of m who e)) calm))
 calm_carried m who now refused (Operation (Op.CreateSession c)) calm =
-    subst (λ (o : Outcome). AreCalm o.machine.clients) (sym (create_session_is m who now refused c))
+    subst (λ (o : MachineOutcome). AreCalm o.machine.clients) (sym (create_session_is m who now refused c))
     (calm_created m now refused c (clients.create_verdict m.clients c.clientid c.sequence who.uid) calm)
 calm_carried m who now refused (Operation (Op.DestroySession sessionid)) calm = calm_session m sessionid calm
 calm_carried m who now refused (Operation (Op.DestroyClientId client)) calm = calm_destroyed m client (client_fault m client) calm
@@ -376,7 +378,7 @@ calm_session_run : (m : Machine) (r : Request) (who : Caller) (now : ℕ) (choic
 calm_session_run m r who now choice s more (sequence.Refuses status) calm = calm
 calm_session_run m r who now choice s more (sequence.Repeats reply) calm = calm
 calm_session_run m r who now choice s more (sequence.Runs c) calm =
-    kept_run (λ m. AreCalm m.clients) keeps_calm c.response (begun r s c) now (behind_here choice) (renewed m now s) (begins (id_of s.sessionid).client who) more calm
+    kept_run (λ m. AreCalm m.clients) keeps_calm c.maxresponsesize (begun r s c) now (behind_here choice) (renewed m now s) (begins (id_of s.sessionid).client who) more calm
 
 calm_items : (m : Machine) (r : Request) (who : Caller) (size now : ℕ) (choice : Option ℕ) (items : List Item) → AreCalm m.clients
     → AreCalm (by_first m r who size now choice items).machine.clients
@@ -385,7 +387,7 @@ calm_items m r who size now choice (Operation (Op.Sequence s) ∷ more) calm = c
 calm_items m r who size now choice (item ∷ more) calm = calm_first m r.declared who now (is_here choice) item calm
 
 calm_event : (m : Machine) (e : MachineEvent) → AreCalm m.clients → AreCalm (stepped m e).clients
-calm_event m (Expires now) calm = calm_filtered m.clients (λ c. not (has_run_out m.leases now c.id)) calm
+calm_event m (Expires now) calm = calm_filtered m.clients (λ c. not (has_run_out m.store.lease m.leases now c.id)) calm
 calm_event m (Asks r who size now choice) calm = go (eqb r.minor 1)
   where
     go : (b : Bool) → AreCalm (cond b (by_first m r who size now choice r.left) (bare r MinorVersMismatch m)).machine.clients

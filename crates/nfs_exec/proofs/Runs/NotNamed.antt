@@ -7,21 +7,21 @@ use Rattle.nfs_xdr.proofs.{Lists.{find_in, find_kept, find_push_some, filter_pas
 use Rattle.nfs_compound.specs.{declared.op.Item.Item, declared.op.Item.TheVariants.Operation, Request.{Request, item_number}}
 use Rattle.nfs_compound.specs.declared.session_args.CreateSession.{CreateSession}
 use Rattle.nfs_compound.specs.declared.op.Op.TheVariants as Op
-use Rattle.nfs_clients.specs.Roster.{ClientRecord, Roster, IsRoster, id_of as client_id, next_id, client_at, is_unconfirmed_of, unconfirmed_of}
+use Rattle.nfs_clients.specs.Roster.{ClientRecord, Roster, IsRoster, first_id, next_id, client_at, is_unconfirmed_of, unconfirmed_of}
 use Rattle.nfs_clients.specs.ExchangeId.{Ask, Case, Refuses, Stays, Adds, case_of, does, new_client}
-use Rattle.nfs_clients.specs.CreateSession.{leaving, leaving_by, without_any, confirms, keeps, with_confirmed, is_other_confirmed_of}
+use Rattle.nfs_clients.specs.CreateSession.{leaving, without_any, confirms, keeps, with_confirmed, is_other_confirmed_of}
 use Rattle.nfs_clients.specs.CreateSession as clients
 use Rattle.nfs_clients.specs.declared.created.CreateResult.TheVariants as results
-use Rattle.nfs_clients.proofs.Members.{mild_keeps}
+use Rattle.nfs_clients.proofs.Members.{mild_keeps, leaving_by}
+use Rattle.nfs_slots.specs.Slot.{SlotState}
 use Rattle.nfs_sessions.specs.{Id.id_of, declared.channel.Wish.Wish, declared.id.SessionId.SessionId, declared.sessions.SessionFault.SessionFault}
-use Rattle.nfs_sessions.specs.SessionSlots.{GrantedSlots}
 use Rattle.nfs_sessions.specs.Sessions.{Session, SessionTable, is_session, session_at, create, create_unless, create_fault, with_slots}
 use Rattle.nfs_lease.specs.Renewals.{Book, has_run_out, with_lease, with_renewal, without_lease}
 use Rattle.nfs_names.specs.{Context.begins, Outcome.is_ok}
-use Rattle.nfs_exec.specs.{Step.Machine.{by_fault, Machine, IsMachine, Outcome, or_delay, refuses}, Step.Place.item_fault}
+use Rattle.nfs_exec.specs.{Step.Machine.{by_fault, Machine, IsMachine, MachineOutcome, or_with_delay, with_refusal}, Step.Place.item_fault}
 use Rattle.nfs_exec.specs.Step.ExchangeId.{exchange_id, without_any_lease}
 use Rattle.nfs_exec.specs.Step.CreateSession.{made_body, wish_of, without_any_sessions}
-use Rattle.nfs_exec.specs.{Step.Destroy.{destroy_session, client_fault, client_ended}, Step.Run.{run, is_here, behind_here}}
+use Rattle.nfs_exec.specs.{Step.Destroy.{destroy_session, client_fault}, Step.Run.{run, is_here, behind_here}}
 use Rattle.nfs_exec.specs.{Step.Compound.{carried_out, first_item, renewed, begun, compound}, Step.Expiry.expired}
 use Rattle.nfs_exec.specs.Runs.Own.{sessions_of, IsAsBefore, has_owner, is_named_in}
 use Rattle.nfs_exec.specs.Step.Sequence as sequence
@@ -30,6 +30,7 @@ use Rattle.nfs_exec.specs.Step.Parts.{did_exchange, ask_of, by_number, creates, 
 use Rattle.nfs_exec.proofs.{Runs.ByEvent.by_answered, Step.Behind.{run_leases, run_sessions}, Runs.KeptByRuns.Is}
 use Rattle.nfs_exec.proofs.{Runs.OthersByOps.{known_apart_from, run_apart}, Runs.OthersByRuns.alone_apart}
 use Rattle.nfs_files.proofs.OthersTables.{same, both, clients_gone, filter_changed, filter_pushed}
+use Rattle.nfs_exec.proofs.Step.Terms.{client_ended}
 
 pub as_it_was : (client : ℕ) (m : Machine) → IsAsBefore client m m
 as_it_was client m = record { known = refl; sessions = refl; lease = refl; own = same client m.store.opens }
@@ -48,16 +49,16 @@ neither false b e = (refl, e)
 
 -- Leases and sessions of others.
 
-lease_begins : (b : Book) (client id now : ℕ) → client ≢ id → (with_lease b id now).renewed client ≡ b.renewed client
+lease_begins : (b : Book) (client id now : ℕ) → client ≢ id → with_lease b id now client ≡ b client
 lease_begins b client id now other = rw (ne_eqb client id other) refl
 
-lease_renewed : (b : Book) (client id now : ℕ) → client ≢ id → (with_renewal b id now).renewed client ≡ b.renewed client
+lease_renewed : (b : Book) (client id now : ℕ) → client ≢ id → with_renewal b id now client ≡ b client
 lease_renewed b client id now other = rw (ne_eqb client id other) refl
 
-lease_ends : (b : Book) (client gone : ℕ) → client ≢ gone → (without_lease b gone).renewed client ≡ b.renewed client
+lease_ends : (b : Book) (client gone : ℕ) → client ≢ gone → without_lease b gone client ≡ b client
 lease_ends b client gone other = rw (ne_eqb client gone other) refl
 
-lease_any : (b : Book) (client : ℕ) (o : Option ℕ) → o ≢ Some client → (without_any_lease b o).renewed client ≡ b.renewed client
+lease_any : (b : Book) (client : ℕ) (o : Option ℕ) → o ≢ Some client → without_any_lease b o client ≡ b client
 lease_any b client None other = refl
 lease_any b client (Some gone) other = lease_ends b client gone (λ here. other (ap Some (sym here)))
 
@@ -84,7 +85,7 @@ session_gone t client id other = filter_past (is_its client) (λ (s : Session). 
   | inr apart ↦ ap not apart
 ])
 
-slots_moved : (t : SessionTable) (client : ℕ) (id : SessionId) (change : GrantedSlots → GrantedSlots) → id.client ≢ client
+slots_moved : (t : SessionTable) (client : ℕ) (id : SessionId) (change : List SlotState → List SlotState) → id.client ≢ client
     → sessions_of client (with_slots t id change) ≡ sessions_of client t
 slots_moved t client id change other =
     filter_changed (is_its client) (is_session id) (λ (s : Session). record s { slots = change s.slots }) t.sessions (λ s there here.
@@ -95,12 +96,12 @@ slots_moved t client id change other =
 the_one : (t : Roster) (client : ℕ) (k d : ClientRecord) → IsRoster t → client_at t client ≡ Some k → In d t.records → d.id ≡ client → d ≡ k
 the_one t client k d is at there named =
     let found = find_in (λ (c : ClientRecord). c.id == client) t.records k at in
-    in_once (λ (c : ClientRecord). c.id) (client_id t.instance 1) (next_id t) t.records d k is.rising there found.0 (named ∙ sym (eqb-true _ _ found.1))
+    in_once (λ (c : ClientRecord). c.id) (first_id t) (next_id t) t.records d k is.rising there found.0 (named ∙ sym (eqb-true _ _ found.1))
 
 not_next : (t : Roster) (client : ℕ) (k : ClientRecord) → IsRoster t → client_at t client ≡ Some k → client ≢ next_id t
 not_next t client k is at new =
     let found = find_in (λ (c : ClientRecord). c.id == client) t.records k at in
-    let below = in_bounds (λ (c : ClientRecord). c.id) (client_id t.instance 1) (next_id t) t.records k is.rising found.0 in
+    let below = in_bounds (λ (c : ClientRecord). c.id) (first_id t) (next_id t) t.records k is.rising found.0 in
     let named : k.id ≡ client = eqb-true _ _ found.1 in
     absurd (below_itself k.id (next_id t) below.1 (named ∙ new))
   where
@@ -149,10 +150,10 @@ not_replaced t client k owner is at none = by_found (unconfirmed_of t owner) ref
 
 -- Outside a session.
 
-delayed : (client : ℕ) (m : Machine) (o : Outcome) (refused : Bool) (n : ℕ) → IsAsBefore client m o.machine → IsAsBefore client m (or_delay refused m n o).machine
+delayed : (client : ℕ) (m : Machine) (o : MachineOutcome) (refused : Bool) (n : ℕ) → IsAsBefore client m o.machine → IsAsBefore client m (or_with_delay refused m n o).machine
 delayed client m o refused n done = go (refused && is_ok o.status)
   where
-    go : (b : Bool) → IsAsBefore client m (cond b (refuses m n Delay) o).machine
+    go : (b : Bool) → IsAsBefore client m (cond b (with_refusal m n Delay) o).machine
     go true = as_it_was client m
     go false = done
 
@@ -229,11 +230,11 @@ destroyed_strange client m gone (Some fault) other = as_it_was client m
 carried_strange : (client : ℕ) (m : Machine) (k : ClientRecord) (who : Caller) (now : ℕ) (refused : Bool) (i : Item) (more : List Item) → IsRoster m.clients
     → client_at m.clients client ≡ Some k → is_named_in client m.clients (i ∷ more) ≡ false → IsAsBefore client m (carried_out m who now refused i).machine
 carried_strange client m k who now refused (Operation (Op.ExchangeId e)) more is at none =
-    delayed client m (exchange_id m who now e) refused 42 (subst (λ (o : Outcome). IsAsBefore client m o.machine) (sym (exchange_id_is m who now e))
+    delayed client m (exchange_id m who now e) refused 42 (subst (λ (o : MachineOutcome). IsAsBefore client m o.machine) (sym (exchange_id_is m who now e))
     (exchange_strange client m k now (ask_of m who e) (case_of m.clients (ask_of m who e)) is at none))
 carried_strange client m k who now refused (Operation (Op.CreateSession c)) more is at none =
     let parts = neither (c.clientid == client) _ none in
-    subst (λ (o : Outcome). IsAsBefore client m o.machine) (sym (create_session_is m who now refused c))
+    subst (λ (o : MachineOutcome). IsAsBefore client m o.machine) (sym (create_session_is m who now refused c))
     (created_strange client m now refused c (clients.create_verdict m.clients c.clientid c.sequence who.uid) (eqb-false c.clientid client parts.0)
     (not_leaving m.clients client c.clientid k is at parts.1))
 carried_strange client m k who now refused (Operation (Op.DestroySession sessionid)) more is at none =
@@ -252,17 +253,18 @@ first_strange client m k declared who now refused i more is at none = go (item_f
 
 -- The end of others' leases.
 
-pub expired_strange : (client : ℕ) (m : Machine) (k : ClientRecord) (now : ℕ) → client_at m.clients client ≡ Some k → has_run_out m.leases now client ≡ false
-    → IsAsBefore client m (expired now m)
+pub expired_strange : (client : ℕ) (m : Machine) (k : ClientRecord) (now : ℕ) → client_at m.clients client ≡ Some k
+    → has_run_out m.store.lease m.leases now client ≡ false → IsAsBefore client m (expired now m)
 expired_strange client m k now at stays =
     let found = find_in (λ (c : ClientRecord). c.id == client) m.clients.records k at in
-    let here : not (has_run_out m.leases now k.id) ≡ true = ap (λ n. not (has_run_out m.leases now n)) (eqb-true _ _ found.1) ∙ ap not stays in
+    let here : not (has_run_out m.store.lease m.leases now k.id) ≡ true =
+    ap (λ n. not (has_run_out m.store.lease m.leases now n)) (eqb-true _ _ found.1) ∙ ap not stays in
     record {
-      known = find_kept (λ (c : ClientRecord). c.id == client) (λ c. not (has_run_out m.leases now c.id)) m.clients.records k at here ∙ sym at;
-      sessions = filter_past (is_its client) (λ (s : Session). not (has_run_out m.leases now s.client)) m.sessions.sessions
-          (λ s there own. ap (λ n. not (has_run_out m.leases now n)) (eqb-true _ _ own) ∙ ap not stays);
+      known = find_kept (λ (c : ClientRecord). c.id == client) (λ c. not (has_run_out m.store.lease m.leases now c.id)) m.clients.records k at here ∙ sym at;
+      sessions = filter_past (is_its client) (λ (s : Session). not (has_run_out m.store.lease m.leases now s.client)) m.sessions.sessions
+          (λ s there own. ap (λ n. not (has_run_out m.store.lease m.leases now n)) (eqb-true _ _ own) ∙ ap not stays);
       lease = rw stays refl;
-      own = clients_gone client m.store.opens (λ n. not (has_run_out m.leases now n)) (ap not stays);
+      own = clients_gone client m.store.opens (λ n. not (has_run_out m.store.lease m.leases now n)) (ap not stays);
     }
 
 -- The whole compound.
@@ -274,13 +276,13 @@ compound_strange client m k r who size now choice is machine at none = by_answer
     (λ s more c here runs.
     (let other = eqb-false (id_of s.sessionid).client client (rw here at none) in
     let x = begins (id_of s.sessionid).client who in
-    let ran = run c.response (begun r s c) now (behind_here choice) (renewed m now s) x more in
-    let apart = run_apart client c.response (begun r s c) now (behind_here choice) (renewed m now s) x more is other in
+    let ran = run c.maxresponsesize (begun r s c) now (behind_here choice) (renewed m now s) x more in
+    let apart = run_apart client c.maxresponsesize (begun r s c) now (behind_here choice) (renewed m now s) x more is other in
     record {
       known = apart.known;
       sessions = slots_moved ran.machine.sessions client (id_of s.sessionid) _ other
-          ∙ ap (sessions_of client) (run_sessions c.response (begun r s c) now (behind_here choice) (renewed m now s) x more);
-      lease = ap (λ (b : Book). b.renewed client) (run_leases c.response (begun r s c) now (behind_here choice) (renewed m now s) x more)
+          ∙ ap (sessions_of client) (run_sessions c.maxresponsesize (begun r s c) now (behind_here choice) (renewed m now s) x more);
+      lease = ap (λ (b : Book). b client) (run_leases c.maxresponsesize (begun r s c) now (behind_here choice) (renewed m now s) x more)
           ∙ lease_renewed m.leases client (id_of s.sessionid).client now (λ here. other (sym here));
       own = apart.own;
     }))

@@ -8,16 +8,16 @@ use Rattle.nfs_names.specs.{declared.context.Context.Context, Outcome.is_ok, Sta
 use Rattle.nfs_names.specs.Operation as names
 use Rattle.nfs_files.specs.Operation as table
 use Rattle.nfs_files.proofs.Outcomes.{comes_to, for_each}
-use Rattle.nfs_exec.specs.{Step.Machine.Machine, Step.Behind.{Step, step, stays, on_store, otherwise}, Step.Run.{in_room, reserve}}
+use Rattle.nfs_exec.specs.{Step.Machine.Machine, Step.Behind.{Step, step, refused_step, on_store, otherwise}, Step.Run.{in_room, reserve}}
 use Rattle.nfs_exec.specs.Runs.Ops.{RanOp, done}
 use Rattle.nfs_exec.proofs.{Step.Behind.by_step, Step.RefusalsFit.refused_status, Runs.KeptByRuns.{Is, otherwise_store}}
 
 -- an operation is refused for want of room, or is what it is
-pub in_room_is : (P : Step → Type 0) (limit sofar now : ℕ) (refused : Bool) (m : Machine) (x : Context) (i : Item) → P (stays m x i RepTooBig)
+pub in_room_is : (P : Step → Type 0) (limit sofar now : ℕ) (refused : Bool) (m : Machine) (x : Context) (i : Item) → P (refused_step m x i RepTooBig)
     → P (step m x now refused i) → P (in_room limit sofar now refused m x i)
 in_room_is P limit sofar now refused m x i big fits = elim (cases_Bool (ltb limit (sofar + largest i + reserve))) [ inl is ↦ rw is big | inr is ↦ rw is fits ]
 
-pub too_big : (m : Machine) (x : Context) (i : Item) → is_ok (stays m x i RepTooBig).outcome.status ≡ true → ⊥
+pub too_big : (m : Machine) (x : Context) (i : Item) → is_ok (refused_step m x i RepTooBig).outcome.status ≡ true → ⊥
 too_big m x i ok = let bad : is_ok RepTooBig ≡ true = sym (ap is_ok (refused_status (item_number i) RepTooBig)) ∙ ok in absurd cc
 
 -- it was run
@@ -31,7 +31,7 @@ pub record IsRun (d : RanOp) : Type 0 where
 
 -- What holds of its status, its result and the store behind it: of what is refused for want of room, and of the step that its item is.
 pub by_item : (P : Status → List ℕ → State → Type 0) (d : RanOp) (r : IsRun d) (i : Item) → d.item ≡ i
-    → (let o = (stays d.before d.context i RepTooBig).outcome in P o.status o.result d.before.store)
+    → (let o = (refused_step d.before d.context i RepTooBig).outcome in P o.status o.result d.before.store)
     → (let o = (step d.before d.context r.now r.refused i).outcome in P o.status o.result o.machine.store) → P d.status d.result d.behind.store
 by_item P d r i same big fits =
     subst (λ (c : RanOp). P c.status c.result c.behind.store)
@@ -46,7 +46,7 @@ by_ok P d r i same ok fits =
 
 -- Or of an operation on names, of one on open files, and of what is on neither, which leaves the store.
 pub by_run : (P : Status → List ℕ → State → Type 0) (d : RanOp) (r : IsRun d)
-    → (let o = (stays d.before d.context d.item RepTooBig).outcome in P o.status o.result d.before.store)
+    → (let o = (refused_step d.before d.context d.item RepTooBig).outcome in P o.status o.result d.before.store)
     → ForSome (names.comes_to r.refused d.before.store d.context (moment r.now) d.item) (λ o. P (status_of_result o.result) (spell_result o.result) o.state)
     → (let o = comes_to r.refused d.before.store d.context (moment r.now) d.item in P (status_of_result o.result) (spell_result o.result) o.state)
     → (table.comes_to r.refused d.before.store d.context (moment r.now) d.item ≡ None

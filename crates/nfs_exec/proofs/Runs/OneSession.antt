@@ -5,6 +5,7 @@ use Rattle.std.specs.Prelude.{◌==◌, ◌⊎◌, ◌&&◌, find, option_map, i
 use Rattle.nfs_xdr.specs.{Caller.Caller, Tables.In, Spelling.{hyper, opaque}, declared.status.Status.Status}
 use Rattle.nfs_xdr.specs.declared.status.Status.TheVariants.{Nfs4Ok, Delay, StaleClientId, SeqMisordered, ClidInUse, MinorVersMismatch}
 use Rattle.nfs_xdr.proofs.Lists.{find_in, in_filter, in_push, push_in, stays_in, find_push_none, find_past, find_none}
+use Rattle.nfs_xdr.specs.Numbers.{next_number}
 use Rattle.nfs_compound.specs.declared.op_num.OpNum.TheVariants as Num
 use Rattle.nfs_compound.specs.{OpNum.op_number, declared.op.Item.Item, declared.op.Item.TheVariants.Operation, Request.{Request, item_number}}
 use Rattle.nfs_compound.specs.{declared.session_args.CreateSession.CreateSession, declared.session_args.Sequence.Sequence}
@@ -15,23 +16,24 @@ use Rattle.nfs_results.specs.Items as item
 use Rattle.nfs_results.proofs.Lengths.{length_head, length_spelled}
 use Rattle.nfs_results.proofs.Heads as heads
 use Rattle.nfs_clients.specs.{Roster.{ClientRecord, Roster, IsRoster, client_at, is_confirmed_of}, ExchangeId.case_of}
-use Rattle.nfs_clients.specs.CreateSession.{following, create_verdict, leaving, leaving_by, is_other_confirmed_of, with_kept, with_confirmed}
+use Rattle.nfs_clients.specs.CreateSession.{create_verdict, leaving, is_other_confirmed_of, with_kept, with_confirmed}
 use Rattle.nfs_clients.specs.Marks.{has_reclaimed}
 use Rattle.nfs_clients.specs.CreateSession as clients
 use Rattle.nfs_clients.specs.declared.created.CreateResult.TheVariants as results
 use Rattle.nfs_sessions.specs.{declared.id.SessionId.SessionId, declared.channel.Wish.Wish, declared.sessions.SessionFault.SessionFault, Id.{id_of, id_bytes}}
-use Rattle.nfs_sessions.specs.Sessions.{Session, SessionTable, is_session, session_at, create, create_unless, create_fault, fault_status, with_session}
-use Rattle.nfs_sessions.specs.{SessionSlots.unused, Channel.granted}
+use Rattle.nfs_sessions.specs.Sessions.{Session, SessionTable, new_session, is_session, session_at, create, create_unless, create_fault, session_fault_status}
+use Rattle.nfs_sessions.specs.Sessions.{with_session}
+use Rattle.nfs_sessions.specs.Channel.{granted}
 use Rattle.nfs_lease.specs.Renewals.{has_run_out}
 use Rattle.nfs_names.specs.{declared.context.Context.Context, declared.node.Node.Node, Context.begins, Checks.current, State.moment}
 use Rattle.nfs_names.specs.Outcome.{is_ok}
 use Rattle.nfs_files.proofs.Outcomes as files
 use Rattle.nfs_files.proofs.Outcomes.{for_each}
-use Rattle.nfs_exec.specs.{Step.Machine.{by_fault, Machine, Outcome, or_delay, refuses, starts}, Step.Behind.{step, on_store, otherwise}}
+use Rattle.nfs_exec.specs.{Step.Machine.{by_fault, Machine, MachineOutcome, or_with_delay, with_refusal, starts}, Step.Behind.{step, on_store, otherwise}}
 use Rattle.nfs_exec.specs.{Step.Run.{run, in_room, is_here, behind_here}, Step.Place.item_fault, Step.ReclaimComplete.{reclaim_complete, of_one, of_all}}
 use Rattle.nfs_exec.specs.Step.ExchangeId.{exchange_id}
 use Rattle.nfs_exec.specs.Step.CreateSession.{confirmed, made_body, wish_of, without_any_sessions}
-use Rattle.nfs_exec.specs.{Step.Destroy.{destroy_session, client_fault, client_ended}, Step.Sequence.{Sequenced, sequenced}}
+use Rattle.nfs_exec.specs.{Step.Destroy.{destroy_session, client_fault}, Step.Sequence.{Sequenced, sequenced}}
 use Rattle.nfs_exec.specs.Step.Compound.{carried_out, first_item, renewed, begun, bare, Answered, in_session, by_first, compound}
 use Rattle.nfs_exec.specs.{Step.Laws.{MachineEvent, Expires, Asks, stepped, all_stepped}, Runs.OneSession.{asks_of, asks_session, Gives, MakesOne, GivesOne}}
 use Rattle.nfs_exec.specs.Step.Sequence as sequence
@@ -41,10 +43,12 @@ use Rattle.nfs_exec.proofs.{Step.Behind.{by_step, follow_kept}, Step.Creating.le
 use Rattle.nfs_exec.proofs.{Runs.SlotNumbersAlong.counted_all, Runs.SessionNumbers.{After, IsAgain, IsNext, IsCarried, ToldBy, more, after_own, after_carried}}
 use Rattle.nfs_exec.proofs.Runs.SessionNumbers.{carried_case, carried_confirmed, verdict_again, verdict_next, after_again, after_next, not_next, same_kept, next_is_new}
 use Rattle.nfs_exec.proofs.Runs.SessionNumbers.{tells_more, tells_carried, tells_refused, tells_made}
+use Rattle.nfs_clients.proofs.Members.{leaving_by}
+use Rattle.nfs_exec.proofs.Step.Terms.{client_ended}
 
 -- The client records, through whatever comes that asks for no session of the client.
 
-delayed_after : (P : Machine → Type 0) (m : Machine) (o : Outcome) (refused : Bool) (number : ℕ) → P m → P o.machine → P (or_delay refused m number o).machine
+delayed_after : (P : Machine → Type 0) (m : Machine) (o : MachineOutcome) (refused : Bool) (number : ℕ) → P m → P o.machine → P (or_with_delay refused m number o).machine
 delayed_after P m o refused number before after = elim (cases_Bool (refused && is_ok o.status)) [ inl here ↦ rw here before | inr other ↦ rw other after ]
 
 by_number_after : (P : Machine → Type 0) (m : Machine) (now : ℕ) (refused : Bool) (c : CreateSession) (v : clients.Verdict) → P m
@@ -102,7 +106,7 @@ module _ (n : ℕ) (P : Roster → Type 0) (held : IsCarried n P) where
       → P (by_created m now c t v).machine.clients
   made_other m now c t (Ok id) other a =
       held.other (with_confirmed m.clients c.clientid) c.clientid (results.Done (made_body c id)) other (carried_confirmed n P held m.clients c.clientid a)
-  made_other m now c t (Err fault) other a = held.other m.clients c.clientid (results.Refused (fault_status fault)) other a
+  made_other m now c t (Err fault) other a = held.other m.clients c.clientid (results.Refused (session_fault_status fault)) other a
 
   destroyed_carried : (m : Machine) (client : ℕ) (o : Option Status) → P m.clients → P (by_fault m 57 o (client_ended m client)).machine.clients
   destroyed_carried m client None a = held.fewer m.clients (λ c. not (c.id == client)) a
@@ -114,12 +118,12 @@ module _ (n : ℕ) (P : Roster → Type 0) (held : IsCarried n P) where
   out_carried : (m : Machine) (who : Caller) (now : ℕ) (refused : Bool) (i : Item) → asks_of n (i ∷ []) ≡ false → P m.clients
       → P (carried_out m who now refused i).machine.clients
   out_carried m who now refused (Operation (Op.CreateSession c)) other a =
-      subst (λ (o : Outcome). P o.machine.clients) (sym (create_session_is m who now refused c))
+      subst (λ (o : MachineOutcome). P o.machine.clients) (sym (create_session_is m who now refused c))
       (by_number_after (λ m. P m.clients) m now refused c (create_verdict m.clients c.clientid c.sequence who.uid) a
       (λ t r. made_other m now c t r (eqb-false c.clientid n other) a))
   out_carried m who now refused (Operation (Op.ExchangeId e)) other a =
       delayed_after (λ m. P m.clients) m (exchange_id m who now e) refused 42 a
-      (subst (λ (o : Outcome). P o.machine.clients) (sym (exchange_id_is m who now e))
+      (subst (λ (o : MachineOutcome). P o.machine.clients) (sym (exchange_id_is m who now e))
       (carried_case n P held m.clients (ask_of m who e) (case_of m.clients (ask_of m who e)) a))
   out_carried m who now refused (Operation (Op.DestroySession sessionid)) other a = ended_carried m sessionid a
   out_carried m who now refused (Operation (Op.DestroyClientId client)) other a =
@@ -139,7 +143,7 @@ module _ (n : ℕ) (P : Roster → Type 0) (held : IsCarried n P) where
   session_carried m r who now choice s rest (sequence.Refuses status) a = a
   session_carried m r who now choice s rest (sequence.Repeats reply) a = a
   session_carried m r who now choice s rest (sequence.Runs c) a =
-      run_carried c.response (begun r s c) now (behind_here choice) (renewed m now s) (begins (id_of s.sessionid).client who) rest a
+      run_carried c.maxresponsesize (begun r s c) now (behind_here choice) (renewed m now s) (begins (id_of s.sessionid).client who) rest a
 
   items_carried : (m : Machine) (r : Request) (who : Caller) (size now : ℕ) (choice : Option ℕ) (items : List Item) → asks_of n items ≡ false → P m.clients
       → P (by_first m r who size now choice items).machine.clients
@@ -148,7 +152,7 @@ module _ (n : ℕ) (P : Roster → Type 0) (held : IsCarried n P) where
   items_carried m r who size now choice (i ∷ rest) other a = first_carried m r.declared who now (is_here choice) i (sym (asked_same n i rest) ∙ other) a
 
   pub event_carried : (m : Machine) (e : MachineEvent) → asks_session n e ≡ false → P m.clients → P (stepped m e).clients
-  event_carried m (Expires now) other a = held.fewer m.clients (λ c. not (has_run_out m.leases now c.id)) a
+  event_carried m (Expires now) other a = held.fewer m.clients (λ c. not (has_run_out m.store.lease m.leases now c.id)) a
   event_carried m (Asks r who size now choice) other a = go (eqb r.minor 1)
     where
       go : (v : Bool) → P (cond v (by_first m r who size now choice r.left) (bare r MinorVersMismatch m)).machine.clients
@@ -157,18 +161,18 @@ module _ (n : ℕ) (P : Roster → Type 0) (held : IsCarried n P) where
 
 -- What asks for a session of the client changes nothing, or runs: and then it is answered what it came to.
 
-abbrev pub created : Machine → ℕ → CreateSession → Outcome
+abbrev pub created : Machine → ℕ → CreateSession → MachineOutcome
 created m now c = creates m now c (create m.sessions c.clientid (wish_of m c))
 
-record IsRun (m : Machine) (now : ℕ) (c : CreateSession) (o : Outcome) : Type 0 where
+record IsRun (m : Machine) (now : ℕ) (c : CreateSession) (o : MachineOutcome) : Type 0 where
   pub next : IsNext m.clients c.clientid c.sequence
   pub is : o ≡ created m now c
 
 delay_runs : (m : Machine) (now : ℕ) (c : CreateSession) (refused : Bool) → IsNext m.clients c.clientid c.sequence
-    → (let o = or_delay refused m 43 (created m now c) in (o.machine ≡ m) ⊎ IsRun m now c o)
+    → (let o = or_with_delay refused m 43 (created m now c) in (o.machine ≡ m) ⊎ IsRun m now c o)
 delay_runs m now c refused next = go (refused && is_ok (created m now c).status)
   where
-    go : (v : Bool) → (let o = cond v (refuses m 43 Delay) (created m now c) in (o.machine ≡ m) ⊎ IsRun m now c o)
+    go : (v : Bool) → (let o = cond v (with_refusal m 43 Delay) (created m now c) in (o.machine ≡ m) ⊎ IsRun m now c o)
     go true = inl refl
     go false = inr (record { next = next; is = refl })
 
@@ -188,7 +192,7 @@ item_runs m declared who now refused c = go (item_fault declared (Operation (Op.
   where
     go : (f : Option Status) → (let o = by_fault m (op_number Num.CreateSession) f (carried_out m who now refused (Operation (Op.CreateSession c))) in
         (o.machine ≡ m) ⊎ IsRun m now c o)
-    go None = subst (λ (o : Outcome). (o.machine ≡ m) ⊎ IsRun m now c o) (sym (create_session_is m who now refused c))
+    go None = subst (λ (o : MachineOutcome). (o.machine ≡ m) ⊎ IsRun m now c o) (sym (create_session_is m who now refused c))
         (verdict_runs m who now refused c (create_verdict m.clients c.clientid c.sequence who.uid) refl)
     go (Some status) = inl refl
 
@@ -211,8 +215,8 @@ items_run n m r who size now choice (Operation (Op.CreateSession c) ∷ more) le
     first = left;
     for = eqb-true c.clientid n asks;
     next = run.next;
-    text = ap (λ (o : Outcome). spell_compound_head o.status r.tag 1 ++ o.result) run.is;
-    machine = ap (λ (o : Outcome). o.machine) run.is;
+    text = ap (λ (o : MachineOutcome). spell_compound_head o.status r.tag 1 ++ o.result) run.is;
+    machine = ap (λ (o : MachineOutcome). o.machine) run.is;
   })
 ]
 items_run n m r who size now choice items left asks = absurd (false≢true asks)
@@ -232,7 +236,7 @@ made_own : (n number most : ℕ) (body : List ℕ) (m : Machine) (now : ℕ) (c 
 made_own n number most body m now c (Ok id) a =
     after_own n number most body (with_confirmed m.clients c.clientid) c.clientid (results.Done (made_body c id))
     (carried_confirmed n (After n number body most) (after_carried n number most body) m.clients c.clientid a)
-made_own n number most body m now c (Err fault) a = after_own n number most body m.clients c.clientid (results.Refused (fault_status fault)) a
+made_own n number most body m now c (Err fault) a = after_own n number most body m.clients c.clientid (results.Refused (session_fault_status fault)) a
 
 asked_after : (n number most : ℕ) (body : List ℕ) (m : Machine) (e : MachineEvent) → asks_session n e ≡ true → After n number body most m.clients
     → After n number body (most + 1) (stepped m e).clients
@@ -280,7 +284,7 @@ abbrev IsEither : Machine → ℕ → CreateSession → List ℕ → Machine →
 IsEither m now c body left = IsRepeat m c.clientid c.sequence body left ⊎ IsMade m now c body left
 
 -- what stands behind the head of its result
-abbrev Tells : List ℕ → Outcome → Type 0
+abbrev Tells : List ℕ → MachineOutcome → Type 0
 Tells text o = o.result ≡ done_head Num.CreateSession ++ text
 
 same_text : (a b : List ℕ) → done_head Num.CreateSession ++ a ≡ done_head Num.CreateSession ++ b → a ≡ b
@@ -291,7 +295,7 @@ same_text a b e =
 made_either : (m : Machine) (now : ℕ) (c : CreateSession) (id behind : List ℕ) (v : Result SessionId SessionFault) → length id ≡ 16 → IsNext m.clients c.clientid c.sequence
     → (create m.sessions c.clientid (wish_of m c)).answer ≡ v
     → (let o = by_created m now c (create m.sessions c.clientid (wish_of m c)).after v in Tells (id ++ behind) o → IsEither m now c (id ++ behind) o.machine)
-made_either m now c id behind (Err fault) long next did told = absurd (refused_short (fault_status fault) id behind long told)
+made_either m now c id behind (Err fault) long next did told = absurd (refused_short (session_fault_status fault) id behind long told)
 made_either m now c id behind (Ok session) long next did told =
     (let same : made_body c session ≡ id ++ behind = same_text (made_body c session) (id ++ behind) told in
     inr (record {
@@ -302,12 +306,12 @@ made_either m now c id behind (Ok session) long next did told =
       changed = ap (λ (text : List ℕ). confirmed (record m { sessions = (create m.sessions c.clientid (wish_of m c)).after }) now c.clientid text) same;
     }))
 
-delay_either : (m : Machine) (now : ℕ) (c : CreateSession) (id behind : List ℕ) (refused : Bool) (o : Outcome) → length id ≡ 16
+delay_either : (m : Machine) (now : ℕ) (c : CreateSession) (id behind : List ℕ) (refused : Bool) (o : MachineOutcome) → length id ≡ 16
     → (Tells (id ++ behind) o → IsEither m now c (id ++ behind) o.machine)
-    → (let d = or_delay refused m 43 o in Tells (id ++ behind) d → IsEither m now c (id ++ behind) d.machine)
+    → (let d = or_with_delay refused m 43 o in Tells (id ++ behind) d → IsEither m now c (id ++ behind) d.machine)
 delay_either m now c id behind refused o long each = go (refused && is_ok o.status)
   where
-    go : (v : Bool) → (let d = cond v (refuses m 43 Delay) o in Tells (id ++ behind) d → IsEither m now c (id ++ behind) d.machine)
+    go : (v : Bool) → (let d = cond v (with_refusal m 43 Delay) o in Tells (id ++ behind) d → IsEither m now c (id ++ behind) d.machine)
     go true = λ told. absurd (refused_short Delay id behind long told)
     go false = each
 
@@ -336,7 +340,7 @@ item_either m declared who now refused c id behind long = go (item_fault declare
   where
     go : (f : Option Status) → (let o = by_fault m (op_number Num.CreateSession) f (carried_out m who now refused (Operation (Op.CreateSession c))) in
         Tells (id ++ behind) o → IsEither m now c (id ++ behind) o.machine)
-    go None = subst (λ (o : Outcome). Tells (id ++ behind) o → IsEither m now c (id ++ behind) o.machine) (sym (create_session_is m who now refused c))
+    go None = subst (λ (o : MachineOutcome). Tells (id ++ behind) o → IsEither m now c (id ++ behind) o.machine) (sym (create_session_is m who now refused c))
         (verdict_either m who now refused c id behind (create_verdict m.clients c.clientid c.sequence who.uid) long refl)
     go (Some status) = λ told. absurd (refused_short status id behind long told)
 
@@ -445,11 +449,7 @@ new_is : (last client : ℕ) → eqb (last + 1) (last + 1) && eqb client client 
 new_is last client = rw (eq-eqb (last + 1) (last + 1) refl, eq-eqb client client refl) refl
 
 found_new : (t : SessionTable) (client : ℕ) (wish : Wish) → session_at t (record { client = client; counter = t.last + 1 }) ≡ None
-    → session_at (with_session t client wish) (record { client = client; counter = t.last + 1 }) ≡ Some (record {
-      counter = t.last + 1;
-      client = client;
-      slots = unused (granted wish.fore);
-    })
+    → session_at (with_session t client wish) (record { client = client; counter = t.last + 1 }) ≡ Some (new_session (t.last + 1) client (granted wish.fore))
 found_new t client wish none = find_push_none (is_session (record { client = client; counter = t.last + 1 })) t.sessions _ none (new_is t.last client)
 
 new_there : (t : SessionTable) (client : ℕ) (wish : Wish) (o : Option ℕ) → o ≢ Some client → session_at t (record { client = client; counter = t.last + 1 }) ≡ None
@@ -519,11 +519,11 @@ for_again client number id m e g again =
 
 -- behind an answer the next number makes one
 pub given_next : (client number : ℕ) (body other : List ℕ) (m : Machine) (e : MachineEvent) → IsCounted m.sessions → After client number body 0 m.clients
-    → Gives client (following number) other m e → MakesOne client other m.sessions (stepped m e).sessions
-given_next client number body other m e counted after g = elim (either client (following number) other m e g) [
+    → Gives client (next_number number) other m e → MakesOne client other m.sessions (stepped m e).sessions
+given_next client number body other m e counted after g = elim (either client (next_number number) other m e g) [
   | inl repeat ↦ absurd (next_is_new m.clients client number body (results.Done (other ++ g.behind)) after
-      (for_again client (following number) other m e g repeat.again))
-  | inr made ↦ for_client client (following number) other m e g counted made
+      (for_again client (next_number number) other m e g repeat.again))
+  | inr made ↦ for_client client (next_number number) other m e g counted made
 ]
 
 -- Where the result of a number is kept, what kept it made a session.
@@ -575,39 +575,39 @@ granted_by n number body m r who size now choice id counted run did number_is te
 
 asked_tells : (n number : ℕ) (body : List ℕ) (X Y : Type 0) (m : Machine) (r : Request) (who : Caller) (size now : ℕ) (choice : Option ℕ) → IsRoster m.clients
     → IsCounted m.sessions → number < 2 ^ 32 → (X → Y) → (IsMadeBy n number body m (Asks r who size now choice) → Y)
-    → (run : IsAsked n m r now (compound m r who size now choice)) → ToldBy n (following number) body X m.clients
-    → ToldBy n (following number) body Y (compound m r who size now choice).machine.clients
+    → (run : IsAsked n m r now (compound m r who size now choice)) → ToldBy n (next_number number) body X m.clients
+    → ToldBy n (next_number number) body Y (compound m r who size now choice).machine.clients
 asked_tells n number body X Y m r who size now choice is counted low old new run tells =
     let did = create m.sessions run.asked.clientid (wish_of m run.asked) in
-    subst (λ (m : Machine). ToldBy n (following number) body Y m.clients) (sym run.machine) (go did.answer refl)
+    subst (λ (m : Machine). ToldBy n (next_number number) body Y m.clients) (sym run.machine) (go did.answer refl)
   where
     go : (v : Result SessionId SessionFault) → (create m.sessions run.asked.clientid (wish_of m run.asked)).answer ≡ v
-        → ToldBy n (following number) body Y (by_created m now run.asked (create m.sessions run.asked.clientid (wish_of m run.asked)).after v).machine.clients
-    go (Ok id) did = subst (λ k. ToldBy n (following number) body Y (with_kept (with_confirmed m.clients k) k (results.Done (made_body run.asked id)))) (sym run.for)
+        → ToldBy n (next_number number) body Y (by_created m now run.asked (create m.sessions run.asked.clientid (wish_of m run.asked)).after v).machine.clients
+    go (Ok id) did = subst (λ k. ToldBy n (next_number number) body Y (with_kept (with_confirmed m.clients k) k (results.Done (made_body run.asked id)))) (sym run.for)
         (tells_made n number run.asked.sequence body (made_body run.asked id) X Y m.clients is
         (subst (λ k. IsNext m.clients k run.asked.sequence) run.for run.next) low
         (λ number_is text. new (granted_by n number body m r who size now choice id counted run did number_is text)) tells)
-    go (Err fault) did = subst (λ k. ToldBy n (following number) body Y (with_kept m.clients k (results.Refused (fault_status fault)))) (sym run.for)
-        (tells_refused n (following number) body Y m.clients (fault_status fault) (tells_more n (following number) body X Y m.clients old tells))
+    go (Err fault) did = subst (λ k. ToldBy n (next_number number) body Y (with_kept m.clients k (results.Refused (session_fault_status fault)))) (sym run.for)
+        (tells_refused n (next_number number) body Y m.clients (session_fault_status fault) (tells_more n (next_number number) body X Y m.clients old tells))
 
 pub event_tells : (n number : ℕ) (body : List ℕ) (X Y : Type 0) (m : Machine) (e : MachineEvent) → IsRoster m.clients → IsCounted m.sessions → number < 2 ^ 32
-    → (X → Y) → (IsMadeBy n number body m e → Y) → ToldBy n (following number) body X m.clients → ToldBy n (following number) body Y (stepped m e).clients
+    → (X → Y) → (IsMadeBy n number body m e → Y) → ToldBy n (next_number number) body X m.clients → ToldBy n (next_number number) body Y (stepped m e).clients
 event_tells n number body X Y m e is counted low old new tells = elim (cases_Bool (asks_session n e)) [
   | inl asks ↦ own e asks new
-  | inr other ↦ tells_more n (following number) body X Y (stepped m e).clients old
-      (event_carried n (ToldBy n (following number) body X) (tells_carried n (following number) body X) m e other tells)
+  | inr other ↦ tells_more n (next_number number) body X Y (stepped m e).clients old
+      (event_carried n (ToldBy n (next_number number) body X) (tells_carried n (next_number number) body X) m e other tells)
 ]
   where
-    own : (e : MachineEvent) → asks_session n e ≡ true → (IsMadeBy n number body m e → Y) → ToldBy n (following number) body Y (stepped m e).clients
+    own : (e : MachineEvent) → asks_session n e ≡ true → (IsMadeBy n number body m e → Y) → ToldBy n (next_number number) body Y (stepped m e).clients
     own (Expires now) asks new = absurd (false≢true asks)
     own (Asks r who size now choice) asks new = elim (compound_runs n m r who size now choice asks) [
-      | inl same ↦ subst (λ (m : Machine). ToldBy n (following number) body Y m.clients) (sym same) (tells_more n (following number) body X Y m.clients old tells)
+      | inl same ↦ subst (λ (m : Machine). ToldBy n (next_number number) body Y m.clients) (sym same) (tells_more n (next_number number) body X Y m.clients old tells)
       | inr run ↦ asked_tells n number body X Y m r who size now choice is counted low old new run tells
     ]
 
 -- It makes one, or what made it is told.
 pub gives_made : (client number : ℕ) (id : List ℕ) (X : Type 0) (m : Machine) (e : MachineEvent) → IsCounted m.sessions → (g : Gives client number id m e)
-    → ToldBy client (following number) (id ++ g.behind) X m.clients → MakesOne client id m.sessions (stepped m e).sessions ⊎ X
+    → ToldBy client (next_number number) (id ++ g.behind) X m.clients → MakesOne client id m.sessions (stepped m e).sessions ⊎ X
 gives_made client number id X m e counted g tells = elim (either client number id m e g) [
   | inr made ↦ inl (for_client client number id m e g counted made)
   | inl repeat ↦ (let again = for_again client number id m e g repeat.again in

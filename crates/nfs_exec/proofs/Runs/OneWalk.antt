@@ -45,10 +45,10 @@ one_more s u None is = is
 one_more s u (Some gone) is = ((λ c. not (eqb c gone)) ∷ is.0, ap (staying (λ c. not (eqb c gone))) is.1)
 
 pub event_did : (m : Machine) (e : MachineEvent) → EventDid m (ops_by m e) (ran m e) (stepped m e)
-event_did m (Expires now) = idle m (stepped m (Expires now)) ((λ client. not (has_run_out m.leases now client)) ∷ []) refl
+event_did m (Expires now) = idle m (stepped m (Expires now)) ((λ client. not (has_run_out m.store.lease m.leases now client)) ∷ []) refl
 event_did m (Asks r who size now choice) = by_compound (λ left ds run. EventDid m ds run left) m r who size now choice (idle m m [] refl) (λ item.
     (let did = holds_whoever (IsEnded m.store) (one_more m.store) m r.declared who now (is_here choice) item ([], refl) in idle m _ did.0 did.1)) (λ s more c is.
-    (let run = are_run c.response (begun r s c) now (behind_here choice) (renewed m now s) (begins (id_of s.sessionid).client who) more in
+    (let run = are_run c.maxresponsesize (begun r s c) now (behind_here choice) (renewed m now s) (begins (id_of s.sessionid).client who) more in
     Ran (record { from = renewed m now s; same = refl; chained = run.chained; left = ap (λ (n : Machine). n.store) run.machine })))
 
 -- what the end of clients keeps

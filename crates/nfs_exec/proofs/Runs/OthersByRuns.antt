@@ -27,15 +27,15 @@ compound_apart c m r who size now choice is other alone =
     (λ text other. same c m.store.opens) (λ item more one here other.
     holds_alone c (λ s. HasAsBefore c m.store.opens s.opens) (alone_apart c m.store.opens) m r.declared who now (is_here choice) item (same c m.store.opens)
     (rw (one, here) at alone)) (λ s more channel here runs other.
-    (run_apart c channel.response (begun r s channel) now (behind_here choice) (renewed m now s) (begins (id_of s.sessionid).client who) more is
+    (run_apart c channel.maxresponsesize (begun r s channel) now (behind_here choice) (renewed m now s) (begins (id_of s.sessionid).client who) more is
     (eqb-false (id_of s.sessionid).client c other)).own) other
 
 -- An event leaves a client: its lease has not run out, and no other id takes its place.
 abbrev pub SparesClient : ℕ → Machine → MachineEvent → Type 0
-SparesClient client m (Expires now) = has_run_out m.leases now client ≡ false
+SparesClient client m (Expires now) = has_run_out m.store.lease m.leases now client ≡ false
 SparesClient client m (Asks r who size now choice) = replaces client m (Asks r who size now choice) ≡ false
 
 -- what runs in no session of the client, and neither ends it nor takes its place
 pub event_apart : (c : ℕ) (m : Machine) (e : MachineEvent) → Is m → renews c m e ≡ false → SparesClient c m e → HasAsBefore c m.store.opens (stepped m e).store.opens
-event_apart c m (Expires now) is other client = clients_gone c m.store.opens (λ n. not (has_run_out m.leases now n)) (ap not client)
+event_apart c m (Expires now) is other client = clients_gone c m.store.opens (λ n. not (has_run_out m.store.lease m.leases now n)) (ap not client)
 event_apart c m (Asks r who size now choice) is other client = compound_apart c m r who size now choice is other client

@@ -4,28 +4,29 @@ use Rattle.std.proofs.lemmas.Bool.{cases_Bool, eqb-false, ne_eqb, false≢true}
 use Rattle.std.specs.{Prelude.{◌&&◌, ◌||◌, ◌==◌, not, is_some, option_map, ok_or}, Option.option_map_or}
 use Rattle.nfs_xdr.specs.{Caller.Caller, Checks.{first_fault, judged}, declared.status.Status.Status}
 use Rattle.nfs_xdr.specs.declared.status.Status.TheVariants.{Delay, Inval, StaleClientId, MinorVersMismatch}
+use Rattle.nfs_xdr.specs.Numbers.{next_number}
 use Rattle.nfs_compound.specs.{declared.op.Item.Item, declared.op.Item.TheVariants.Operation, Request.{Request, item_number}}
 use Rattle.nfs_compound.specs.{declared.session_args.CreateSession.CreateSession, declared.session_args.ExchangeId.ExchangeId}
 use Rattle.nfs_compound.specs.declared.session_args.Sequence.{Sequence}
 use Rattle.nfs_compound.specs.declared.op.Op.TheVariants as Op
 use Rattle.nfs_clients.specs.{declared.created.CreateResult.CreateResult, declared.created.CreateResult.TheVariants.{Done, Refused}, ExchangeId.has_room}
 use Rattle.nfs_clients.specs.{Roster.{ClientRecord, client_at, confirmed_of, unconfirmed_of, next_id}, CreateSession.leaving}
-use Rattle.nfs_slots.specs.Slot.{next_number}
 use Rattle.nfs_sessions.specs.{Id.id_of, Sessions.session_at}
 use Rattle.nfs_opens.specs.Steps.{require, ◌>>=◌, ◌>>◌}
 use Rattle.nfs_lease.specs.Renewals.{Book, with_lease, with_renewal, without_lease}
 use Rattle.nfs_names.specs.{Context.begins, Outcome.is_ok}
-use Rattle.nfs_exec.specs.{Step.Machine.{by_fault, Machine, Outcome, or_delay, or_refusal, refuses}, Step.Place.item_fault}
+use Rattle.nfs_exec.specs.{Step.Machine.{by_fault, Machine, MachineOutcome, or_with_delay, or_with_refusal, with_refusal}, Step.Place.item_fault}
 use Rattle.nfs_exec.specs.Step.ExchangeId.{exchange_id, exchanged, standing, carries_confirmed, without_any_lease}
 use Rattle.nfs_exec.specs.Step.CreateSession.{create_session, session_checks, kept_again, or_kept_refusal, made}
-use Rattle.nfs_exec.specs.{Step.Destroy.{destroy_session, client_fault, client_ended}, Step.Sequence.{Sequenced, sequenced}, Step.Run.{is_here, behind_here}}
+use Rattle.nfs_exec.specs.{Step.Destroy.{destroy_session, client_fault}, Step.Sequence.{Sequenced, sequenced}, Step.Run.{is_here, behind_here}}
 use Rattle.nfs_exec.specs.Step.Compound.{carried_out, first_item, renewed, begun, bare, in_session, by_first, compound}
 use Rattle.nfs_exec.specs.{Step.Laws.{Asks, first_runs, if_runs}, Runs.LockHeld.is_of, Runs.Renewing.{adds, is_for, renews_alone, renews_or_begins}}
 use Rattle.nfs_exec.specs.Step.Sequence as sequence
 use Rattle.nfs_exec.proofs.{Step.Behind.run_leases, Step.InSteps.for_client}
+use Rattle.nfs_exec.proofs.Step.Terms.{client_ended}
 
 abbrev pub IsStill : ℕ → Book → Book → Type 0
-IsStill client b left = (left.renewed client ≡ None) ⊎ (left.renewed client ≡ b.renewed client)
+IsStill client b left = (left client ≡ None) ⊎ (left client ≡ b client)
 
 after_both : (client : ℕ) (a b c : Book) → IsStill client a b → IsStill client b c → IsStill client a c
 after_both client a b c first (inl none) = inl none
@@ -62,8 +63,8 @@ exchanged_still : (m : Machine) (who : Caller) (now client : ℕ) (e : ExchangeI
     → IsStill client m.leases (exchange_id m who now e).machine.leases
 exchanged_still m who now client e = by_flag (carries_confirmed e) (standing m who e (confirmed_of m.clients e.ownerid))
   where
-    steps : Bool → Result (Option ClientRecord) Status → Outcome
-    steps carried found = or_refusal m 42 (require (not carried) Inval >> (found >>= exchanged m who now e))
+    steps : Bool → Result (Option ClientRecord) Status → MachineOutcome
+    steps carried found = or_with_refusal m 42 (require (not carried) Inval >> (found >>= exchanged m who now e))
 
     by_room : (room : Bool) → has_room m.clients e.ownerid ≡ room → is_ok (steps false (Ok None)).status && (next_id m.clients == client) ≡ false
         → IsStill client m.leases (steps false (Ok None)).machine.leases
@@ -77,11 +78,11 @@ exchanged_still m who now client e = by_flag (carries_confirmed e) (standing m w
     by_flag false (Ok (Some c)) none = inr refl
     by_flag false (Ok None) none = by_room (has_room m.clients e.ownerid) refl none
 
-delayed_still : (m : Machine) (client : ℕ) (o : Outcome) (refused : Bool) (n : ℕ) (mine : Bool) → (is_ok o.status && mine ≡ false → IsStill client m.leases o.machine.leases)
-    → is_ok (or_delay refused m n o).status && mine ≡ false → IsStill client m.leases (or_delay refused m n o).machine.leases
+delayed_still : (m : Machine) (client : ℕ) (o : MachineOutcome) (refused : Bool) (n : ℕ) (mine : Bool) → (is_ok o.status && mine ≡ false → IsStill client m.leases o.machine.leases)
+    → is_ok (or_with_delay refused m n o).status && mine ≡ false → IsStill client m.leases (or_with_delay refused m n o).machine.leases
 delayed_still m client o refused n mine still = go (refused && is_ok o.status)
   where
-    go : (b : Bool) → is_ok (cond b (refuses m n Delay) o).status && mine ≡ false → IsStill client m.leases (cond b (refuses m n Delay) o).machine.leases
+    go : (b : Bool) → is_ok (cond b (with_refusal m n Delay) o).status && mine ≡ false → IsStill client m.leases (cond b (with_refusal m n Delay) o).machine.leases
     go true e = inr refl
     go false e = still e
 
@@ -98,13 +99,13 @@ created_still : (m : Machine) (who : Caller) (now client : ℕ) (refused : Bool)
     → IsStill client m.leases (create_session m who now refused c).machine.leases
 created_still m who now client refused c none = by_client (client_at m.clients c.clientid) none
   where
-    by_kept : (kept : Option CreateResult) → IsStill client m.leases (or_refusal m 43 (kept_again m kept)).machine.leases
+    by_kept : (kept : Option CreateResult) → IsStill client m.leases (or_with_refusal m 43 (kept_again m kept)).machine.leases
     by_kept None = inr refl
     by_kept (Some (Done body)) = inr refl
     by_kept (Some (Refused status)) = inr refl
 
-    steps : Option ClientRecord → Outcome
-    steps o = or_refusal m 43 (ok_or o StaleClientId >>= for_client m now c who refused)
+    steps : Option ClientRecord → MachineOutcome
+    steps o = or_with_refusal m 43 (ok_or o StaleClientId >>= for_client m now c who refused)
 
     by_record : (k : ClientRecord) → is_ok (steps (Some k)).status && ((c.sequence == k.number) && (c.clientid == client)) ≡ false
         → IsStill client m.leases (steps (Some k)).machine.leases
@@ -163,7 +164,7 @@ sequenced_still : (m : Machine) (r : Request) (who : Caller) (now client : ℕ) 
 sequenced_still m r who now client choice s more (sequence.Refuses status) e = inr refl
 sequenced_still m r who now client choice s more (sequence.Repeats reply) e = inr refl
 sequenced_still m r who now client choice s more (sequence.Runs c) e =
-    subst (IsStill client m.leases) (sym (run_leases c.response (begun r s c) now (behind_here choice) (renewed m now s) (begins (id_of s.sessionid).client who) more))
+    subst (IsStill client m.leases) (sym (run_leases c.maxresponsesize (begun r s c) now (behind_here choice) (renewed m now s) (begins (id_of s.sessionid).client who) more))
     (still_renewal m.leases client (id_of s.sessionid).client now e)
 
 items_still : (m : Machine) (r : Request) (who : Caller) (size now client : ℕ) (choice : Option ℕ) (items : List Item)

@@ -7,24 +7,25 @@ use Rattle.nfs_compound.specs.{Request.Request, declared.session_args.Sequence.S
 use Rattle.nfs_sessions.specs.Id.{id_of}
 use Rattle.nfs_lease.specs.Renewals.{Book, is_out, has_run_out}
 use Rattle.nfs_names.specs.Context.{begins}
-use Rattle.nfs_exec.specs.{Step.Machine.Machine, Step.Expiry.leases_kept, Step.Run.behind_here, Step.Compound.{renewed, begun, compound}, Step.Laws.Asks}
+use Rattle.nfs_exec.specs.{Step.Machine.Machine, Step.Run.behind_here, Step.Compound.{renewed, begun, compound}, Step.Laws.Asks}
 use Rattle.nfs_exec.specs.Runs.LockHeld.{is_of, renews}
 use Rattle.nfs_exec.proofs.{Step.Behind.run_leases, Runs.ByEvent.by_compound, Step.LeaseMoments.{IsHeld, compound_held}}
+use Rattle.nfs_exec.proofs.Step.Terms.{leases_kept}
 
 -- a lease of the client that stands was renewed no earlier
 abbrev pub AtLeast : ℕ → ℕ → Book → Type 0
-AtLeast last client b = (r : ℕ) → b.renewed client ≡ Some r → last ≤ r
+AtLeast last client b = (r : ℕ) → b client ≡ Some r → last ≤ r
 
 -- it has not run out at a moment at most one lease later
-pub in_time : (b : Book) (last now client : ℕ) → AtLeast last client b → now ≤ last + b.lease → has_run_out b now client ≡ false
-in_time b last now client least within = go (b.renewed client) refl
+pub in_time : (lease : ℕ) (b : Book) (last now client : ℕ) → AtLeast last client b → now ≤ last + lease → has_run_out lease b now client ≡ false
+in_time lease b last now client least within = go (b client) refl
   where
-    go : (o : Option ℕ) → b.renewed client ≡ o → is_out b.lease now o ≡ false
+    go : (o : Option ℕ) → b client ≡ o → is_out lease now o ≡ false
     go None e = refl
-    go (Some r) e = (let h : last ≤ r = least r e in le-ltb b.lease (now - r) (omega arith))
+    go (Some r) e = (let h : last ≤ r = least r e in le-ltb lease (now - r) (omega arith))
 
-pub least_expired : (b : Book) (last now client : ℕ) → AtLeast last client b → AtLeast last client (leases_kept b now)
-least_expired b last now client least r e = elim (cases_Bool (has_run_out b now client)) [
+pub least_expired : (lease : ℕ) (b : Book) (last now client : ℕ) → AtLeast last client b → AtLeast last client (leases_kept lease b now)
+least_expired lease b last now client least r e = elim (cases_Bool (has_run_out lease b now client)) [
   | inl out ↦ absurd (let bad : None ≡ Some r = rw out at e in cc)
   | inr stays ↦ least r (rw stays at e)
 ]
@@ -40,7 +41,7 @@ least_held last now client low = record {
     | inr other ↦ least r (rw other at e)
   ];
   renewal = λ b c least r e. elim (cases_Bool (eqb client c)) [
-    | inl here ↦ (let is : now ≡ r = mapped_now now r (b.renewed client) (rw here at e) in omega arith)
+    | inl here ↦ (let is : now ≡ r = mapped_now now r (b client) (rw here at e) in omega arith)
     | inr other ↦ least r (rw other at e)
   ];
   end = λ b c least r e. elim (cases_Bool (eqb client c)) [
@@ -53,13 +54,13 @@ least_held last now client low = record {
 renewed_least : (m : Machine) (now client : ℕ) (s : Sequence) → is_of client s ≡ true → AtLeast now client (renewed m now s).leases
 renewed_least m now client s of r e =
     let here : eqb client (id_of s.sessionid).client ≡ true = eq-eqb client (id_of s.sessionid).client (sym (eqb-true _ _ of)) in
-    let is : now ≡ r = mapped_now now r (m.leases.renewed client) (rw here at e) in omega arith
+    let is : now ≡ r = mapped_now now r (m.leases client) (rw here at e) in omega arith
 
 compound_least : (m : Machine) (r : Request) (who : Caller) (size now client : ℕ) (choice : Option ℕ)
     → renews client m (Asks r who size now choice) ≡ true → AtLeast now client (compound m r who size now choice).machine.leases
 compound_least m r who size now client choice = by_compound (λ left ds run. option_map_or (is_of client) run false ≡ true → AtLeast now client left.leases) m r who size now choice
     (λ of. absurd (false≢true of)) (λ item of. absurd (false≢true of)) (λ s more c same of.
-    subst (AtLeast now client) (sym (run_leases c.response (begun r s c) now (behind_here choice) (renewed m now s) (begins (id_of s.sessionid).client who) more))
+    subst (AtLeast now client) (sym (run_leases c.maxresponsesize (begun r s c) now (behind_here choice) (renewed m now s) (begins (id_of s.sessionid).client who) more))
     (renewed_least m now client s of))
 
 -- behind a compound: this moment, where it renews the client's lease, else as before
@@ -70,9 +71,3 @@ least_behind m r who size now client last choice low least = go (renews client m
     go : (b : Bool) → renews client m (Asks r who size now choice) ≡ b → AtLeast (cond b now last) client (compound m r who size now choice).machine.leases
     go true of = compound_least m r who size now client choice of
     go false other = compound_held (AtLeast last client) now (least_held last now client low) m r who size choice least
-
--- how long a lease lasts does not change
-pub compound_lease : (m : Machine) (r : Request) (who : Caller) (size now : ℕ) (choice : Option ℕ)
-    → (compound m r who size now choice).machine.leases.lease ≡ m.leases.lease
-compound_lease m r who size now choice =
-    compound_held (λ b. b.lease ≡ m.leases.lease) now (record { lease = λ b c is. is; renewal = λ b c is. is; end = λ b c is. is }) m r who size choice refl

@@ -8,12 +8,12 @@ use Rattle.nfs_compound.specs.{declared.op.Item.Item, declared.op.Item.TheVarian
 use Rattle.nfs_compound.specs.{declared.session_args.CreateSession.CreateSession, declared.session_args.Sequence.Sequence}
 use Rattle.nfs_compound.specs.declared.op.Op.TheVariants as Op
 use Rattle.nfs_clients.specs.CreateSession as clients
+use Rattle.nfs_slots.specs.Slot.{SlotState}
+use Rattle.nfs_slots.specs.Slot as slots
 use Rattle.nfs_sessions.specs.{Id.id_of, Laws.is_id, declared.channel.Wish.Wish, declared.id.SessionId.SessionId, declared.sessions.SessionFault.SessionFault}
-use Rattle.nfs_sessions.specs.SessionSlots.{GrantedSlots}
 use Rattle.nfs_sessions.specs.Sessions.{Session, SessionTable, is_session, session_at, create_unless, create_fault, with_session, with_slots, keep}
-use Rattle.nfs_sessions.specs.SessionSlots as slots
 use Rattle.nfs_names.specs.{Context.begins, Outcome.is_ok}
-use Rattle.nfs_exec.specs.{Step.Machine.{Machine, Outcome}, Step.CreateSession.{wish_of, without_any_sessions}, Step.Run.{is_here, behind_here}}
+use Rattle.nfs_exec.specs.{Step.Machine.{Machine, MachineOutcome}, Step.CreateSession.{wish_of, without_any_sessions}, Step.Run.{is_here, behind_here}}
 use Rattle.nfs_exec.specs.{Step.Sequence.compared, Step.Compound.{first_item, renewed, begun, in_session, compound}, Step.Laws.Asks}
 use Rattle.nfs_exec.specs.{Runs.LockHeld.{takes_place, replaces}, Runs.SessionLasts.{is_end, ends_session}}
 use Rattle.nfs_exec.specs.Step.Sequence as sequence
@@ -31,7 +31,7 @@ pub fewer_has : (id : SessionId) (t : SessionTable) (q : Session → Bool) → (
     → Has id (record t { sessions = filter q t.sessions })
 fewer_has id t q stays is = ap is_some (find_past (is_session id) q t.sessions stays) ∙ is
 
-moved_named : (id : SessionId) (b : Bool) (change : GrantedSlots → GrantedSlots) (s : Session) → is_session id (cond b (record s { slots = change s.slots }) s) ≡ is_session id s
+moved_named : (id : SessionId) (b : Bool) (change : List SlotState → List SlotState) (s : Session) → is_session id (cond b (record s { slots = change s.slots }) s) ≡ is_session id s
 moved_named id true change s = refl
 moved_named id false change s = refl
 
@@ -39,7 +39,7 @@ still_some : {X : Type 0} (f : X → X) (o : Option X) → is_some (option_map f
 still_some f None = refl
 still_some f (Some x) = refl
 
-moved_has : (id at : SessionId) (t : SessionTable) (change : GrantedSlots → GrantedSlots) → Has id t → Has id (with_slots t at change)
+moved_has : (id at : SessionId) (t : SessionTable) (change : List SlotState → List SlotState) → Has id t → Has id (with_slots t at change)
 moved_has id at t change is =
     let f : Session → Session = λ s. cond (is_session at s) (record s { slots = change s.slots }) s in
     ap is_some (find_map (is_session id) f t.sessions (λ s. moved_named id (is_session at s) change s)) ∙ (still_some f (session_at t id) ∙ is)
@@ -75,7 +75,7 @@ module _ (id : SessionId) where
   made m now c wish (Some fault) is spares = is
 
   -- the item neither ends the session nor takes its client's place
-  abbrev Spares : Machine → Item → Outcome → Type 0
+  abbrev Spares : Machine → Item → MachineOutcome → Type 0
   Spares m i o = (is_end id i && is_ok o.status ≡ false) × (is_ok o.status && takes_place id.client m.clients i ≡ false)
 
   first : (m : Machine) (declared : ℕ) (who : Caller) (now : ℕ) (refused : Bool) (i : Item) → Has id m.sessions → Spares m i (first_item m declared who now refused i)
@@ -100,9 +100,9 @@ module _ (id : SessionId) where
   lasts m r who size now choice is ends replaces = by_answered (λ a ds run. Has id a.machine.sessions) m r who size now choice (λ text. is)
       (λ item more one here. first m r.declared who now (is_here choice) item is (rw (one, here) at ends, rw (one, here) at replaces)) (λ s more c here runs.
       (let text = (in_session m r who now choice s more (sequence.Runs c)).text in
-      let change : GrantedSlots → GrantedSlots = λ g. slots.keep g s.slotid s.sequenceid who.uid (compared r) text in
+      let change : List SlotState → List SlotState = λ was. slots.keep was s.slotid s.sequenceid who.uid (compared r) text in
       subst (λ (t : SessionTable). Has id (with_slots t (id_of s.sessionid) change))
-      (sym (run_sessions c.response (begun r s c) now (behind_here choice) (renewed m now s) (begins (id_of s.sessionid).client who) more))
+      (sym (run_sessions c.maxresponsesize (begun r s c) now (behind_here choice) (renewed m now s) (begins (id_of s.sessionid).client who) more))
       (moved_has id (id_of s.sessionid) m.sessions change is)))
 
 -- and it stands behind a request that ran in it
@@ -112,5 +112,5 @@ ran_has id m r who size now choice q runs same =
     let told = told_compound m r who size now choice q runs in
     let text = (compound m r who size now choice).text in
     subst (λ (t : SessionTable). Has id t) (sym told.kept)
-    (moved_has id (id_of q.sessionid) m.sessions (λ g. slots.keep g q.slotid q.sequenceid who.uid (compared r) text)
+    (moved_has id (id_of q.sessionid) m.sessions (λ was. slots.keep was q.slotid q.sequenceid who.uid (compared r) text)
     (ap (λ (i : SessionId). is_some (session_at m.sessions i)) (sym same) ∙ ap is_some told.there))

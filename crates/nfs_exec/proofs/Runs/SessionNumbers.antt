@@ -4,10 +4,11 @@ use Rattle.std.proofs.lemmas.Bool.{cases_Bool, cases_eq, eqb-true, eq-eqb, ne_eq
 use Rattle.std.specs.{Prelude.{◌==◌, ◌⊎◌, filter}, Option.option_map_or}
 use Rattle.nfs_xdr.specs.{declared.status.Status.Status, Tables.In}
 use Rattle.nfs_xdr.proofs.{Lists.{in_filter, in_push, in_map, find_in}, Tables.{in_bounds, at_of_in}}
+use Rattle.nfs_xdr.specs.Numbers.{next_number}
 use Rattle.nfs_clients.specs.declared.created.CreateResult.{CreateResult}
-use Rattle.nfs_clients.specs.Roster.{ClientRecord, Roster, IsRoster, id_of, next_id, client_at, is_unconfirmed_of, with_changed}
+use Rattle.nfs_clients.specs.Roster.{ClientRecord, Roster, IsRoster, first_id, next_id, client_at, is_unconfirmed_of, with_changed}
 use Rattle.nfs_clients.specs.ExchangeId.{Ask, Case, Refuses, Stays, Adds, does, new_client, with_new}
-use Rattle.nfs_clients.specs.CreateSession.{Again, Misordered, InUse, Runs, following, verdict_by, status_uses_up, uses_up, keeps, with_kept, without_any, leaving, confirms, with_confirmed}
+use Rattle.nfs_clients.specs.CreateSession.{Again, Misordered, InUse, Runs, verdict_by, status_uses_up, uses_up, keeps, with_kept, without_any, leaving, confirms, with_confirmed}
 use Rattle.nfs_clients.specs.declared.created.CreateResult.TheVariants as results
 
 -- Each record of the client's id has the number that is k behind the one that follows this one; and if that is none, the result of this one is kept.
@@ -79,7 +80,7 @@ after_quiet n number most at body t f quiet a =
 -- a result of another's number
 keeps_id : (at : ℕ) (result : CreateResult) (c : ClientRecord) → (cond (c.id == at) (keeps result c) c).id ≡ c.id
 keeps_id at result c = elim (c.id == at) as (λ v. (cond v (keeps result c) c).id ≡ c.id) [
-  | true ↦ elim (uses_up result) as (λ v. (cond v (record c { number = following c.number; kept = Some result }) c).id ≡ c.id) [ true ↦ refl | false ↦ refl ]
+  | true ↦ elim (uses_up result) as (λ v. (cond v (record c { number = next_number c.number; kept = Some result }) c).id ≡ c.id) [ true ↦ refl | false ↦ refl ]
   | false ↦ refl
 ]
 
@@ -123,16 +124,16 @@ own_kept n number k body t result true e is = record {
   counts = λ c there same. (let was = in_map (λ c. cond (c.id == n) (keeps result c) c) t.records c there in
       let id : was.0.id ≡ n = sym (keeps_id n result was.0) ∙ (ap (λ (c : ClientRecord). c.id) (sym was.2) ∙ same) in
       let moved : c ≡ keeps result was.0 = was.2 ∙ ap (λ v. cond v (keeps result was.0) was.0) (eq-eqb was.0.id n id) in
-      let next : c.number ≡ following was.0.number = ap (λ (c : ClientRecord). c.number) moved ∙ used_number was.0 in
+      let next : c.number ≡ next_number was.0.number = ap (λ (c : ClientRecord). c.number) moved ∙ used_number was.0 in
       let count = is.counts was.0 was.1 id in
-      next ∙ (ap following count ∙ step number k));
+      next ∙ (ap next_number count ∙ step number k));
   keeps = λ c there same none. absurd (omega arith);
 }
   where
-    used_number : (c : ClientRecord) → (keeps result c).number ≡ following c.number
-    used_number c = ap (λ v. (cond v (record c { number = following c.number; kept = Some result }) c).number) e
+    used_number : (c : ClientRecord) → (keeps result c).number ≡ next_number c.number
+    used_number c = ap (λ v. (cond v (record c { number = next_number c.number; kept = Some result }) c).number) e
 
-    step : (number k : ℕ) → following ((number + 1 + k) % 2 ^ 32) ≡ (number + 1 + (k + 1)) % 2 ^ 32
+    step : (number k : ℕ) → next_number ((number + 1 + k) % 2 ^ 32) ≡ (number + 1 + (k + 1)) % 2 ^ 32
     step number k = omega arith
 
 pub after_own : (n number most : ℕ) (body : List ℕ) (t : Roster) (at : ℕ) (result : CreateResult) → After n number body most t
@@ -197,7 +198,7 @@ module _ (n : ℕ) (P : Roster → Type 0) (held : IsCarried n P) where
 pub record IsAgain (t : Roster) (n number : ℕ) (result : CreateResult) : Type 0 where
   pub client : ClientRecord
   pub found : client_at t n ≡ Some client
-  pub before : following number ≡ client.number
+  pub before : next_number number ≡ client.number
   pub kept : client.kept ≡ Some result
 
 pub record IsNext (t : Roster) (n number : ℕ) : Type 0 where
@@ -218,7 +219,7 @@ pub verdict_again : (t : Roster) (n number uid : ℕ) (result : CreateResult) (o
 verdict_again t n number uid result None at e = absurd cc
 verdict_again t n number uid result (Some c) at e = elim (cases_Bool (number == c.number)) [
   | inl here ↦ absurd (user_again (c.uid == uid) result (rw here at e))
-  | inr other ↦ elim (cases_Bool (following number == c.number)) [
+  | inr other ↦ elim (cases_Bool (next_number number == c.number)) [
     | inl before ↦ record { client = c; found = at; before = eqb-true _ _ before; kept = again_by c.kept result (rw (other, before) at e) }
     | inr none ↦ absurd (let bad : Misordered ≡ Again result = rw (other, none) at e in cc)
   ]
@@ -232,7 +233,7 @@ pub verdict_next : (t : Roster) (n number uid : ℕ) (o : Option ClientRecord) �
 verdict_next t n number uid None at e = absurd cc
 verdict_next t n number uid (Some c) at e = elim (cases_Bool (number == c.number)) [
   | inl here ↦ record { client = c; found = at; expected = eqb-true _ _ here }
-  | inr other ↦ elim (cases_Bool (following number == c.number)) [
+  | inr other ↦ elim (cases_Bool (next_number number == c.number)) [
     | inl before ↦ absurd (none_runs c.kept (rw (other, before) at e))
     | inr none ↦ absurd (let bad : Misordered ≡ Runs = rw (other, none) at e in cc)
   ]
@@ -242,13 +243,13 @@ verdict_next t n number uid (Some c) at e = elim (cases_Bool (number == c.number
 
 one_record : (t : Roster) (n : ℕ) (c d : ClientRecord) → IsRoster t → client_at t n ≡ Some c → In d t.records → d.id ≡ n → d ≡ c
 one_record t n c d is found there same =
-    (let at : client_at t d.id ≡ Some d = at_of_in (λ (c : ClientRecord). c.id) (id_of t.instance 1) (next_id t) t.records d is.rising there in
+    (let at : client_at t d.id ≡ Some d = at_of_in (λ (c : ClientRecord). c.id) (first_id t) (next_id t) t.records d is.rising there in
     let both : Some d ≡ Some c = sym at ∙ (ap (client_at t) same ∙ found) in cc)
 
 was_given : (t : Roster) (n : ℕ) (c : ClientRecord) → IsRoster t → client_at t n ≡ Some c → n < next_id t
 was_given t n c is found =
     let there = find_in (λ (c : ClientRecord). c.id == n) t.records c found in
-    let within = in_bounds (λ (c : ClientRecord). c.id) (id_of t.instance 1) (next_id t) t.records c is.rising there.0 in
+    let within = in_bounds (λ (c : ClientRecord). c.id) (first_id t) (next_id t) t.records c is.rising there.0 in
     let same = eqb-true c.id n there.1 in let high = within.1 in omega arith
 
 pub after_again : (t : Roster) (n number : ℕ) (body : List ℕ) → IsRoster t → IsAgain t n number (results.Done body) → After n number body 0 t
@@ -282,7 +283,7 @@ record WasBefore (t : Roster) (n : ℕ) (body : List ℕ) (c : ClientRecord) : T
   pub before : ClientRecord
   pub there : In before t.records
   pub id : before.id ≡ n
-  pub number : c.number ≡ following before.number
+  pub number : c.number ≡ next_number before.number
   pub kept : c.kept ≡ Some (results.Done body)
 
 was_before : (t : Roster) (n : ℕ) (body : List ℕ) (c : ClientRecord) → In c (with_kept (with_confirmed t n) n (results.Done body)).records → c.id ≡ n → WasBefore t n body c
@@ -295,7 +296,7 @@ was_before t n body c there same =
       before = was.0;
       there = in_rest t (leaving t n) was.0 was.1;
       id = sym (confirm_id n was.0) ∙ (ap (λ (c : ClientRecord). c.id) (sym was.2) ∙ mine);
-      number = ap (λ (c : ClientRecord). c.number) is ∙ ap following (ap (λ (c : ClientRecord). c.number) was.2 ∙ confirm_number n was.0);
+      number = ap (λ (c : ClientRecord). c.number) is ∙ ap next_number (ap (λ (c : ClientRecord). c.number) was.2 ∙ confirm_number n was.0);
       kept = ap (λ (c : ClientRecord). c.kept) is;
     }
 
@@ -308,7 +309,7 @@ after_next t n number body is next = record {
     given = rest_given t (leaving t n) n (was_given t n next.client is next.found);
     counts = λ c there same. (let was = was_before t n body c there same in
         let one = one_record t n next.client was.before is next.found was.there was.id in
-        was.number ∙ (ap following (ap (λ (c : ClientRecord). c.number) one ∙ sym next.expected) ∙ ap (λ n. n % 2 ^ 32) (omega arith)));
+        was.number ∙ (ap next_number (ap (λ (c : ClientRecord). c.number) one ∙ sym next.expected) ∙ ap (λ n. n % 2 ^ 32) (omega arith)));
     keeps = λ c there same none. (was_before t n body c there same).kept;
   };
 }
@@ -334,17 +335,17 @@ same_kept t n number most body result a few again =
     let both : Some result ≡ Some (results.Done body) = sym again.kept ∙ a.is.keeps again.client there.0 mine none in
     cc
   where
-    zero_of : (number k at : ℕ) → k < 2 ^ 32 - 1 → following number ≡ at → at ≡ (number + 1 + k) % 2 ^ 32 → k ≡ 0
+    zero_of : (number k at : ℕ) → k < 2 ^ 32 - 1 → next_number number ≡ at → at ≡ (number + 1 + k) % 2 ^ 32 → k ≡ 0
     zero_of number k at lt same count = omega arith
 
 -- the next number is no repeat
-pub next_is_new : (t : Roster) (n number : ℕ) (body : List ℕ) (result : CreateResult) → After n number body 0 t → IsAgain t n (following number) result → ⊥
+pub next_is_new : (t : Roster) (n number : ℕ) (body : List ℕ) (result : CreateResult) → After n number body 0 t → IsAgain t n (next_number number) result → ⊥
 next_is_new t n number body result a again =
     let there = find_in (λ (c : ClientRecord). c.id == n) t.records again.client again.found in
     let count = a.is.counts again.client there.0 (eqb-true again.client.id n there.1) in
     apart number a.k again.client.number a.few again.before count
   where
-    apart : (number k at : ℕ) → k ≤ 0 → following (following number) ≡ at → at ≡ (number + 1 + k) % 2 ^ 32 → ⊥
+    apart : (number k at : ℕ) → k ≤ 0 → next_number (next_number number) ≡ at → at ≡ (number + 1 + k) % 2 ^ 32 → ⊥
     apart number k at none next count = absurd (omega arith)
 
 -- Where a record of the client has this number and keeps this result, X.
@@ -402,13 +403,13 @@ tells_carried n at body X = record {
   };
 }
 
-small_following : (number : ℕ) → following number < 2 ^ 32
+small_following : (number : ℕ) → next_number number < 2 ^ 32
 small_following number = omega arith
 
 -- its own number, refused ..
 by_refused : (status : Status) (c b : ClientRecord) (v used : Bool)
-    → c ≡ cond v (cond used (record b { number = following b.number; kept = Some (results.Refused status) }) b) b
-    → (c ≡ b) ⊎ ((c.number ≡ following b.number) × (c.kept ≡ Some (results.Refused status)))
+    → c ≡ cond v (cond used (record b { number = next_number b.number; kept = Some (results.Refused status) }) b) b
+    → (c ≡ b) ⊎ ((c.number ≡ next_number b.number) × (c.kept ≡ Some (results.Refused status)))
 by_refused status c b true true e = inr (ap (λ (c : ClientRecord). c.number) e, ap (λ (c : ClientRecord). c.kept) e)
 by_refused status c b true false e = inl e
 by_refused status c b false used e = inl e
@@ -429,12 +430,12 @@ tells_refused n at body X t status is = record {
 }
 
 -- .. or done
-same_number : (a b : ℕ) → a < 2 ^ 32 → b < 2 ^ 32 → following a ≡ following b → a ≡ b
+same_number : (a b : ℕ) → a < 2 ^ 32 → b < 2 ^ 32 → next_number a ≡ next_number b → a ≡ b
 same_number a b low lower e = omega arith
 
 pub tells_made : (n number asked : ℕ) (body made : List ℕ) (X Y : Type 0) (t : Roster) → IsRoster t → IsNext t n asked → number < 2 ^ 32
-    → (asked ≡ number → made ≡ body → Y) → ToldBy n (following number) body X t
-    → ToldBy n (following number) body Y (with_kept (with_confirmed t n) n (results.Done made))
+    → (asked ≡ number → made ≡ body → Y) → ToldBy n (next_number number) body X t
+    → ToldBy n (next_number number) body Y (with_kept (with_confirmed t n) n (results.Done made))
 tells_made n number asked body made X Y t is next low give tells = record {
   small = λ c there same. (let was = was_before t n made c there same in subst (λ k. k < 2 ^ 32) (sym was.number) (small_following was.before.number));
   told = λ c there same at kept. (let was = was_before t n made c there same in

@@ -2,14 +2,13 @@
 use Rattle.std.proofs.Common.{◌≡◌, ℕ, Bool, List, Option, Some, None, refl, ap, subst}
 use Rattle.std.specs.Prelude.{◌==◌, not, if◌then◌else◌}
 use Rattle.nfs_xdr.specs.{Caller.Caller, declared.status.Status.Status}
-use Rattle.nfs_compound.specs.{declared.op.Item.Item, Request.Request, declared.session_args.CreateSession.CreateSession}
+use Rattle.nfs_compound.specs.{declared.channel_attrs.ChannelAttrs.ChannelAttrs, declared.op.Item.Item, Request.Request, declared.session_args.CreateSession.CreateSession}
 use Rattle.nfs_compound.specs.declared.session_args.Sequence.{Sequence}
 use Rattle.nfs_clients.specs.declared.created.CreateResult.TheVariants as result
 use Rattle.nfs_clients.specs.CreateSession as clients
-use Rattle.nfs_slots.specs.declared.slot.Verdict.{Verdict}
+use Rattle.nfs_slots.specs.{Slot.judge, declared.slot.Verdict.Verdict}
 use Rattle.nfs_slots.specs.declared.slot.Verdict.TheVariants as slot
-use Rattle.nfs_sessions.specs.{declared.channel.Channel.Channel, declared.channel.Wish.Wish, declared.sessions.SessionFault.SessionFault, Id.id_of}
-use Rattle.nfs_sessions.specs.SessionSlots.{GrantedSlots, judge}
+use Rattle.nfs_sessions.specs.{declared.channel.Wish.Wish, declared.sessions.SessionFault.SessionFault, Id.id_of}
 use Rattle.nfs_sessions.specs.Sessions.{Session, SessionTable, is_session, session_at, create_unless, create_fault, with_session, keep}
 use Rattle.nfs_names.specs.Context.{begins}
 use Rattle.nfs_exec.specs.{Step.Machine.Machine, Step.CreateSession.{wish_of, without_any_sessions}}
@@ -48,20 +47,20 @@ module _ (P : SessionTable → Type 0) (held : IsHeld P) where
       none_some : {s : Sequence} → Some s ≡ None → ⊥
       none_some e = cc
 
-fresh_slot : (r : Request) (size : ℕ) (s : Sequence) (g : GrantedSlots) (c : Channel) (fault : Option Status) (v : Verdict)
-    → past fault (sequence.by_slot r size s g v) ≡ sequence.Runs c → v ≡ slot.Fresh
-fresh_slot r size s g c (Some status) v e = absurd cc
-fresh_slot r size s g c None slot.Fresh e = refl
-fresh_slot r size s g c None slot.Again e = absurd cc
-fresh_slot r size s g c None slot.FalseRetry e = absurd cc
-fresh_slot r size s g c None slot.Misordered e = absurd cc
-fresh_slot r size s g c None slot.NoSlot e = absurd cc
+fresh_slot : (r : Request) (size : ℕ) (s : Sequence) (x : Session) (c : ChannelAttrs) (fault : Option Status) (v : Verdict)
+    → past fault (sequence.by_slot r size s x v) ≡ sequence.Runs c → v ≡ slot.Fresh
+fresh_slot r size s x c (Some status) v e = absurd cc
+fresh_slot r size s x c None slot.Fresh e = refl
+fresh_slot r size s x c None slot.Again e = absurd cc
+fresh_slot r size s x c None slot.FalseRetry e = absurd cc
+fresh_slot r size s x c None slot.Misordered e = absurd cc
+fresh_slot r size s x c None slot.NoSlot e = absurd cc
 
-fresh_session : (r : Request) (who : Caller) (size : ℕ) (s : Sequence) (found : Option Session) (c : Channel) → by_session r who size s found ≡ sequence.Runs c
+fresh_session : (r : Request) (who : Caller) (size : ℕ) (s : Sequence) (found : Option Session) (c : ChannelAttrs) → by_session r who size s found ≡ sequence.Runs c
     → (session : Session) × (found ≡ Some session) × (judge session.slots s.slotid s.sequenceid who.uid (compared r) ≡ slot.Fresh)
 fresh_session r who size s None c e = absurd cc
 fresh_session r who size s (Some session) c e =
-    (session, refl, fresh_slot r size s session.slots c (slot_fault s session.slots.channel) (judge session.slots s.slotid s.sequenceid who.uid (compared r)) e)
+    (session, refl, fresh_slot r size s session c (slot_fault s session.channel) (judge session.slots s.slotid s.sequenceid who.uid (compared r)) e)
 
 -- A request that ran: its number was fresh on its slot, which keeps the answer.
 pub record IsTold (m : Machine) (r : Request) (who : Caller) (after : SessionTable) (text : List ℕ) (s : Sequence) : Type 0 where
@@ -85,5 +84,5 @@ told_compound m r who size now choice t =
       there = fresh.1;
       fresh = fresh.2;
       kept = ap (λ (k : SessionTable). keep k (id_of s.sessionid) s.slotid s.sequenceid who.uid (compared r) did.text)
-          (run_sessions c.response (begun r s c) now (behind_here choice) (renewed m now s) (begins (id_of s.sessionid).client who) more);
+          (run_sessions c.maxresponsesize (begun r s c) now (behind_here choice) (renewed m now s) (begins (id_of s.sessionid).client who) more);
     })))

@@ -4,12 +4,13 @@ use Rattle.std.proofs.{Common.{Some, None, refl, sym, ◌∙◌, ap, subst, arit
 use Rattle.std.specs.{Prelude.{◌==◌, filter, slice_get}, Option.option_map_or}
 use Rattle.nfs_xdr.specs.Tables.{In}
 use Rattle.nfs_xdr.proofs.Lists.{in_filter, in_push, in_map, find_in}
+use Rattle.nfs_xdr.specs.Numbers.{next_number}
 use Rattle.nfs_compound.specs.declared.session_args.Sequence.{Sequence}
-use Rattle.nfs_slots.specs.{declared.slot.Verdict.TheVariants.{Fresh, NoSlot}, Slot.{SlotState, judge_slot, next_number}}
+use Rattle.nfs_slots.specs.{declared.slot.Verdict.TheVariants.{Fresh, NoSlot}, Slot.{SlotState, judge, judge_slot}}
 use Rattle.nfs_slots.proofs.TableLemmas.{fresh_number, next_small, slice_get-set_other}
-use Rattle.nfs_sessions.specs.{declared.channel.Wish.Wish, declared.id.SessionId.SessionId, Id.id_of, Laws.is_id, SessionSlots.{GrantedSlots, judge}}
+use Rattle.nfs_sessions.specs.{declared.channel.Wish.Wish, declared.id.SessionId.SessionId, Id.id_of, Laws.is_id}
 use Rattle.nfs_sessions.specs.Sessions.{Session, SessionTable, is_session, session_at, with_session, keep}
-use Rattle.nfs_sessions.specs.SessionSlots as slots
+use Rattle.nfs_slots.specs.Slot as slots
 use Rattle.nfs_exec.specs.Step.Laws.{is_on}
 
 -- What holds of a table whatever session is made, and whatever sessions end.
@@ -34,7 +35,7 @@ IsCounted t = (s : Session) → In s t.sessions → s.counter ≤ t.last
 -- the session id was given, and where a session has it, the last number on this slot is this one
 abbrev pub IsLast : SessionId → ℕ → ℕ → SessionTable → Type 0
 IsLast id slot n t = (id.counter ≤ t.last)
-    × ((s : Session) → In s t.sessions → is_session id s ≡ true → (x : SlotState) → slice_get s.slots.slots slot ≡ Some x → x.number ≡ n % 2 ^ 32)
+    × ((s : Session) → In s t.sessions → is_session id s ≡ true → (x : SlotState) → slice_get s.slots slot ≡ Some x → x.number ≡ n % 2 ^ 32)
 
 pub held_counted : IsHeld IsCounted
 held_counted = record {
@@ -73,10 +74,10 @@ record WasThere (t : SessionTable) (s : Sequence) (taken : SlotState) (x : Sessi
   there : In before t.sessions
   counter : x.counter ≡ before.counter
   client : x.client ≡ before.client
-  slots : x.slots.slots ≡ cond (is_session (id_of s.sessionid) before) (set before.slots.slots s.slotid taken) before.slots.slots
+  slots : x.slots ≡ cond (is_session (id_of s.sessionid) before) (set before.slots s.slotid taken) before.slots
 
-was_changed : (change : GrantedSlots → GrantedSlots) (b : Bool) (x : Session) → let y = cond b (record x { slots = change x.slots }) x in
-    (y.counter ≡ x.counter) × (y.client ≡ x.client) × (y.slots.slots ≡ cond b (change x.slots).slots x.slots.slots)
+was_changed : (change : List SlotState → List SlotState) (b : Bool) (x : Session) → let y = cond b (record x { slots = change x.slots }) x in
+    (y.counter ≡ x.counter) × (y.client ≡ x.client) × (y.slots ≡ cond b (change x.slots) x.slots)
 was_changed change true x = (refl, refl, refl)
 was_changed change false x = (refl, refl, refl)
 
@@ -85,7 +86,7 @@ was_there : (t after : SessionTable) (s : Sequence) → (is : KeepsReply t after
 unfolding taken
 was_there t after s is x there =
     let id = id_of s.sessionid in
-    let change : GrantedSlots → GrantedSlots = λ g. slots.keep g s.slotid s.sequenceid is.uid is.args is.reply in
+    let change : List SlotState → List SlotState = λ was. slots.keep was s.slotid s.sequenceid is.uid is.args is.reply in
     let changed : Session → Session = λ x. cond (is_session id x) (record x { slots = change x.slots }) x in
     let was = in_map changed t.sessions x (subst (λ (t : SessionTable). In x t.sessions) is.kept there) in
     let fields = was_changed change (is_session id was.0) was.0 in
@@ -94,7 +95,7 @@ was_there t after s is x there =
       there = was.1;
       counter = ap (λ (s : Session). s.counter) was.2 ∙ fields.0;
       client = ap (λ (s : Session). s.client) was.2 ∙ fields.1;
-      slots = ap (λ (s : Session). s.slots.slots) was.2 ∙ fields.2;
+      slots = ap (λ (s : Session). s.slots) was.2 ∙ fields.2;
     }
 
 same_last : (t after : SessionTable) (s : Sequence) → KeepsReply t after s → after.last ≡ t.last
@@ -117,13 +118,13 @@ record RanOn (t : SessionTable) (s : Sequence) : Type 0 where
   there : In session t.sessions
   named : is_session (id_of s.sessionid) session ≡ true
   slot : SlotState
-  at : slice_get session.slots.slots s.slotid ≡ Some slot
+  at : slice_get session.slots s.slotid ≡ Some slot
   number : s.sequenceid ≡ next_number slot.number
 
 ran_on : (t after : SessionTable) (s : Sequence) → KeepsReply t after s → RanOn t s
 ran_on t after s is =
     let found = find_in (is_session (id_of s.sessionid)) t.sessions is.session is.there in
-    let fresh = fresh_found (slice_get is.session.slots.slots s.slotid) s.sequenceid is.uid is.args is.fresh in
+    let fresh = fresh_found (slice_get is.session.slots s.slotid) s.sequenceid is.uid is.args is.fresh in
     record { session = is.session; there = found.0; named = found.1; slot = fresh.0; at = fresh.1; number = fresh.2 }
 
 set_there : (xs : List SlotState) (slot : ℕ) (y x : SlotState) → slice_get (set xs slot y) slot ≡ Some x → x ≡ y
@@ -152,8 +153,8 @@ last_here t after s is given =
           let was = was_there t after s is x there in
           let here : is_session id was.before ≡ true = sym (named_as id x was.before was.counter was.client) ∙ this in
           let took = taken s is.uid is.args is.reply in
-          let old = was.before.slots.slots in
-          let slots : x.slots.slots ≡ set old s.slotid took = was.slots ∙ ap (λ (b : Bool). cond b (set old s.slotid took) old) here in
+          let old = was.before.slots in
+          let slots : x.slots ≡ set old s.slotid took = was.slots ∙ ap (λ (b : Bool). cond b (set old s.slotid took) old) here in
           let same = set_there old s.slotid took y (ap (λ (xs : List SlotState). slice_get xs s.slotid) (sym slots) ∙ at) in
           number_of s is.uid is.args is.reply y same small),
     )
@@ -194,14 +195,14 @@ last_apart id slot n t after s is apart last =
           let was = was_there t after s is x there in
           let here : is_session id was.before ≡ true = sym (named_as id x was.before was.counter was.client) ∙ this in
           let took = taken s is.uid is.args is.reply in
-          let old = was.before.slots.slots in
+          let old = was.before.slots in
           elim (cases_Bool (is_session (id_of s.sessionid) was.before)) [
             | inl changed ↦ (
-                let slots : x.slots.slots ≡ set old s.slotid took = was.slots ∙ ap (λ (b : Bool). cond b (set old s.slotid took) old) changed in
+                let slots : x.slots ≡ set old s.slotid took = was.slots ∙ ap (λ (b : Bool). cond b (set old s.slotid took) old) changed in
                 let same = slice_get-set_other old s.slotid slot took (other_slot was.before here changed) in
                 last.1 was.before was.there here y (sym same ∙ ap (λ (xs : List SlotState). slice_get xs slot) (sym slots) ∙ at))
             | inr left ↦ (
-                let slots : x.slots.slots ≡ old = was.slots ∙ ap (λ (b : Bool). cond b (set old s.slotid took) old) left in
+                let slots : x.slots ≡ old = was.slots ∙ ap (λ (b : Bool). cond b (set old s.slotid took) old) left in
                 last.1 was.before was.there here y (ap (λ (xs : List SlotState). slice_get xs slot) (sym slots) ∙ at))
           ]),
     )

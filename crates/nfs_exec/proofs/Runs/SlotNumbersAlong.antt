@@ -12,7 +12,7 @@ use Rattle.nfs_exec.proofs.Runs.SessionsBehind.{quiet_compound, told_compound}
 -- What an event did: behind no request sessions are made and end; behind one that ran its number was fresh, and is kept.
 
 quiet : (P : SessionTable → Type 0) → IsHeld P → (m : Machine) (e : MachineEvent) → ran m e ≡ None → P m.sessions → P (stepped m e).sessions
-quiet P held m (Expires now) none is = held.fewer m.sessions (λ s. not (has_run_out m.leases now s.client)) is
+quiet P held m (Expires now) none is = held.fewer m.sessions (λ s. not (has_run_out m.store.lease m.leases now s.client)) is
 quiet P held m (Asks r who size now choice) none is = quiet_compound P held m r who size now choice none is
 
 kept : (m : Machine) (e : MachineEvent) (t : Sequence) → ran m e ≡ Some t → KeepsReply m.sessions (stepped m e).sessions t

@@ -157,9 +157,9 @@ event_run m (Asks r who size now choice) is d there = (let it = each there in (i
     each : In d (ops_by m (Asks r who size now choice)) → IsRunBy d (ran m (Asks r who size now choice))
     each = by_compound (λ left ds run. In d ds → IsRunBy d run) m r who size now choice (λ there. absurd there) (λ item there. absurd there) (λ s more c same there.
         (let x = begins (id_of s.sessionid).client who in record {
-          run = ops_run c.response (begun r s c) now (behind_here choice) (renewed m now s) x more is d there;
+          run = ops_run c.maxresponsesize (begun r s c) now (behind_here choice) (renewed m now s) x more is d there;
           of = eq-eqb (id_of s.sessionid).client d.context.client
-              (sym (ops_client c.response (begun r s c) now (behind_here choice) (renewed m now s) x more is d there));
+              (sym (ops_client c.maxresponsesize (begun r s c) now (behind_here choice) (renewed m now s) x more is d there));
         }))
 
 -- A LOCK that was told leaves a lock state, under some open.

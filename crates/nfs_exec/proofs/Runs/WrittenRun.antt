@@ -98,16 +98,16 @@ big_not_stale : spell_result (Res.Refused 22 RepTooBig) ≡ spell_result (Res.Re
 unfolding number
 big_not_stale e = let bad : ◌≡◌ {A = ℕ} 82 70 = ap (λ (text : List ℕ). get_or text 7 0) e in absurd (omega arith)
 
-put_found : (s : State) (x : Context) (h : List ℕ) (n : ℕ) → handle_of h ≡ Some (record { instance = s.instance; number = n }) → is_there s.tree n ≡ true
+put_found : (s : State) (x : Context) (h : List ℕ) (n : ℕ) → handle_of h ≡ Some (record { instance = s.opens.instance; number = n }) → is_there s.tree n ≡ true
     → spell_result (put_fh s x h).result ≡ spell_result (Res.Refused 22 Stale) → ⊥
 unfolding put_fh
 put_found s x h n is there e =
     let held : is_some (object_at s.tree n) ≡ true = some_object (stored_in s.tree.objects n) there in
-    let passes : put_fh s x h ≡ outcome.done s (at_object x n) Res.PutFh = rw (is, eq-eqb s.instance s.instance refl, held) refl in
+    let passes : put_fh s x h ≡ outcome.done s (at_object x n) Res.PutFh = rw (is, eq-eqb s.opens.instance s.opens.instance refl, held) refl in
     not_stale (ap (λ (o : outcome.Outcome). spell_result o.result) (sym passes) ∙ e)
 
 pub put_run : (d : RanOp) (r : IsRun d) (n : ℕ) → is_there d.before.store.tree n ≡ true → (h : List ℕ) → d.item ≡ Operation (Op.PutFh h)
-    → handle_of h ≡ Some (record { instance = d.before.store.instance; number = n }) → d.result ≡ spell_result (Res.Refused 22 Stale) → ⊥
+    → handle_of h ≡ Some (record { instance = d.before.store.opens.instance; number = n }) → d.result ≡ spell_result (Res.Refused 22 Stale) → ⊥
 put_run d r n there h item is = by_item (λ status text s. text ≡ spell_result (Res.Refused 22 Stale) → ⊥) d r (Operation (Op.PutFh h)) item
     big_not_stale (put_found d.before.store d.context h n is there)
 

@@ -8,13 +8,14 @@ use Rattle.nfs_xdr.proofs.Lists.{any_in, in_any, find_in}
 use Rattle.nfs_compound.specs.{declared.op.Item.Item, declared.op.Item.TheVariants.Operation, declared.session_args.CreateSession.CreateSession}
 use Rattle.nfs_compound.specs.declared.op.Op.TheVariants as Op
 use Rattle.nfs_clients.specs.CreateSession as clients
-use Rattle.nfs_clients.specs.{CreateSession.{leaving, leaving_by, is_other_confirmed_of}, Roster.{ClientRecord, Roster, client_at}}
+use Rattle.nfs_clients.specs.{CreateSession.{leaving, is_other_confirmed_of}, Roster.{ClientRecord, Roster, client_at}}
 use Rattle.nfs_sessions.specs.{Sessions.{SessionTable, create}, declared.id.SessionId.SessionId, declared.sessions.SessionFault.SessionFault}
 use Rattle.nfs_names.specs.{State.State, Outcome.is_ok}
 use Rattle.nfs_exec.specs.{Step.Machine.Machine, Step.CreateSession.{wish_of, without_any_opens}, Step.Compound.first_item}
 use Rattle.nfs_exec.specs.Runs.LockHeld.{is_of_owner, takes_place}
 use Rattle.nfs_exec.specs.Step.Parts.{by_created}
 use Rattle.nfs_exec.proofs.Runs.ByEvent.{by_alone}
+use Rattle.nfs_clients.proofs.Members.{leaving_by}
 
 -- what confirms no other id of a client's owner removes no record of the client's
 pub not_leaving : (t : Roster) (id client : ℕ) → not (id == client) && option_map_or (λ (k : ClientRecord). is_of_owner t client k.owner) (client_at t id) false ≡ false

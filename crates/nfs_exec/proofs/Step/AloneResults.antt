@@ -4,7 +4,8 @@ use Rattle.nfs_xdr.specs.{Caller.Caller, SheetState.{SheetState, HasRoom, Puts},
 use Rattle.nfs_compound.specs.{declared.op.Item.Item, declared.op.Item.TheVariants.Operation, Request.item_number, declared.op.Op.Op}
 use Rattle.nfs_results.specs.{declared.res.Res.Res, Results.{spell_result, status_of_result, refusal}, ResultCodec.HasArrays}
 use Rattle.nfs_names.specs.Outcome.{is_delay}
-use Rattle.nfs_exec.specs.{Step.Machine.{by_fault, Machine, Outcome, with_result, refuses}, Step.Place.item_fault, Step.Compound.{carried_out, first_item}}
+use Rattle.nfs_exec.specs.{Step.Machine.{by_fault, Machine, MachineOutcome, with_result, with_refusal}, Step.Place.item_fault}
+use Rattle.nfs_exec.specs.Step.Compound.{carried_out, first_item}
 use Rattle.nfs_exec.specs.Step.View.{Does, IsSmall}
 
 pub small_fits : (sheet : SheetState) (r : Res) → length sheet.bytes + 92 ≤ sheet.room → IsSmall r → HasArrays r → HasRoom sheet (spell_result r)
@@ -16,7 +17,7 @@ pub put_does : (m left : Machine) (declared : ℕ) (who : Caller) (now : ℕ) (i
     Does (first_item m declared who now (is_delay s) i) s left old new
 put_does m left declared who now i r s old new is status put =
     subst (λ (t : Status). Does (first_item m declared who now (is_delay t) i) t left old new) (sym status)
-    (subst (λ (o : Outcome). Does o (status_of_result r) left old new) is (record { status = refl; machine = refl; put = put }))
+    (subst (λ (o : MachineOutcome). Does o (status_of_result r) left old new) is (record { status = refl; machine = refl; put = put }))
 
 -- an item that cannot stand in the first place
 pub misplaced : (m : Machine) (declared : ℕ) (who : Caller) (now : ℕ) (refused : Bool) (i : Item) (s : Status) → item_fault declared i ≡ Some s →
@@ -26,7 +27,7 @@ misplaced m declared who now refused i s fault = ap (λ (f : Option Status). by_
 -- what none of the four operations is
 pub not_carried : (m : Machine) (who : Caller) (now : ℕ) (refused : Bool) (op : Op) →
     ((x : _) → op ≡ Op.ExchangeId x → ⊥) → ((x : _) → op ≡ Op.CreateSession x → ⊥) → ((x : _) → op ≡ Op.DestroySession x → ⊥) →
-    ((x : _) → op ≡ Op.DestroyClientId x → ⊥) → refuses m (item_number (Operation op)) NotSupp ≡ carried_out m who now refused (Operation op)
+    ((x : _) → op ≡ Op.DestroyClientId x → ⊥) → with_refusal m (item_number (Operation op)) NotSupp ≡ carried_out m who now refused (Operation op)
 not_carried m who now refused (Op.ExchangeId x) e c s d = absurd (e x refl)
 not_carried m who now refused (Op.CreateSession x) e c s d = absurd (c x refl)
 not_carried m who now refused (Op.DestroySession x) e c s d = absurd (s x refl)

@@ -14,9 +14,9 @@ use Rattle.nfs_files.specs.Operation as files
 use Rattle.nfs_clients.specs.Marks.{has_reclaimed}
 use Rattle.nfs_lease.specs.Renewals.{Book}
 use Rattle.nfs_sessions.specs.Sessions.{SessionTable}
-use Rattle.nfs_exec.specs.{Step.Machine.{Machine, Outcome, with_result}, Step.Place.status_behind}
+use Rattle.nfs_exec.specs.{Step.Machine.{Machine, MachineOutcome, with_result}, Step.Place.status_behind}
 use Rattle.nfs_exec.specs.Step.ReclaimComplete.{reclaim_complete, of_one, of_all}
-use Rattle.nfs_exec.specs.{Step.Behind.{Step, step, on_store, otherwise, stays}, Step.View.Steps}
+use Rattle.nfs_exec.specs.{Step.Behind.{Step, step, on_store, otherwise, refused_step}, Step.View.Steps}
 use Rattle.nfs_exec.specs.Step.Run.{Ran, run, in_room, follow, is_here, behind_here, reserve}
 
 -- What it answers can be put, and is short.
@@ -38,7 +38,7 @@ reclaimed_short = omega (arith, length-append (head 58 Nfs4Ok) [], length_head 5
 
 -- what nothing carries out is refused
 pub other_stays : (m : Machine) (x : Context) (op : Op) → ((one : Bool) → op ≡ Op.ReclaimComplete one → ⊥)
-    → otherwise m x (Operation op) ≡ stays m x (Operation op) (status_behind (Operation op))
+    → otherwise m x (Operation op) ≡ refused_step m x (Operation op) (status_behind (Operation op))
 other_stays m x (Op.ReclaimComplete one) other = absurd (other one refl)
 other_stays m x op other = refl
 
@@ -103,7 +103,7 @@ kept_step P keeps m x now refused i is =
     by_item (Operation (Op.ReclaimComplete one_fs)) = reclaim one_fs
     by_item i = is
 
-pub follow_kept : (P : Machine → Type 0) (o : Outcome) (rest : Ran) → P o.machine → P rest.machine → P (follow o rest).machine
+pub follow_kept : (P : Machine → Type 0) (o : MachineOutcome) (rest : Ran) → P o.machine → P rest.machine → P (follow o rest).machine
 follow_kept P o rest one more = elim (cases_Bool (is_ok o.status)) [ inl ok ↦ rw ok more | inr bad ↦ rw bad one ]
 
 pub kept_run : (P : Machine → Type 0) → IsKeptByEach P → (limit sofar now : ℕ) (choice : Option ℕ) (m : Machine) (x : Context) (items : List Item)
@@ -209,8 +209,8 @@ other_steps m before left x now i old mid late new between store y behind q r s 
     let out : with_result left r ≡ (otherwise m x i).outcome =
     done ∙ ap (λ (k : Machine). (otherwise k behind i).outcome) same ∙ ap (λ (z : Context). (otherwise m z i).outcome) other.3 in
     subst (λ t. Steps t s left behind old new) (sym (step_of_none m x now (is_delay s) i (none.0 (is_delay s)) (other.0 (is_delay s)))) (record {
-      status = status ∙ ap (λ (o : Outcome). o.status) out;
-      machine = ap (λ (o : Outcome). o.machine) out;
+      status = status ∙ ap (λ (o : MachineOutcome). o.status) out;
+      machine = ap (λ (o : MachineOutcome). o.machine) out;
       context = other.3 ∙ other_context m x i;
-      put = subst (λ (text : List ℕ). Puts old new text) (ap (λ (o : Outcome). o.result) out) (subst (λ sh. Puts sh new (spell_result r)) other.1 put);
+      put = subst (λ (text : List ℕ). Puts old new text) (ap (λ (o : MachineOutcome). o.result) out) (subst (λ sh. Puts sh new (spell_result r)) other.1 put);
     })

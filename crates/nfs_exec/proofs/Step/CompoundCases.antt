@@ -4,8 +4,8 @@ use Rattle.nfs_xdr.specs.{Caller.Caller, SheetState.{SheetState, Puts}, declared
 use Rattle.nfs_compound.specs.{declared.op.Item.Item, declared.op.Item.TheVariants.Operation, Request.Request, declared.session_args.Sequence.Sequence}
 use Rattle.nfs_compound.specs.declared.op.Op.TheVariants as Op
 use Rattle.nfs_results.specs.{Results.spell_compound_head, OpenHead.{HeadsAt, SetsHead}}
-use Rattle.nfs_slots.specs.{declared.slot.Verdict.Verdict, declared.slot.Verdict.TheVariants.{Fresh, Again, FalseRetry, Misordered, NoSlot}}
-use Rattle.nfs_sessions.specs.{SessionSlots.{GrantedSlots, judge}, Sessions.{Session, session_at}, Id.id_of}
+use Rattle.nfs_slots.specs.{Slot.judge, declared.slot.Verdict.Verdict, declared.slot.Verdict.TheVariants.{Fresh, Again, FalseRetry, Misordered, NoSlot}}
+use Rattle.nfs_sessions.specs.{Sessions.{Session, session_at}, Id.id_of}
 use Rattle.nfs_names.specs.Outcome.{is_delay}
 use Rattle.nfs_exec.specs.Step.Machine.{Machine}
 use Rattle.nfs_exec.specs.{Step.Sequence.{compared, Sequenced, Refuses, Repeats, Runs, by_slot, sequenced}, Step.Parts.{past, by_session, slot_fault}}
@@ -14,19 +14,19 @@ use Rattle.nfs_exec.proofs.{Step.Running.{choice_of, chosen}, Step.RepliesKept.c
 
 -- what is left of the list decides nothing
 
-verdict_same : (r : Request) (xs : List Item) (size : ℕ) (s : Sequence) (g : GrantedSlots) (v : Verdict)
-    → by_slot (record r { left = xs }) size s g v ≡ by_slot r size s g v
-verdict_same r xs size s g NoSlot = refl
-verdict_same r xs size s g Misordered = refl
-verdict_same r xs size s g FalseRetry = refl
-verdict_same r xs size s g Again = refl
-verdict_same r xs size s g Fresh = refl
+verdict_same : (r : Request) (xs : List Item) (size : ℕ) (s : Sequence) (x : Session) (v : Verdict)
+    → by_slot (record r { left = xs }) size s x v ≡ by_slot r size s x v
+verdict_same r xs size s x NoSlot = refl
+verdict_same r xs size s x Misordered = refl
+verdict_same r xs size s x FalseRetry = refl
+verdict_same r xs size s x Again = refl
+verdict_same r xs size s x Fresh = refl
 
 session_same : (r : Request) (xs : List Item) (who : Caller) (size : ℕ) (s : Sequence) (o : Option Session)
     → by_session (record r { left = xs }) who size s o ≡ by_session r who size s o
 session_same r xs who size s None = refl
 session_same r xs who size s (Some x) =
-    ap (past (slot_fault s x.slots.channel)) (verdict_same r xs size s x.slots (judge x.slots s.slotid s.sequenceid who.uid (compared r)))
+    ap (past (slot_fault s x.channel)) (verdict_same r xs size s x (judge x.slots s.slotid s.sequenceid who.uid (compared r)))
 
 answer_same : (m : Machine) (r : Request) (xs : List Item) (who : Caller) (now : ℕ) (choice : Option ℕ) (s : Sequence) (more : List Item) (v : Sequenced) →
     in_session m (record r { left = xs }) who now choice s more v ≡ in_session m r who now choice s more v

@@ -14,9 +14,9 @@ use Rattle.nfs_clients.specs.{Roster.Roster, declared.created.CreateResult.TheVa
 use Rattle.nfs_clients.proofs.Members.{not_kept}
 use Rattle.nfs_sessions.specs.{declared.id.SessionId.SessionId, declared.channel.Wish.Wish, declared.sessions.SessionFault.SessionFault}
 use Rattle.nfs_sessions.specs.{declared.sessions.SessionFault.TheVariants.{TooSmall, NoSpc, ServerFault, Memory}, Id.id_bytes}
-use Rattle.nfs_sessions.specs.{Sessions.{SessionTable, Created, create, create_unless, create_fault, fault_status}, SessionTables.CreatesOrWants}
+use Rattle.nfs_sessions.specs.{Sessions.{SessionTable, Created, create, create_unless, create_fault, session_fault_status}, SessionTables.CreatesOrWants}
 use Rattle.nfs_names.specs.Outcome.{is_delay}
-use Rattle.nfs_exec.specs.Step.Machine.{Machine, Outcome, or_delay, refuses}
+use Rattle.nfs_exec.specs.Step.Machine.{Machine, MachineOutcome, or_with_delay, with_refusal}
 use Rattle.nfs_exec.specs.{Step.CreateSession.{session_made, made_body, confirmed}, Step.View.Does}
 use Rattle.nfs_exec.specs.Step.Parts.{by_number, by_created, creates}
 
@@ -79,54 +79,54 @@ made m now c id did after left body old new ok is kept whole put =
 -- A session was refused.
 
 no_memory : (m : Machine) (now : ℕ) (c : CreateSession) (did : Created) → IsOk did.answer
-    → or_delay true m 43 (creates m now c did) ≡ refuses m 43 Delay
+    → or_with_delay true m 43 (creates m now c did) ≡ with_refusal m 43 Delay
 no_memory m now c did ok = go did.answer ok
   where
     go : (answer : Result SessionId SessionFault) → IsOk answer
-        → or_delay true m 43 (by_created m now c did.after answer) ≡ refuses m 43 Delay
+        → or_with_delay true m 43 (by_created m now c did.after answer) ≡ with_refusal m 43 Delay
     go (Ok id) ok = refl
     go (Err fault) ok = absurd cc
 
 told : (m : Machine) (now : ℕ) (c : CreateSession) (clients : Roster) (after : SessionTable) (fault : SessionFault) (s : Status)
     (old new : SheetState) (wish : Wish) (o : Option SessionFault) →
     Err fault ≡ (create_unless m.sessions c.clientid wish o).answer → after ≡ (create_unless m.sessions c.clientid wish o).after →
-    clients ≡ with_kept m.clients c.clientid (Refused s) → s ≡ fault_status fault → is_delay s ≡ false →
-    ((n : Machine) → Does (refuses n 43 s) s n old new) →
-    Does (or_delay (is_delay s) m 43 (creates m now c (create_unless m.sessions c.clientid wish o))) s
+    clients ≡ with_kept m.clients c.clientid (Refused s) → s ≡ session_fault_status fault → is_delay s ≡ false →
+    ((n : Machine) → Does (with_refusal n 43 s) s n old new) →
+    Does (or_with_delay (is_delay s) m 43 (creates m now c (create_unless m.sessions c.clientid wish o))) s
     (record m { clients = clients; sessions = after }) old new
 told m now c clients after fault s old new wish None answer left kept status plain does = absurd cc
 told m now c clients after fault s old new wish (Some f) answer left kept status plain does =
     let same : fault ≡ f = cc in
-    let is : s ≡ fault_status f = status ∙ ap fault_status same in
+    let is : s ≡ session_fault_status f = status ∙ ap session_fault_status same in
     let n = record m { clients = clients; sessions = after } in
-    let to : n ≡ record m { clients = with_kept m.clients c.clientid (Refused (fault_status f)) } =
+    let to : n ≡ record m { clients = with_kept m.clients c.clientid (Refused (session_fault_status f)) } =
     ap (λ (t : Roster). record m { clients = t; sessions = after }) (kept ∙ ap (λ (u : Status). with_kept m.clients c.clientid (Refused u)) is)
-    ∙ ap (λ (t : SessionTable). record m { clients = with_kept m.clients c.clientid (Refused (fault_status f)); sessions = t }) left in
-    subst (λ b. Does (or_delay b m 43 (refuses (record m { clients = with_kept m.clients c.clientid (Refused (fault_status f)) })
-    43 (fault_status f))) s n old new) (sym plain)
-    (subst (λ (k : Machine). Does (refuses k 43 (fault_status f)) s n old new) to
-    (subst (λ (u : Status). Does (refuses n 43 u) s n old new) is (does n)))
+    ∙ ap (λ (t : SessionTable). record m { clients = with_kept m.clients c.clientid (Refused (session_fault_status f)); sessions = t }) left in
+    subst (λ b. Does (or_with_delay b m 43 (with_refusal (record m { clients = with_kept m.clients c.clientid (Refused (session_fault_status f)) })
+    43 (session_fault_status f))) s n old new) (sym plain)
+    (subst (λ (k : Machine). Does (with_refusal k 43 (session_fault_status f)) s n old new) to
+    (subst (λ (u : Status). Does (with_refusal n 43 u) s n old new) is (does n)))
 
 wanted : (m : Machine) (now : ℕ) (c : CreateSession) (clients : Roster) (after : SessionTable) (s : Status) (old new : SheetState) (did : Created) →
     IsOk did.answer → after ≡ m.sessions → clients ≡ with_kept m.clients c.clientid (Refused s) → s ≡ Delay →
-    ((n : Machine) → Does (refuses n 43 s) s n old new) →
-    Does (or_delay (is_delay s) m 43 (creates m now c did)) s (record m { clients = clients; sessions = after }) old new
+    ((n : Machine) → Does (with_refusal n 43 s) s n old new) →
+    Does (or_with_delay (is_delay s) m 43 (creates m now c did)) s (record m { clients = clients; sessions = after }) old new
 wanted m now c clients after s old new did ok left kept status does =
     let same : clients ≡ m.clients = kept ∙ ap (λ (u : Status). with_kept m.clients c.clientid (Refused u)) status
     ∙ sym (not_kept m.clients c.clientid (Refused Delay) refl) in
     let n = record m { clients = clients; sessions = after } in
     let to : n ≡ m = ap (λ (t : Roster). record m { clients = t; sessions = after }) same ∙ ap (λ (t : SessionTable). record m { sessions = t }) left in
-    subst (λ (o : Outcome). Does o s n old new)
-    (sym (ap (λ (u : Status). or_delay (is_delay u) m 43 (creates m now c did)) status ∙ no_memory m now c did ok))
-    (subst (λ (k : Machine). Does (refuses k 43 Delay) s n old new) to
-    (subst (λ (u : Status). Does (refuses n 43 u) s n old new) status (does n)))
+    subst (λ (o : MachineOutcome). Does o s n old new)
+    (sym (ap (λ (u : Status). or_with_delay (is_delay u) m 43 (creates m now c did)) status ∙ no_memory m now c did ok))
+    (subst (λ (k : Machine). Does (with_refusal k 43 Delay) s n old new) to
+    (subst (λ (u : Status). Does (with_refusal n 43 u) s n old new) status (does n)))
 
 pub refused_session : (m : Machine) (now : ℕ) (c : CreateSession) (wish : Wish) (clients : Roster) (after : SessionTable)
     (fault : SessionFault) (s : Status) (old new : SheetState) →
     CreatesOrWants m.sessions (create m.sessions c.clientid wish) (Err fault) after →
-    clients ≡ with_kept m.clients c.clientid (Refused s) → s ≡ fault_status fault →
-    ((n : Machine) → Does (refuses n 43 s) s n old new) →
-    Does (or_delay (is_delay s) m 43 (creates m now c (create m.sessions c.clientid wish))) s
+    clients ≡ with_kept m.clients c.clientid (Refused s) → s ≡ session_fault_status fault →
+    ((n : Machine) → Does (with_refusal n 43 s) s n old new) →
+    Does (or_with_delay (is_delay s) m 43 (creates m now c (create m.sessions c.clientid wish))) s
     (record m { clients = clients; sessions = after }) old new
 refused_session m now c wish clients after TooSmall s old new did kept status does =
     told m now c clients after TooSmall s old new wish (create_fault m.sessions wish) did.0 did.1 kept status (ap is_delay status) does
@@ -139,9 +139,9 @@ refused_session m now c wish clients after Memory s old new did kept status does
 
 -- the call was refused by its number or its caller
 pub refused_call : (m : Machine) (now : ℕ) (refused : Bool) (c : CreateSession) (v w : Verdict) (s t r : Status) (left : Machine) (old new : SheetState) →
-    w ≡ v → by_number m now refused c w ≡ refuses m 43 t → s ≡ t → left ≡ m →
-    ((n : Machine) → Does (refuses n 43 s) r n old new) → Does (by_number m now refused c v) r left old new
+    w ≡ v → by_number m now refused c w ≡ with_refusal m 43 t → s ≡ t → left ≡ m →
+    ((n : Machine) → Does (with_refusal n 43 s) r n old new) → Does (by_number m now refused c v) r left old new
 refused_call m now refused c v w s t r left old new is told status same does =
-    subst (λ (o : Outcome). Does o r left old new) (sym told ∙ ap (by_number m now refused c) is)
-    (subst (λ (k : Machine). Does (refuses m 43 t) r k old new) (sym same)
-    (subst (λ (u : Status). Does (refuses m 43 u) r m old new) status (does m)))
+    subst (λ (o : MachineOutcome). Does o r left old new) (sym told ∙ ap (by_number m now refused c) is)
+    (subst (λ (k : Machine). Does (with_refusal m 43 t) r k old new) (sym same)
+    (subst (λ (u : Status). Does (with_refusal m 43 u) r m old new) status (does m)))

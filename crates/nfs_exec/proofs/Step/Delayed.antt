@@ -5,25 +5,26 @@ use Rattle.std.proofs.lemmas.List.{append_assoc}
 use Rattle.std.specs.{Prelude.{◌&&◌, ◌||◌, not, nat_lt, slice_get, Result}, Option.{option_map, option_map_or}}
 use Rattle.nfs_xdr.specs.{Caller.Caller, Checks.first_fault, Spelling.{number, opaque}, declared.status.Status.Status}
 use Rattle.nfs_xdr.specs.declared.status.Status.TheVariants.{Nfs4Ok, MinorVersMismatch, Delay, NotOnlyOp, OpNotInSession}
-use Rattle.nfs_compound.specs.{Arguments.arguments, declared.op.Op.Op, declared.op.Item.Item, declared.op.Item.TheVariants.{Operation, Fault}}
+use Rattle.nfs_xdr.specs.Numbers.{next_number}
+use Rattle.nfs_compound.specs.{declared.channel_attrs.ChannelAttrs.ChannelAttrs, Arguments.arguments, declared.op.Op.Op, declared.op.Item.Item, declared.op.Item.TheVariants.{Operation, Fault}}
 use Rattle.nfs_compound.specs.{Request.{Request, item_number}, declared.session_args.CreateSession.CreateSession, declared.op_num.OpNum.OpNum}
 use Rattle.nfs_compound.specs.declared.session_args.Sequence.{Sequence}
 use Rattle.nfs_results.specs.{Largest.largest, Results.{refusal, spell_result, spell_compound_head, status_of_result}}
 use Rattle.nfs_results.specs.declared.res.Res.TheVariants as Res
 use Rattle.nfs_clients.specs.CreateSession as clients
-use Rattle.nfs_slots.specs.{declared.slot.Verdict.TheVariants.{Fresh, NoSlot}, Slot.{SlotState, judge_slot, next_number}}
+use Rattle.nfs_slots.specs.{declared.slot.Verdict.TheVariants.{Fresh, NoSlot}, Slot.{SlotState, judge, judge_slot}}
 use Rattle.nfs_slots.proofs.TableLemmas.{fresh_number}
-use Rattle.nfs_sessions.specs.{Id.id_of, SessionSlots.judge, Sessions.{Session, session_at, create}, declared.channel.Channel.Channel}
+use Rattle.nfs_sessions.specs.{Id.id_of, Sessions.{Session, session_at, create}}
 use Rattle.nfs_names.specs.{declared.context.Context.Context, Context.begins, State.{State, moment}, Outcome.{Outcome as OfStore, is_ok}}
 use Rattle.nfs_names.specs.Outcome as of_store
 use Rattle.nfs_names.specs.Operation as names
 use Rattle.nfs_names.proofs.Faulted.{status_of_refusal}
 use Rattle.nfs_files.specs.Operation as files
-use Rattle.nfs_exec.specs.Step.Machine.{by_fault, Machine, Outcome, or_delay, refuses, with_result}
+use Rattle.nfs_exec.specs.Step.Machine.{by_fault, Machine, MachineOutcome, or_with_delay, with_refusal, with_result}
 use Rattle.nfs_exec.specs.{Step.Place.{item_fault, place_fault, stands_alone, is_sequence}, Step.ExchangeId.exchange_id}
 use Rattle.nfs_exec.specs.Step.CreateSession.{wish_of}
 use Rattle.nfs_exec.specs.Step.Sequence.{compared, Sequenced, sequenced, or_refuses, sequence_ok}
-use Rattle.nfs_exec.specs.{Step.Behind.{Step, stays, step, on_store, otherwise}, Step.Run.{Ran, run, in_room, reserve, follow, only}}
+use Rattle.nfs_exec.specs.{Step.Behind.{Step, refused_step, step, on_store, otherwise}, Step.Run.{Ran, run, in_room, reserve, follow, only}}
 use Rattle.nfs_exec.specs.Step.Compound.{Answered, answers, carried_out, first_item, renewed, begun, runs_behind, keeps, in_session, by_first, bare}
 use Rattle.nfs_exec.specs.{Step.Laws.{if_runs, first_runs}, Step.Delayed.{grows, kept_by, with_ok, DelayIsACut}}
 use Rattle.nfs_exec.specs.Step.Sequence as sequence
@@ -35,7 +36,7 @@ use Rattle.nfs_exec.proofs.Step.RepliesKept.{runs_means}
 
 -- it is refused, where it may want memory and would have answered NFS4_OK
 record IsRefused (i : Item) (m : Machine) (x : Context) (refused plenty : Step) : Type 0 where
-  is : refused ≡ stays m x i Delay
+  is : refused ≡ refused_step m x i Delay
   wants : grows m.store x i ≡ true
   ok : is_ok plenty.outcome.status ≡ true
 
@@ -133,10 +134,10 @@ record IsCutRun (limit sofar now place : ℕ) (m : Machine) (x : Context) (items
 
 -- a refusal ends the run
 refused_ends : (m : Machine) (n : ℕ) (rest : Ran)
-    → follow (refuses m n Delay) rest ≡ record { status = Delay; count = 1; results = spell_result (refusal n Delay); machine = m }
+    → follow (with_refusal m n Delay) rest ≡ record { status = Delay; count = 1; results = spell_result (refusal n Delay); machine = m }
 refused_ends m n rest =
     let status = status_of_refusal n Delay in
-    rw (ap is_ok status) (ap (λ (s : Status). record (only (refuses m n Delay)) { status = s }) status)
+    rw (ap is_ok status) (ap (λ (s : Status). record (only (with_refusal m n Delay)) { status = s }) status)
 
 run_delays : (limit sofar now place : ℕ) (m : Machine) (x : Context) (items : List Item)
     → (run limit sofar now (Some place) m x items ≡ run limit sofar now None m x items) ⊎ IsCutRun limit sofar now place m x items
@@ -202,23 +203,22 @@ fresh_again : (o : Option SlotState) (number uid : ℕ) (args other : List ℕ) 
 fresh_again None number uid args other e = absurd cc
 fresh_again (Some s) number uid args other e = rw (eq-eqb number (next_number s.number) (fresh_number s number uid args e)) refl
 
-cut_runs : (r c : Request) (who : Caller) (size shorter : ℕ) (s : Sequence) (o : Option Session) (channel : Channel)
+cut_runs : (r c : Request) (who : Caller) (size shorter : ℕ) (s : Sequence) (o : Option Session) (channel : ChannelAttrs)
     → by_session r who size s o ≡ sequence.Runs channel → c.declared ≤ r.declared → shorter ≤ size → by_session c who shorter s o ≡ sequence.Runs channel
 cut_runs r c who size shorter s None channel e few short = absurd cc
 cut_runs r c who size shorter s (Some session) channel e few short =
     let means = runs_means r who size s (Some session) channel e in
     let found : Some session ≡ Some means.session = means.found in
     let same : session ≡ means.session = cc in
-    let g = session.slots in
-    let is : g.channel ≡ channel = ap (λ (x : Session). x.slots.channel) same ∙ means.channel in
-    let fresh : judge g s.slotid s.sequenceid who.uid (compared r) ≡ Fresh =
+    let is : session.channel ≡ channel = ap (λ (x : Session). x.channel) same ∙ means.channel in
+    let fresh : judge session.slots s.slotid s.sequenceid who.uid (compared r) ≡ Fresh =
     ap (λ (x : Session). judge x.slots s.slotid s.sequenceid who.uid (compared r)) same ∙ means.fresh in
-    let again : judge g s.slotid s.sequenceid who.uid (compared c) ≡ Fresh = fresh_again (slice_get g.slots s.slotid) s.sequenceid who.uid (compared r) (compared c) fresh in
-    let fits : shorter ≤ g.channel.request = (let whole = means.fits in let request = ap (λ (k : Channel). k.request) is in omega arith) in
-    let within : c.declared ≤ g.channel.operations = (let whole = means.few in let operations = ap (λ (k : Channel). k.operations) is in omega arith) in
-    by_fault_of (slot_fault s g.channel) (sequence.by_slot r size s g (judge g s.slotid s.sequenceid who.uid (compared r)))
-    (sequence.by_slot c shorter s g (judge g s.slotid s.sequenceid who.uid (compared c)))
-    (rw (again, le-ltb g.channel.request shorter fits, le-ltb g.channel.operations c.declared within) (ap (λ (k : Channel). sequence.Runs k) is)) e
+    let again : judge session.slots s.slotid s.sequenceid who.uid (compared c) ≡ Fresh = fresh_again (slice_get session.slots s.slotid) s.sequenceid who.uid (compared r) (compared c) fresh in
+    let fits : shorter ≤ session.channel.maxrequestsize = (let whole = means.fits in let request = ap (λ (k : ChannelAttrs). k.maxrequestsize) is in omega arith) in
+    let within : c.declared ≤ session.channel.maxoperations = (let whole = means.few in let operations = ap (λ (k : ChannelAttrs). k.maxoperations) is in omega arith) in
+    by_fault_of (slot_fault s session.channel) (sequence.by_slot r size s session (judge session.slots s.slotid s.sequenceid who.uid (compared r)))
+    (sequence.by_slot c shorter s session (judge session.slots s.slotid s.sequenceid who.uid (compared c)))
+    (rw (again, le-ltb session.channel.maxrequestsize shorter fits, le-ltb session.channel.maxoperations c.declared within) (ap (λ (k : ChannelAttrs). sequence.Runs k) is)) e
   where
     by_fault_of : (f : Option Status) (v w : Result Sequenced Status) → or_refuses w ≡ sequence.Runs channel → past f v ≡ sequence.Runs channel → past f w ≡ sequence.Runs channel
     by_fault_of None v w runs e = runs
@@ -254,15 +254,15 @@ IsEither m r who size now place items =
     (by_first m r who size now (Some place) items ≡ by_first m r who size now None items) ⊎ IsDelayedBy m r who size now place items
 
 -- SEQUENCE in front answers NFS4_OK
-abbrev behind_it : Machine → Request → Caller → Sequence → Channel → Ran → Answered
+abbrev behind_it : Machine → Request → Caller → Sequence → ChannelAttrs → Ran → Answered
 behind_it m r who s channel rest = keeps r who s (answers r (follow (with_result m (Res.Sequence (sequence_ok s channel))) rest))
 
-abbrev front : Sequence → Channel → List ℕ
+abbrev front : Sequence → ChannelAttrs → List ℕ
 front s channel = spell_result (Res.Sequence (sequence_ok s channel))
 
-cut_in_run : (m : Machine) (r c : Request) (who : Caller) (shorter now place : ℕ) (s : Sequence) (more : List Item) (channel : Channel) (left : Ran)
+cut_in_run : (m : Machine) (r c : Request) (who : Caller) (shorter now place : ℕ) (s : Sequence) (more : List Item) (channel : ChannelAttrs) (left : Ran)
     → sequenced m c who shorter s ≡ sequence.Runs channel → c.tag ≡ r.tag
-    → run channel.response (begun r s channel) now None (renewed m now s) (begins (id_of s.sessionid).client who) (take place more) ≡ left
+    → run channel.maxresponsesize (begun r s channel) now None (renewed m now s) (begins (id_of s.sessionid).client who) (take place more) ≡ left
     → left.status ≡ Nfs4Ok → left.count ≡ place
     → by_first m c who shorter now None (Operation (Op.Sequence s) ∷ take place more)
     ≡ keeps c who s (with_ok r (suc place) (front s channel ++ left.results) left.machine)
@@ -279,14 +279,14 @@ cut_in_run m r c who shorter now place s more channel left runs tag is ok count 
     ∙ ap (λ (status : Status). keeps c who s (texts status left.count)) ok
     ∙ ap (λ (n : ℕ). keeps c who s (texts Nfs4Ok n)) count
 
-in_run : (m : Machine) (r : Request) (who : Caller) (size now place : ℕ) (s : Sequence) (more : List Item) (channel : Channel)
+in_run : (m : Machine) (r : Request) (who : Caller) (size now place : ℕ) (s : Sequence) (more : List Item) (channel : ChannelAttrs)
     → sequenced m r who size s ≡ sequence.Runs channel → IsEither m r who size now (suc place) (Operation (Op.Sequence s) ∷ more)
 in_run m r who size now place s more channel runs =
     let k = renewed m now s in
     let client = (id_of s.sessionid).client in
     let plenty = ap (in_session m r who now None s more) runs in
     let refused = ap (in_session m r who now (Some (suc place)) s more) runs in
-    elim (run_delays channel.response (begun r s channel) now place k (begins client who) more) [
+    elim (run_delays channel.maxresponsesize (begun r s channel) now place k (begins client who) more) [
       | inl same ↦ inl (refused ∙ ap (behind_it k r who s channel) same ∙ sym plenty)
       | inr d ↦ (let results = front s channel ++ d.left.results in inr (record {
         item = d.item;
@@ -328,15 +328,15 @@ in_session_either m r who size now (suc place) s more (sequence.Runs channel) e 
 
 -- Outside a session.
 
-record IsLoneRefused (m : Machine) (i : Item) (refused plenty : Outcome) : Type 0 where
-  is : refused ≡ refuses m (item_number i) Delay
+record IsLoneRefused (m : Machine) (i : Item) (refused plenty : MachineOutcome) : Type 0 where
+  is : refused ≡ with_refusal m (item_number i) Delay
   wants : (x : Context) → grows m.store x i ≡ true
   ok : is_ok plenty.status ≡ true
 
-abbrev IsLone : Machine → Item → (refused plenty : Outcome) → Type 0
+abbrev IsLone : Machine → Item → (refused plenty : MachineOutcome) → Type 0
 IsLone m i refused plenty = (refused ≡ plenty) ⊎ IsLoneRefused m i refused plenty
 
-lone : (m : Machine) (n : ℕ) (o : Outcome) → (or_delay true m n o ≡ o) ⊎ ((or_delay true m n o ≡ refuses m n Delay) × (is_ok o.status ≡ true))
+lone : (m : Machine) (n : ℕ) (o : MachineOutcome) → (or_with_delay true m n o ≡ o) ⊎ ((or_with_delay true m n o ≡ with_refusal m n Delay) × (is_ok o.status ≡ true))
 lone m n o = elim (cases_Bool (is_ok o.status)) [ inl ok ↦ inr (rw ok refl, ok) | inr bad ↦ inl (rw bad refl) ]
 
 created_delays : (m : Machine) (now : ℕ) (c : CreateSession) (v : clients.Verdict)
@@ -374,7 +374,7 @@ item_fewer (Operation op) declared few low e = place_fewer op declared few low e
 item_fewer (Fault n status) declared few low e = e
 
 record IsFirstRefused (m : Machine) (declared : ℕ) (who : Caller) (now : ℕ) (i : Item) : Type 0 where
-  is : first_item m declared who now true i ≡ refuses m (item_number i) Delay
+  is : first_item m declared who now true i ≡ with_refusal m (item_number i) Delay
   wants : (x : Context) → grows m.store x i ≡ true
   ok : is_ok (carried_out m who now false i).status ≡ true
   would : (few : ℕ) → few ≤ declared → first_item m few who now false i ≡ carried_out m who now false i
@@ -401,7 +401,7 @@ items_either : (m : Machine) (r : Request) (who : Caller) (size now place : ℕ)
 items_either m r who size now place [] = inl refl
 items_either m r who size now place (Operation (Op.Sequence s) ∷ more) = in_session_either m r who size now place s more (sequenced m r who size s) refl
 items_either m r who size now zero (item ∷ more) = elim (first_delays m r.declared who now item) [
-  | inl same ↦ inl (ap (λ (o : Outcome). answers r (only o)) same)
+  | inl same ↦ inl (ap (λ (o : MachineOutcome). answers r (only o)) same)
   | inr delayed ↦ inr (record {
     item = item;
     stands = refl;
@@ -409,13 +409,13 @@ items_either m r who size now zero (item ∷ more) = elim (first_delays m r.decl
     left = m;
     context = begins 0 who;
     wants = delayed.wants (begins 0 who);
-    answer = ap (λ (o : Outcome). answers r (only o)) delayed.is
-        ∙ ap (λ (status : Status). answers r (record (only (refuses m (item_number item) Delay)) { status = status })) (status_of_refusal (item_number item) Delay);
+    answer = ap (λ (o : MachineOutcome). answers r (only o)) delayed.is
+        ∙ ap (λ (status : Status). answers r (record (only (with_refusal m (item_number item) Delay)) { status = status })) (status_of_refusal (item_number item) Delay);
     cut = λ c shorter tag few short. ap (λ (t : List ℕ). record { text = spell_compound_head Nfs4Ok t 0 ++ []; machine = m }) tag;
     more = (carried_out m who now false item).result;
     behind = (carried_out m who now false item).machine;
     would = λ c shorter tag few short. (let o = carried_out m who now false item in
-        ap (λ (o : Outcome). answers c (only o)) (delayed.would c.declared few)
+        ap (λ (o : MachineOutcome). answers c (only o)) (delayed.would c.declared few)
         ∙ ap (λ n. record { text = (number n ++ (opaque c.tag ++ number 1)) ++ o.result; machine = o.machine }) (eqb-true _ _ delayed.ok)
         ∙ ap (λ (t : List ℕ). record { text = spell_compound_head Nfs4Ok t 1 ++ o.result; machine = o.machine }) tag);
     alone = λ none. refl;

@@ -3,15 +3,15 @@ use Rattle.std.proofs.{Common.{◌≡◌, ℕ, ◌<◌, Bool, true, false, List,
 use Rattle.std.specs.{Prelude.{◌||◌, nat_lt, is_some, length, option_map}, Option.option_map_or}
 use Rattle.nfs_clients.specs.{declared.exchange_id.Exchanged.Exchanged, declared.exchange_id.ClientFault.ClientFault}
 use Rattle.nfs_clients.specs.declared.exchange_id.ClientFault.TheVariants.{Inval, NoEnt, NotSame, Perm, ClidInUse, ServerFault, Memory}
-use Rattle.nfs_clients.specs.Roster.{ClientRecord, Roster, client_at, confirmed_of, next_id, last_counter, most_records, unconfirmed_of}
+use Rattle.nfs_clients.specs.Roster.{ClientRecord, Roster, client_at, confirmed_of, next_id, counter_of, last_counter, most_records, unconfirmed_of}
 use Rattle.nfs_clients.specs.ExchangeId.{Ask, asks, Case, Refuses, Stays, Adds, has_room, if_room, case_by, case_of, does}
-use Rattle.nfs_clients.specs.{Calls.{exchange_fault, refusal_of, ExchangesOrWants}, ExchangeId.{fault_status, answer_standing, answer_added}}
+use Rattle.nfs_clients.specs.{Calls.{exchange_fault, refusal_of, ExchangesOrWants}, ExchangeId.{client_fault_status, answer_standing, answer_added}}
 use Rattle.nfs_xdr.specs.{Checks.judged, Caller.Caller}
 use Rattle.nfs_compound.specs.declared.session_args.ExchangeId.{ExchangeId}
 use Rattle.nfs_lease.specs.Renewals.{Book, with_lease, without_lease}
 use Rattle.nfs_results.specs.declared.res.Res.TheVariants as Res
 use Rattle.nfs_names.specs.{Ending.has_open, Outcome.is_delay}
-use Rattle.nfs_exec.specs.Step.Machine.{Machine, IsMachine, with_result, or_delay}
+use Rattle.nfs_exec.specs.Step.Machine.{Machine, IsMachine, with_result, or_with_delay}
 use Rattle.nfs_exec.specs.Step.View.{settled}
 use Rattle.nfs_exec.specs.Step.Parts.{granted_of, ask_of, owner_has_open, did_exchange, exchanged_by}
 use Rattle.nfs_exec.proofs.Step.LeaseTakenBack.{unleased, taken_back}
@@ -42,15 +42,16 @@ room_of true case e = refl
 room_of false case e = absurd (no_room case e)
 
 -- a record is added only where an id is left
-adds_below : (t : Roster) (a : Ask) → case_of t a ≡ Adds → t.last < last_counter
+adds_below : (t : Roster) (a : Ask) → case_of t a ≡ Adds → counter_of t.last < last_counter
 adds_below t a e =
-    let parts = and_parts (nat_lt t.last last_counter) (is_some (unconfirmed_of t a.owner) || nat_lt (length t.records) most_records)
+    let parts = and_parts (nat_lt (counter_of t.last) last_counter) (is_some (unconfirmed_of t a.owner) || nat_lt (length t.records) most_records)
     (room_of (has_room t a.owner) (case_by a (confirmed_of t a.owner)) e) in
-    ltb-true t.last last_counter parts.0
+    ltb-true (counter_of t.last) last_counter parts.0
 
 -- the call was answered: the record's lease stands, or the one that was made first is taken back
 pub answered_ok : (m : Machine) (who : Caller) (now : ℕ) (e : ExchangeId) (next : ℕ) (x : Exchanged) (after : Roster) (b : Book) (case : Case) →
-    IsMachine m → client_at m.clients next ≡ None → (m.clients.last < last_counter → next ≡ next_id m.clients) → case_of m.clients (ask_of m who e) ≡ case →
+    IsMachine m → client_at m.clients next ≡ None → (counter_of m.clients.last < last_counter → next ≡ next_id m.clients) →
+    case_of m.clients (ask_of m who e) ≡ case →
     Ok x ≡ (does m.clients (ask_of m who e) case).answer →
     after ≡ (does m.clients (ask_of m who e) case).after → b ≡ settled (with_lease m.leases next now) next x →
     with_result (record m { clients = after; leases = b }) (Res.ExchangeId (granted_of x)) ≡ did_exchange m now (does m.clients (ask_of m who e) case)
@@ -67,8 +68,8 @@ answered_ok m who now e next x after b Adds is none value at answer left book =
 
 -- the call was refused before anything was made
 pub refused_first : (m : Machine) (who : Caller) (now : ℕ) (e : ExchangeId) (fault : ClientFault) (case : Case) → Err fault ≡ judged (refusal_of case) →
-    with_result m (Res.Refused 42 (fault_status fault))
-    ≡ or_delay (is_delay (fault_status fault)) m 42 (did_exchange m now (does m.clients (ask_of m who e) case))
+    with_result m (Res.Refused 42 (client_fault_status fault))
+    ≡ or_with_delay (is_delay (client_fault_status fault)) m 42 (did_exchange m now (does m.clients (ask_of m who e) case))
 refused_first m who now e fault (Stays c) is = absurd cc
 refused_first m who now e fault Adds is = absurd cc
 refused_first m who now e Inval (Refuses f) is = let same : f ≡ Inval = cc in rw same refl
@@ -81,7 +82,7 @@ refused_first m who now e Memory (Refuses f) is = let same : f ≡ Memory = cc i
 
 -- memory was refused where the call would have been answered
 pub wanted : (m : Machine) (who : Caller) (now : ℕ) (e : ExchangeId) (case : Case) → judged (refusal_of case) ≡ Ok tt →
-    with_result m (Res.Refused 42 (fault_status Memory)) ≡ or_delay true m 42 (did_exchange m now (does m.clients (ask_of m who e) case))
+    with_result m (Res.Refused 42 (client_fault_status Memory)) ≡ or_with_delay true m 42 (did_exchange m now (does m.clients (ask_of m who e) case))
 wanted m who now e (Refuses f) is = absurd cc
 wanted m who now e (Stays c) is = refl
 wanted m who now e Adds is = refl
@@ -97,8 +98,8 @@ pub refused_last : (m : Machine) (who : Caller) (now : ℕ) (e : ExchangeId) (ne
     IsMachine m → client_at m.clients next ≡ None → judged (exchange_fault m.clients (ask_of m who e)) ≡ Ok tt →
     ExchangesOrWants m.clients (ask_of m who e) (Err fault) after →
     b ≡ without_lease (with_lease m.leases next now) next →
-    with_result (record m { clients = after; leases = b }) (Res.Refused 42 (fault_status fault))
-    ≡ or_delay (is_delay (fault_status fault)) m 42 (exchanged_by m who now e)
+    with_result (record m { clients = after; leases = b }) (Res.Refused 42 (client_fault_status fault))
+    ≡ or_with_delay (is_delay (client_fault_status fault)) m 42 (exchanged_by m who now e)
 refused_last m who now e next Memory after b is none judged did book =
     let back : b ≡ m.leases = book ∙ taken_back m.leases next now (unleased m next is none) in
     rw (did.1, back) (wanted m who now e (case_of m.clients (ask_of m who e)) judged)

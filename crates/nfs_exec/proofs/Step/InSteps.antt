@@ -4,27 +4,27 @@ use Rattle.std.proofs.lemmas.Bool.{cases_Bool, eqb-true, ne_eqb}
 use Rattle.std.specs.{Prelude.{◌==◌, not, nat_le, bit_and, bytes_eq, count_by, Result, Ok, ok_or, if◌then◌else◌}, Option.option_map_or}
 use Rattle.nfs_xdr.specs.{Caller.Caller, Checks.{first_fault, judged}, declared.status.Status.Status}
 use Rattle.nfs_xdr.specs.declared.status.Status.TheVariants as status
+use Rattle.nfs_xdr.specs.Numbers.{next_number}
 use Rattle.nfs_compound.specs.{declared.session_args.CreateSession.CreateSession, declared.session_args.ExchangeId.ExchangeId}
 use Rattle.nfs_results.specs.declared.res.Res.TheVariants as Res
 use Rattle.nfs_clients.specs.{declared.created.CreateResult.CreateResult, declared.created.CreateResult.TheVariants.{Done, Refused}}
 use Rattle.nfs_clients.specs.{Roster.{ClientRecord, client_at, confirmed_of}, CreateSession.{Again, Misordered, leaving, verdict_by}}
 use Rattle.nfs_clients.specs.declared.exchange_id.ClientFault.{ClientFault}
 use Rattle.nfs_clients.specs.declared.exchange_id.ClientFault.TheVariants.{Inval, NoEnt, NotSame, Perm, ClidInUse}
-use Rattle.nfs_clients.specs.ExchangeId.{Ask, Refuses, Stays, Adds, asks, has_room, if_room, case_by, does, fault_status}
-use Rattle.nfs_slots.specs.Slot.{next_number}
+use Rattle.nfs_clients.specs.ExchangeId.{Ask, Refuses, Stays, Adds, asks, has_room, if_room, case_by, does, client_fault_status}
 use Rattle.nfs_sessions.specs.{declared.sessions.SessionFault.TheVariants.{TooSmall, NoSpc, ServerFault}, Channel.is_too_small}
-use Rattle.nfs_sessions.specs.Sessions.{create, create_unless, most_sessions, last_counter, stays}
+use Rattle.nfs_sessions.specs.Sessions.{create, create_unless, most_sessions, last_counter, outlasts}
 use Rattle.nfs_opens.specs.Steps.{require, ◌>>=◌, ◌>>◌}
 use Rattle.nfs_names.specs.Ending.{has_open}
-use Rattle.nfs_exec.specs.Step.Machine.{Machine, Outcome, with_result, or_refusal, or_delay}
+use Rattle.nfs_exec.specs.Step.Machine.{Machine, MachineOutcome, with_result, or_with_refusal, or_with_delay}
 use Rattle.nfs_exec.specs.Step.ExchangeId.{exchange_id, carries_confirmed, standing, exchanged, granted}
-use Rattle.nfs_exec.specs.Step.CreateSession.{create_session, kept_again, session_checks, made, or_kept_refusal, channel_of, wish_of}
+use Rattle.nfs_exec.specs.Step.CreateSession.{create_session, kept_again, session_checks, made, or_kept_refusal, wish_of}
 use Rattle.nfs_exec.specs.Step.Parts.{creates, by_number, created_by, did_exchange, exchanged_by}
 
 -- EXCHANGE_ID
 
 refused_anyway : (m : Machine) (now : ℕ) (a : Ask) (room : Bool) (fault : ClientFault)
-    → with_result m (Res.Refused 42 (fault_status fault)) ≡ did_exchange m now (does m.clients a (if_room room (Refuses fault)))
+    → with_result m (Res.Refused 42 (client_fault_status fault)) ≡ did_exchange m now (does m.clients a (if_room room (Refuses fault)))
 refused_anyway m now a true fault = refl
 refused_anyway m now a false fault = refl
 
@@ -35,18 +35,18 @@ stands_anyway m now a false c = refl
 
 module _ (m : Machine) (who : Caller) (now : ℕ) (e : ExchangeId) where
   added_with : (held room : Bool) → has_room m.clients e.ownerid ≡ room
-      → or_refusal m 42 (exchanged m who now e None) ≡ did_exchange m now (does m.clients (asks e.ownerid e.verifier e.flags who.uid held) (if_room room Adds))
+      → or_with_refusal m 42 (exchanged m who now e None) ≡ did_exchange m now (does m.clients (asks e.ownerid e.verifier e.flags who.uid held) (if_room room Adds))
   added_with held true is = rw is refl
   added_with held false is = rw is refl
 
   -- the steps, and what the table decides, by the owner's confirmed record
-  abbrev in_steps : Option ClientRecord → Outcome
-  in_steps o = or_refusal m 42 (require (not (carries_confirmed e)) status.Inval >> (standing m who e o >>= exchanged m who now e))
+  abbrev in_steps : Option ClientRecord → MachineOutcome
+  in_steps o = or_with_refusal m 42 (require (not (carries_confirmed e)) status.Inval >> (standing m who e o >>= exchanged m who now e))
 
   abbrev asked : Option ClientRecord → Ask
   asked o = asks e.ownerid e.verifier e.flags who.uid (option_map_or (λ (c : ClientRecord). has_open m.store c.id) o false)
 
-  abbrev decided : Option ClientRecord → Bool → Outcome
+  abbrev decided : Option ClientRecord → Bool → MachineOutcome
   decided o room = did_exchange m now (does m.clients (asked o) (if_room room (case_by (asked o) o)))
 
   module _ (room : Bool) (is : has_room m.clients e.ownerid ≡ room) where
@@ -103,30 +103,30 @@ module _ (m : Machine) (now : ℕ) (c : CreateSession) where
   by_checks false false false = refl
 
   creates_is : or_kept_refusal m c (judged (first_fault (session_checks m c)) >> Ok (made m now c)) ≡ creates m now c (create m.sessions c.clientid (wish_of m c))
-  creates_is = by_checks (is_too_small (channel_of c.fore_chan_attrs))
-      (nat_le most_sessions (count_by (stays (leaving m.clients c.clientid)) m.sessions.sessions)) (m.sessions.last == last_counter)
+  creates_is = by_checks (is_too_small c.fore_chan_attrs)
+      (nat_le most_sessions (count_by (outlasts (leaving m.clients c.clientid)) m.sessions.sessions)) (m.sessions.last == last_counter)
 
-  kept_is : (refused : Bool) (kept : Option CreateResult) → or_refusal m 43 (kept_again m kept) ≡ by_number m now refused c (option_map_or Again kept Misordered)
+  kept_is : (refused : Bool) (kept : Option CreateResult) → or_with_refusal m 43 (kept_again m kept) ≡ by_number m now refused c (option_map_or Again kept Misordered)
   kept_is refused None = refl
   kept_is refused (Some (Done body)) = refl
   kept_is refused (Some (Refused s)) = refl
 
   -- the steps behind the client's record
-  abbrev pub for_client : Caller → (refused : Bool) → ClientRecord → Result Outcome Status
+  abbrev pub for_client : Caller → (refused : Bool) → ClientRecord → Result MachineOutcome Status
   for_client who refused client =
       if next_number c.sequence == client.number then kept_again m client.kept else
       (require (c.sequence == client.number) status.SeqMisordered >> (require (client.uid == who.uid) status.ClidInUse
-      >> Ok (or_delay refused m 43 (or_kept_refusal m c (judged (first_fault (session_checks m c)) >> Ok (made m now c))))))
+      >> Ok (or_with_delay refused m 43 (or_kept_refusal m c (judged (first_fault (session_checks m c)) >> Ok (made m now c))))))
 
   for_client_is : (who : Caller) (refused : Bool) (client : ClientRecord)
-      → or_refusal m 43 (for_client who refused client) ≡ by_number m now refused c (verdict_by (Some client) c.sequence who.uid)
+      → or_with_refusal m 43 (for_client who refused client) ≡ by_number m now refused c (verdict_by (Some client) c.sequence who.uid)
   for_client_is who refused client = elim (cases_Bool (next_number c.sequence == client.number)) [
     | inl again ↦ (let other : (c.sequence == client.number) ≡ false =
         ne_eqb c.sequence client.number (λ same. never_follows c.sequence (eqb-true (next_number c.sequence) client.number again ∙ sym same)) in
         rw (again, other) (kept_is refused client.kept))
     | inr new ↦ elim (cases_Bool (c.sequence == client.number)) [
       | inl next ↦ elim (cases_Bool (client.uid == who.uid)) [
-        | inl mine ↦ rw (new, next, mine) (ap (or_delay refused m 43) creates_is)
+        | inl mine ↦ rw (new, next, mine) (ap (or_with_delay refused m 43) creates_is)
         | inr other ↦ rw (new, next, other) refl
       ]
       | inr none ↦ rw (new, none) refl
@@ -134,7 +134,7 @@ module _ (m : Machine) (now : ℕ) (c : CreateSession) where
   ]
 
   by_client : (who : Caller) (refused : Bool) (o : Option ClientRecord)
-      → or_refusal m 43 (ok_or o status.StaleClientId >>= for_client who refused) ≡ by_number m now refused c (verdict_by o c.sequence who.uid)
+      → or_with_refusal m 43 (ok_or o status.StaleClientId >>= for_client who refused) ≡ by_number m now refused c (verdict_by o c.sequence who.uid)
   by_client who refused None = refl
   by_client who refused (Some client) = for_client_is who refused client
 

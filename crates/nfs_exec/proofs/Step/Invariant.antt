@@ -4,10 +4,10 @@ use Rattle.std.proofs.{Common.{◌∙◌, ap, subst, arith, inl, inr}, lemmas.Bo
 use Rattle.std.specs.{Prelude.{not, ◌&&◌, ◌||◌, filter, is_some, option_map, ◌⊎◌}, Option.option_map_or, List.list_any}
 use Rattle.nfs_xdr.specs.{Caller.Caller, declared.status.Status.Status, declared.status.Status.TheVariants.{StaleClientId, ClientIdBusy}, Tables.{In, record_at}}
 use Rattle.nfs_xdr.proofs.{Lists.{in_filter, in_push, in_map, find_in}, Tables.{at_of_in, at_without, at_with, at_push}}
-use Rattle.nfs_compound.specs.{declared.op.Item.Item, declared.op.Item.TheVariants.Operation, Request.Request}
+use Rattle.nfs_compound.specs.{declared.channel_attrs.ChannelAttrs.ChannelAttrs, declared.op.Item.Item, declared.op.Item.TheVariants.Operation, Request.Request}
 use Rattle.nfs_compound.specs.{declared.session_args.CreateSession.CreateSession, declared.session_args.Sequence.Sequence}
 use Rattle.nfs_compound.specs.declared.op.Op.TheVariants as Op
-use Rattle.nfs_clients.specs.Roster.{ClientRecord, Roster, IsRoster, id_of as client_id, client_at, without, is_unconfirmed_of, unconfirmed_of, confirmed_of}
+use Rattle.nfs_clients.specs.Roster.{ClientRecord, Roster, IsRoster, first_id, client_at, without, is_unconfirmed_of, unconfirmed_of, confirmed_of}
 use Rattle.nfs_clients.specs.{Roster.next_id, ExchangeId.{Ask, Case, Refuses, Stays, Adds, has_room, case_by, case_of, does, new_client, with_new}}
 use Rattle.nfs_clients.specs.CreateSession.{leaving, without_any, with_confirmed, with_kept, confirms, keeps, verdict_by}
 use Rattle.nfs_clients.specs.{Marks.{has_reclaimed, with_reclaimed}, declared.created.CreateResult.CreateResult}
@@ -15,15 +15,17 @@ use Rattle.nfs_clients.specs.declared.created.CreateResult.TheVariants.{Done, Re
 use Rattle.nfs_clients.specs.CreateSession as clients
 use Rattle.nfs_clients.proofs.Members.{the_id, mild_keeps, mild_reclaims, fresh, roster_filter, roster_changed, roster_without, roster_confirmed}
 use Rattle.nfs_clients.proofs.Members.{roster_new, without_unconfirmed}
-use Rattle.nfs_sessions.specs.{declared.id.SessionId.SessionId, declared.channel.Channel.Channel, declared.channel.Wish.Wish}
-use Rattle.nfs_sessions.specs.{declared.sessions.SessionFault.SessionFault, Id.id_of, SessionSlots.GrantedSlots}
-use Rattle.nfs_sessions.specs.Sessions.{Session, SessionTable, is_session, session_at, create_unless, create_fault, fault_status, with_session, with_slots}
+use Rattle.nfs_slots.specs.Slot.{SlotState}
+use Rattle.nfs_sessions.specs.{declared.id.SessionId.SessionId, declared.channel.Wish.Wish}
+use Rattle.nfs_sessions.specs.{declared.sessions.SessionFault.SessionFault, Id.id_of}
+use Rattle.nfs_sessions.specs.Sessions.{Session, SessionTable, is_session, session_at, create_unless, create_fault, session_fault_status, with_session}
+use Rattle.nfs_sessions.specs.Sessions.{with_slots}
 use Rattle.nfs_sessions.specs.Sessions as sessions
 use Rattle.nfs_lease.specs.Renewals.{Book, has_run_out, with_lease, with_renewal, without_lease}
 use Rattle.nfs_exec.specs.Step.Machine.{Machine, IsMachine, starts, is_client, is_confirmed}
 use Rattle.nfs_exec.specs.Step.ExchangeId.{without_any_lease}
-use Rattle.nfs_exec.specs.{Step.CreateSession.{confirmed, wish_of, without_any_sessions, without_any_opens}, Step.Destroy.has_session}
-use Rattle.nfs_exec.specs.{Step.Sequence.sequenced, Step.Compound.{first_item, renewed, begun, run_in, compound}, Step.Expiry.expired}
+use Rattle.nfs_exec.specs.{Step.CreateSession.{confirmed, wish_of, without_any_sessions, without_any_opens}}
+use Rattle.nfs_exec.specs.{Step.Sequence.sequenced, Step.Compound.{first_item, renewed, begun, compound}, Step.Expiry.expired}
 use Rattle.nfs_exec.specs.{Step.ReclaimComplete.{reclaim_complete, of_one, of_all}, Step.Behind.{Step, step, on_store, otherwise}}
 use Rattle.nfs_exec.specs.Step.Run.{run, in_room, reserve, is_here, behind_here}
 use Rattle.nfs_exec.specs.Step.Sequence as sequence
@@ -38,10 +40,11 @@ use Rattle.nfs_opens.proofs.TableLemmas.{table_new}
 use Rattle.nfs_files.proofs.Outcomes as files
 use Rattle.nfs_files.proofs.{Outcomes.for_each, TableSteps.table_staying_is, OwnOpens.{Spares, OthersThan, spares_others}}
 use Rattle.nfs_results.specs.Largest.{largest}
+use Rattle.nfs_exec.proofs.Step.Terms.{has_session, run_in}
 
 pub of_start : (mode instance lease : ℕ) → instance < 4294967296 → IsMachine (starts mode instance lease)
 of_start mode instance lease small = record {
-  clients = record { rising = omega arith; alone = λ c d a b owner mark. absurd a; few = omega arith; counter = omega arith; instance = small };
+  clients = record { rising = omega arith; alone = λ c d a b owner mark. absurd a; few = omega arith; instance = omega arith };
   leased = λ client. refl;
   confirmed = λ s there. absurd there;
   opened = λ client holds. absurd (false≢true holds);
@@ -76,12 +79,12 @@ some_not false a b same = same
 
 pub of_expired : (m : Machine) (now : ℕ) → IsMachine m → IsMachine (expired now m)
 of_expired m now is =
-    let out = has_run_out m.leases now in
+    let out = has_run_out m.store.lease m.leases now in
     let at : (n : ℕ) → client_at (expired now m).clients n ≡ cond (not (out n)) (client_at m.clients n) None =
     λ n. at_ids (λ k. not (out k)) n m.clients.records in
     record {
       clients = roster_filter m.clients (λ c. not (out c.id)) is.clients;
-      leased = λ c. some_not (out c) (m.leases.renewed c) (client_at m.clients c) (is.leased c) ∙ ap is_some (sym (at c));
+      leased = λ c. some_not (out c) (m.leases c) (client_at m.clients c) (is.leased c) ∙ ap is_some (sym (at c));
       confirmed = λ s there. (let kept = in_filter (λ (s : Session). not (out s.client)) m.sessions.sessions s there in
           ap (λ o. option_map_or (λ (c : ClientRecord). c.confirmed) o false) (at s.client ∙ ap (λ b. cond b (client_at m.clients s.client) None) kept.1)
           ∙ is.confirmed s kept.0);
@@ -111,7 +114,7 @@ of_destroyed_client m client is none unheld =
     λ n. at_without the_id n client m.clients.records in
     record {
       clients = roster_without m.clients client is.clients;
-      leased = λ c. some_gone (eqb c client) (m.leases.renewed c) (client_at m.clients c) (is.leased c) ∙ ap is_some (sym (at c));
+      leased = λ c. some_gone (eqb c client) (m.leases c) (client_at m.clients c) (is.leased c) ∙ ap is_some (sym (at c));
       confirmed = λ s there. (let other = any_none (λ (s : Session). eqb s.client client) m.sessions.sessions s none there in
           ap (λ o. option_map_or (λ (c : ClientRecord). c.confirmed) o false) (at s.client ∙ ap (λ b. cond b None (client_at m.clients s.client)) other)
           ∙ is.confirmed s there);
@@ -135,9 +138,9 @@ of_fewer_sessions m t is fewer = record {
 
 -- A renewal, and a slot that keeps a reply.
 
-renewed_some : (b : Book) (client now c : ℕ) → is_some ((with_renewal b client now).renewed c) ≡ is_some (b.renewed c)
+renewed_some : (b : Book) (client now c : ℕ) → is_some (with_renewal b client now c) ≡ is_some (b c)
 renewed_some b client now c = elim (cases_Bool (eqb c client)) [
-  | inl here ↦ rw here (map_some (b.renewed c))
+  | inl here ↦ rw here (map_some (b c))
   | inr other ↦ rw other refl
 ]
   where
@@ -154,7 +157,7 @@ of_renewed m client now is = record {
   table = is.table;
 }
 
-in_slots : (t : SessionTable) (id : SessionId) (change : GrantedSlots → GrantedSlots) (s : Session)
+in_slots : (t : SessionTable) (id : SessionId) (change : List SlotState → List SlotState) (s : Session)
     → In s (with_slots t id change).sessions → (x : Session) × In x t.sessions × (s.client ≡ x.client)
 in_slots t id change s there =
     let was = in_map (λ (s : Session). cond (is_session id s) (record s { slots = change s.slots }) s) t.sessions s there in
@@ -164,7 +167,7 @@ in_slots t id change s there =
     same true x = refl
     same false x = refl
 
-pub of_kept : (m : Machine) (id : SessionId) (change : GrantedSlots → GrantedSlots)
+pub of_kept : (m : Machine) (id : SessionId) (change : List SlotState → List SlotState)
     → IsMachine m → IsMachine (record m { sessions = with_slots m.sessions id change })
 of_kept m id change is = record {
   clients = is.clients;
@@ -220,7 +223,7 @@ unfolding is_id
 without_is t None n = refl
 without_is t (Some gone) n = at_without the_id n gone t.records
 
-lease_is : (b : Book) (o : Option ℕ) (n : ℕ) → (without_any_lease b o).renewed n ≡ cond (is_id o n) None (b.renewed n)
+lease_is : (b : Book) (o : Option ℕ) (n : ℕ) → without_any_lease b o n ≡ cond (is_id o n) None (b n)
 unfolding is_id
 lease_is b None n = refl
 lease_is b (Some gone) n = refl
@@ -231,7 +234,7 @@ named : (t : Roster) (owner : List ℕ) (d : ClientRecord) → IsRoster t → un
 named t owner d is found =
     let there = find_in (is_unconfirmed_of owner) t.records d found in
     let tests = and_parts _ _ there.1 in
-    (at_of_in the_id (client_id t.instance 1) (next_id t) t.records d is.rising there.0, not_true d.confirmed tests.1)
+    (at_of_in the_id (first_id t) (next_id t) t.records d is.rising there.0, not_true d.confirmed tests.1)
 
 -- the record that is replaced is not confirmed, and has not the next id
 
@@ -272,12 +275,12 @@ new_at t a n is =
     ∙ ap (λ (f : Option ClientRecord). cond (is_some f) f (cond (eqb (next_id t) n) (Some (new_client t a.owner a.verifier a.uid)) None)) rest
 
 new_leased : (b : Book) (id now n : ℕ) (new : ClientRecord) (old : Option ClientRecord) (gone : Bool) →
-    is_some (b.renewed n) ≡ is_some old → (n ≡ id → (old ≡ None) × (gone ≡ false)) →
-    is_some (cond gone None ((with_lease b id now).renewed n))
+    is_some (b n) ≡ is_some old → (n ≡ id → (old ≡ None) × (gone ≡ false)) →
+    is_some (cond gone None (with_lease b id now n))
     ≡ is_some (cond (is_some (cond gone None old)) (cond gone None old) (cond (eqb id n) (Some new) None))
 new_leased b id now n new old gone same fresh = elim (cases_eq n id) [
   | inl here ↦ (let none = fresh here in rw (none.0, none.1, eq-eqb n id here, eq-eqb id n (sym here)) refl)
-  | inr other ↦ rw (ne_eqb n id other, ne_eqb id n (λ e. other (sym e))) (some_gone gone (b.renewed n) old same ∙ sym (only_some (cond gone None old)))
+  | inr other ↦ rw (ne_eqb n id other, ne_eqb id n (λ e. other (sym e))) (some_gone gone (b n) old same ∙ sym (only_some (cond gone None old)))
 ]
 
 new_mark : (id n : ℕ) (new : ClientRecord) (old : Option ClientRecord) (gone : Bool) → gone ≡ false → mark_of old ≡ true
@@ -364,7 +367,7 @@ of_confirmed m now client body t is known sessions =
     record {
       clients = roster_changed (keeps (Done body)) (with_confirmed r client) client (mild_keeps (Done body)) (roster_confirmed r client is.clients);
       leased = λ n. renewed_some (without_any_lease m.leases gone) client now n ∙ ap is_some (lease_is m.leases gone n)
-          ∙ some_gone (is_id gone n) (m.leases.renewed n) (client_at r n) (is.leased n)
+          ∙ some_gone (is_id gone n) (m.leases n) (client_at r n) (is.leased n)
           ∙ sym (confirmed_some (eqb n client) (cond (is_id gone n) None (client_at r n)))
           ∙ ap is_some (sym (confirmed_at r client n)) ∙ sym (kept_is (with_confirmed r client) client n (Done body));
       confirmed = λ s there. (let left = in_without t gone s there in
@@ -394,7 +397,7 @@ of_made : (m : Machine) (now : ℕ) (c : CreateSession) (wish : Wish) (o : Optio
     IsMachine (by_created m now c (create_unless m.sessions c.clientid wish o).after (create_unless m.sessions c.clientid wish o).answer).machine
 of_made m now c wish None is known = of_confirmed m now c.clientid _ (with_session m.sessions c.clientid wish) is known
     (λ s there. elim (in_push m.sessions.sessions _ s there) [ inl new ↦ inl (ap (λ (s : Session). s.client) new) | inr old ↦ inr old ])
-of_made m now c wish (Some fault) is known = of_kept_result m c.clientid (Refused (fault_status fault)) is
+of_made m now c wish (Some fault) is known = of_kept_result m c.clientid (Refused (session_fault_status fault)) is
 
 -- The operations that stand alone.
 
@@ -523,7 +526,7 @@ of_run limit sofar now choice m x (i ∷ more) is known =
     (of_run limit (sofar + length s.outcome.result) now (behind_here choice) s.outcome.machine s.context more one.machine one.client)
 
 -- the session in which a request runs stands, so its client is confirmed
-pub runs_for : (m : Machine) (r : Request) (who : Caller) (size : ℕ) (s : Sequence) (c : Channel) → IsMachine m → sequenced m r who size s ≡ sequence.Runs c →
+pub runs_for : (m : Machine) (r : Request) (who : Caller) (size : ℕ) (s : Sequence) (c : ChannelAttrs) → IsMachine m → sequenced m r who size s ≡ sequence.Runs c →
     is_confirmed m.clients (id_of s.sessionid).client ≡ true
 runs_for m r who size s c is runs =
     let fresh = runs_means r who size s (session_at m.sessions (id_of s.sessionid)) c runs in
@@ -538,5 +541,5 @@ pub of_compound : (m : Machine) (r : Request) (who : Caller) (size now : ℕ) (c
 of_compound m r who size now choice is = by_compound (λ left ds run. IsMachine left) m r who size now choice is
     (λ item. first m r.declared who now (is_here choice) item is) (λ s more c comes.
     of_kept (run_in (renewed m now s) r who now (behind_here choice) s c more).machine (id_of s.sessionid) _
-    (of_run c.response (begun r s c) now (behind_here choice) (renewed m now s) (begins (id_of s.sessionid).client who) more
+    (of_run c.maxresponsesize (begun r s c) now (behind_here choice) (renewed m now s) (begins (id_of s.sessionid).client who) more
     (of_renewed m (id_of s.sessionid).client now is) (runs_for m r who size s c is comes)))

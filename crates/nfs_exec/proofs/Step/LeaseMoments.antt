@@ -1,21 +1,26 @@
 -- What holds of leases and of the store behind a compound.
-use Rattle.std.proofs.Common.{◌≡◌, ℕ, ◌-◌, Bool, false, arith, eqb, Option, Some, None, Result, Ok, Err, refl, sym, subst, inl, inr}
+use Rattle.std.proofs.Common.{◌≡◌, ℕ, ◌+◌, ◌-◌, Bool, false, arith, eqb, ltb, List, [], ◌∷◌, length, Option, Some, None, Result, Ok, Err}
+use Rattle.std.proofs.Common.{refl, sym, ◌∙◌, ap, subst, inl, inr}
 use Rattle.std.proofs.lemmas.Bool.{cases_Bool, le-ltb}
 use Rattle.std.specs.Prelude.{◌==◌, not, option_map}
 use Rattle.nfs_xdr.specs.Caller.{Caller}
 use Rattle.nfs_compound.specs.{declared.op.Item.Item, Request.Request, declared.session_args.CreateSession.CreateSession}
+use Rattle.nfs_results.specs.Largest.{largest}
 use Rattle.nfs_clients.specs.{declared.exchange_id.Exchanged.Exchanged, declared.exchange_id.ClientFault.ClientFault, ExchangeId.exchange}
 use Rattle.nfs_clients.specs.CreateSession as clients
 use Rattle.nfs_sessions.specs.{declared.id.SessionId.SessionId, declared.sessions.SessionFault.SessionFault, Id.id_of, Sessions.{SessionTable, create}}
 use Rattle.nfs_lease.specs.{Renewals.{Book, is_out, has_run_out, with_lease, with_renewal, without_lease}, Queue.IsLatest}
 use Rattle.nfs_lease.proofs.Latest.{latest_lease, latest_renewal, latest_without}
-use Rattle.nfs_exec.specs.{Step.Machine.Machine, Step.Expiry.{expired, leases_kept}, Step.Laws.ExpiryFindsNothing}
+use Rattle.nfs_exec.specs.{Step.Machine.Machine, Step.Expiry.{expired}, Step.Laws.ExpiryFindsNothing}
 use Rattle.nfs_exec.specs.{Step.ExchangeId.without_any_lease, Step.CreateSession.{wish_of, without_any_opens}}
-use Rattle.nfs_exec.specs.{Step.Run.{is_here, behind_here}, Step.Compound.{first_item, renewed, begun, compound}}
+use Rattle.nfs_exec.specs.{Step.Behind.step, Step.Run.{run, in_room, reserve, is_here, behind_here}, Step.Compound.{first_item, renewed, begun, compound}}
 use Rattle.nfs_exec.specs.Step.Parts.{by_created, leases_behind, ask_of}
-use Rattle.nfs_names.specs.{Context.begins, State.State, StoreInvariants.IsStore}
+use Rattle.nfs_names.specs.{declared.context.Context.Context, Context.begins, State.{State, moment}, StoreInvariants.IsStore}
 use Rattle.nfs_names.proofs.Staying.{store_staying}
-use Rattle.nfs_exec.proofs.{Step.Behind.run_leases, Runs.ByEvent.{by_compound, by_alone}, Step.AloneKeeps.holds_whoever}
+use Rattle.nfs_files.proofs.{Outcomes.for_each, Steady.{lease_names, lease_files}}
+use Rattle.nfs_exec.proofs.{Step.Behind.{by_step, follow_kept, run_leases}, Runs.ByEvent.{by_compound, by_alone}, Runs.KeptByRuns.otherwise_store}
+use Rattle.nfs_exec.proofs.Step.AloneKeeps.{holds_whoever}
+use Rattle.nfs_exec.proofs.Step.Terms.{leases_kept}
 
 -- What holds of leases whatever lease begins or is renewed now, and whatever lease ends.
 pub record IsHeld (P : Book → Type 0) (now : ℕ) : Type 0 where
@@ -52,7 +57,7 @@ pub compound_held : (P : Book → Type 0) (now : ℕ) → IsHeld P now → (m : 
     → P m.leases → P (compound m r who size now choice).machine.leases
 compound_held P now held m r who size choice is = by_compound (λ left ds run. P left.leases) m r who size now choice is
     (λ item. first P now held m r.declared who (is_here choice) item is) (λ s more c same.
-    subst P (sym (run_leases c.response (begun r s c) now (behind_here choice) (renewed m now s) (begins (id_of s.sessionid).client who) more))
+    subst P (sym (run_leases c.maxresponsesize (begun r s c) now (behind_here choice) (renewed m now s) (begins (id_of s.sessionid).client who) more))
     (held.renewal m.leases (id_of s.sessionid).client is))
 
 -- No lease is renewed later than now, behind a compound at that moment.
@@ -71,10 +76,38 @@ pub latest_compound : (m : Machine) (r : Request) (who : Caller) (size now : ℕ
     → IsLatest m.leases now → IsLatest (compound m r who size now choice).machine.leases now
 latest_compound m r who size now choice is = compound_held (λ b. IsLatest b now) now (is_latest now) m r who size choice is
 
+-- How long a lease lasts does not change.
+
+step_lease : (m : Machine) (x : Context) (now : ℕ) (refused : Bool) (i : Item) → (step m x now refused i).outcome.machine.store.lease ≡ m.store.lease
+step_lease m x now refused i = by_step (λ s. s.outcome.machine.store.lease ≡ m.store.lease) m x now refused i (lease_names refused m.store x (moment now) i)
+    (for_each (λ o. o.state.lease ≡ m.store.lease) refused m.store x (moment now) i (lease_files refused m.store x (moment now) i))
+    (λ none other. ap (λ (s : State). s.lease) (otherwise_store m x i))
+
+run_lease : (limit sofar now : ℕ) (choice : Option ℕ) (m : Machine) (x : Context) (items : List Item)
+    → (run limit sofar now choice m x items).machine.store.lease ≡ m.store.lease
+run_lease limit sofar now choice m x [] = refl
+run_lease limit sofar now choice m x (i ∷ more) =
+    let s = in_room limit sofar now (is_here choice) m x i in
+    let next = sofar + length s.outcome.result in
+    let one : s.outcome.machine.store.lease ≡ m.store.lease = elim (cases_Bool (ltb limit (sofar + largest i + reserve)))
+    [ inl big ↦ rw big refl | inr fits ↦ rw fits (step_lease m x now (is_here choice) i) ] in
+    follow_kept (λ k. k.store.lease ≡ m.store.lease) s.outcome (run limit next now (behind_here choice) s.outcome.machine s.context more) one
+    (run_lease limit next now (behind_here choice) s.outcome.machine s.context more ∙ one)
+
+ended_lease : (lease : ℕ) (s : State) (o : Option ℕ) → s.lease ≡ lease → (without_any_opens s o).lease ≡ lease
+ended_lease lease s None is = is
+ended_lease lease s (Some client) is = is
+
+pub compound_lease : (m : Machine) (r : Request) (who : Caller) (size now : ℕ) (choice : Option ℕ)
+    → (compound m r who size now choice).machine.store.lease ≡ m.store.lease
+compound_lease m r who size now choice = by_compound (λ left ds run. left.store.lease ≡ m.store.lease) m r who size now choice refl
+    (λ item. holds_whoever (λ s. s.lease ≡ m.store.lease) (ended_lease m.store.lease) m r.declared who now (is_here choice) item refl)
+    (λ s more c same. run_lease c.maxresponsesize (begun r s c) now (behind_here choice) (renewed m now s) (begins (id_of s.sessionid).client who) more)
+
 -- Nor has any lease run out at that moment, where none had before.
 
-abbrev pub NoneOut : ℕ → Book → Type 0
-NoneOut now b = (client : ℕ) → has_run_out b now client ≡ false
+abbrev pub NoneOut : (lease now : ℕ) → Book → Type 0
+NoneOut lease now b = (client : ℕ) → has_run_out lease b now client ≡ false
 
 just_now : (lease now : ℕ) → is_out lease now (Some now) ≡ false
 just_now lease now = le-ltb lease (now - now) (omega arith)
@@ -83,18 +116,21 @@ renewed_none : (lease now : ℕ) (o : Option ℕ) → is_out lease now (option_m
 renewed_none lease now None = refl
 renewed_none lease now (Some moment) = just_now lease now
 
-none_out : (now : ℕ) → IsHeld (NoneOut now) now
-none_out now = record {
-  lease = λ b client is c. elim (cases_Bool (eqb c client)) [ inl here ↦ rw here (just_now b.lease now) | inr other ↦ rw other (is c) ];
-  renewal = λ b client is c. elim (cases_Bool (eqb c client)) [ inl here ↦ rw here (renewed_none b.lease now (b.renewed c)) | inr other ↦ rw other (is c) ];
+none_out : (lease now : ℕ) → IsHeld (NoneOut lease now) now
+none_out lease now = record {
+  lease = λ b client is c. elim (cases_Bool (eqb c client)) [ inl here ↦ rw here (just_now lease now) | inr other ↦ rw other (is c) ];
+  renewal = λ b client is c. elim (cases_Bool (eqb c client)) [ inl here ↦ rw here (renewed_none lease now (b c)) | inr other ↦ rw other (is c) ];
   end = λ b client is c. elim (cases_Bool (eqb c client)) [ inl here ↦ rw here refl | inr other ↦ rw other (is c) ];
 }
 
-pub expired_all : (b : Book) (now : ℕ) → NoneOut now (leases_kept b now)
-expired_all b now c = elim (cases_Bool (has_run_out b now c)) [ inl out ↦ rw out refl | inr stays ↦ rw stays stays ]
+pub expired_all : (lease : ℕ) (b : Book) (now : ℕ) → NoneOut lease now (leases_kept lease b now)
+expired_all lease b now c = elim (cases_Bool (has_run_out lease b now c)) [ inl out ↦ rw out refl | inr stays ↦ rw stays stays ]
 
 pub finds_nothing : ExpiryFindsNothing
-finds_nothing = λ m r who size now choice. compound_held (NoneOut now) now (none_out now) (expired now m) r who size choice (expired_all m.leases now)
+finds_nothing = λ m r who size now choice.
+    subst (λ lease. NoneOut lease now (compound (expired now m) r who size now choice).machine.leases)
+    (sym (compound_lease (expired now m) r who size now choice))
+    (compound_held (NoneOut m.store.lease now) now (none_out m.store.lease now) (expired now m) r who size choice (expired_all m.store.lease m.leases now))
 
 -- The operations that stand alone keep what holds of every store.
 

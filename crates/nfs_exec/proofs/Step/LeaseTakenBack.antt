@@ -10,12 +10,12 @@ none_of None e = refl
 none_of (Some x) e = absurd cc
 
 -- who has no record has no lease
-pub unleased : (m : Machine) (client : ℕ) → IsMachine m → client_at m.clients client ≡ None → m.leases.renewed client ≡ None
-unleased m client is none = none_of (m.leases.renewed client) (is.leased client ∙ ap is_some none)
+pub unleased : (m : Machine) (client : ℕ) → IsMachine m → client_at m.clients client ≡ None → m.leases client ≡ None
+unleased m client is none = none_of (m.leases client) (is.leased client ∙ ap is_some none)
 
 -- a lease that is taken back at once
-pub taken_back : (b : Book) (client now : ℕ) → b.renewed client ≡ None → without_lease (with_lease b client now) client ≡ b
-taken_back b client now none = ap (λ f. record { renewed = f; lease = b.lease }) (fun_ext (λ c. elim (cases_eq c client) [
-  | inl here ↦ rw (eq-eqb c client here) (sym none ∙ ap b.renewed (sym here))
+pub taken_back : (b : Book) (client now : ℕ) → b client ≡ None → without_lease (with_lease b client now) client ≡ b
+taken_back b client now none = fun_ext (λ c. elim (cases_eq c client) [
+  | inl here ↦ rw (eq-eqb c client here) (sym none ∙ ap b (sym here))
   | inr other ↦ rw (ne_eqb c client other) refl
-]))
+])

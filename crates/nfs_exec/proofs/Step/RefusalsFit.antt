@@ -12,7 +12,7 @@ use Rattle.nfs_compound.specs.{declared.op.Item.Item, declared.op.Item.TheVarian
 use Rattle.nfs_compound.specs.{Request.{Request, Lists, HasBody, item_number}, ArgCodecs.protected}
 use Rattle.nfs_compound.specs.declared.session_args.ExchangeId.{ExchangeId as ExchangeArgs}
 use Rattle.nfs_compound.proofs.{OpNumLaws.op_between, GrammarLaws.some_answer}
-use Rattle.nfs_results.specs.{Results.{refusal, head, spell_result, status_of_result}, Refusals.{bears, tells, can_refuse}, Parts.is_legal}
+use Rattle.nfs_results.specs.{Results.{refusal, head, spell_result, status_of_result}, Refusals.{may_return, tells, can_refuse}, Parts.is_legal}
 use Rattle.nfs_results.specs.{declared.res.Res.Res, ResultCodec.IsBounded, Largest.number_of, MayAnswer.MayAnswer, Items.attr_set}
 use Rattle.nfs_results.proofs.Lengths.{length_result, length_head}
 use Rattle.nfs_xdr.proofs.Putting.{length_number}
@@ -83,7 +83,7 @@ opened_bears r item more opened one list =
     listed_bears r.declared opened.request.body item more body
 
 -- SETATTR's refusal is no plain one
-legal_of : (legal bears : Bool) → legal || (bears && false) ≡ true → legal ≡ true
+legal_of : (legal may_return : Bool) → legal || (may_return && false) ≡ true → legal ≡ true
 legal_of true bears e = refl
 legal_of false true e = absurd cc
 legal_of false false e = absurd cc
@@ -92,8 +92,8 @@ legal_of false false e = absurd cc
 pub refusal_small : (n : ℕ) (s : Status) → IsTrue ((eqb n 34 && is_legal s) || can_refuse n s) → IsSmall (refusal n s)
 refusal_small n s can = elim (cases_Bool (eqb n 34)) [
   | inl e ↦ (
-      let legal : is_legal s ≡ true = legal_of (is_legal s) (bears n s)
-      (subst (λ b. IsTrue ((b && is_legal s) || (bears n s && not (b || ((eqb n 12 || eqb n 13) && eqb (status_number s) 10010))))) e can) in
+      let legal : is_legal s ≡ true = legal_of (is_legal s) (may_return n s)
+      (subst (λ b. IsTrue ((b && is_legal s) || (may_return n s && not (b || ((eqb n 12 || eqb n 13) && eqb (status_number s) 10010))))) e can) in
       let may : MayAnswer (Fault n s) (Res.SetAttr s []) = (sym (eqb-true n 34 e), legal, omega arith) in
       rw e (may.1, λ arrays. length_result (Fault n s) (Res.SetAttr s []) arrays may)
       )
@@ -184,7 +184,7 @@ fault_too_big n s can = elim (cases_Bool (eqb n 34)) [
     | inl illegal ↦ rw (eqb-true n 10044 illegal) refl
     | inr other ↦ (
         let plain : IsTrue (can_refuse n s) = subst (λ b. IsTrue ((b && is_legal s) || can_refuse n s)) e can in
-        let parts = and_parts (bears n s) (not (tells n s)) plain in
+        let parts = and_parts (may_return n s) (not (tells n s)) plain in
         let inside = and_parts (leb 3 n && leb n 58) _ (rw other at parts.0) in
         let range = and_parts (leb 3 n) (leb n 58) inside.0 in
         common_bears n RepTooBig (leb-true 3 n range.0) (leb-true n 58 range.1) (refl, refl, refl)

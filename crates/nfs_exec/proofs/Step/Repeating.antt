@@ -5,10 +5,11 @@ use Rattle.std.specs.Prelude.{not, ◌&&◌}
 use Rattle.nfs_clients.specs.Roster.{ClientRecord}
 use Rattle.nfs_sessions.specs.Sessions.{Session}
 use Rattle.nfs_lease.specs.Renewals.{Book, is_out, has_run_out}
-use Rattle.nfs_exec.specs.{Step.Compound.in_session, Step.Expiry.{expired, leases_kept}, Step.Laws.{RepeatsChangeNothing, RefusalsChangeNothing, ExpiresOnce}}
+use Rattle.nfs_exec.specs.{Step.Compound.in_session, Step.Expiry.{expired}, Step.Laws.{RepeatsChangeNothing, RefusalsChangeNothing, ExpiresOnce}}
 use Rattle.nfs_names.specs.Ending.{staying}
 use Rattle.nfs_names.proofs.Staying.{staying_twice, swapped}
 use Rattle.nfs_xdr.proofs.Lists.{filter_both}
+use Rattle.nfs_exec.proofs.Step.Terms.{leases_kept}
 
 pub repeats : RepeatsChangeNothing
 repeats = λ m r who size now choice s reply begins.
@@ -23,30 +24,32 @@ out_later lease first later None le out = absurd cc
 out_later lease first later (Some moment) le out = (let h = ltb-true lease (first - moment) out in lt-ltb lease (later - moment) (omega (arith, h, le)))
 
 -- who is out at the later moment, by what is left of the leases at the first
-once : (b : Book) (first later c : ℕ) → first ≤ later
-    → (not (has_run_out b first c) && not (has_run_out (leases_kept b first) later c)) ≡ not (has_run_out b later c)
-once b first later c le = elim (cases_Bool (has_run_out b first c)) [
-  | inl out ↦ rw (out, out_later b.lease first later (b.renewed c) le out) refl
+once : (lease : ℕ) (b : Book) (first later c : ℕ) → first ≤ later
+    → (not (has_run_out lease b first c) && not (has_run_out lease (leases_kept lease b first) later c)) ≡ not (has_run_out lease b later c)
+once lease b first later c le = elim (cases_Bool (has_run_out lease b first c)) [
+  | inl out ↦ rw (out, out_later lease first later (b c) le out) refl
   | inr stays ↦ rw stays refl
 ]
 
-once_kept : (b : Book) (first later c : ℕ) → first ≤ later → (leases_kept (leases_kept b first) later).renewed c ≡ (leases_kept b later).renewed c
-once_kept b first later c le = elim (cases_Bool (has_run_out b first c)) [
-  | inl out ↦ rw (out, out_later b.lease first later (b.renewed c) le out) refl
+once_kept : (lease : ℕ) (b : Book) (first later c : ℕ) → first ≤ later → leases_kept lease (leases_kept lease b first) later c ≡ leases_kept lease b later c
+once_kept lease b first later c le = elim (cases_Bool (has_run_out lease b first c)) [
+  | inl out ↦ rw (out, out_later lease first later (b c) le out) refl
   | inr stays ↦ rw stays refl
 ]
 
 pub expires : ExpiresOnce
 expires = λ m first later le.
-    (let b = m.leases in
-    let clients = filter_both (λ (c : ClientRecord). not (has_run_out (leases_kept b first) later c.id))
-    (λ c. not (has_run_out b first c.id)) (λ c. not (has_run_out b later c.id)) (λ c. once b first later c.id le) m.clients.records in
-    let sessions = filter_both (λ (s : Session). not (has_run_out (leases_kept b first) later s.client)) (λ s. not (has_run_out b first s.client))
-    (λ s. not (has_run_out b later s.client)) (λ s. once b first later s.client le) m.sessions.sessions in
-    let leases = fun_ext (λ c. once_kept b first later c le) in
-    let store : staying (λ c. not (has_run_out (leases_kept b first) later c)) (staying (λ c. not (has_run_out b first c)) m.store)
-    ≡ staying (λ c. not (has_run_out b later c)) m.store =
-    staying_twice (λ c. not (has_run_out (leases_kept b first) later c)) (λ c. not (has_run_out b first c)) m.store
+    (let lease = m.store.lease in
+    let b = m.leases in
+    let clients = filter_both (λ (c : ClientRecord). not (has_run_out lease (leases_kept lease b first) later c.id))
+    (λ c. not (has_run_out lease b first c.id)) (λ c. not (has_run_out lease b later c.id)) (λ c. once lease b first later c.id le) m.clients.records in
+    let sessions = filter_both (λ (s : Session). not (has_run_out lease (leases_kept lease b first) later s.client))
+    (λ s. not (has_run_out lease b first s.client)) (λ s. not (has_run_out lease b later s.client)) (λ s. once lease b first later s.client le) m.sessions.sessions in
+    let leases = fun_ext (λ c. once_kept lease b first later c le) in
+    let store : staying (λ c. not (has_run_out lease (leases_kept lease b first) later c)) (staying (λ c. not (has_run_out lease b first c)) m.store)
+    ≡ staying (λ c. not (has_run_out lease b later c)) m.store =
+    staying_twice (λ c. not (has_run_out lease (leases_kept lease b first) later c)) (λ c. not (has_run_out lease b first c)) m.store
     ∙ ap (λ (p : ℕ → Bool). staying p m.store)
-    (fun_ext (λ c. swapped (not (has_run_out (leases_kept b first) later c)) (not (has_run_out b first c)) ∙ once b first later c le)) in
-    rw (clients, sessions, store) (ap (λ f. record (expired later m) { leases = record b { renewed = f } }) leases))
+    (fun_ext (λ c. swapped (not (has_run_out lease (leases_kept lease b first) later c)) (not (has_run_out lease b first c))
+    ∙ once lease b first later c le)) in
+    rw (clients, sessions, store) (ap (λ (f : Book). record (expired later m) { leases = f }) leases))

@@ -4,16 +4,16 @@ use Rattle.std.proofs.{Common.{Result, Ok, sym, ◌∙◌, ap, subst, arith, inl
 use Rattle.std.proofs.{lemmas.List.{length-append, length-take, length-drop, append_assoc}, Math.Seq.drop-append_seam}
 use Rattle.nfs_xdr.specs.{Caller.Caller, SheetState.{SheetState, HasRoom, Puts}, declared.status.Status.Status, declared.status.Status.TheVariants.Nfs4Ok}
 use Rattle.nfs_xdr.specs.{Spelling.{number, opaque}, Status.status_number}
-use Rattle.nfs_compound.specs.{declared.op.Item.Item, declared.op.Item.TheVariants.Operation, Request.Request, declared.session_args.Sequence.Sequence}
+use Rattle.nfs_compound.specs.{declared.channel_attrs.ChannelAttrs.ChannelAttrs, declared.op.Item.Item, declared.op.Item.TheVariants.Operation, Request.Request, declared.session_args.Sequence.Sequence}
 use Rattle.nfs_compound.specs.declared.op.Op.TheVariants as Op
-use Rattle.nfs_slots.specs.{declared.slot.Verdict.Verdict, declared.slot.Verdict.TheVariants.{Fresh, Again, FalseRetry, Misordered, NoSlot}}
+use Rattle.nfs_slots.specs.{Slot.judge, declared.slot.Verdict.Verdict, declared.slot.Verdict.TheVariants.{Fresh, Again, FalseRetry, Misordered, NoSlot}}
 use Rattle.nfs_results.specs.{declared.res.Res.Res, Results.{spell_result, refusal, spell_compound_head}, OpenHead.{HeadsAt, HasHead, SetsHead}}
 use Rattle.nfs_exec.proofs.{Step.RefusalsFit.refusal_short, Step.Creating.the_rest}
 use Rattle.nfs_results.proofs.Lengths.{length_result, length_head_within}
-use Rattle.nfs_sessions.specs.{declared.channel.Channel.Channel, SessionSlots.{GrantedSlots, judge}, Sessions.{session_at, Session, SessionTable, keep}}
+use Rattle.nfs_sessions.specs.{Sessions.{session_at, Session, SessionTable, keep}}
 use Rattle.nfs_sessions.specs.{declared.id.SessionId.SessionId, Id.id_of, SessionTables.MayKeep}
 use Rattle.nfs_names.specs.{Outcome.is_ok, declared.context.Context.Context}
-use Rattle.nfs_exec.specs.Step.Machine.{Machine, Outcome}
+use Rattle.nfs_exec.specs.Step.Machine.{Machine, MachineOutcome}
 use Rattle.nfs_exec.specs.Step.Sequence.{highest_at, compared, Sequenced, Runs, or_refuses, by_slot, sequence_ok}
 use Rattle.nfs_exec.specs.Step.Parts.{past, slot_says, by_session, slot_fault, fresh_fault}
 use Rattle.nfs_exec.specs.{Step.Run.{Ran, run, in_room, follow, is_here, behind_here}, Step.Compound.renewed, declared.run.Ran.{Ran as Told}}
@@ -23,52 +23,51 @@ use Rattle.nfs_xdr.proofs.Putting.{length_number}
 use Rattle.std.specs.Option.{IsSomeAnd}
 
 -- what it means that a request runs
-pub record IsFresh (r : Request) (who : Caller) (size : ℕ) (s : Sequence) (o : Option Session) (c : Channel) : Type 0 where
+pub record IsFresh (r : Request) (who : Caller) (size : ℕ) (s : Sequence) (o : Option Session) (c : ChannelAttrs) : Type 0 where
   pub session : Session
   pub found : o ≡ Some session
-  pub channel : session.slots.channel ≡ c
+  pub channel : session.channel ≡ c
   pub fresh : judge session.slots s.slotid s.sequenceid who.uid (compared r) ≡ Fresh
-  pub fits : size ≤ c.request
-  pub few : r.declared ≤ c.operations
+  pub fits : size ≤ c.maxrequestsize
+  pub few : r.declared ≤ c.maxoperations
 
-past_runs : (f : Option Status) (v : Result Sequenced Status) (c : Channel) → past f v ≡ Runs c → (f ≡ None) × (or_refuses v ≡ Runs c)
+past_runs : (f : Option Status) (v : Result Sequenced Status) (c : ChannelAttrs) → past f v ≡ Runs c → (f ≡ None) × (or_refuses v ≡ Runs c)
 past_runs None v c e = (refl, e)
 past_runs (Some s) v c e = absurd cc
 
-fresh_runs : (r : Request) (size : ℕ) (s : Sequence) (g : GrantedSlots) (v : Verdict) (c : Channel)
-    → slot_says r size s g v ≡ Runs c → (v ≡ Fresh) × (fresh_fault r size g.channel ≡ None) × (g.channel ≡ c)
-fresh_runs r size s g NoSlot c e = absurd cc
-fresh_runs r size s g Misordered c e = absurd cc
-fresh_runs r size s g FalseRetry c e = absurd cc
-fresh_runs r size s g Again c e = absurd cc
-fresh_runs r size s g Fresh c e = (let parts = past_runs (fresh_fault r size g.channel) (Ok (Runs g.channel)) c e in (refl, parts.0, cc))
+fresh_runs : (r : Request) (size : ℕ) (s : Sequence) (x : Session) (v : Verdict) (c : ChannelAttrs)
+    → slot_says r size s x v ≡ Runs c → (v ≡ Fresh) × (fresh_fault r size x.channel ≡ None) × (x.channel ≡ c)
+fresh_runs r size s x NoSlot c e = absurd cc
+fresh_runs r size s x Misordered c e = absurd cc
+fresh_runs r size s x FalseRetry c e = absurd cc
+fresh_runs r size s x Again c e = absurd cc
+fresh_runs r size s x Fresh c e = (let parts = past_runs (fresh_fault r size x.channel) (Ok (Runs x.channel)) c e in (refl, parts.0, cc))
 
 passed : (a b : Bool) (x y : Status) → cond a (Some x) (cond b (Some y) None) ≡ None → (a ≡ false) × (b ≡ false)
 passed true b x y e = absurd cc
 passed false true x y e = absurd cc
 passed false false x y e = (refl, refl)
 
-pub runs_means : (r : Request) (who : Caller) (size : ℕ) (s : Sequence) (o : Option Session) (c : Channel)
+pub runs_means : (r : Request) (who : Caller) (size : ℕ) (s : Sequence) (o : Option Session) (c : ChannelAttrs)
     → by_session r who size s o ≡ Runs c → IsFresh r who size s o c
 runs_means r who size s None c e = absurd cc
 runs_means r who size s (Some session) c e =
-    let g = session.slots in
-    let at = past_runs (slot_fault s g.channel) (by_slot r size s g (judge g s.slotid s.sequenceid who.uid (compared r))) c e in
-    let means = fresh_runs r size s g (judge g s.slotid s.sequenceid who.uid (compared r)) c at.1 in
-    let tests = passed (ltb g.channel.request size) (ltb g.channel.operations r.declared) _ _ means.1 in
-    let request : size ≤ g.channel.request = ltb-false g.channel.request size tests.0 in
-    let operations : r.declared ≤ g.channel.operations = ltb-false g.channel.operations r.declared tests.1 in
+    let at = past_runs (slot_fault s session.channel) (by_slot r size s session (judge session.slots s.slotid s.sequenceid who.uid (compared r))) c e in
+    let means = fresh_runs r size s session (judge session.slots s.slotid s.sequenceid who.uid (compared r)) c at.1 in
+    let tests = passed (ltb session.channel.maxrequestsize size) (ltb session.channel.maxoperations r.declared) _ _ means.1 in
+    let request : size ≤ session.channel.maxrequestsize = ltb-false session.channel.maxrequestsize size tests.0 in
+    let operations : r.declared ≤ session.channel.maxoperations = ltb-false session.channel.maxoperations r.declared tests.1 in
     record {
       session = session;
       found = refl;
       channel = means.2;
       fresh = means.0;
-      fits = subst (λ (c : Channel). size ≤ c.request) means.2 request;
-      few = subst (λ (c : Channel). r.declared ≤ c.operations) means.2 operations;
+      fits = subst (λ (c : ChannelAttrs). size ≤ c.maxrequestsize) means.2 request;
+      few = subst (λ (c : ChannelAttrs). r.declared ≤ c.maxoperations) means.2 operations;
     }
 
 -- the bytes of SEQUENCE's result
-pub accepted_long : (s : Sequence) (c : Channel) → length s.sessionid ≡ 16 → length (spell_result (Res.Sequence (sequence_ok s c))) ≤ 44
+pub accepted_long : (s : Sequence) (c : ChannelAttrs) → length s.sessionid ≡ 16 → length (spell_result (Res.Sequence (sequence_ok s c))) ≤ 44
 accepted_long s c long = length_result (Operation (Op.Sequence s)) (Res.Sequence (sequence_ok s c)) long (refl, tt, tt)
 
 -- The head that is closed over the results.
@@ -114,7 +113,7 @@ starts_within old new text start put at = (let whole = ap length put.bytes ∙ l
 
 -- no more are run than stand in the list
 
-follow_few : (o : Outcome) (rest : Ran) (n : ℕ) → rest.count ≤ n → (follow o rest).count ≤ suc n
+follow_few : (o : MachineOutcome) (rest : Ran) (n : ℕ) → rest.count ≤ n → (follow o rest).count ≤ suc n
 follow_few o rest n few = elim (cases_Bool (is_ok o.status)) [
   | inl e ↦ rw e (omega (arith, few))
   | inr e ↦ rw e (omega arith)
@@ -225,25 +224,25 @@ compared_within n xs =
     omega (arith, both, front, rest)
 
 -- the slot of a request that runs may keep what it came to
-pub may_keep : (now was : SessionTable) (r : Request) (who : Caller) (size : ℕ) (s : Sequence) (c : Channel) (id : SessionId) (args reply text : List ℕ)
+pub may_keep : (now was : SessionTable) (r : Request) (who : Caller) (size : ℕ) (s : Sequence) (c : ChannelAttrs) (id : SessionId) (args reply text : List ℕ)
     (old new : SheetState) → now ≡ was → id ≡ id_of s.sessionid → length r.bytes ≤ size →
     by_session r who size s (session_at was (id_of s.sessionid)) ≡ Runs c → args ≡ compared r →
-    reply ≡ text → Puts old new text → length new.bytes + 24 ≤ length old.bytes + c.response →
-    IsSomeAnd (session_at now id) (λ x. MayKeep x.slots s.slotid s.sequenceid who.uid args reply)
+    reply ≡ text → Puts old new text → length new.bytes + 24 ≤ length old.bytes + c.maxresponsesize →
+    IsSomeAnd (session_at now id) (λ x. MayKeep x s.slotid s.sequenceid who.uid args reply)
 may_keep now was r who size s c id args reply text old new table read short runs same whole put fits =
     let is = runs_means r who size s (session_at was (id_of s.sessionid)) c runs in
     let found : session_at now id ≡ Some is.session = ap (λ (t : SessionTable). session_at t id) table ∙ ap (session_at was) read ∙ is.found in
     let request = is.fits in
     let long = ap length put.bytes ∙ length-append old.bytes text in
     let channel = is.channel in
-    subst (λ (o : Option Session). IsSomeAnd o (λ x. MayKeep x.slots s.slotid s.sequenceid who.uid args reply)) (sym found)
-    (subst (λ a. MayKeep is.session.slots s.slotid s.sequenceid who.uid a reply) (sym same)
-    (subst (λ t. MayKeep is.session.slots s.slotid s.sequenceid who.uid (compared r) t) (sym whole) (record {
+    subst (λ (o : Option Session). IsSomeAnd o (λ x. MayKeep x s.slotid s.sequenceid who.uid args reply)) (sym found)
+    (subst (λ a. MayKeep is.session s.slotid s.sequenceid who.uid a reply) (sym same)
+    (subst (λ t. MayKeep is.session s.slotid s.sequenceid who.uid (compared r) t) (sym whole) (record {
       fresh = is.fresh;
       args_fit =
           let within = compared_within (highest_at r) r.bytes in
-          subst (λ (g : Channel). length (compared r) ≤ g.request) (sym channel) (omega (arith, within, short, request));
-      reply_fits = subst (λ (g : Channel). 24 + length text ≤ g.response) (sym channel) (omega (arith, long, fits));
+          subst (λ (g : ChannelAttrs). length (compared r) ≤ g.maxrequestsize) (sym channel) (omega (arith, within, short, request));
+      reply_fits = subst (λ (g : ChannelAttrs). 24 + length text ≤ g.maxresponsesize) (sym channel) (omega (arith, long, fits));
     })))
 
 pub any_head_fits : (sheet : SheetState) (status : Status) (tag : List ℕ) (count : ℕ)

@@ -4,7 +4,7 @@ use Rattle.std.proofs.{Common.{arith, inr}, lemmas.List.{length-append, append_a
 use Rattle.nfs_xdr.specs.{Tables.In, SheetState.{SheetState, Puts}, declared.status.Status.Status, declared.status.Status.TheVariants.Nfs4Ok}
 use Rattle.nfs_compound.specs.{declared.op.Item.Item, Request.Request}
 use Rattle.nfs_names.specs.{declared.context.Context.Context, StoreInvariants.IsStore, Outcome.{is_delay, is_ok}}
-use Rattle.nfs_exec.specs.{Step.Machine.{Machine, Outcome}, Step.Behind.Step, Step.Run.{Ran, run, in_room, follow, only, is_here, behind_here}}
+use Rattle.nfs_exec.specs.{Step.Machine.{Machine, MachineOutcome}, Step.Behind.Step, Step.Run.{Ran, run, in_room, follow, only, is_here, behind_here}}
 use Rattle.nfs_exec.specs.Step.View.{RunsTo, Steps, CanBear}
 
 -- The place at which memory was refused: here, or one place further than from behind.
@@ -89,14 +89,14 @@ Stepped limit at now here next item s = Steps (step_at limit at now (is_delay s)
 grown : (old new : SheetState) (text : List ℕ) → Puts old new text → length new.bytes ≡ length old.bytes + length text
 grown old new text put = ap length put.bytes ∙ length-append old.bytes text
 
-followed : (o : Outcome) (rest : Ran) → o.status ≡ Nfs4Ok
+followed : (o : MachineOutcome) (rest : Ran) → o.status ≡ Nfs4Ok
     → follow o rest ≡ record { status = rest.status; count = suc rest.count; results = o.result ++ rest.results; machine = rest.machine }
 followed o rest ok = rw ok refl
 
-stopped : (o : Outcome) (rest : Ran) → is_ok o.status ≡ false → follow o rest ≡ only o
+stopped : (o : MachineOutcome) (rest : Ran) → is_ok o.status ≡ false → follow o rest ≡ only o
 stopped o rest bad = rw bad refl
 
-joined : (o : Outcome) (whole rest : Ran) (done : ℕ) (before here new : List ℕ) → o.status ≡ Nfs4Ok
+joined : (o : MachineOutcome) (whole rest : Ran) (done : ℕ) (before here new : List ℕ) → o.status ≡ Nfs4Ok
     → Joins whole (follow o rest) done before here → new ≡ here ++ o.result → Joins whole rest (done + 1) before new
 joined o whole rest done before here new ok joins put =
     let j = subst (λ (ran : Ran). Joins whole ran done before here) (followed o rest ok) joins in

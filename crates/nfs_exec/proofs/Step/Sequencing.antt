@@ -4,10 +4,11 @@ use Rattle.std.proofs.lemmas.Slice.Eq.{bytes_eq-Decides}
 use Rattle.std.specs.{Prelude.{Result, Ok, ◌==◌, ◌&&◌, not, nat_le, nat_lt, bytes_eq, slice_get, if◌then◌else◌}, Option.option_map_or}
 use Rattle.nfs_xdr.specs.{Caller.Caller, Checks.first_fault, declared.status.Status.Status}
 use Rattle.nfs_xdr.specs.declared.status.Status.TheVariants.{BadSlot, BadHighSlot, SeqFalseRetry, ReqTooBig, TooManyOps}
+use Rattle.nfs_xdr.specs.Numbers.{next_number}
 use Rattle.nfs_compound.specs.{declared.session_args.Sequence.Sequence, Request.Request}
-use Rattle.nfs_slots.specs.{Slot.{SlotState, judge_slot, next_number}, declared.slot.Verdict.Verdict}
+use Rattle.nfs_slots.specs.{Slot.{SlotState, judge, judge_slot}, declared.slot.Verdict.Verdict}
 use Rattle.nfs_slots.specs.declared.slot.Verdict.TheVariants.{Fresh, Again, FalseRetry, Misordered, NoSlot}
-use Rattle.nfs_sessions.specs.{Id.id_of, SessionSlots.{GrantedSlots, judge}, Sessions.{Session, session_at}}
+use Rattle.nfs_sessions.specs.{Id.id_of, Sessions.{Session, session_at}}
 use Rattle.nfs_exec.specs.{Step.Machine.Machine, Step.Sequence.{Sequenced, Refuses, Runs, compared, or_refuses, by_slot}}
 use Rattle.nfs_exec.specs.Step.Parts.{past, slot_says, by_session, slot_fault, fresh_fault}
 use Rattle.nfs_exec.specs.Step.Sequencing.{IsOn, TookAnother, NextNumberRuns, FalseRetriesAreTrue}
@@ -27,15 +28,15 @@ refused_by : (f : Option Status) (v : Result Sequenced Status) (status : Status)
 refused_by None v status apart e = e
 refused_by (Some x) v status apart e = let same : x ≡ status = cc in absurd (apart (ap (λ (y : Status). let o : Option Status = Some y in o) same))
 
-verdict_is : (r : Request) (size : ℕ) (s : Sequence) (g : GrantedSlots) (v : Verdict) → slot_says r size s g v ≡ Refuses SeqFalseRetry → v ≡ FalseRetry
-verdict_is r size s g NoSlot e = absurd cc
-verdict_is r size s g Misordered e = absurd cc
-verdict_is r size s g FalseRetry e = refl
-verdict_is r size s g Again e = absurd cc
-verdict_is r size s g Fresh e =
-    let runs : Runs g.channel ≡ Refuses SeqFalseRetry =
-    refused_by (fresh_fault r size g.channel) (Ok (Runs g.channel)) SeqFalseRetry
-    (of_two (nat_lt g.channel.request size) (nat_lt g.channel.operations r.declared) ReqTooBig TooManyOps SeqFalseRetry (λ k. cc) (λ k. cc)) e in
+verdict_is : (r : Request) (size : ℕ) (s : Sequence) (x : Session) (v : Verdict) → slot_says r size s x v ≡ Refuses SeqFalseRetry → v ≡ FalseRetry
+verdict_is r size s x NoSlot e = absurd cc
+verdict_is r size s x Misordered e = absurd cc
+verdict_is r size s x FalseRetry e = refl
+verdict_is r size s x Again e = absurd cc
+verdict_is r size s x Fresh e =
+    let runs : Runs x.channel ≡ Refuses SeqFalseRetry =
+    refused_by (fresh_fault r size x.channel) (Ok (Runs x.channel)) SeqFalseRetry
+    (of_two (nat_lt x.channel.maxrequestsize size) (nat_lt x.channel.maxoperations r.declared) ReqTooBig TooManyOps SeqFalseRetry (λ k. cc) (λ k. cc)) e in
     absurd cc
 
 -- What the slot keeps then.
@@ -78,11 +79,10 @@ false_in : (m : Machine) (r : Request) (who : Caller) (size : ℕ) (s : Sequence
     → by_session r who size s o ≡ Refuses SeqFalseRetry → TookAnother m r who s
 false_in m r who size s None found e = absurd cc
 false_in m r who size s (Some session) found e =
-    let g = session.slots in
-    let v = judge g s.slotid s.sequenceid who.uid (compared r) in
-    let refused = refused_by (slot_fault s g.channel) (by_slot r size s g v) SeqFalseRetry
-    (of_two (nat_le g.channel.slots s.slotid) (nat_le g.channel.slots s.highest_slotid) BadSlot BadHighSlot SeqFalseRetry (λ k. cc) (λ k. cc)) e in
-    let (x, slot, says) = judged (slice_get g.slots s.slotid) s.sequenceid who.uid (compared r) (verdict_is r size s g v refused) in
+    let v = judge session.slots s.slotid s.sequenceid who.uid (compared r) in
+    let refused = refused_by (slot_fault s session.channel) (by_slot r size s session v) SeqFalseRetry
+    (of_two (nat_le session.channel.maxrequests s.slotid) (nat_le session.channel.maxrequests s.highest_slotid) BadSlot BadHighSlot SeqFalseRetry (λ k. cc) (λ k. cc)) e in
+    let (x, slot, says) = judged (slice_get session.slots s.slotid) s.sequenceid who.uid (compared r) (verdict_is r size s session v refused) in
     took_another m r who s session x (record { found = found; slot = slot }) says
 
 pub false_retries_are_true : FalseRetriesAreTrue

@@ -12,7 +12,7 @@ use Rattle.nfs_exec.specs.{Step.Machine.Machine, Step.Expiry.expired, Runs.Own.{
 pub record HasNothing (client : ℕ) (m : Machine) : Type 0 where
   pub known : client_at m.clients client ≡ None
   pub sessions : sessions_of client m.sessions ≡ []
-  pub lease : m.leases.renewed client ≡ None
+  pub lease : m.leases client ≡ None
   pub opens : opens_of client m.store.opens ≡ []
   pub locks : locks_of client m.store.opens ≡ []
 
@@ -21,12 +21,12 @@ pub record StaysBy (m : Machine) (now n : ℕ) : Type 0 where
   pub lock : LockState
   pub there : In lock m.store.opens.locks
   pub number : lock.number ≡ n
-  pub lasts : has_run_out m.leases now lock.client ≡ false
+  pub lasts : has_run_out m.store.lease m.leases now lock.client ≡ false
 
 -- At a moment, of a machine: by whether a client's lease has run out; and each byte that is held then is held by a lock state that stays.
 pub record EndsOnlyThose (m : Machine) (now : ℕ) : Type 0 where
-  pub ended : (client : ℕ) → has_run_out m.leases now client ≡ true → HasNothing client (expired now m)
-  pub spared : (client : ℕ) → has_run_out m.leases now client ≡ false → IsAsBefore client m (expired now m)
+  pub ended : (client : ℕ) → has_run_out m.store.lease m.leases now client ≡ true → HasNothing client (expired now m)
+  pub spared : (client : ℕ) → has_run_out m.store.lease m.leases now client ≡ false → IsAsBefore client m (expired now m)
   pub held : (file n byte : ℕ) (kind : Kind) → (expired now m).store.opens.held file n byte ≡ Some kind → StaysBy m now n
 
 abbrev pub WhatRunsOutEnds : Type 0

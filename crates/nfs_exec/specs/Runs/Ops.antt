@@ -1,14 +1,14 @@
 -- The operations that a compound runs behind its SEQUENCE, one by one (RFC 8881 section 2.3). That they are those of `run` is a law (OpsAreRun).
 use Rattle.std.specs.Prelude.{◌≡◌, ℕ, suc, ◌+◌, ◌==◌, true, false, List, [], ◌∷◌, ◌++◌, length, flat_map, Option, Some, if◌then◌else◌}
 use Rattle.nfs_xdr.specs.{declared.status.Status.Status, declared.status.Status.TheVariants.Nfs4Ok, Caller.Caller}
-use Rattle.nfs_compound.specs.{declared.op.Item.Item, declared.op.Item.TheVariants.Operation, Request.Request, declared.session_args.Sequence.Sequence}
+use Rattle.nfs_compound.specs.{declared.channel_attrs.ChannelAttrs.ChannelAttrs, declared.op.Item.Item, declared.op.Item.TheVariants.Operation, Request.Request, declared.session_args.Sequence.Sequence}
 use Rattle.nfs_compound.specs.declared.op.Op.TheVariants as Op
 use Rattle.nfs_results.specs.declared.res.Res.TheVariants as Res
 use Rattle.nfs_results.specs.Results.{spell_result, spell_compound_head}
-use Rattle.nfs_sessions.specs.{Id.id_of, declared.channel.Channel.Channel}
+use Rattle.nfs_sessions.specs.Id.{id_of}
 use Rattle.nfs_names.specs.{declared.context.Context.Context, Context.begins, Outcome.is_ok}
 use Rattle.nfs_exec.specs.{Step.Machine.Machine, Step.Sequence.{Sequenced, Runs, sequenced, sequence_ok}, Step.Behind.Step}
-use Rattle.nfs_exec.specs.{Step.Run.{Ran, run, in_room, is_here, behind_here}, Step.Compound.{begun, renewed, run_in, compound}}
+use Rattle.nfs_exec.specs.{Step.Run.{Ran, run, in_room, is_here, behind_here}, Step.Compound.{begun, renewed, compound}}
 use Rattle.nfs_exec.specs.Step.Laws.{MachineEvent, Expires, Asks, ran}
 
 -- an operation that was run: the machine and the context before it, its status and the bytes of its result, and the machine behind it
@@ -80,7 +80,7 @@ OpsAreRun = (limit sofar now : ℕ) (choice : Option ℕ) (m : Machine) (x : Con
 -- a repeat and a refusal run none
 abbrev pub ops_in : Machine → Request → Caller → ℕ → Option ℕ → Sequence → List Item → Sequenced → List RanOp
 ops_in m r who now choice s more (Runs c) =
-    ops c.response (begun r s c) now (behind_here choice) (renewed m now s) (begins (id_of s.sessionid).client who) more
+    ops c.maxresponsesize (begun r s c) now (behind_here choice) (renewed m now s) (begins (id_of s.sessionid).client who) more
 ops_in m r who now choice s more verdict = []
 
 abbrev pub ops_of : Machine → Request → Caller → (size now : ℕ) → Option ℕ → List Item → List RanOp
@@ -89,8 +89,10 @@ ops_of m r who size now choice items = []
 
 -- the machine that a run in a session begins with is the one whose client's lease was renewed, and this one is behind it
 abbrev pub OpsAreRunIn : Type 0
-OpsAreRunIn = (m : Machine) (r : Request) (who : Caller) (now : ℕ) (choice : Option ℕ) (s : Sequence) (c : Channel) (more : List Item)
-    → IsRunOf (renewed m now s) more (run_in (renewed m now s) r who now (behind_here choice) s c more) (ops_in m r who now choice s more (Runs c))
+OpsAreRunIn = (m : Machine) (r : Request) (who : Caller) (now : ℕ) (choice : Option ℕ) (s : Sequence) (c : ChannelAttrs) (more : List Item)
+    → IsRunOf (renewed m now s) more
+    (run c.maxresponsesize (begun r s c) now (behind_here choice) (renewed m now s) (begins (id_of s.sessionid).client who) more)
+    (ops_in m r who now choice s more (Runs c))
 
 -- those that an event runs
 abbrev pub ops_by : Machine → MachineEvent → List RanOp
@@ -100,6 +102,6 @@ ops_by m (Asks r who size now choice) = if r.minor == 1 then ops_of m r who size
 -- The answer to a request whose SEQUENCE comes to a run: NFS4_OK of SEQUENCE, and what these operations answer, one after the other.
 abbrev pub AnswersAreTheirs : Type 0
 AnswersAreTheirs = (m : Machine) (r : Request) (who : Caller) (size now : ℕ) (choice : Option ℕ) (s : Sequence) → ran m (Asks r who size now choice) ≡ Some s
-    → (c : Channel) × (let ds = ops_by m (Asks r who size now choice) in
+    → (c : ChannelAttrs) × (let ds = ops_by m (Asks r who size now choice) in
     (compound m r who size now choice).text
     ≡ spell_compound_head (last_status ds) r.tag (suc (length ds)) ++ (spell_result (Res.Sequence (sequence_ok s c)) ++ results_of ds))

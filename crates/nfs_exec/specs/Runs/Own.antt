@@ -15,7 +15,7 @@ sessions_of client t = filter (λ s. s.client == client) t.sessions
 pub record IsAsBefore (client : ℕ) (before behind : Machine) : Type 0 where
   pub known : client_at behind.clients client ≡ client_at before.clients client
   pub sessions : sessions_of client behind.sessions ≡ sessions_of client before.sessions
-  pub lease : behind.leases.renewed client ≡ before.leases.renewed client
+  pub lease : behind.leases client ≡ before.leases client
   pub own : HasAsBefore client before.store.opens behind.store.opens
 
 -- the client's record bears this owner

@@ -25,7 +25,8 @@ SparesIt b d = Spares b d.before.store d.context d.item d.result
 pub record StandsBefore (b : Byte) (d : RanOp) : Type 0 where
   pub stands : is_used d.before.store b.file ≡ true → StandsIn b (data_at d.before.store.tree b.file)
   pub found : is_used d.before.store b.file ≡ true → (h : List ℕ) → d.item ≡ Operation (Op.PutFh h)
-      → handle_of h ≡ Some (record { instance = d.before.store.instance; number = b.file }) → d.result ≡ spell_result (refusal (op_number Num.PutFh) Stale) → ⊥
+      → handle_of h ≡ Some (record { instance = d.before.store.opens.instance; number = b.file })
+      → d.result ≡ spell_result (refusal (op_number Num.PutFh) Stale) → ⊥
   pub read : (r : Reads b.file b.place d.context d.item d.result) → GivesIt b d.context d.item d.result r
 
 abbrev pub the_byte : Byte → Kept

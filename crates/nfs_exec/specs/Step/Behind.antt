@@ -6,15 +6,15 @@ use Rattle.nfs_compound.specs.declared.op.Op.TheVariants as Op
 use Rattle.nfs_names.specs.{declared.context.Context.Context, State.moment, Outcome.{Outcome as OfStore}}
 use Rattle.nfs_names.specs.Operation as names
 use Rattle.nfs_files.specs.Operation as files
-use Rattle.nfs_exec.specs.{Step.Machine.{Machine, Outcome, with_result, refuses}, Step.Place.status_behind, Step.ReclaimComplete.reclaim_complete}
+use Rattle.nfs_exec.specs.{Step.Machine.{Machine, MachineOutcome, with_result, with_refusal}, Step.Place.status_behind, Step.ReclaimComplete.reclaim_complete}
 
 pub record Step : Type 0 where
-  pub outcome : Outcome
+  pub outcome : MachineOutcome
   pub context : Context
 
 -- it is refused, and nothing changes
-abbrev pub stays : Machine → Context → Item → Status → Step
-stays m x item status = record { outcome = refuses m (item_number item) status; context = x }
+abbrev pub refused_step : Machine → Context → Item → Status → Step
+refused_step m x item status = record { outcome = with_refusal m (item_number item) status; context = x }
 
 -- an operation on the store leaves the other tables as they are
 abbrev pub on_store : Machine → OfStore → Step
@@ -23,7 +23,7 @@ on_store m o = record { outcome = with_result (record m { store = o.state }) o.r
 -- RECLAIM_COMPLETE, and what nothing carries out
 abbrev pub otherwise : Machine → Context → Item → Step
 otherwise m x (Operation (Op.ReclaimComplete one)) = record { outcome = reclaim_complete m x one; context = x }
-otherwise m x item = stays m x item (status_behind item)
+otherwise m x item = refused_step m x item (status_behind item)
 
 -- An item behind a SEQUENCE, at a moment in seconds, where memory was refused or not: an operation on names or attributes, one on open
 -- files, or one that is not on the store.

@@ -1,7 +1,7 @@
 -- A compound (RFC 8881 sections 2.3, 2.10.6.4 and 16.2): what it answers, and the machine behind it.
 use Rattle.std.specs.Prelude.{◌+◌, ℕ, ◌==◌, Bool, List, [], ◌∷◌, ◌++◌, length, Option, Some, None, if◌then◌else◌}
 use Rattle.nfs_xdr.specs.{declared.status.Status.Status, declared.status.Status.TheVariants.{Nfs4Ok, MinorVersMismatch, NotSupp}, Caller.Caller}
-use Rattle.nfs_compound.specs.{declared.op.Item.Item, declared.op.Item.TheVariants.Operation, declared.session_args.Sequence.Sequence}
+use Rattle.nfs_compound.specs.{declared.channel_attrs.ChannelAttrs.ChannelAttrs, declared.op.Item.Item, declared.op.Item.TheVariants.Operation, declared.session_args.Sequence.Sequence}
 use Rattle.nfs_compound.specs.{OpNum.op_number, Request.{Request, item_number}}
 use Rattle.nfs_compound.specs.declared.op_num.OpNum.TheVariants as Num
 use Rattle.nfs_compound.specs.declared.op.Op.TheVariants as Op
@@ -9,8 +9,8 @@ use Rattle.nfs_results.specs.declared.res.Res.TheVariants as Res
 use Rattle.nfs_results.specs.Results.{spell_result, spell_compound_head}
 use Rattle.nfs_names.specs.Context.{begins}
 use Rattle.nfs_lease.specs.Renewals.{with_renewal}
-use Rattle.nfs_sessions.specs.{declared.channel.Channel.Channel, SessionSlots.rpc_head, Id.id_of, Sessions.keep}
-use Rattle.nfs_exec.specs.{Step.Machine.{Machine, Outcome, with_result, refuses, by_fault, or_delay}, Step.Place.item_fault}
+use Rattle.nfs_sessions.specs.{Channel.rpc_head, Id.id_of, Sessions.keep}
+use Rattle.nfs_exec.specs.{Step.Machine.{Machine, MachineOutcome, with_result, with_refusal, by_fault, or_with_delay}, Step.Place.item_fault}
 use Rattle.nfs_exec.specs.{Step.ExchangeId.exchange_id, Step.CreateSession.create_session, Step.Destroy.{destroy_session, destroy_client}}
 use Rattle.nfs_exec.specs.Step.Sequence.{Sequenced, Refuses, Repeats, Runs, compared, sequenced, sequence_ok}
 use Rattle.nfs_exec.specs.Step.Run.{Ran, run, finished, only, follow, is_here, behind_here}
@@ -28,15 +28,15 @@ abbrev pub bare : Request → Status → Machine → Answered
 bare r status m = answers r (record (finished m) { status = status })
 
 -- Outside a session one operation stands alone, and may want memory; no other item is run there.
-abbrev pub carried_out : Machine → Caller → ℕ → Bool → Item → Outcome
-carried_out m who now refused (Operation (Op.ExchangeId e)) = or_delay refused m (op_number Num.ExchangeId) (exchange_id m who now e)
+abbrev pub carried_out : Machine → Caller → ℕ → Bool → Item → MachineOutcome
+carried_out m who now refused (Operation (Op.ExchangeId e)) = or_with_delay refused m (op_number Num.ExchangeId) (exchange_id m who now e)
 carried_out m who now refused (Operation (Op.CreateSession c)) = create_session m who now refused c
 carried_out m who now refused (Operation (Op.DestroySession sessionid)) = destroy_session m sessionid
 carried_out m who now refused (Operation (Op.DestroyClientId client)) = destroy_client m client
-carried_out m who now refused item = refuses m (item_number item) NotSupp
+carried_out m who now refused item = with_refusal m (item_number item) NotSupp
 
 -- an item outside a session, of so many declared
-abbrev pub first_item : Machine → ℕ → Caller → ℕ → Bool → Item → Outcome
+abbrev pub first_item : Machine → ℕ → Caller → ℕ → Bool → Item → MachineOutcome
 first_item m declared who now refused item = by_fault m (item_number item) (item_fault declared item) (carried_out m who now refused item)
 
 -- the lease of the session's client is renewed
@@ -44,16 +44,13 @@ abbrev pub renewed : Machine → ℕ → Sequence → Machine
 renewed m now s = record m { leases = with_renewal m.leases (id_of s.sessionid).client now }
 
 -- the bytes of a reply with SEQUENCE's result, its RPC head and the head of its compound among them
-abbrev pub begun : Request → Sequence → Channel → ℕ
+abbrev pub begun : Request → Sequence → ChannelAttrs → ℕ
 begun r s c = rpc_head + length (spell_compound_head Nfs4Ok r.tag 0) + length (spell_result (Res.Sequence (sequence_ok s c)))
 
--- what is behind SEQUENCE runs for the session's client, in what the channel lets pass
-abbrev pub run_in : Machine → Request → Caller → ℕ → Option ℕ → Sequence → Channel → List Item → Ran
-run_in m r who now choice s c more = run c.response (begun r s c) now choice m (begins (id_of s.sessionid).client who) more
-
--- SEQUENCE answers, and what is behind it runs
-abbrev pub runs_behind : Machine → Request → Caller → ℕ → Option ℕ → Sequence → Channel → List Item → Ran
-runs_behind m r who now choice s c more = follow (with_result m (Res.Sequence (sequence_ok s c))) (run_in m r who now (behind_here choice) s c more)
+-- SEQUENCE answers, and what is behind it runs for the session's client, in what the channel lets pass
+abbrev pub runs_behind : Machine → Request → Caller → ℕ → Option ℕ → Sequence → ChannelAttrs → List Item → Ran
+runs_behind m r who now choice s c more = follow (with_result m (Res.Sequence (sequence_ok s c)))
+    (run c.maxresponsesize (begun r s c) now (behind_here choice) m (begins (id_of s.sessionid).client who) more)
 
 -- the slot keeps the whole answer
 abbrev pub keeps : Request → Caller → Sequence → Answered → Answered
@@ -62,7 +59,7 @@ keeps r who s a =
 
 -- a refusal and a repeat change nothing
 abbrev pub in_session : Machine → Request → Caller → ℕ → Option ℕ → Sequence → List Item → Sequenced → Answered
-in_session m r who now choice s more (Refuses status) = answers r (only (refuses m (op_number Num.Sequence) status))
+in_session m r who now choice s more (Refuses status) = answers r (only (with_refusal m (op_number Num.Sequence) status))
 in_session m r who now choice s more (Repeats reply) = record { text = reply; machine = m }
 in_session m r who now choice s more (Runs c) = keeps r who s (answers r (runs_behind (renewed m now s) r who now choice s c more))
 

@@ -3,44 +3,23 @@
 use Rattle.std.specs.Prelude.{ℕ, ◌+◌, ◌==◌, nat_le, not, Bool, List, [], ◌∷◌, ◌++◌, count_by, Option, Some, None, Result, Ok, Err, ok_or, if◌then◌else◌}
 use Rattle.nfs_xdr.specs.{declared.status.Status.Status, Caller.Caller}
 use Rattle.nfs_xdr.specs.declared.status.Status.TheVariants.{Nfs4Ok, StaleClientId, SeqMisordered, ClidInUse, TooSmall, NoSpc, ServerFault}
+use Rattle.nfs_xdr.specs.Numbers.{next_number}
 use Rattle.nfs_compound.specs.declared.op_num.OpNum.TheVariants as Num
-use Rattle.nfs_compound.specs.{OpNum.op_number, declared.channel_attrs.ChannelAttrs.ChannelAttrs, declared.session_args.CreateSession.CreateSession}
+use Rattle.nfs_compound.specs.{OpNum.op_number, declared.session_args.CreateSession.CreateSession}
 use Rattle.nfs_results.specs.{declared.res.CreateSessionOk.CreateSessionOk, Parts.parts, Results.done_head}
 use Rattle.nfs_results.specs.declared.res.Res.TheVariants as Res
 use Rattle.nfs_clients.specs.{declared.created.CreateResult.CreateResult, declared.created.CreateResult.TheVariants.{Done, Refused}}
 use Rattle.nfs_clients.specs.{Roster.{ClientRecord, client_at, with_changed}, CreateSession.{leaving, with_confirmed}}
-use Rattle.nfs_slots.specs.Slot.{next_number}
-use Rattle.nfs_sessions.specs.{declared.channel.Channel.Channel, declared.channel.Wish.Wish, declared.id.SessionId.SessionId}
+use Rattle.nfs_sessions.specs.{declared.channel.Wish.Wish, declared.id.SessionId.SessionId}
 use Rattle.nfs_sessions.specs.{Channel.{granted, is_too_small}, Id.id_bytes}
-use Rattle.nfs_sessions.specs.Sessions.{SessionTable, most_sessions, last_counter, stays, with_session, without_client}
+use Rattle.nfs_sessions.specs.Sessions.{SessionTable, most_sessions, last_counter, outlasts, with_session, without_client}
 use Rattle.nfs_opens.specs.Steps.{require, in_order, ◌>>=◌, ◌>>◌}
 use Rattle.nfs_lease.specs.Renewals.{with_renewal}
 use Rattle.nfs_names.specs.{State.State, Ending.staying}
-use Rattle.nfs_exec.specs.{Step.Machine.{Machine, Outcome, refuses, or_refusal, or_delay}, Step.ExchangeId.without_any_lease}
-
--- what is asked for of a channel, and what is answered of one; there is no header padding and no RDMA
-abbrev pub channel_of : ChannelAttrs → Channel
-channel_of a = record {
-  request = a.maxrequestsize;
-  response = a.maxresponsesize;
-  cached = a.maxresponsesize_cached;
-  operations = a.maxoperations;
-  slots = a.maxrequests;
-}
-
-abbrev pub attrs_of : Channel → ChannelAttrs
-attrs_of c = record {
-  headerpadsize = 0;
-  maxrequestsize = c.request;
-  maxresponsesize = c.response;
-  maxresponsesize_cached = c.cached;
-  maxoperations = c.operations;
-  maxrequests = c.slots;
-  rdma_ird = None;
-}
+use Rattle.nfs_exec.specs.{Step.Machine.{Machine, MachineOutcome, with_refusal, or_with_refusal, or_with_delay}, Step.ExchangeId.without_any_lease}
 
 abbrev pub wish_of : Machine → CreateSession → Wish
-wish_of m c = record { fore = channel_of c.fore_chan_attrs; back = channel_of c.back_chan_attrs; leaving = leaving m.clients c.clientid }
+wish_of m c = record { fore = c.fore_chan_attrs; back = c.back_chan_attrs; leaving = leaving m.clients c.clientid }
 
 -- the answer: no flag is granted, and the back channel's attributes are those asked for
 abbrev pub session_made : CreateSession → SessionId → CreateSessionOk
@@ -48,7 +27,7 @@ session_made c id = record {
   sessionid = id_bytes id;
   sequence = c.sequence;
   flags = 0;
-  fore_chan_attrs = attrs_of (granted (channel_of c.fore_chan_attrs));
+  fore_chan_attrs = granted c.fore_chan_attrs;
   back_chan_attrs = c.back_chan_attrs;
 }
 
@@ -79,7 +58,7 @@ confirmed m now client body = record {
 }
 
 -- a result that was kept is answered again
-abbrev pub kept_again : Machine → Option CreateResult → Result Outcome Status
+abbrev pub kept_again : Machine → Option CreateResult → Result MachineOutcome Status
 kept_again m (Some (Done body)) = Ok (record { status = Nfs4Ok; result = done_head Num.CreateSession ++ body; machine = m })
 kept_again m (Some (Refused status)) = Err status
 kept_again m None = Err SeqMisordered
@@ -87,13 +66,13 @@ kept_again m None = Err SeqMisordered
 -- what is asked for: the channel, a place among the sessions that stay, and a counter
 abbrev pub session_checks : Machine → CreateSession → List (Bool × Status)
 session_checks m c =
-    (is_too_small (channel_of c.fore_chan_attrs), TooSmall)
-    ∷ (nat_le most_sessions (count_by (stays (leaving m.clients c.clientid)) m.sessions.sessions), NoSpc)
+    (is_too_small c.fore_chan_attrs, TooSmall)
+    ∷ (nat_le most_sessions (count_by (outlasts (leaving m.clients c.clientid)) m.sessions.sessions), NoSpc)
     ∷ (m.sessions.last == last_counter, ServerFault)
     ∷ []
 
 -- the session is made
-abbrev pub made : Machine → (now : ℕ) → CreateSession → Outcome
+abbrev pub made : Machine → (now : ℕ) → CreateSession → MachineOutcome
 made m now c =
     let body = made_body c (record { client = c.clientid; counter = m.sessions.last + 1 }) in
     record {
@@ -103,18 +82,18 @@ made m now c =
     }
 
 -- a refusal of what is asked for uses the number up too
-abbrev pub or_kept_refusal : Machine → CreateSession → Result Outcome Status → Outcome
+abbrev pub or_kept_refusal : Machine → CreateSession → Result MachineOutcome Status → MachineOutcome
 or_kept_refusal m c (Ok o) = o
 or_kept_refusal m c (Err status) =
-    refuses (record m { clients = with_changed m.clients c.clientid (keeping (Refused status)) }) (op_number Num.CreateSession) status
+    with_refusal (record m { clients = with_changed m.clients c.clientid (keeping (Refused status)) }) (op_number Num.CreateSession) status
 
 -- A result that is answered again wants no memory.
-abbrev pub create_session : Machine → Caller → (now : ℕ) → (refused : Bool) → CreateSession → Outcome
-create_session m who now refused c = or_refusal m (op_number Num.CreateSession) (do
+abbrev pub create_session : Machine → Caller → (now : ℕ) → (refused : Bool) → CreateSession → MachineOutcome
+create_session m who now refused c = or_with_refusal m (op_number Num.CreateSession) (do
   client ← ok_or (client_at m.clients c.clientid) StaleClientId
   if next_number c.sequence == client.number then kept_again m client.kept else do
     require (c.sequence == client.number) SeqMisordered
     require (client.uid == who.uid) ClidInUse
-    Ok (or_delay refused m (op_number Num.CreateSession) (or_kept_refusal m c (do
+    Ok (or_with_delay refused m (op_number Num.CreateSession) (or_kept_refusal m c (do
       in_order (session_checks m c)
       Ok (made m now c)))))

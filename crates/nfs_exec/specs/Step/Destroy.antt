@@ -5,33 +5,28 @@ use Rattle.nfs_xdr.specs.declared.status.Status.TheVariants.{BadSession, StaleCl
 use Rattle.nfs_compound.specs.declared.op_num.OpNum.TheVariants as Num
 use Rattle.nfs_compound.specs.OpNum.{op_number}
 use Rattle.nfs_results.specs.declared.res.Res.TheVariants as Res
-use Rattle.nfs_sessions.specs.{Id.id_of, Sessions.{SessionTable, session_at}}
+use Rattle.nfs_sessions.specs.{Id.id_of, Sessions.session_at}
 use Rattle.nfs_sessions.specs.Sessions as sessions
 use Rattle.nfs_clients.specs.Roster.{without}
 use Rattle.nfs_lease.specs.Renewals.{without_lease}
 use Rattle.nfs_names.specs.Ending.{has_open}
-use Rattle.nfs_exec.specs.Step.Machine.{Machine, Outcome, with_result, refuses, by_fault, is_client}
+use Rattle.nfs_exec.specs.Step.Machine.{Machine, MachineOutcome, with_result, with_refusal, by_fault, is_client}
 
 -- a session goes with its slots
-abbrev pub destroy_session : Machine → List ℕ → Outcome
+abbrev pub destroy_session : Machine → List ℕ → MachineOutcome
 destroy_session m sessionid =
     if is_some (session_at m.sessions (id_of sessionid))
     then with_result (record m { sessions = sessions.destroyed m.sessions (id_of sessionid) }) Res.DestroySession
-    else refuses m (op_number Num.DestroySession) BadSession
-
-abbrev pub has_session : SessionTable → ℕ → Bool
-has_session t client = list_any (λ s. s.client == client) t.sessions
+    else with_refusal m (op_number Num.DestroySession) BadSession
 
 -- why a client cannot go: there is none, or it has a session or an open
 abbrev pub client_fault : Machine → ℕ → Option Status
 client_fault m client = first_fault (
     (not (is_client m.clients client), StaleClientId)
-    ∷ (has_session m.sessions client || has_open m.store client, ClientIdBusy)
+    ∷ (list_any (λ s. s.client == client) m.sessions.sessions || has_open m.store client, ClientIdBusy)
     ∷ [])
 
 -- a client goes with its lease
-abbrev pub client_ended : Machine → ℕ → Outcome
-client_ended m client = with_result (record m { clients = without m.clients client; leases = without_lease m.leases client }) Res.DestroyClientId
-
-abbrev pub destroy_client : Machine → ℕ → Outcome
-destroy_client m client = by_fault m (op_number Num.DestroyClientId) (client_fault m client) (client_ended m client)
+abbrev pub destroy_client : Machine → ℕ → MachineOutcome
+destroy_client m client = by_fault m (op_number Num.DestroyClientId) (client_fault m client)
+    (with_result (record m { clients = without m.clients client; leases = without_lease m.leases client }) Res.DestroyClientId)

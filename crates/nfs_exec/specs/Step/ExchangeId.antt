@@ -9,7 +9,7 @@ use Rattle.nfs_clients.specs.{Roster.{ClientRecord, next_id, confirmed_of, uncon
 use Rattle.nfs_opens.specs.Steps.{require, ◌>>=◌, ◌>>◌}
 use Rattle.nfs_names.specs.Ending.{has_open}
 use Rattle.nfs_lease.specs.Renewals.{Book, with_lease, without_lease}
-use Rattle.nfs_exec.specs.Step.Machine.{Machine, Outcome, with_result, or_refusal}
+use Rattle.nfs_exec.specs.Step.Machine.{Machine, MachineOutcome, with_result, or_with_refusal}
 
 -- EXCHGID4_FLAG_CONFIRMED_R, which no call may carry
 abbrev pub carries_confirmed : ExchangeId → Bool
@@ -59,7 +59,7 @@ without_any_lease b None = b
 without_any_lease b (Some client) = without_lease b client
 
 -- A new record begins its lease. The owner's unconfirmed one, which it replaces, loses its own.
-abbrev pub exchanged : Machine → Caller → (now : ℕ) → ExchangeId → Option ClientRecord → Result Outcome Status
+abbrev pub exchanged : Machine → Caller → (now : ℕ) → ExchangeId → Option ClientRecord → Result MachineOutcome Status
 exchanged m who now e (Some c) = Ok (with_result m (Res.ExchangeId (granted c.id c.number true)))
 exchanged m who now e None = do
   require (has_room m.clients e.ownerid) ServerFault
@@ -68,8 +68,8 @@ exchanged m who now e None = do
     leases = without_any_lease (with_lease m.leases (next_id m.clients) now) (option_map (λ c. c.id) (unconfirmed_of m.clients e.ownerid));
   }) (Res.ExchangeId (granted (next_id m.clients) 1 false)))
 
-abbrev pub exchange_id : Machine → Caller → (now : ℕ) → ExchangeId → Outcome
-exchange_id m who now e = or_refusal m (op_number Num.ExchangeId) (do
+abbrev pub exchange_id : Machine → Caller → (now : ℕ) → ExchangeId → MachineOutcome
+exchange_id m who now e = or_with_refusal m (op_number Num.ExchangeId) (do
   require (not (carries_confirmed e)) Inval
   found ← standing m who e (confirmed_of m.clients e.ownerid)
   exchanged m who now e found)

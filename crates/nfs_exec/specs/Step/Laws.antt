@@ -7,7 +7,7 @@ use Rattle.nfs_compound.specs.declared.op_num.OpNum.TheVariants as Num
 use Rattle.nfs_compound.specs.declared.op.Op.TheVariants as Op
 use Rattle.nfs_lease.specs.Renewals.{has_run_out}
 use Rattle.nfs_sessions.specs.{declared.id.SessionId.SessionId, Id.id_of, Laws.is_id}
-use Rattle.nfs_exec.specs.{Step.Machine.{Machine, starts, refuses}, Step.Sequence.{Sequenced, Refuses, Repeats, Runs, sequenced}}
+use Rattle.nfs_exec.specs.{Step.Machine.{Machine, starts, with_refusal}, Step.Sequence.{Sequenced, Refuses, Repeats, Runs, sequenced}}
 use Rattle.nfs_exec.specs.{Step.Run.only, Step.Compound.{answers, compound}, Step.Expiry.expired}
 
 -- The request begins with this SEQUENCE, which comes to this.
@@ -27,7 +27,7 @@ RepeatsChangeNothing = (m : Machine) (r : Request) (who : Caller) (size now : �
 abbrev pub RefusalsChangeNothing : Type 0
 RefusalsChangeNothing = (m : Machine) (r : Request) (who : Caller) (size now : ℕ) (choice : Option ℕ) (s : Sequence) (status : Status)
     → Begins m r who size s (Refuses status)
-    → compound m r who size now choice ≡ answers r (only (refuses m (op_number Num.Sequence) status))
+    → compound m r who size now choice ≡ answers r (only (with_refusal m (op_number Num.Sequence) status))
 
 -- Expiry at two moments is expiry at the later.
 abbrev pub ExpiresOnce : Type 0
@@ -36,7 +36,7 @@ ExpiresOnce = (m : Machine) (first later : ℕ) → first ≤ later → expired 
 -- Behind a record, whose compound comes behind the expiry of its moment, expiry at the same moment finds nothing: no lease has run out.
 abbrev pub ExpiryFindsNothing : Type 0
 ExpiryFindsNothing = (m : Machine) (r : Request) (who : Caller) (size now : ℕ) (choice : Option ℕ) (client : ℕ)
-    → has_run_out (compound (expired now m) r who size now choice).machine.leases now client ≡ false
+    → (let left = (compound (expired now m) r who size now choice).machine in has_run_out left.store.lease left.leases now client ≡ false)
 
 -- What comes to a server: a moment at which leases run out; or a request of a caller, in a record of so many bytes, at a moment,
 -- with the place, if any, at which memory was refused.

@@ -21,38 +21,38 @@ abbrev pub starts : (mode instance lease : ℕ) → Machine
 starts mode instance lease = record {
   clients = no_clients instance;
   sessions = no_sessions;
-  leases = no_leases lease;
+  leases = no_leases;
   store = new_store mode (moment 0) instance lease;
 }
 
 -- What one operation comes to: its status, its result as it is spelled, and the machine behind it.
-pub record Outcome : Type 0 where
+pub record MachineOutcome : Type 0 where
   pub status : Status
   pub result : List ℕ
   pub machine : Machine
 
 -- the outcome with this result, and this machine behind it
-abbrev pub with_result : Machine → Res → Outcome
+abbrev pub with_result : Machine → Res → MachineOutcome
 with_result m r = record { status = status_of_result r; result = spell_result r; machine = m }
 
 -- the refusal of an operation, which changes nothing
-abbrev pub refuses : Machine → ℕ → Status → Outcome
-refuses m operation status = with_result m (refusal operation status)
+abbrev pub with_refusal : Machine → ℕ → Status → MachineOutcome
+with_refusal m operation status = with_result m (refusal operation status)
 
 -- The steps of an operation: it is refused, or comes to an outcome.
-abbrev pub or_refusal : Machine → ℕ → Result Outcome Status → Outcome
-or_refusal m operation (Err status) = refuses m operation status
-or_refusal m operation (Ok o) = o
+abbrev pub or_with_refusal : Machine → ℕ → Result MachineOutcome Status → MachineOutcome
+or_with_refusal m operation (Err status) = with_refusal m operation status
+or_with_refusal m operation (Ok o) = o
 
 -- an operation is refused with its fault, if it has one, and else comes to an outcome
-abbrev pub by_fault : Machine → ℕ → Option Status → Outcome → Outcome
+abbrev pub by_fault : Machine → ℕ → Option Status → MachineOutcome → MachineOutcome
 by_fault m operation None o = o
-by_fault m operation (Some status) o = refuses m operation status
+by_fault m operation (Some status) o = with_refusal m operation status
 
 -- What an operation that may want memory comes to: where memory was refused it answers NFS4ERR_DELAY in place of
 -- NFS4_OK and changes nothing; a refusal of its own comes before that.
-abbrev pub or_delay : Bool → Machine → ℕ → Outcome → Outcome
-or_delay refused m operation o = if refused && is_ok o.status then refuses m operation Delay else o
+abbrev pub or_with_delay : Bool → Machine → ℕ → MachineOutcome → MachineOutcome
+or_with_delay refused m operation o = if refused && is_ok o.status then with_refusal m operation Delay else o
 
 abbrev pub is_client : Roster → ℕ → Bool
 is_client t client = is_some (client_at t client)
@@ -65,7 +65,7 @@ pub record IsMachine (m : Machine) : Type 0 where
   -- client ids rise, and no owner has two records of one kind
   pub clients : IsRoster m.clients
   -- a client record has a lease, and nothing else has one
-  pub leased : (client : ℕ) → is_some (m.leases.renewed client) ≡ is_client m.clients client
+  pub leased : (client : ℕ) → is_some (m.leases client) ≡ is_client m.clients client
   -- the client of each session is there and confirmed
   pub confirmed : (s : Session) → In s m.sessions.sessions → is_confirmed m.clients s.client ≡ true
   -- who has an open is there and confirmed

@@ -3,31 +3,31 @@
 use Rattle.std.specs.{Prelude.{ℕ, ◌++◌, Bool, false, List, Option, Result, Ok, Err, ok_or, if◌then◌else◌}, Option.option_map_or}
 use Rattle.nfs_xdr.specs.{Checks.{first_fault, judged}, Caller.Caller, declared.status.Status.Status}
 use Rattle.nfs_xdr.specs.declared.status.Status.TheVariants.{Nfs4Ok, StaleClientId, SeqMisordered, ClidInUse, BadSession}
-use Rattle.nfs_compound.specs.{declared.session_args.Sequence.Sequence, declared.session_args.CreateSession.CreateSession, Request.Request}
+use Rattle.nfs_compound.specs.{declared.channel_attrs.ChannelAttrs.ChannelAttrs, declared.session_args.Sequence.Sequence, declared.session_args.CreateSession.CreateSession, Request.Request}
 use Rattle.nfs_compound.specs.{declared.session_args.ExchangeId.ExchangeId, OpNum.op_number}
 use Rattle.nfs_compound.specs.declared.op_num.OpNum.TheVariants as Num
 use Rattle.nfs_results.specs.{declared.res.ExchangeIdOk.ExchangeIdOk, declared.res.Res.Res, Results.done_head}
-use Rattle.nfs_slots.specs.declared.slot.Verdict.{Verdict}
+use Rattle.nfs_slots.specs.{Slot.judge, declared.slot.Verdict.Verdict}
 use Rattle.nfs_clients.specs.{declared.created.CreateResult.CreateResult, declared.created.CreateResult.TheVariants.{Done, Refused}}
 use Rattle.nfs_clients.specs.{declared.exchange_id.Exchanged.Exchanged, declared.exchange_id.ClientFault.ClientFault, Roster.confirmed_of}
 use Rattle.nfs_clients.specs.CreateSession.{Verdict as ByNumber, Stale, Again, Misordered, InUse, Runs, create_verdict, with_kept}
-use Rattle.nfs_clients.specs.ExchangeId.{Ask, Did, asks, exchange, fault_status}
-use Rattle.nfs_sessions.specs.{declared.channel.Channel.Channel, declared.id.SessionId.SessionId, declared.sessions.SessionFault.SessionFault}
-use Rattle.nfs_sessions.specs.{SessionSlots.{GrantedSlots, judge}, Sessions.{Session, SessionTable, Created, create}}
+use Rattle.nfs_clients.specs.ExchangeId.{Ask, Did, asks, exchange, client_fault_status}
+use Rattle.nfs_sessions.specs.{declared.id.SessionId.SessionId, declared.sessions.SessionFault.SessionFault}
+use Rattle.nfs_sessions.specs.Sessions.{Session, SessionTable, Created, create}
 use Rattle.nfs_sessions.specs.Sessions as sessions
 use Rattle.nfs_opens.specs.Steps.{in_order, ◌>>=◌, ◌>>◌}
 use Rattle.nfs_names.specs.Ending.{has_open}
 use Rattle.nfs_lease.specs.Renewals.{Book, with_lease}
-use Rattle.nfs_exec.specs.{Step.Machine.{Machine, Outcome, with_result, refuses, or_delay}, Step.ExchangeId.{granted, without_any_lease}}
+use Rattle.nfs_exec.specs.{Step.Machine.{Machine, MachineOutcome, with_result, with_refusal, or_with_delay}, Step.ExchangeId.{granted, without_any_lease}}
 use Rattle.nfs_exec.specs.Step.CreateSession.{wish_of, made_body, confirmed}
 use Rattle.nfs_exec.specs.Step.Sequence.{Sequenced, compared, or_refuses, slot_checks, fresh_checks, by_slot}
 
 -- SEQUENCE
 
-abbrev pub slot_fault : Sequence → Channel → Option Status
+abbrev pub slot_fault : Sequence → ChannelAttrs → Option Status
 slot_fault s c = first_fault (slot_checks s c)
 
-abbrev pub fresh_fault : Request → (size : ℕ) → Channel → Option Status
+abbrev pub fresh_fault : Request → (size : ℕ) → ChannelAttrs → Option Status
 fresh_fault r size c = first_fault (fresh_checks r size c)
 
 -- it is refused with a fault, if it has one, or goes on
@@ -35,45 +35,45 @@ abbrev pub past : Option Status → Result Sequenced Status → Sequenced
 past fault next = or_refuses (judged fault >> next)
 
 -- where the slot has judged
-abbrev pub slot_says : Request → (size : ℕ) → Sequence → GrantedSlots → Verdict → Sequenced
-slot_says r size s g v = or_refuses (by_slot r size s g v)
+abbrev pub slot_says : Request → (size : ℕ) → Sequence → Session → Verdict → Sequenced
+slot_says r size s session v = or_refuses (by_slot r size s session v)
 
 -- by the session that was found
 abbrev pub by_session : Request → Caller → (size : ℕ) → Sequence → Option Session → Sequenced
 by_session r who size s found = or_refuses (do
   session ← ok_or found BadSession
-  in_order (slot_checks s session.slots.channel)
-  by_slot r size s session.slots (judge session.slots s.slotid s.sequenceid who.uid (compared r)))
+  in_order (slot_checks s session.channel)
+  by_slot r size s session (judge session.slots s.slotid s.sequenceid who.uid (compared r)))
 
 -- CREATE_SESSION
 
-abbrev pub by_created : Machine → (now : ℕ) → CreateSession → SessionTable → Result SessionId SessionFault → Outcome
+abbrev pub by_created : Machine → (now : ℕ) → CreateSession → SessionTable → Result SessionId SessionFault → MachineOutcome
 by_created m now c after (Ok id) = record {
   status = Nfs4Ok;
   result = done_head Num.CreateSession ++ made_body c id;
   machine = confirmed (record m { sessions = after }) now c.clientid (made_body c id);
 }
 by_created m now c after (Err fault) =
-    let status = sessions.fault_status fault in
-    refuses (record m { clients = with_kept m.clients c.clientid (Refused status) }) (op_number Num.CreateSession) status
+    let status = sessions.session_fault_status fault in
+    with_refusal (record m { clients = with_kept m.clients c.clientid (Refused status) }) (op_number Num.CreateSession) status
 
-abbrev pub creates : Machine → (now : ℕ) → CreateSession → Created → Outcome
+abbrev pub creates : Machine → (now : ℕ) → CreateSession → Created → MachineOutcome
 creates m now c did = by_created m now c did.after did.answer
 
 -- what was kept, answered again
-abbrev pub repeated : Machine → CreateResult → Outcome
+abbrev pub repeated : Machine → CreateResult → MachineOutcome
 repeated m (Done body) = record { status = Nfs4Ok; result = done_head Num.CreateSession ++ body; machine = m }
-repeated m (Refused status) = refuses m (op_number Num.CreateSession) status
+repeated m (Refused status) = with_refusal m (op_number Num.CreateSession) status
 
 -- by what the table of clients says of the number
-abbrev pub by_number : Machine → (now : ℕ) → (refused : Bool) → CreateSession → ByNumber → Outcome
-by_number m now refused c Stale = refuses m (op_number Num.CreateSession) StaleClientId
+abbrev pub by_number : Machine → (now : ℕ) → (refused : Bool) → CreateSession → ByNumber → MachineOutcome
+by_number m now refused c Stale = with_refusal m (op_number Num.CreateSession) StaleClientId
 by_number m now refused c (Again result) = repeated m result
-by_number m now refused c Misordered = refuses m (op_number Num.CreateSession) SeqMisordered
-by_number m now refused c InUse = refuses m (op_number Num.CreateSession) ClidInUse
-by_number m now refused c Runs = or_delay refused m (op_number Num.CreateSession) (creates m now c (create m.sessions c.clientid (wish_of m c)))
+by_number m now refused c Misordered = with_refusal m (op_number Num.CreateSession) SeqMisordered
+by_number m now refused c InUse = with_refusal m (op_number Num.CreateSession) ClidInUse
+by_number m now refused c Runs = or_with_delay refused m (op_number Num.CreateSession) (creates m now c (create m.sessions c.clientid (wish_of m c)))
 
-abbrev pub created_by : Machine → Caller → (now : ℕ) → (refused : Bool) → CreateSession → Outcome
+abbrev pub created_by : Machine → Caller → (now : ℕ) → (refused : Bool) → CreateSession → MachineOutcome
 created_by m who now refused c = by_number m now refused c (create_verdict m.clients c.clientid c.sequence who.uid)
 
 -- EXCHANGE_ID
@@ -83,7 +83,7 @@ granted_of x = granted x.id x.number x.confirmed
 
 abbrev pub answered : Result Exchanged ClientFault → Res
 answered (Ok x) = Res.ExchangeId (granted_of x)
-answered (Err fault) = Res.Refused (op_number Num.ExchangeId) (fault_status fault)
+answered (Err fault) = Res.Refused (op_number Num.ExchangeId) (client_fault_status fault)
 
 abbrev pub leases_behind : Book → (now : ℕ) → Result Exchanged ClientFault → Book
 leases_behind b now (Err fault) = b
@@ -98,8 +98,8 @@ abbrev pub ask_of : Machine → Caller → ExchangeId → Ask
 ask_of m who e = asks e.ownerid e.verifier e.flags who.uid (owner_has_open m e.ownerid)
 
 -- what the table did, told
-abbrev pub did_exchange : Machine → (now : ℕ) → Did → Outcome
+abbrev pub did_exchange : Machine → (now : ℕ) → Did → MachineOutcome
 did_exchange m now did = with_result (record m { clients = did.after; leases = leases_behind m.leases now did.answer }) (answered did.answer)
 
-abbrev pub exchanged_by : Machine → Caller → (now : ℕ) → ExchangeId → Outcome
+abbrev pub exchanged_by : Machine → Caller → (now : ℕ) → ExchangeId → MachineOutcome
 exchanged_by m who now e = did_exchange m now (exchange m.clients (ask_of m who e))

@@ -5,7 +5,7 @@ use Rattle.nfs_xdr.specs.{declared.status.Status.Status, declared.status.Status.
 use Rattle.nfs_compound.specs.declared.op.Item.{Item}
 use Rattle.nfs_results.specs.Largest.{largest}
 use Rattle.nfs_names.specs.{declared.context.Context.Context, Outcome.is_ok}
-use Rattle.nfs_exec.specs.{Step.Machine.{Machine, Outcome}, Step.Behind.{Step, stays, step}}
+use Rattle.nfs_exec.specs.{Step.Machine.{Machine, MachineOutcome}, Step.Behind.{Step, refused_step, step}}
 
 -- The place at which memory was refused, if any, is counted from here ..
 abbrev pub is_here : Option ℕ → Bool
@@ -25,7 +25,7 @@ reserve = 12
 -- may have needs room before it is run.
 abbrev pub in_room : (limit sofar now : ℕ) → (refused : Bool) → Machine → Context → Item → Step
 in_room limit sofar now refused m x item =
-    if nat_lt limit (sofar + largest item + reserve) then stays m x item RepTooBig
+    if nat_lt limit (sofar + largest item + reserve) then refused_step m x item RepTooBig
     else step m x now refused item
 
 -- the status of the last, how many were run, their results, and the machine behind them
@@ -40,11 +40,11 @@ abbrev pub finished : Machine → Ran
 finished m = record { status = Nfs4Ok; count = 0; results = []; machine = m }
 
 -- one operation was run, and nothing behind it
-abbrev pub only : Outcome → Ran
+abbrev pub only : MachineOutcome → Ran
 only o = record { status = o.status; count = 1; results = o.result; machine = o.machine }
 
 -- the run goes on behind NFS4_OK, and stops with any other status
-abbrev pub follow : Outcome → Ran → Ran
+abbrev pub follow : MachineOutcome → Ran → Ran
 follow o rest =
     if is_ok o.status then record { status = rest.status; count = suc rest.count; results = o.result ++ rest.results; machine = rest.machine }
     else only o

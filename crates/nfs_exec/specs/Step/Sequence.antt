@@ -3,10 +3,10 @@ use Rattle.std.specs.Prelude.{ℕ, ◌+◌, ◌-◌, nat_lt, nat_le, Bool, List,
 use Rattle.nfs_xdr.specs.{Spelling.padding, declared.status.Status.Status}
 use Rattle.nfs_xdr.specs.declared.status.Status.TheVariants.{BadSession, BadSlot, BadHighSlot, SeqMisordered, SeqFalseRetry, ReqTooBig, TooManyOps}
 use Rattle.nfs_xdr.specs.Caller.{Caller}
-use Rattle.nfs_compound.specs.{declared.session_args.Sequence.Sequence, Request.Request}
+use Rattle.nfs_compound.specs.{declared.channel_attrs.ChannelAttrs.ChannelAttrs, declared.session_args.Sequence.Sequence, Request.Request}
 use Rattle.nfs_results.specs.declared.res.SequenceOk.{SequenceOk}
-use Rattle.nfs_slots.specs.{declared.slot.Verdict.Verdict, declared.slot.Verdict.TheVariants.{Fresh, Again, FalseRetry, Misordered, NoSlot}}
-use Rattle.nfs_sessions.specs.{declared.channel.Channel.Channel, Id.id_of, SessionSlots.{GrantedSlots, judge, kept}, Sessions.session_at}
+use Rattle.nfs_slots.specs.{Slot.{judge, kept}, declared.slot.Verdict.Verdict, declared.slot.Verdict.TheVariants.{Fresh, Again, FalseRetry, Misordered, NoSlot}}
+use Rattle.nfs_sessions.specs.{Id.id_of, Sessions.{Session, session_at}}
 use Rattle.nfs_opens.specs.Steps.{in_order, ◌>>=◌, ◌>>◌}
 use Rattle.nfs_exec.specs.Step.Machine.{Machine}
 
@@ -25,7 +25,7 @@ compared r = take (highest_at r) r.bytes ++ drop (highest_at r + 4) r.bytes
 pub data Sequenced : Type 0 where
   Refuses : Status → Sequenced
   Repeats : (reply : List ℕ) → Sequenced
-  Runs : Channel → Sequenced
+  Runs : ChannelAttrs → Sequenced
 
 -- refused at a step, or what the steps come to
 abbrev pub or_refuses : Result Sequenced Status → Sequenced
@@ -33,37 +33,37 @@ or_refuses (Err status) = Refuses status
 or_refuses (Ok verdict) = verdict
 
 -- the slot that is named, and the highest one that the client has in use
-abbrev pub slot_checks : Sequence → Channel → List (Bool × Status)
-slot_checks s c = (nat_le c.slots s.slotid, BadSlot) ∷ (nat_le c.slots s.highest_slotid, BadHighSlot) ∷ []
+abbrev pub slot_checks : Sequence → ChannelAttrs → List (Bool × Status)
+slot_checks s c = (nat_le c.maxrequests s.slotid, BadSlot) ∷ (nat_le c.maxrequests s.highest_slotid, BadHighSlot) ∷ []
 
 -- of a new request, the size of its record in bytes, and how many operations it declares
-abbrev pub fresh_checks : Request → (size : ℕ) → Channel → List (Bool × Status)
-fresh_checks r size c = (nat_lt c.request size, ReqTooBig) ∷ (nat_lt c.operations r.declared, TooManyOps) ∷ []
+abbrev pub fresh_checks : Request → (size : ℕ) → ChannelAttrs → List (Bool × Status)
+fresh_checks r size c = (nat_lt c.maxrequestsize size, ReqTooBig) ∷ (nat_lt c.maxoperations r.declared, TooManyOps) ∷ []
 
 -- by what the slot says of the number, of the caller and of what is compared
-abbrev pub by_slot : Request → (size : ℕ) → Sequence → GrantedSlots → Verdict → Result Sequenced Status
-by_slot r size s g NoSlot = Err BadSlot
-by_slot r size s g Misordered = Err SeqMisordered
-by_slot r size s g FalseRetry = Err SeqFalseRetry
-by_slot r size s g Again = Ok (Repeats (kept g s.slotid))
-by_slot r size s g Fresh = do
-  in_order (fresh_checks r size g.channel)
-  Ok (Runs g.channel)
+abbrev pub by_slot : Request → (size : ℕ) → Sequence → Session → Verdict → Result Sequenced Status
+by_slot r size s session NoSlot = Err BadSlot
+by_slot r size s session Misordered = Err SeqMisordered
+by_slot r size s session FalseRetry = Err SeqFalseRetry
+by_slot r size s session Again = Ok (Repeats (kept session.slots s.slotid))
+by_slot r size s session Fresh = do
+  in_order (fresh_checks r size session.channel)
+  Ok (Runs session.channel)
 
 -- what a SEQUENCE of a caller comes to, in a record of so many bytes
 abbrev pub sequenced : Machine → Request → Caller → (size : ℕ) → Sequence → Sequenced
 sequenced m r who size s = or_refuses (do
   session ← ok_or (session_at m.sessions (id_of s.sessionid)) BadSession
-  in_order (slot_checks s session.slots.channel)
-  by_slot r size s session.slots (judge session.slots s.slotid s.sequenceid who.uid (compared r)))
+  in_order (slot_checks s session.channel)
+  by_slot r size s session (judge session.slots s.slotid s.sequenceid who.uid (compared r)))
 
 -- its result, where the request runs: the session's last slot, twice, and no flag
-abbrev pub sequence_ok : Sequence → Channel → SequenceOk
+abbrev pub sequence_ok : Sequence → ChannelAttrs → SequenceOk
 sequence_ok s c = record {
   sessionid = s.sessionid;
   sequenceid = s.sequenceid;
   slotid = s.slotid;
-  highest_slotid = c.slots - 1;
-  target_highest_slotid = c.slots - 1;
+  highest_slotid = c.maxrequests - 1;
+  target_highest_slotid = c.maxrequests - 1;
   status_flags = 0;
 }

@@ -1,16 +1,16 @@
 -- What the code's tables and answers say.
 use Rattle.std.specs.Prelude.{◌≡◌, ℕ, ◌+◌, ◌^◌, ◌<◌, ◌≤◌, ◌==◌, length, not, Option, if◌then◌else◌, List, IsTrue, ◌||◌, ◌&&◌}
 use Rattle.nfs_xdr.specs.{declared.status.Status.Status, SheetState.{SheetState, Puts}, Caller.Caller, Limits.opaque_limit, Tables.In}
-use Rattle.nfs_compound.specs.{declared.op.Item.Item, declared.op.Item.TheVariants.{Operation, Fault}, Request.{Request, IsRequest}}
+use Rattle.nfs_compound.specs.{declared.channel_attrs.ChannelAttrs.ChannelAttrs, declared.op.Item.Item, declared.op.Item.TheVariants.{Operation, Fault}, Request.{Request, IsRequest}}
 use Rattle.nfs_compound.specs.{declared.session_args.Sequence.Sequence, declared.op_num.OpNum.TheVariants.SetAttr, OpNum.op_number}
 use Rattle.nfs_results.specs.{declared.res.Res.Res, Parts.is_legal, Refusals.can_refuse, ResultCodec.{IsBounded, HasArrays}, Results.spell_result}
 use Rattle.nfs_names.specs.{declared.context.Context.Context, State.state_of, StoreInvariants.IsStore, Ending.staying}
 use Rattle.nfs_lease.specs.Renewals.{Book, without_lease}
 use Rattle.nfs_clients.specs.{Roster.without, declared.exchange_id.Exchanged.Exchanged}
-use Rattle.nfs_sessions.specs.{SessionTables.IsGranted, SessionSlots.rpc_head, declared.channel.Channel.Channel}
+use Rattle.nfs_sessions.specs.{SessionTables.IsGranted, Channel.rpc_head}
 use Rattle.nfs_sessions.specs.Sessions as sessions
 use Rattle.nfs_exec.specs.{declared.tables.Tables.Tables, declared.sequence.Sequenced.{Sequenced as Code}}
-use Rattle.nfs_exec.specs.{Step.Machine.{Machine, IsMachine, Outcome, machine_of}, Step.Behind.Step, Step.Compound.{answers, runs_behind, Answered}}
+use Rattle.nfs_exec.specs.{Step.Machine.{Machine, IsMachine, MachineOutcome, machine_of}, Step.Behind.Step, Step.Compound.{answers, runs_behind, Answered}}
 use Rattle.nfs_exec.specs.{Step.Run.Ran, Step.ExchangeId.without_any_lease, Step.CreateSession.{without_any_sessions, without_any_opens}}
 use Rattle.nfs_exec.specs.Step.Sequence.{Sequenced, Refuses, Repeats, Runs}
 use Rattle.nfs_exec.specs.declared.sequence.Sequenced.TheVariants as code
@@ -49,7 +49,7 @@ sequenced_of (code.Repeats reply) = Repeats reply.now
 sequenced_of (code.Runs channel) = Runs channel
 
 -- The operation was run: its result stands on the sheet, its status was returned, and the machine behind it was left.
-pub record Does (o : Outcome) (returned : Status) (left : Machine) (old new : SheetState) : Type 0 where
+pub record Does (o : MachineOutcome) (returned : Status) (left : Machine) (old new : SheetState) : Type 0 where
   pub status : returned ≡ o.status
   pub machine : left ≡ o.machine
   pub put : Puts old new o.result
@@ -71,7 +71,7 @@ pub record RunsTo (ran : Ran) (done : code_run.Ran) (left : Machine) (old new : 
   pub put : Puts old new ran.results
 
 -- What running a compound in a session of this channel stands on.
-pub record MayRun (m : Machine) (r : Request) (s : Sequence) (channel : Channel) (now : ℕ) (sheet : SheetState) : Type 0 where
+pub record MayRun (m : Machine) (r : Request) (s : Sequence) (channel : ChannelAttrs) (now : ℕ) (sheet : SheetState) : Type 0 where
   pub sessionid : length s.sessionid ≡ 16
   pub bears : (i : Item) → In i r.left → CanBear i
   pub few : length r.left ≤ 64
@@ -82,10 +82,10 @@ pub record MayRun (m : Machine) (r : Request) (s : Sequence) (channel : Channel)
   pub room : HasReplyRoom sheet
 
 -- It was run: for some choice the answer was put, within what the channel lets pass. `behind` is what is left of the compound.
-pub record RanIn (m : Machine) (r : Request) (who : Caller) (now : ℕ) (s : Sequence) (channel : Channel) (left : Machine) (behind : Request)
+pub record RanIn (m : Machine) (r : Request) (who : Caller) (now : ℕ) (s : Sequence) (channel : ChannelAttrs) (left : Machine) (behind : Request)
     (old new : SheetState) : Type 0 where
   pub answer : (choice : Option ℕ) × Answers (answers r (runs_behind m r who now choice s channel r.left)) old new left
-  pub fits : length new.bytes + rpc_head ≤ length old.bytes + channel.response
+  pub fits : length new.bytes + rpc_head ≤ length old.bytes + channel.maxresponsesize
   pub same : behind ≡ record r { left = behind.left }
   pub store : IsStore left.store
 

@@ -5,7 +5,7 @@ use std::test::Fail;
 
 #[test]
 fn a_renewed_client_goes_behind_the_others(rt: HostRuntime) -> Result<(), Fail> {
-    let mut leases = Leases::new(rt.alloc(), 90)?;
+    let mut leases = Leases::new(rt.alloc())?;
     leases.add(rt.alloc(), 1, 100)?;
     leases.add(rt.alloc(), 2, 100)?;
     leases.renew(1, 100);

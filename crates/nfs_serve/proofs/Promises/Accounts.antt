@@ -1,6 +1,6 @@
 -- The account of a connection that is served all along.
 use Rattle.std.proofs.Common.{◌≡◌, ℕ, List, [], ◌∷◌, ◌++◌, Bool, true, false, refl, sym, ap, subst, ◌∙◌, append_assoc, append-nil}
-use Rattle.nfs_serve.specs.Step.{State}
+use Rattle.nfs_serve.specs.Step.{ServerState}
 use Rattle.nfs_serve.specs.Desk.{Desk, Act, Opened, Over, Unready, Counted, Came, ReadBlocked, Ended, Took, WriteBlocked, Failed, Closed, Stepped, Goes}
 use Rattle.nfs_serve.specs.Promises.Account.{Account}
 
@@ -11,7 +11,7 @@ both b h k = absurd (no (sym h ∙ k))
     no e = cc
 
 -- a connection that is not served is not served again
-dead : (port : ℕ) (s t : State) (d e : Desk) (acts : List Act) → Goes port s d acts t e → d.live ≡ false → e.live ≡ false
+dead : (port : ℕ) (s t : ServerState) (d e : Desk) (acts : List Act) → Goes port s d acts t e → d.live ≡ false → e.live ≡ false
 dead port s t d e [] h off = ap (λ x. x.live) h.1 ∙ off
 dead port s t d e (Opened ∷ acts) h off = absurd h.2
 dead port s t d e (Over ∷ acts) h off = absurd h.2
@@ -26,7 +26,7 @@ dead port s t d e (Failed ∷ acts) h off = let (u, c, does, rest) = h in both d
 dead port s t d e (Closed ∷ acts) h off = let (u, c, does, rest) = h in dead port u t c e acts rest (ap (λ x. x.live) does.2)
 dead port s t d e (Stepped moment part late first ∷ acts) h off = let (u, c, does, rest) = h in let (is, left, out, steps, once, same) = does in both d.live steps.live off
 
-pub account : (port : ℕ) (s t : State) (d e : Desk) (acts : List Act) → Goes port s d acts t e → e.live ≡ true → Account port s d acts t e
+pub account : (port : ℕ) (s t : ServerState) (d e : Desk) (acts : List Act) → Goes port s d acts t e → e.live ≡ true → Account port s d acts t e
 account port s t d e [] h on = record {
   outs = [];
   answers = (h.0, ap (λ x. x.stream) h.1, refl);

@@ -4,16 +4,17 @@ use Rattle.std.proofs.{lemmas.Bool.{cases_Bool, lt-leb, eqb-true, eq-eqb, ne_eqb
 use Rattle.std.proofs.lemmas.Slice.Eq.{bytes_eq-Decides}
 use Rattle.std.specs.Prelude.{◌==◌, not, slice_get, option_map}
 use Rattle.nfs_xdr.specs.{Caller.Caller, Text.IsBytes}
+use Rattle.nfs_xdr.specs.Numbers.{next_number}
 use Rattle.nfs_rpc.specs.CallHead.{Call, Accepted, call_of}
 use Rattle.nfs_compound.specs.{declared.op.Item.Item, declared.op.Item.TheVariants.Operation, declared.session_args.Sequence.Sequence, Request.Request}
 use Rattle.nfs_compound.specs.declared.op.Op.TheVariants as Op
 use Rattle.nfs_lease.specs.Renewals.{has_run_out}
-use Rattle.nfs_slots.specs.{Slot.{SlotState, judge_slot, next_number}, declared.slot.Verdict.TheVariants.Again}
+use Rattle.nfs_slots.specs.{Slot.{SlotState, judge_slot}, declared.slot.Verdict.TheVariants.Again}
 use Rattle.nfs_sessions.specs.{Id.id_of, Sessions.{Session, session_at}}
 use Rattle.nfs_exec.specs.{Step.Executing.{first_sequence, sequence_of}, Step.Parts.by_session, Step.Sequence.{compared, Repeats}, Step.Compound.compound}
 use Rattle.nfs_exec.specs.Step.Sequence as sequence
 use Rattle.nfs_exec.proofs.Step.Repeating.{repeats}
-use Rattle.nfs_serve.specs.Step.{asked_of, State, Stepped, answered, step}
+use Rattle.nfs_serve.specs.Step.{asked_of, ServerState, Stepped, answered, step}
 use Rattle.nfs_serve.specs.Promises.Endpoint.{Place, Compound, Heading, Answer, Server, Arrival, stepped, ran}
 use Rattle.nfs_serve.specs.{Promises.Seen.{ReplyReader, slot_in, ticked, seen, server}, Promises.AnsweredAgain.{AreElsewhere, Stands, AnsweredAgain}}
 use Rattle.nfs_serve.proofs.{Promises.ServerLaws.{Runs, KeepsSlots}, Promises.SlotsLeft.fewer_leaves}
@@ -44,13 +45,13 @@ again_taken n uid args reply =
     let further : n ≡ next_number n → ⊥ = λ same. omega arith in
     rw (ne_eqb n (next_number n) further, eq-eqb n n refl, eq-eqb uid uid refl, (bytes_eq-Decides args args).1 refl) refl
 
-verdict_repeats : (r : Request) (who : Caller) (size : ℕ) (q : Sequence) (y : Session) (x z : SlotState) → length y.slots.slots ≡ y.slots.channel.slots
-    → slice_get y.slots.slots q.slotid ≡ Some x → slice_get y.slots.slots q.highest_slotid ≡ Some z → judge_slot x q.sequenceid who.uid (compared r) ≡ Again
+verdict_repeats : (r : Request) (who : Caller) (size : ℕ) (q : Sequence) (y : Session) (x z : SlotState) → length y.slots ≡ y.channel.maxrequests
+    → slice_get y.slots q.slotid ≡ Some x → slice_get y.slots q.highest_slotid ≡ Some z → judge_slot x q.sequenceid who.uid (compared r) ≡ Again
     → by_session r who size q (Some y) ≡ Repeats x.reply
 verdict_repeats r who size q y x z count here below again =
-    let on = slice_get_within y.slots.slots q.slotid x here in
-    let under = slice_get_within y.slots.slots q.highest_slotid z below in
-    rw (lt-leb y.slots.channel.slots q.slotid (omega (arith, on, count)), lt-leb y.slots.channel.slots q.highest_slotid (omega (arith, under, count)), here, again, here) refl
+    let on = slice_get_within y.slots q.slotid x here in
+    let under = slice_get_within y.slots q.highest_slotid z below in
+    rw (lt-leb y.channel.maxrequests q.slotid (omega (arith, on, count)), lt-leb y.channel.maxrequests q.highest_slotid (omega (arith, under, count)), here, again, here) refl
 
 first_list : (items : List Item) (q : Sequence) → first_sequence items ≡ Some q → (more : List Item) × (items ≡ Operation (Op.Sequence q) ∷ more)
 first_list [] q e = absurd cc
@@ -68,7 +69,7 @@ is_first r q e = elim (cases_Bool (r.minor == 1)) [
   | inr other ↦ absurd (let none : None ≡ Some q = rw other at e in cc)
 ]
 
-repeated : (reader : ReplyReader) (s : State) (b : Arrival) (call : Call) (r : Request) (q : Sequence) (reply : List ℕ) → IsBytes b.bytes
+repeated : (reader : ReplyReader) (s : ServerState) (b : Arrival) (call : Call) (r : Request) (q : Sequence) (reply : List ℕ) → IsBytes b.bytes
     → call_of b.bytes ≡ Accepted call → asked_of call call.procedure ≡ Some r → sequence_of r ≡ Some q
     → sequence.sequenced (ticked s b.now).machine r call.who (length b.bytes) q ≡ Repeats reply
     → (let y = step s b.bytes b.now b.choice in
@@ -85,12 +86,12 @@ repeated reader s b call r q reply fits called asked begins verdict =
     )
 
 -- the session of a slot that stands
-pub of_slot : (k : ℕ) (o : Option Session) (x : SlotState) → slot_in k o ≡ Some x → (y : Session) × (o ≡ Some y) × (slice_get y.slots.slots k ≡ Some x)
+pub of_slot : (k : ℕ) (o : Option Session) (x : SlotState) → slot_in k o ≡ Some x → (y : Session) × (o ≡ Some y) × (slice_get y.slots k ≡ Some x)
 of_slot k None x e = absurd cc
 of_slot k (Some y) x e = (y, refl, e)
 
 -- the slot that a record calls its highest stands in its session
-pub below_of : (reader : ReplyReader) (mode instance lease : ℕ) (m : State) (b : Arrival) (g : Heading) (p : Place) → (to : Heads b.bytes g)
+pub below_of : (reader : ReplyReader) (mode instance lease : ℕ) (m : ServerState) (b : Arrival) (g : Heading) (p : Place) → (to : Heads b.bytes g)
     → p ≡ record { session = id_of to.first.sessionid; slot = to.first.slotid } → (stands : Stands (server reader.find mode instance lease) m p g.highest b.now)
     → slot_in to.first.highest_slotid (session_at (ticked m b.now).machine.sessions (id_of to.first.sessionid)) ≡ Some stands.top
 below_of reader mode instance lease m b g p to place stands =
@@ -99,7 +100,7 @@ below_of reader mode instance lease m b g p to place stands =
     ∙ (ap (λ (y : Heading). slot_in y.highest (session_at t.machine.sessions p.session)) to.is ∙ stands.below)
 
 -- A record that is on a slot which stands and keeps it is answered from there.
-kept_again : (reader : ReplyReader) (mode instance lease : ℕ) (m : State) (b : Arrival) (g : Heading) (p : Place) (x : SlotState)
+kept_again : (reader : ReplyReader) (mode instance lease : ℕ) (m : ServerState) (b : Arrival) (g : Heading) (p : Place) (x : SlotState)
     → IsSlotted m.machine.sessions → IsBytes b.bytes → (server reader.find mode instance lease).heading b.bytes ≡ Some g → g.place ≡ p
     → (stands : Stands (server reader.find mode instance lease) m p g.highest b.now) → stands.slot ≡ x
     → judge_slot x g.compound.number g.compound.uid g.compound.args ≡ Again
@@ -113,7 +114,7 @@ kept_again reader mode instance lease m b g p x slotted fits reads on stands sam
     let here : slot_in to.first.slotid (session_at t.machine.sessions id) ≡ Some x =
     ap (λ (p : Place). slot_in p.slot (session_at t.machine.sessions p.session)) (sym place) ∙ (stands.here ∙ ap (λ (y : SlotState). let o : Option SlotState = Some y in o) same) in
     let found = of_slot to.first.slotid (session_at t.machine.sessions id) x here in
-    let below : slice_get found.0.slots.slots to.first.highest_slotid ≡ Some stands.top =
+    let below : slice_get found.0.slots to.first.highest_slotid ≡ Some stands.top =
     ap (slot_in to.first.highest_slotid) (sym found.1) ∙ below_of reader mode instance lease m b g p to place stands in
     let judged : judge_slot x to.first.sequenceid to.call.who.uid (compared to.request) ≡ Again =
     ap (λ (c : Compound). judge_slot x c.number c.uid c.args) (ap (λ (y : Heading). y.compound) to.is) ∙ again in
@@ -155,16 +156,16 @@ pub slot_left : (reader : ReplyReader) (mode instance lease : ℕ) (before : Lis
 slot_left reader mode instance lease before a h between b g fits reads does elsewhere stands =
     let s = server reader.find mode instance lease in
     let k = keeps_slots reader mode instance lease in
-    let start : State = ran s s.new before in
+    let start : ServerState = ran s s.new before in
     let sound = sound_ran s k s.new before k.new_sound in
     let run : Runs s start h (stepped s start a) = k.runs start a.bytes a.now a.choice h fits sound reads does in
-    let behind : State = (stepped s start a).state in
+    let behind : ServerState = (stepped s start a).state in
     let sound_behind = k.step_sound start a.bytes a.now a.choice sound in
     let x : SlotState = kept_of h.compound run.result in
-    let m : State = ran s behind between in
+    let m : ServerState = ran s behind between in
     let kept = left_ran s k h.place (Some x) behind between sound_behind (k.stands behind h.place x sound_behind run.keeps) elsewhere (inl run.keeps) in
     let t = ticked m b.now in
-    let ticks = fewer_leaves m.machine.sessions (λ (y : Session). not (has_run_out m.machine.leases t.moment y.client)) h.place.session h.place.slot (Some x)
+    let ticks = fewer_leaves m.machine.sessions (λ (y : Session). not (has_run_out m.machine.store.lease m.machine.leases t.moment y.client)) h.place.session h.place.slot (Some x)
     (slotted_behind reader mode instance lease before a between).sound kept in
     (run, stood (s.slot_at t h.place) x stands.slot ticks stands.here)
 
@@ -172,7 +173,7 @@ pub answered_again : (reader : ReplyReader) (mode instance lease : ℕ) → Answ
 answered_again reader mode instance lease before a h between b g fits reads does elsewhere fits_b reads_b place same stands =
     let s = server reader.find mode instance lease in
     let (run, slot) = slot_left reader mode instance lease before a h between b g fits reads does elsewhere stands in
-    let m : State = ran s (stepped s (ran s s.new before) a).state between in
+    let m : ServerState = ran s (stepped s (ran s s.new before) a).state between in
     let x : SlotState = kept_of h.compound run.result in
     let again : judge_slot x g.compound.number g.compound.uid g.compound.args ≡ Again =
     ap (λ (c : Compound). judge_slot x c.number c.uid c.args) same ∙ again_taken h.compound.number h.compound.uid h.compound.args run.result in

@@ -1,9 +1,9 @@
 -- Two GETATTRs of an object are answered the same while its change is the same.
-use Rattle.std.proofs.Common.{◌≡◌, ℕ, true, List, Option, Some, None, refl, sym, ◌∙◌, ap}
-use Rattle.std.specs.Prelude.{option_map, is_some, if◌then◌else◌, Ok}
+use Rattle.std.proofs.Common.{◌≡◌, ℕ, true, List, [], length, Option, Some, None, refl, sym, ◌∙◌, ap}
+use Rattle.std.specs.{Prelude.{option_map, is_some, if◌then◌else◌, Ok}, Option.option_map_or}
 use Rattle.nfs_results.specs.declared.res.Res.TheVariants as Res
 use Rattle.nfs_results.specs.Results.{spell_result}
-use Rattle.nfs_tree.specs.{declared.object.Object.Object, declared.stored.Stored.Stored, Object.is_directory, Files.{Files, stored_in, is_there, links_in}}
+use Rattle.nfs_tree.specs.{declared.stored.Stored.Stored, Object.is_directory, Files.{Files, stored_in, data_at, is_there, links_in}}
 use Rattle.nfs_attrs.specs.{Mask.{mask_of, common, trimmed_words}, Attributes.{readable, values}}
 use Rattle.nfs_names.specs.{declared.context.Context.Context, declared.node.Node.Node, Attributes.about, Checks.{node_as, node_at, current}}
 use Rattle.nfs_names.specs.State as store
@@ -13,18 +13,35 @@ use Rattle.nfs_serve.specs.{Step.new_state, Promises.Points.reached, Promises.Ch
 use Rattle.nfs_serve.proofs.{Promises.Points.{IsSound, sound_all, sound_new}, Promises.LaterRecords.{op_done, first_there, later_keeps, later_done}}
 use Rattle.nfs_serve.proofs.Promises.ChangeTells.{change_tells}
 
-unfoldable pub attributes_text : (words : List ℕ) (n links instance lease : ℕ) (o : Object) → List ℕ
-attributes_text words n links instance lease o =
+abbrev text_of_size : (words : List ℕ) (n size links instance lease : ℕ) (k : Stored) → List ℕ
+text_of_size words n size links instance lease k =
     spell_result (Res.GetAttr (record {
       attrmask = trimmed_words (common (mask_of words) readable);
-      attr_vals = values (mask_of words) (record { number = n; links = if is_directory o.kind then 1 else links; instance = instance; lease = lease }) o;
+      attr_vals = values (mask_of words) (record {
+        number = n;
+        size = size;
+        links = if is_directory k.object.kind then 1 else links;
+        instance = instance;
+        lease = lease;
+      }) k.object;
     }))
+
+unfoldable pub attributes_text : (words : List ℕ) (n links instance lease : ℕ) (k : Stored) → List ℕ
+attributes_text words n links instance lease k = text_of_size words n (length k.bytes) links instance lease k
+
+-- what is answered of an object that is kept, by the size that the tree tells
+pub text_there : (words : List ℕ) (n : ℕ) (s : store.State) (k : Stored) → stored_in s.tree.objects n ≡ Some k
+    → text_of_size words n (length (data_at s.tree n)) (links_in s.tree.rows n) s.opens.instance s.lease k
+    ≡ attributes_text words n (links_in s.tree.rows n) s.opens.instance s.lease k
+unfolding attributes_text
+text_there words n s k e = ap (λ (size : ℕ). text_of_size words n size (links_in s.tree.rows n) s.opens.instance s.lease k)
+    (ap (λ (o : Option Stored). length (option_map_or (λ (w : Stored). w.bytes) o [])) e)
 
 -- what a GETATTR of an object answers, if it answers NFS4_OK
 pub record Attributes (n : ℕ) (words : List ℕ) (s : store.State) (text : List ℕ) : Type 0 where
   pub kept : Stored
   pub there : stored_in s.tree.objects n ≡ Some kept
-  pub answers : text ≡ attributes_text words n (links_in s.tree.rows n) s.instance s.lease kept.object
+  pub answers : text ≡ attributes_text words n (links_in s.tree.rows n) s.opens.instance s.lease kept
 
 node_stored : (s : store.State) (x : Context) (n : ℕ) (d : Node) → x.current ≡ Some n → current s x ≡ Ok d
     → (st : Stored) × (stored_in s.tree.objects n ≡ Some st) × (d ≡ record { number = n; object = st.object })
@@ -37,7 +54,6 @@ node_stored s x n d at found = go (stored_in s.tree.objects n) refl (sym (ap (no
     go (Some st) e same = (st, e, (let one : record { number = n; object = st.object } ≡ d = cc in sym one))
 
 pub gets_run : (n : ℕ) (words : List ℕ) (d : RanOp) → IsRun d → GetsOf n words d → Attributes n words d.before.store d.result
-unfolding attributes_text
 gets_run n words d r gets =
     told (Attributes n words d.before.store) d r words gets.is gets.ok (λ k found.
     (let it = node_stored d.before.store d.context n k gets.at found in
@@ -47,20 +63,20 @@ gets_run n words d r gets =
       answers = ap (λ (k : Node). spell_result (Res.GetAttr (record {
         attrmask = trimmed_words (common (mask_of words) readable);
         attr_vals = values (mask_of words) (about d.before.store k) k.object;
-      }))) it.2;
+      }))) it.2 ∙ text_there words n d.before.store it.0 it.1;
     }))
 
-pub text_same : (words : List ℕ) (n : ℕ) (s t : store.State) (text also : List ℕ) → t.instance ≡ s.instance → t.lease ≡ s.lease
+pub text_same : (words : List ℕ) (n : ℕ) (s t : store.State) (text also : List ℕ) → t.opens.instance ≡ s.opens.instance → t.lease ≡ s.lease
     → stored_in t.tree.objects n ≡ stored_in s.tree.objects n → links_in t.tree.rows n ≡ links_in s.tree.rows n
     → Attributes n words s text → Attributes n words t also → also ≡ text
 text_same words n s t text also instance lease stored links first second =
     let one : Some first.kept ≡ Some second.kept = sym first.there ∙ (sym stored ∙ second.there) in
     let kept : second.kept ≡ first.kept = cc in
     second.answers
-    ∙ (ap (attributes_text words n (links_in t.tree.rows n) t.instance t.lease) (ap (λ (k : Stored). k.object) kept)
-    ∙ (ap (λ (l : ℕ). attributes_text words n (links_in t.tree.rows n) t.instance l first.kept.object) lease
-    ∙ (ap (λ (i : ℕ). attributes_text words n (links_in t.tree.rows n) i s.lease first.kept.object) instance
-    ∙ (ap (λ (l : ℕ). attributes_text words n l s.instance s.lease first.kept.object) links
+    ∙ (ap (attributes_text words n (links_in t.tree.rows n) t.opens.instance t.lease) kept
+    ∙ (ap (λ (l : ℕ). attributes_text words n (links_in t.tree.rows n) t.opens.instance l first.kept) lease
+    ∙ (ap (λ (i : ℕ). attributes_text words n (links_in t.tree.rows n) i s.lease first.kept) instance
+    ∙ (ap (λ (l : ℕ). attributes_text words n l s.opens.instance s.lease first.kept) links
     ∙ sym first.answers))))
 
 pub stored_there : (t : Files) (n : ℕ) (k : Stored) → stored_in t.objects n ≡ Some k → is_there t n ≡ true
@@ -76,9 +92,9 @@ attributes_are_alike mode instance lease earlier c front d back more e n words s
     let alike = (change_tells mode instance lease earlier c front d back more e n same there (stored_there d.before.store.tree n first.kept first.there)
     (stored_there e.before.store.tree n second.kept second.there)).same equal in
     let b = d.before.store in
-    let instances = instance_kept b.instance in
+    let instances = instance_kept b.opens.instance in
     let leases = lease_kept b.lease in
     text_same words n b e.before.store d.result e.result
-    (later_keeps (λ t. t.instance ≡ b.instance) instances s c front d back more sound same (instances.run d run refl) e there)
+    (later_keeps (λ t. t.opens.instance ≡ b.opens.instance) instances s c front d back more sound same (instances.run d run refl) e there)
     (later_keeps (λ t. t.lease ≡ b.lease) leases s c front d back more sound same (leases.run d run refl) e there)
     alike.stored alike.names first second

@@ -10,15 +10,17 @@ use Rattle.nfs_compound.specs.declared.op.Op.TheVariants as Op
 use Rattle.nfs_compound.specs.declared.op_num.OpNum.TheVariants as Num
 use Rattle.nfs_results.specs.declared.res.Res.TheVariants as Res
 use Rattle.nfs_results.specs.Results.{status_of_result}
-use Rattle.nfs_tree.specs.{declared.object.Object.Object, declared.row.Row.Row, Files.{Files, object_at, is_entry, lookup as found, listing, listed}}
+use Rattle.nfs_tree.specs.Object.{is_link}
+use Rattle.nfs_tree.specs.{declared.object.Object.Object, declared.row.Row.Row, Files.{Files, object_at, is_entry, object_named as found, listing, listed}}
 use Rattle.nfs_attrs.specs.Permissions.{execute}
 use Rattle.nfs_opens.specs.Steps.{◌>>=◌, ◌>>◌, in_order}
 use Rattle.nfs_names.specs.{declared.context.Context.Context, declared.node.Node.Node, Context.at_object}
-use Rattle.nfs_names.specs.{Checks.{node_as, node_at, current, no_directory, denied, name_checks}, Lookup.{is_link, lookup}, Outcome.{Outcome, or_refusal}}
+use Rattle.nfs_names.specs.{Checks.{node_as, node_at, current, no_directory, no_access, name_checks}, Lookup.lookup, Outcome.{Outcome, or_refusal}}
 use Rattle.nfs_names.specs.State as store
 use Rattle.nfs_exec.specs.Runs.Ops.{RanOp}
 use Rattle.nfs_exec.proofs.Runs.OneRun.{IsRun, by_item}
-use Rattle.nfs_serve.specs.{Step.{State, new_state}, Promises.Points.reached, Promises.ChangeTells.entries_in, Promises.ChangeNames.{LooksUp, NamesAreAlike}}
+use Rattle.nfs_serve.specs.{Step.{ServerState, new_state}, Promises.Points.reached, Promises.ChangeTells.entries_in}
+use Rattle.nfs_serve.specs.Promises.ChangeNames.{LooksUp, NamesAreAlike}
 use Rattle.nfs_serve.proofs.{Promises.ChangeTells.change_tells, Promises.LaterRecords.{op_done, first_there, later_done}}
 use Rattle.nfs_serve.proofs.Promises.Points.{IsSound, sound_all, sound_new}
 
@@ -87,18 +89,18 @@ at_tells s x checks o all = by_fault (first_fault checks) refl
 
 node_tells : (s : store.State) (x : Context) (name : List ℕ) (n : ℕ) (o : Option Object)
     → TellsIt (is_some (found s.tree n name)) (or_refusal s x Num.Lookup (node_as n o >>= λ d.
-    in_order ((is_link d.object.kind, Symlink) ∷ no_directory d ∷ denied x d execute ∷ name_checks name)
+    in_order ((is_link d.object.kind, Symlink) ∷ no_directory d ∷ no_access x d execute ∷ name_checks name)
     >> (ok_or (found s.tree d.number name) NoEnt >>= λ n. Ok (record { result = Res.Lookup; state = s; context = at_object x n }))))
 node_tells s x name n None = other_tells (is_some (found s.tree n name)) Stale refl
 node_tells s x name n (Some o) =
     let d : Node = record { number = n; object = o } in
-    at_tells s x ((is_link d.object.kind, Symlink) ∷ no_directory d ∷ denied x d execute ∷ name_checks name) (found s.tree n name) refl
+    at_tells s x ((is_link d.object.kind, Symlink) ∷ no_directory d ∷ no_access x d execute ∷ name_checks name) (found s.tree n name) refl
 
 lookup_tells : (s : store.State) (x : Context) (name : List ℕ) (n : ℕ) → x.current ≡ Some n → TellsIt (is_some (found s.tree n name)) (lookup s x name)
 unfolding current lookup
 lookup_tells s x name n at =
     subst (λ (k : Option ℕ). TellsIt (is_some (found s.tree n name)) (or_refusal s x Num.Lookup (node_at s k >>= λ d.
-    in_order ((is_link d.object.kind, Symlink) ∷ no_directory d ∷ denied x d execute ∷ name_checks name)
+    in_order ((is_link d.object.kind, Symlink) ∷ no_directory d ∷ no_access x d execute ∷ name_checks name)
     >> (ok_or (found s.tree d.number name) NoEnt >>= λ n. Ok (record { result = Res.Lookup; state = s; context = at_object x n }))))) (sym at)
     (node_tells s x name n (object_at s.tree n))
 
@@ -127,7 +129,7 @@ names_are_alike mode instance lease earlier c front d back more e n same there h
       missed = λ name misses finds. found_missed n name e d run_e run_d (sym (names_same t u n name entries)) finds misses;
     }
   where
-    s : State
+    s : ServerState
     s = reached mode instance lease earlier
 
     sound : IsSound s

@@ -1,7 +1,7 @@
 -- The run of a name that is looked up twice, and the wrong answers, computed.
 use Rattle.std.proofs.Common.{◌≡◌, inl, true, List, [], ◌∷◌, ◌++◌, length, take, drop, Some, refl, sym, subst, arith}
 use Rattle.nfs_xdr.specs.{Tables.In, declared.status.Status.TheVariants.Nfs4Ok}
-use Rattle.nfs_tree.specs.Files.{root, is_there, change_of, lookup}
+use Rattle.nfs_tree.specs.Files.{root, is_there, change_of, object_named}
 use Rattle.nfs_exec.specs.Runs.Ops.{RanOp}
 use Rattle.nfs_exec.proofs.Runs.OneWalk.{in_back}
 use Rattle.nfs_serve.specs.{Promises.Points.ops_of, Promises.WrittenWorked.{closed, reads}, Promises.ChangeWorked.{reads_again, read_once}}
@@ -48,7 +48,7 @@ also : LooksUp root name Nfs4Ok again
 unfolding computing
 also = record { is = refl; at = refl; answers = refl }
 
-leads : lookup again.before.store.tree root name ≡ Some 2
+leads : object_named again.before.store.tree root name ≡ Some 2
 unfolding computing
 leads = refl
 

@@ -15,7 +15,7 @@ use Rattle.nfs_names.specs.Operation as names
 use Rattle.nfs_names.proofs.Ones.{by_delay}
 use Rattle.nfs_exec.specs.Runs.Ops.{RanOp}
 use Rattle.nfs_exec.proofs.{Runs.OneRun.{IsRun, by_ok}, Runs.OneWalk.in_back}
-use Rattle.nfs_serve.specs.{Step.{State, new_state}, Promises.Points.{state_after, reached}, Promises.ChangeTells.RunsIn}
+use Rattle.nfs_serve.specs.{Step.{ServerState, new_state}, Promises.Points.{state_after, reached}, Promises.ChangeTells.RunsIn}
 use Rattle.nfs_serve.specs.Promises.ChangeSeen.{IsTheirs, ReportsOf, ReportsAreTrue, Changes, Writes, Sets, Empties, Creates, Links, Removes, ChangesAreNew}
 use Rattle.nfs_serve.proofs.{Promises.ChangeTells.change_tells, Promises.LaterRecords.{op_done, later_done}, Promises.Points.{IsSound, sound_all, sound_new}}
 use Rattle.nfs_files.proofs.ChangesTold.{Theirs, Done, CreateTells, LinkTells, RenameTells, Raises, create_tells, remove_tells, link_tells, rename_tells, open_tells, write_raises, set_attr_raises, open_raises}
@@ -77,7 +77,7 @@ changes_raise n d r there ok (Removes name item at) = (let it = (reports n d r o
 pub changes_are_new : ChangesAreNew
 changes_are_new mode instance lease earlier c front e back more d n same when here there ok changes = by_place when
   where
-    s : State
+    s : ServerState
     s = reached mode instance lease earlier
 
     sound : IsSound (reached mode instance lease earlier)

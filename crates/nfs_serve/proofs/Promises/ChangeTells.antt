@@ -17,8 +17,9 @@ use Rattle.nfs_files.proofs.{Passing.if_passed_ok, WrittenOps.by_found, WrittenT
 use Rattle.nfs_xdr.proofs.Lists.{find_in, find_past, find_out, find_push_other, filter_past}
 use Rattle.nfs_compound.specs.declared.op.Op.TheVariants as Op
 use Rattle.nfs_tree.specs.{declared.row.Row.Row, declared.sets.Sets.Sets, declared.stored.Stored.Stored, Object.{modified, no_sets}}
-use Rattle.nfs_tree.specs.Files.{Files, root, stored_in, is_there, change_of, change_at, with_changed, with_entries_changed, with_links_changed, without_entry, lookup, named}
-use Rattle.nfs_tree.specs.Create.{New, with_new, new_object, data_of}
+use Rattle.nfs_tree.specs.Files.{Files, root, stored_in, is_there, change_of, change_at, with_changed, with_entries_changed, with_links_changed, without_entry}
+use Rattle.nfs_tree.specs.Files.{object_named, number_named}
+use Rattle.nfs_tree.specs.Create.{New, with_new, new_object}
 use Rattle.nfs_tree.specs.{Names.{with_link, without_name, forget, Move, moves, replaced_object, with_both_changed, with_moved}, Calls.rename_fault}
 use Rattle.nfs_tree.specs.{Bytes.{written, resized, with_bytes, with_written, with_resized}, TreeInvariants.IsTree}
 use Rattle.nfs_tree.proofs.{Objects.{keeps_changed, stored_map, stored_within}, Moved.move_granted, Trees.entry_names}
@@ -149,7 +150,7 @@ follows_on n t u v first step =
 
 new_follows : (n : ℕ) (t : Files) (d : ℕ) (name : List ℕ) (new : New) (sets : Sets) (now : Time) → n ≤ t.last_object → Follows n t (with_new t d name new sets now)
 new_follows n t d name new sets now low =
-    let made : Stored = record { number = t.last_object + 1; object = new_object now new sets; bytes = data_of new } in
+    let made : Stored = record { number = t.last_object + 1; object = new_object now new sets; bytes = new.bytes } in
     let row : Row = record { directory = d; name = name; object = t.last_object + 1; cookie = t.last_cookie + 1 } in
     let other : t.last_object + 1 ≢ n = λ same. omega arith in
     record {
@@ -169,8 +170,8 @@ link_follows n t m d name now low =
 without_follows : (n : ℕ) (t : Files) (d : ℕ) (name : List ℕ) (now : Time) → IsTree t → n ≤ t.last_object → Follows n t (without_name t d name now)
 without_follows n t d name now is low = record {
   given = low;
-  came = λ k e. both_changed n d (named t d name) now t.objects (SameRows n t.rows (without_entry d name t.rows))
-      (λ apart other. rows_without d name t.rows (named t d name) n (entry_names t d name is) apart other) k e;
+  came = λ k e. both_changed n d (number_named t d name) now t.objects (SameRows n t.rows (without_entry d name t.rows))
+      (λ apart other. rows_without d name t.rows (number_named t d name) n (entry_names t d name is) apart other) k e;
 }
 
 moved_follows : (n : ℕ) (t : Files) (m : Move) (now : Time) → IsTree t → rename_fault t m ≡ None → moves t m ≡ true → n ≤ t.last_object → Follows n t (with_moved t m now)
@@ -224,10 +225,10 @@ names_behind : (n : ℕ) (t : Files) (s : store.State) (e : names_effects.Effect
 names_behind n t s (Makes d name new sets now) fits tree is = follows_on n t s.tree (with_new s.tree d name new sets now) is (new_follows n s.tree d name new sets now)
 names_behind n t s (Links m d name now) fits tree is = follows_on n t s.tree (with_link s.tree m d name now) is (link_follows n s.tree m d name now)
 names_behind n t s (Removes d name now) fits tree is =
-    unused_follows n t (with_tree s (without_name s.tree d name now)) (named s.tree d name)
+    unused_follows n t (with_tree s (without_name s.tree d name now)) (number_named s.tree d name)
     (follows_on n t s.tree (without_name s.tree d name now) is (without_follows n s.tree d name now tree))
 names_behind n t s (Moves m now) fits tree is =
-    replaced_follows n t (with_tree s (with_moved s.tree m now)) (lookup s.tree m.target m.name)
+    replaced_follows n t (with_tree s (with_moved s.tree m now)) (object_named s.tree m.target m.name)
     (follows_on n t s.tree (with_moved s.tree m now) is (moved_follows n s.tree m now tree fits.0 fits.1))
 
 files_behind : (n : ℕ) (t : Files) (s : store.State) (client : ℕ) (e : files_effects.Effect) → files_effects.Fits s client e → IsTree s.tree → Follows n t s.tree
@@ -312,7 +313,7 @@ change_tells mode instance lease earlier c front d back more e n same there here
 read_text : Stored → (offset count : ℕ) → List ℕ
 read_text st offset count =
     let bytes : List ℕ = take (given count) (drop offset st.bytes) in
-    spell_result (Res.Read (record { eof = nat_le st.object.size (offset + length bytes); bytes = bytes }))
+    spell_result (Res.Read (record { eof = nat_le (length st.bytes) (offset + length bytes); bytes = bytes }))
 
 pub node_there : (s : store.State) (x : Context) (n : ℕ) (st : Stored) → x.current ≡ Some n → stored_in s.tree.objects n ≡ Some st
     → current s x ≡ Ok (record { number = n; object = st.object })
@@ -326,8 +327,9 @@ read_is s x r n st d at there e =
     let here : Node = record { number = n; object = st.object } in
     let same : here ≡ d = ok_is refl (sym (node_there s x n st at there) ∙ e) in
     subst (λ (d : Node). spell_result (Res.Read (of_read.was_read s r d)) ≡ read_text st r.offset r.count) same
-    (ap (λ (o : Option Stored). (let bytes : List ℕ = take (given r.count) (drop r.offset (option_map_or (λ (s : Stored). s.bytes) o [])) in
-    spell_result (Res.Read (record { eof = nat_le st.object.size (r.offset + length bytes); bytes = bytes })))) there)
+    (ap (λ (o : Option Stored). (let all : List ℕ = option_map_or (λ (s : Stored). s.bytes) o [] in
+    let bytes : List ℕ = take (given r.count) (drop r.offset all) in
+    spell_result (Res.Read (record { eof = nat_le (length all) (r.offset + length bytes); bytes = bytes })))) there)
 
 readable_at : (s : store.State) (x : Context) (r : Read) (d : Node) → readable s x r.stateid (current s x) ≡ Ok d → current s x ≡ Ok d
 unfolding readable

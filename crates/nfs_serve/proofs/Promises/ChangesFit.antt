@@ -15,7 +15,7 @@ use Rattle.nfs_results.specs.{declared.res.Res.Res, Results.{spell_result, done_
 use Rattle.nfs_results.specs.declared.res.Res.TheVariants as Res
 use Rattle.nfs_tree.specs.{declared.sets.Sets.Sets, declared.stored.Stored.Stored, Object.{modified, no_sets}, TreeInvariants.IsTree}
 use Rattle.nfs_tree.specs.Files.{Files, root, last_count, stored_in, can_change, is_directory_at, change_of, change_at, with_changed, with_entries_changed}
-use Rattle.nfs_tree.specs.{Files.{with_links_changed, lookup, named}, Calls.{CanChange, rename_fault}, Create.{new_object, data_of}}
+use Rattle.nfs_tree.specs.{Files.{with_links_changed, object_named, number_named}, Calls.{CanChange, rename_fault}, Create.new_object}
 use Rattle.nfs_tree.specs.{Names.{with_link, without_name, Move, moves, replaced_object, with_moved}, Bytes.{written, resized, with_bytes}}
 use Rattle.nfs_tree.proofs.{IndexedLemmas.can_of, Objects.{keeps_changed, stored_map, can_change_all, can_change_after}, Put.{create_granted, link_granted}}
 use Rattle.nfs_tree.proofs.{Sized.{write_granted, resize_granted}, Trees.{remove_granted, has_one, apart}}
@@ -41,7 +41,7 @@ use Rattle.nfs_files.proofs.Sound as files_sound
 use Rattle.nfs_files.proofs.Outcomes as files
 use Rattle.nfs_exec.specs.{Runs.AttributesTold.TellsValue, Runs.Ops.RanOp}
 use Rattle.nfs_exec.proofs.{Runs.AttributesTold.change_in, Runs.OneRun.{IsRun, by_run}, Runs.OneWalk.IsKept}
-use Rattle.nfs_serve.specs.{Step.{State, new_state}, Promises.ChangesFit.{ChangesFit, ChangeIsRead, LastStays}, Promises.Endpoint.Arrival}
+use Rattle.nfs_serve.specs.{Step.{ServerState, new_state}, Promises.ChangesFit.{ChangesFit, ChangeIsRead, LastStays}, Promises.Endpoint.Arrival}
 use Rattle.nfs_serve.specs.Promises.Points.{state_after, state_after_all, reached, before, asked_by, ops_of}
 use Rattle.nfs_serve.proofs.{Promises.ChangeSeen.changes_raise, Promises.LaterRecords.{op_done, before_keeps, next_keeps, asked_keeps}}
 use Rattle.nfs_serve.proofs.Promises.Points.{IsSound, whole_before, sound_next, sound_all, sound_new}
@@ -135,7 +135,7 @@ replaced_low s (Some m) low = unused_low s m low
 
 names_low : (s : store.State) (e : names_effects.Effect) → names_effects.Fits s e → IsTree s.tree → Low s.tree.objects → Low (names_effects.behind s e).tree.objects
 names_low s (Makes d name new sets now) fits tree low =
-    low_push (with_entries_changed d now s.tree.objects) (record { number = s.tree.last_object + 1; object = new_object now new sets; bytes = data_of new }) (omega arith)
+    low_push (with_entries_changed d now s.tree.objects) (record { number = s.tree.last_object + 1; object = new_object now new sets; bytes = new.bytes }) (omega arith)
     (low_changed d now (modified now no_sets) s.tree.objects (can s.tree d tree (create_granted s.tree d name new fits).change) low)
 names_low s (Links n d name now) fits tree low =
     (let granted = link_granted s.tree n d name fits in
@@ -143,12 +143,12 @@ names_low s (Links n d name now) fits tree low =
     (can s.tree n tree granted.change_object) low)
 names_low s (Removes d name now) fits tree low =
     (let granted = remove_granted s.tree d name fits in
-    let gone = named s.tree d name in
+    let gone = number_named s.tree d name in
     let other : gone ≢ d = apart s.tree d gone (has_one s.tree d name granted.0) granted.1 in
     unused_low (with_tree s (without_name s.tree d name now)) gone
     (link_low s.tree gone d name now other (can s.tree d tree granted.2) (can s.tree gone tree granted.3) low))
 names_low s (Moves m now) fits tree low =
-    replaced_low (with_tree s (with_moved s.tree m now)) (lookup s.tree m.target m.name) (moved_low s.tree m now tree fits.0 fits.1 low)
+    replaced_low (with_tree s (with_moved s.tree m now)) (object_named s.tree m.target m.name) (moved_low s.tree m now tree fits.0 fits.1 low)
 
 -- SETATTR, by its checks; and what the other operations do, which change no attributes alone.
 
@@ -225,7 +225,7 @@ run_low d r low =
 low_kept : IsKept (λ s. Low s.tree.objects)
 low_kept = record { run = run_low; end = λ stays s low. low_rest (is_used (with_opens s (table_staying stays s.opens))) s.tree.objects low }
 
-low_all : (s : State) (records : List Arrival) → IsSound s → Low s.machine.store.tree.objects → Low (state_after_all s records).machine.store.tree.objects
+low_all : (s : ServerState) (records : List Arrival) → IsSound s → Low s.machine.store.tree.objects → Low (state_after_all s records).machine.store.tree.objects
 low_all s [] sound low = low
 low_all s (c ∷ more) sound low = low_all (state_after s c) more (sound_next s c sound) (next_keeps (λ s. Low s.tree.objects) low_kept s c sound low)
 

@@ -19,7 +19,7 @@ use Rattle.nfs_files.specs.Write as of_write
 use Rattle.nfs_files.proofs.{InSteps.write_is, Outcomes.one_or_delay, WrittenOps.{by_found, current_number, writable_at, number_back, write_spelled}, WrittenTold.short}
 use Rattle.nfs_exec.specs.{Runs.Ops.RanOp, Runs.WrittenRun.{WritesIt, SparesIt, AreSpared, StandsBefore, StandsWhile}}
 use Rattle.nfs_exec.proofs.{Runs.OneRun.{IsRun, by_item}, Runs.OneWalk.none_at}
-use Rattle.nfs_serve.specs.{Step.{State, new_state}, Promises.ChangeTells.{GetsOf, RunsIn}, Promises.ChangeSeen.Writes}
+use Rattle.nfs_serve.specs.{Step.{ServerState, new_state}, Promises.ChangeTells.{GetsOf, RunsIn}, Promises.ChangeSeen.Writes}
 use Rattle.nfs_serve.specs.{Promises.CloseToOpen.{TellsChange, Keeps, IsWritten, CloseToOpen}, Promises.Endpoint.Arrival, Promises.ListsAll.all_ops}
 use Rattle.nfs_serve.specs.{Promises.Points.{state_after, state_after_all, reached, ops_of}, Promises.WrittenStays.StaysWritten}
 use Rattle.nfs_serve.proofs.{Promises.ChangeAttributes.{gets_run, stored_there}, Promises.ChangeSeen.changes_are_new, Promises.ChangesFit.change_is_read}
@@ -47,7 +47,7 @@ split (x ∷ xs) ys (a ∷ u) d v e =
     ]
 
 -- An operation of a run: in which record's compound it is, and what is behind it.
-record Seat (s : State) (d : RanOp) (v : List RanOp) : Type 0 where
+record Seat (s : ServerState) (d : RanOp) (v : List RanOp) : Type 0 where
   pub earlier : List Arrival
   pub c : Arrival
   pub front : List RanOp
@@ -56,7 +56,7 @@ record Seat (s : State) (d : RanOp) (v : List RanOp) : Type 0 where
   pub ops : ops_of (state_after_all s earlier) c ≡ front ++ d ∷ back
   pub rest : v ≡ back ++ all_ops (state_after (state_after_all s earlier) c) more
 
-seat : (s : State) (records : List Arrival) (u : List RanOp) (d : RanOp) (v : List RanOp) → all_ops s records ≡ u ++ d ∷ v → Seat s d v
+seat : (s : ServerState) (records : List Arrival) (u : List RanOp) (d : RanOp) (v : List RanOp) → all_ops s records ≡ u ++ d ∷ v → Seat s d v
 seat s [] u d v e = absurd (none_at u d v e)
 seat s (c ∷ more) u d v e = elim (split (ops_of s c) (all_ops (state_after s c) more) u d v e) [
   | inl is ↦ record { earlier = []; c = c; front = u; back = is.0; more = more; ops = is.1; rest = is.2 }
@@ -64,7 +64,7 @@ seat s (c ∷ more) u d v e = elim (split (ops_of s c) (all_ops (state_after s c
       record { earlier = c ∷ k.earlier; c = k.c; front = k.front; back = k.back; more = k.more; ops = k.ops; rest = k.rest })
 ]
 
-later : (s : State) (d : RanOp) (v : List RanOp) (k : Seat s d v) (e : RanOp) → In e v → In e k.back ⊎ RunsIn (state_after (state_after_all s k.earlier) k.c) k.more e
+later : (s : ServerState) (d : RanOp) (v : List RanOp) (k : Seat s d v) (e : RanOp) → In e v → In e k.back ⊎ RunsIn (state_after (state_after_all s k.earlier) k.c) k.more e
 later s d v k e there = elim (in_both k.back (all_ops (state_after (state_after_all s k.earlier) k.c) k.more) e (subst (In e) k.rest there)) [
   | inl here ↦ inl here
   | inr behind ↦ inr (in_all (state_after (state_after_all s k.earlier) k.c) k.more e behind)
@@ -133,17 +133,17 @@ module _ (b : Byte) where
     λ spares. stands_for ds after (stands.1 spares).1 (λ all. rest (λ e there. elim there [ inl is ↦ subst (SparesIt b) (sym is) spares | inr more ↦ all e more ])),
   )
 
-  stays_for : (s : State) (records : List Arrival) → StaysWritten b s records → HoldsFor (StandsBefore b) (SparesIt b) (all_ops s records)
+  stays_for : (s : ServerState) (records : List Arrival) → StaysWritten b s records → HoldsFor (StandsBefore b) (SparesIt b) (all_ops s records)
   stays_for s [] stays = tt
   stays_for s (c ∷ more) stays = stands_for (ops_of s c) (all_ops (state_after s c) more) stays.0 (λ all. stays_for (state_after s c) more (stays.1 all))
 
 -- The law.
 
 module _ (mode instance lease : ℕ) (b : Byte) where
-  abbrev start : State
+  abbrev start : ServerState
   start = new_state mode instance lease
 
-  abbrev at : {d : RanOp} {v : List RanOp} → Seat start d v → State
+  abbrev at : {d : RanOp} {v : List RanOp} → Seat start d v → ServerState
   at k = reached mode instance lease k.earlier
 
   sound_at : (d : RanOp) (v : List RanOp) (k : Seat start d v) → IsSound (at k)

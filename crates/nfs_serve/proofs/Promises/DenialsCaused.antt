@@ -14,7 +14,7 @@ use Rattle.nfs_opens.specs.{declared.judging.Seat.Seat, declared.judging.Sort.So
 use Rattle.nfs_opens.specs.{declared.judging.Sort.TheVariants.{OpenOnly, LockOnly, Either}, declared.locking.Wish.Wish, declared.locking.OpenFault.OpenFault}
 use Rattle.nfs_opens.specs.{declared.records.LockState.LockState, declared.share.Share.Share, declared.stateid.CurrentSeqid.CurrentSeqid}
 use Rattle.nfs_opens.specs.{declared.stateid.CurrentSeqid.TheVariants.Any, declared.stateid.StateId.StateId}
-use Rattle.nfs_opens.specs.Judging.{judge_checks, judge_named, special, judge, named, seated}
+use Rattle.nfs_opens.specs.Judging.{judge_checks, judge_named, special, judge, state_named, seated}
 use Rattle.nfs_opens.specs.{StateId.{last_number, is_anonymous, is_bypass, is_current, has_zeros, has_ones, with_seqid}, Steps.{◌>>=◌, require, map_err}}
 use Rattle.nfs_opens.specs.Table.{Table, lock_at}
 use Rattle.nfs_opens.specs.declared.locking.OpenFault.TheVariants as F
@@ -24,12 +24,13 @@ use Rattle.nfs_names.specs.{declared.context.Context.Context, Checks.{node_as, n
 use Rattle.nfs_names.specs.State.{State}
 use Rattle.nfs_names.proofs.{Faulted.status_of_refusal, Ones.by_delay}
 use Rattle.nfs_tree.specs.{declared.object.Object.Object, Files.object_at}
-use Rattle.nfs_files.specs.{Bytes.file_checks, Denied.{denied, status_of}, LockT.{tested, lock_t}, Operation.grows}
-use Rattle.nfs_files.specs.{Ranges.{last_of, range, range_checks, wished}, StateIds.{state_id, meant}, Target.the_file, Parts.wish}
+use Rattle.nfs_files.specs.{Bytes.file_checks, Denied.{lock_denied, open_fault_status}, LockT.{tested, lock_t}, Operation.grows}
+use Rattle.nfs_files.specs.{Ranges.{range, wished}, StateIds.{state_id, meant}, Target.the_file, Parts.wish}
 use Rattle.nfs_files.specs.Parts as parts
 use Rattle.nfs_files.specs.Lock as of_lock
 use Rattle.nfs_files.proofs.{Outcomes.one_or_delay, Prompt.{all_pass, first_passes, not_true}, Wishes.lock_wish}
 use Rattle.nfs_files.proofs.InSteps as in_steps
+use Rattle.nfs_files.proofs.Terms.{range_checks, last_of}
 
 -- What is checked first answers other statuses.
 
@@ -120,10 +121,10 @@ named_clear client file sort seqid (Some n) =
 judge_clear : (t : Table) (id : StateId) (client : ℕ) (file : Option ℕ) (sort : Sort) → IsClear (judge t id client file sort)
 judge_clear t id client file sort = go (is_anonymous id) (is_bypass id)
   where
-    go : (a b : Bool) → IsClear (cond a (special sort Anonymous) (cond b (special sort ReadBypass) (judge_named client file sort id.seqid (named t id))))
+    go : (a b : Bool) → IsClear (cond a (special sort Anonymous) (cond b (special sort ReadBypass) (judge_named client file sort id.seqid (state_named t id))))
     go true b = special_clear sort Anonymous
     go false true = special_clear sort ReadBypass
-    go false false = named_clear client file sort id.seqid (named t id)
+    go false false = named_clear client file sort id.seqid (state_named t id)
 
 -- What the table of opens denies.
 
@@ -134,7 +135,7 @@ record IsClash (t : Table) (w : Wish) (n : ℕ) (fault : OpenFault) : Type 0 whe
   pub clash : locking.clash t n w ≡ Some held
 
 abbrev IsFair : {A : Type 0} → Table → Wish → ℕ → Result A OpenFault → Type 0
-IsFair t w n v = (fault : OpenFault) → v ≡ Err fault → is_denied (status_of fault) ≡ true → IsClash t w n fault
+IsFair t w n v = (fault : OpenFault) → v ≡ Err fault → is_denied (open_fault_status fault) ≡ true → IsClash t w n fault
 
 ok_fair : {A : Type 0} (t : Table) (w : Wish) (n : ℕ) (a : A) → IsFair t w n (Ok a)
 ok_fair t w n a fault e is = absurd cc
@@ -142,7 +143,7 @@ ok_fair t w n a fault e is = absurd cc
 refused_fair : {A : Type 0} (t : Table) (w : Wish) (n : ℕ) (status : Status) → is_denied status ≡ false → IsFair {A = A} t w n (Err (F.Refused status))
 refused_fair t w n status other fault e is =
     let same : F.Refused status ≡ fault = cc in
-    absurd (false≢true (sym other ∙ subst (λ f. is_denied (status_of f) ≡ true) (sym same) is))
+    absurd (false≢true (sym other ∙ subst (λ f. is_denied (open_fault_status f) ≡ true) (sym same) is))
 
 next_fair : {A B : Type 0} (t : Table) (w : Wish) (n : ℕ) (v : Result A OpenFault) (next : A → Result B OpenFault) → IsFair t w n v → ((a : A) → IsFair t w n (next a))
     → IsFair t w n (v >>= next)
@@ -210,7 +211,7 @@ pub record WasDenied (s : State) (x : Context) (how : LockType) (offset size : �
   pub number : ℕ
   pub whose : IsAsker wish number
   pub clash : locking.clash s.opens number wish ≡ Some held
-  pub answers : r ≡ reports (denied s.opens held)
+  pub answers : r ≡ reports (lock_denied s.opens held)
 
 refused_not : {A : Type 0} (v : Result A Status) (status : Status) (n : ℕ) → IsClear v → v ≡ Err status → is_denied (status_of_result (refusal n status)) ≡ true → ⊥
 refused_not v status n clear e is = false≢true (sym (clear status e) ∙ (ap is_denied (sym (status_of_refusal n status)) ∙ is))
@@ -253,7 +254,7 @@ module _ (s : State) (x : Context) where
         number = asker s.opens a.locker m.id m.wish;
         whose = (m.id, locking_id s x a m judged, refl);
         clash = c.clash;
-        answers = ap (λ h. Res.LockDenied (denied s.opens h)) same;
+        answers = ap (λ h. Res.LockDenied (lock_denied s.opens h)) same;
       }
   by_fault a m judged (Err F.Memory) e is = absurd (false≢true is)
 
@@ -261,8 +262,8 @@ module _ (s : State) (x : Context) where
   by_wished a (Err status) e is = absurd (refused_not (parts.locking s x a) status (op_number Num.Lock) (locking_clear s x a) e is)
   by_wished a (Ok m) e is = by_fault a m e (of_lock.locks_as s.opens a.locker m.id m.wish) refl is
 
-  pub lock_denied : (now : Time) (refused : Bool) (a : Lock) → IsDenied a (one_or_delay refused s x now (Op.Lock a))
-  lock_denied now refused a = by_delay (IsDenied a) (grows s x (Op.Lock a) && refused) s x Num.Lock (of_lock.lock s x a) (λ is. absurd (false≢true is))
+  pub lock_was_denied : (now : Time) (refused : Bool) (a : Lock) → IsDenied a (one_or_delay refused s x now (Op.Lock a))
+  lock_was_denied now refused a = by_delay (IsDenied a) (grows s x (Op.Lock a) && refused) s x Num.Lock (of_lock.lock s x a) (λ is. absurd (false≢true is))
       (rw (in_steps.lock_is s x a) (by_wished a (parts.locking s x a) refl))
 
   abbrev IsTestDenied : LockT → Outcome → Type 0

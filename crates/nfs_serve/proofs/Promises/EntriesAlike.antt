@@ -4,7 +4,7 @@ use Rattle.std.specs.Prelude.{option_map, is_some}
 use Rattle.nfs_xdr.specs.Tables.{In}
 use Rattle.nfs_results.specs.{declared.res.Entry.Entry, declared.res.Fattr.Fattr, Results.spell_result}
 use Rattle.nfs_results.specs.declared.res.Res.TheVariants as Res
-use Rattle.nfs_tree.specs.{declared.row.Row.Row, declared.stored.Stored.Stored, Files.{Files, stored_in, is_there, object_at, lookup}}
+use Rattle.nfs_tree.specs.{declared.row.Row.Row, declared.stored.Stored.Stored, Files.{Files, stored_in, is_there, object_at, object_named}}
 use Rattle.nfs_attrs.specs.{Mask.mask_of, declared.mask.Mask.Mask}
 use Rattle.nfs_names.specs.ReadDir.{attributes_at, entry_of}
 use Rattle.nfs_names.specs.State as store
@@ -12,7 +12,7 @@ use Rattle.nfs_exec.specs.Runs.Ops.{RanOp}
 use Rattle.nfs_exec.proofs.{Step.Instances.instance_kept, Runs.LeaseTold.lease_kept, Runs.OneRun.IsRun}
 use Rattle.nfs_serve.specs.{Step.new_state, Promises.EntriesAlike.{TellsOf, Gets, Lists, EntriesAreAlike}, Promises.ListsAll.{Page, IsPage}}
 use Rattle.nfs_serve.specs.Promises.Points.{reached}
-use Rattle.nfs_serve.proofs.{Promises.ChangeAttributes.{attributes_text, Attributes, gets_run, text_same, stored_there}, Promises.ChangeTells.change_tells}
+use Rattle.nfs_serve.proofs.{Promises.ChangeAttributes.{text_there, Attributes, gets_run, text_same, stored_there}, Promises.ChangeTells.change_tells}
 use Rattle.nfs_serve.proofs.{Promises.LaterRecords.{op_done, first_there, later_keeps, later_done}, Promises.ListsAll.page_lists, Promises.PageLists.first_in}
 use Rattle.nfs_serve.proofs.{Promises.PageRows.{entry_at, entry_name}, Promises.Points.{IsSound, sound_all, sound_new}}
 
@@ -29,7 +29,6 @@ entry_attrs s mask r = refl
 
 row_text : (s : store.State) (words : List ℕ) (r : Row) (n : ℕ) (f : Fattr) → r.object ≡ n → is_there s.tree n ≡ true
     → f ≡ (entry_at s (mask_of words) r).attrs → Attributes n words s (spell_result (Res.GetAttr f))
-unfolding attributes_text
 row_text s words r n f same there is =
     let st = stored_of s.tree n there in
     let mask = mask_of words in
@@ -38,11 +37,11 @@ row_text s words r n f same there is =
       there = st.1;
       answers = ap (λ (f : Fattr). spell_result (Res.GetAttr f))
           (is ∙ (entry_attrs s mask r ∙ (ap (λ n. attributes_at s mask n (object_at s.tree n)) same
-          ∙ ap (λ (o : Option Stored). attributes_at s mask n (option_map (λ (k : Stored). k.object) o)) st.1)));
+          ∙ ap (λ (o : Option Stored). attributes_at s mask n (option_map (λ (k : Stored). k.object) o)) st.1))) ∙ text_there words n s st.0 st.1;
     }
 
 entry_told : (directory cookie n : ℕ) (p : Page) (e : Entry) → IsRun p.op → IsPage directory cookie p → In e p.told.entries
-    → lookup p.op.before.store.tree directory e.name ≡ Some n → Attributes n p.asked.attr_request p.op.before.store (spell_result (Res.GetAttr e.attrs))
+    → object_named p.op.before.store.tree directory e.name ≡ Some n → Attributes n p.asked.attr_request p.op.before.store (spell_result (Res.GetAttr e.attrs))
 entry_told directory cookie n p e run page within leads =
     let s = p.op.before.store in
     let mask = mask_of p.asked.attr_request in
@@ -50,8 +49,8 @@ entry_told directory cookie n p e run page within leads =
     let row = is.from e (first_in p.told.entries is.rest e within) in
     let r = row.0 in
     let name : e.name ≡ r.name = ap (λ (e : Entry). e.name) row.4 ∙ entry_name s mask r in
-    let found : lookup s.tree directory e.name ≡ Some r.object =
-    ap (λ d. lookup s.tree d e.name) (sym row.2) ∙ (ap (lookup s.tree r.directory) name ∙ ap (option_map (λ (r : Row). r.object)) (run.whole.tree.rows.found r row.1)) in
+    let found : object_named s.tree directory e.name ≡ Some r.object =
+    ap (λ d. object_named s.tree d e.name) (sym row.2) ∙ (ap (object_named s.tree r.directory) name ∙ ap (option_map (λ (r : Row). r.object)) (run.whole.tree.rows.found r row.1)) in
     let both : Some r.object ≡ Some n = sym found ∙ leads in
     let same : r.object ≡ n = cc in
     row_text s p.asked.attr_request r n e.attrs same (subst (λ n. is_there s.tree n ≡ true) same (run.whole.tree.rows.names r row.1)) (ap (λ (e : Entry). e.attrs) row.4)
@@ -73,9 +72,9 @@ entries_are_alike mode instance lease earlier c front d back more e n words told
     let alike = (change_tells mode instance lease earlier c front d back more e n same there (stored_there d.before.store.tree n first.kept first.there)
     (stored_there e.before.store.tree n second.kept second.there)).same equal in
     let b = d.before.store in
-    let instances = instance_kept b.instance in
+    let instances = instance_kept b.opens.instance in
     let leases = lease_kept b.lease in
     text_same words n b e.before.store told also
-    (later_keeps (λ t. t.instance ≡ b.instance) instances s c front d back more sound same (instances.run d run refl) e there)
+    (later_keeps (λ t. t.opens.instance ≡ b.opens.instance) instances s c front d back more sound same (instances.run d run refl) e there)
     (later_keeps (λ t. t.lease ≡ b.lease) leases s c front d back more sound same (leases.run d run refl) e there)
     alike.stored alike.names first second

@@ -17,17 +17,18 @@ use Rattle.nfs_names.proofs.{Found.{checked_ok, current_is}, NameLaws.current_re
 use Rattle.nfs_files.specs.{Bytes.{file_checks, reading, may_use}, FileImage.{Image, unwritten, new_size, bytes_read, read_answer}, Parts.readable}
 use Rattle.nfs_files.specs.Operation as table
 use Rattle.nfs_files.specs.Read as of_read
-use Rattle.nfs_files.proofs.{Passing.if_passed_ok, ReadBytes.{readable_is, size_is}, Seats.readable_refuses, WrittenOps.current_number}
+use Rattle.nfs_files.proofs.{Passing.if_passed_ok, ReadBytes.readable_is, Seats.readable_refuses, WrittenOps.current_number}
 use Rattle.nfs_files.proofs.{FileImages.{IsOf, bytes_are, Has, has_staying}, FileOps.{Left, same_if, by_granted, file_left, names_left, open_made}}
-use Rattle.nfs_exec.specs.{Step.Machine.Machine, Step.Behind.{otherwise, stays}, Step.Laws.{MachineEvent, Expires, Asks, stepped}}
+use Rattle.nfs_exec.specs.{Step.Machine.Machine, Step.Behind.{otherwise, refused_step}, Step.Laws.{MachineEvent, Expires, Asks, stepped}}
 use Rattle.nfs_exec.specs.Runs.Ops.{RanOp, ops_by, left_by, AreChained}
 use Rattle.nfs_exec.proofs.{Runs.WhatWasDone.event_run, Runs.OneRun.{IsRun, too_big, by_item, by_ok, by_run}, Runs.AttributesTold.size_in}
 use Rattle.nfs_exec.proofs.{Runs.OneWalk.{none_at, in_back}, Runs.KeptByRuns.Is}
-use Rattle.nfs_serve.specs.{Step.{State, new_state}, Promises.Endpoint.Arrival, Promises.Points.{state_after, reached, taken, before, asked_by, ops_of}}
+use Rattle.nfs_serve.specs.{Step.{ServerState, new_state}, Promises.Endpoint.Arrival, Promises.Points.{state_after, reached, taken, before, asked_by, ops_of}}
 use Rattle.nfs_serve.specs.Promises.FileRead.{image_after, image_after_all, ReadsImage, SizeIsTold, ReadsWhole, ReadsThrough, MakesFile, ReadsAreWhole}
 use Rattle.nfs_serve.proofs.Promises.Chained.{through, chained_at, left_at}
 use Rattle.nfs_serve.proofs.Promises.Points.{left, for_asked, next_is, IsSound, whole_before, sound_next, sound_all, sound_new}
 use Rattle.nfs_files.proofs.InSteps as in_steps
+use Rattle.nfs_files.proofs.Terms.{bytes_of}
 
 -- One operation.
 
@@ -50,7 +51,7 @@ run_left : (n : ℕ) (img : Image) (d : RanOp) → IsRun d → Has n img d.befor
 run_left n img d r is =
     let s = d.before.store in
     by_run (λ status text left. Left n img s d.context d.item (is_ok status) left) d r
-    (elim (cases_Bool (is_ok (stays d.before d.context d.item RepTooBig).outcome.status)) [
+    (elim (cases_Bool (is_ok (refused_step d.before d.context d.item RepTooBig).outcome.status)) [
       | inl ok ↦ absurd (too_big d.before d.context d.item ok)
       | inr fails ↦ rw fails is
     ])
@@ -92,10 +93,9 @@ read_is n img m x r d whole has at granted =
     let same : d.number ≡ n = some_same x.current d.number n (current_number s x d (readable_at s x r d granted)) at in
     let here : Has d.number img s.tree = subst (λ (k : ℕ). Has k img s.tree) (sym same) has in
     let contents : IsOf img (data_at s.tree d.number) = data_is d.number img s.tree d.object here object in
-    let bytes : of_read.bytes_of s r d ≡ bytes_read img r.offset r.count = bytes_are img (data_at s.tree d.number) r.offset r.count contents in
-    let size : d.object.size ≡ img.size = size_is s.tree d.number d.object whole.tree object ∙ contents.long in
+    let bytes : bytes_of s r d ≡ bytes_read img r.offset r.count = bytes_are img (data_at s.tree d.number) r.offset r.count contents in
     read_spelled (of_read.was_read s r d)
-    ∙ (ap (λ (k : ℕ). done_head Num.Read ++ (flag (nat_le k (r.offset + length (of_read.bytes_of s r d))) ++ opaque (of_read.bytes_of s r d))) size
+    ∙ (ap (λ (k : ℕ). done_head Num.Read ++ (flag (nat_le k (r.offset + length (bytes_of s r d))) ++ opaque (bytes_of s r d))) contents.long
     ∙ ap (λ (b : List ℕ). done_head Num.Read ++ (flag (nat_le img.size (r.offset + length b)) ++ opaque b)) bytes)
 
 read_left : (n : ℕ) (img : Image) (m : Machine) (x : Context) (a : Read) → Is m → Has n img m.store.tree → x.current ≡ Some n
@@ -120,7 +120,7 @@ size_told n img d r is words item at ok asks = size_in d r words img.size item a
     let held = current_is s d.context k found in
     let same : k.number ≡ n = some_same d.context.current k.number n (current_number s d.context k found) at in
     let here : Has k.number img s.tree = subst (λ (k : ℕ). Has k img s.tree) (sym same) is in
-    size_is s.tree k.number k.object r.whole.tree held.object ∙ (data_is k.number img s.tree k.object here held.object).long))
+    (data_is k.number img s.tree k.object here held.object).long))
 
 -- the OPEN that made it
 
@@ -173,7 +173,7 @@ made_goes n size m (Some e) front made back is same makes =
 
 -- Records.
 
-record_goes : (n : ℕ) (img : Image) (s : State) (c : Arrival) → IsSound s → Has n img s.machine.store.tree → Goes n img (ops_of s c) (state_after s c).machine
+record_goes : (n : ℕ) (img : Image) (s : ServerState) (c : Arrival) → IsSound s → Has n img s.machine.store.tree → Goes n img (ops_of s c) (state_after s c).machine
 record_goes n img s c sound has =
     let m = before s c in
     let whole : Is m = whole_before s c sound.whole in
@@ -183,10 +183,10 @@ record_goes n img s c sound has =
     (λ r who. event_goes n img m (Asks r who (length c.bytes) (taken s c) c.choice) whole here) in
     record {
       within = did.within;
-      behind = subst (λ (t : State). Has n (image_after_all n img (ops_of s c)) t.machine.store.tree) (sym (next_is s c)) did.behind;
+      behind = subst (λ (t : ServerState). Has n (image_after_all n img (ops_of s c)) t.machine.store.tree) (sym (next_is s c)) did.behind;
     }
 
-reads_through : (n : ℕ) (img : Image) (s : State) (more : List Arrival) → IsSound s → Has n img s.machine.store.tree → ReadsThrough n img s more
+reads_through : (n : ℕ) (img : Image) (s : ServerState) (more : List Arrival) → IsSound s → Has n img s.machine.store.tree → ReadsThrough n img s more
 reads_through n img s [] sound has = tt
 reads_through n img s (c ∷ more) sound has =
     let did = record_goes n img s c sound has in
@@ -199,5 +199,5 @@ reads_are_whole mode instance lease earlier c front made back more n size same m
     let did = made_goes n size (before s c) (asked_by s c) front made back (whole_before s c sound.whole) same makes in (
       did.within,
       reads_through n (image_after_all n (unwritten size) back) (state_after s c) more (sound_next s c sound)
-          (subst (λ (t : State). Has n (image_after_all n (unwritten size) back) t.machine.store.tree) (sym (next_is s c)) did.behind),
+          (subst (λ (t : ServerState). Has n (image_after_all n (unwritten size) back) t.machine.store.tree) (sym (next_is s c)) did.behind),
     )

@@ -17,11 +17,11 @@ use Rattle.nfs_names.specs.Outcome as outcome
 use Rattle.nfs_names.specs.State as store
 use Rattle.nfs_names.proofs.Ones.{by_delay}
 use Rattle.nfs_files.specs.{OpenTold.{OpenTold, Bits, bits_behind, IsOpenWith}, Write.write}
-use Rattle.nfs_exec.specs.{Step.Machine.Machine, Step.Behind.stays, Step.Laws.MachineEvent, Runs.Kept.While, Runs.OpenHeld.{the_open, bits_left}}
+use Rattle.nfs_exec.specs.{Step.Machine.Machine, Step.Behind.refused_step, Step.Laws.MachineEvent, Runs.Kept.While, Runs.OpenHeld.{the_open, bits_left}}
 use Rattle.nfs_exec.specs.Runs.Ops.{RanOp, ops_by}
 use Rattle.nfs_exec.proofs.{Step.Instances.instance_kept, Step.RefusalsFit.refused_status, Runs.Handles.{handle_in, handle_read}, Runs.KeptByRuns.Is}
 use Rattle.nfs_exec.proofs.{Runs.OneRun.{IsRun, by_item}, Runs.OneWalk.{throughout, in_back}, Runs.WhatWasDone.event_run, Runs.WrittenRun.used_there}
-use Rattle.nfs_serve.specs.{Step.{State, new_state}, Promises.Endpoint.Arrival, Promises.FileStays.{uses, IsThere, the_file, FilesStay}}
+use Rattle.nfs_serve.specs.{Step.{ServerState, new_state}, Promises.Endpoint.Arrival, Promises.FileStays.{uses, IsThere, the_file, FilesStay}}
 use Rattle.nfs_serve.specs.{Promises.LockKept.{renews_by, StaysFor}, Promises.Points.{state_after, reached, taken, before, asked_by, ops_of}}
 use Rattle.nfs_serve.proofs.{Promises.Handles.{Has, has_next, has_all, given_at}, Promises.Without.{Answers, ok_without}}
 use Rattle.nfs_serve.proofs.{Promises.NeverStale.{is_stale, IsFresh, read_answers, write_answers, set_answers, get_answers}, Promises.OpenKept.open_kept}
@@ -64,7 +64,7 @@ not_stale f other is = absurd (false≢true (sym other ∙ ap is_stale is))
 abbrev pub Other : Status → List ℕ → store.State → Type 0
 Other status text s = is_stale status ≡ false
 
-pub big_other : (d : RanOp) (i : Item) → is_stale (stays d.before d.context i RepTooBig).outcome.status ≡ false
+pub big_other : (d : RanOp) (i : Item) → is_stale (refused_step d.before d.context i RepTooBig).outcome.status ≡ false
 big_other d i = ap is_stale (refused_status (item_number i) RepTooBig)
 
 -- an operation that uses it
@@ -86,16 +86,16 @@ used_other d r n there at (Operation (Op.SetAttr a)) is u =
 used_other d r n there at i is u = absurd (false≢true u)
 
 -- a PUTFH of its filehandle
-put_answers : (s : store.State) (x : Context) (h : List ℕ) (n : ℕ) → handle_of h ≡ Some (record { instance = s.instance; number = n }) → is_there s.tree n ≡ true
+put_answers : (s : store.State) (x : Context) (h : List ℕ) (n : ℕ) → handle_of h ≡ Some (record { instance = s.opens.instance; number = n }) → is_there s.tree n ≡ true
     → Answers is_stale (put_fh s x h)
 unfolding put_fh
 put_answers s x h n is there =
     let k = there_some s.tree n there in
     let held : is_some (object_at s.tree n) ≡ true = ap (λ (o : Option Stored). is_some (option_map (λ (s : Stored). s.object) o)) k.1 in
-    let passes : put_fh s x h ≡ outcome.done s (at_object x n) Res.PutFh = rw (is, eq-eqb s.instance s.instance refl, held) refl in
+    let passes : put_fh s x h ≡ outcome.done s (at_object x n) Res.PutFh = rw (is, eq-eqb s.opens.instance s.opens.instance refl, held) refl in
     ap (λ (o : outcome.Outcome). is_stale (status_of_result o.result)) passes
 
-pub put_other : (d : RanOp) → IsRun d → (n : ℕ) (h : List ℕ) → is_there d.before.store.tree n ≡ true → handle_of h ≡ Some (record { instance = d.before.store.instance; number = n })
+pub put_other : (d : RanOp) → IsRun d → (n : ℕ) (h : List ℕ) → is_there d.before.store.tree n ≡ true → handle_of h ≡ Some (record { instance = d.before.store.opens.instance; number = n })
     → d.item ≡ Operation (Op.PutFh h) → is_stale d.status ≡ false
 put_other d r n h there read is =
     by_item Other d r (Operation (Op.PutFh h)) is (big_other d (Operation (Op.PutFh h))) (put_answers d.before.store d.context h n read there)
@@ -106,19 +106,19 @@ abbrev IsOfHandle : (instance n : ℕ) → List ℕ → Type 0
 IsOfHandle instance n h = (instance < 2 ^ 32) × (h ≡ handle_in instance n) × (n < 2 ^ 64)
 
 abbrev EachRuns : ℕ → List RanOp → Type 0
-EachRuns instance ds = (d : RanOp) → In d ds → IsRun d × (d.before.store.instance ≡ instance)
+EachRuns instance ds = (d : RanOp) → In d ds → IsRun d × (d.before.store.opens.instance ≡ instance)
 
 handle_here : (instance n : ℕ) (h : List ℕ) → IsOfHandle instance n h → (own : ℕ) → own ≡ instance → handle_of h ≡ Some (record { instance = own; number = n })
 handle_here instance n h of own same =
     ap handle_of of.1 ∙ (handle_read instance n of.0 of.2 ∙ ap (λ i. Some (record { instance = i; number = n })) (sym same))
 
-there_before : (k : OpenTold) (b : Bits) (h : List ℕ) (instance : ℕ) (d : RanOp) → IsOfHandle instance k.file h → IsRun d → d.before.store.instance ≡ instance
+there_before : (k : OpenTold) (b : Bits) (h : List ℕ) (instance : ℕ) (d : RanOp) → IsOfHandle instance k.file h → IsRun d → d.before.store.opens.instance ≡ instance
     → IsOpenWith k b d.before.store.opens → IsThere k.file h d
 there_before k b h instance d of r own stands =
     let there : is_there d.before.store.tree k.file ≡ true = used_there d.before.store k.file r.whole (open_used k b d.before.store stands) in
     record {
       there = there;
-      found = λ is. not_stale d.status (put_other d r k.file h there (handle_here instance k.file h of d.before.store.instance own) is);
+      found = λ is. not_stale d.status (put_other d r k.file h there (handle_here instance k.file h of d.before.store.opens.instance own) is);
       used = λ u at. not_stale d.status (used_other d r k.file there at d.item refl u);
     }
 
@@ -134,12 +134,12 @@ file_while k h instance b (d ∷ more) of runs all =
 runs_by : (m : Machine) (o : Option MachineEvent) (instance : ℕ) → Is m → Has instance m → EachRuns instance (option_map_or (ops_by m) o [])
 runs_by m None instance is own d there = absurd there
 runs_by m (Some e) instance is own d there =
-    ((event_run m e is d there).0, (throughout (λ s. s.instance ≡ instance) (instance_kept instance) m e is own).within d there)
+    ((event_run m e is d there).0, (throughout (λ s. s.opens.instance ≡ instance) (instance_kept instance) m e is own).within d there)
 
-runs_in : (s : State) (c : Arrival) (instance : ℕ) → IsSound s → Has instance s.machine → EachRuns instance (ops_of s c)
+runs_in : (s : ServerState) (c : Arrival) (instance : ℕ) → IsSound s → Has instance s.machine → EachRuns instance (ops_of s c)
 runs_in s c instance sound own = runs_by (before s c) (asked_by s c) instance (whole_before s c sound.whole) own
 
-file_through : (k : OpenTold) (h : List ℕ) (instance lease last : ℕ) (b : Bits) (s : State) (records : List Arrival) → IsOfHandle instance k.file h → IsSound s
+file_through : (k : OpenTold) (h : List ℕ) (instance lease last : ℕ) (b : Bits) (s : ServerState) (records : List Arrival) → IsOfHandle instance k.file h → IsSound s
     → Has instance s.machine → StaysFor (the_open k) k.client lease last b s records → StaysFor (the_file k h) k.client lease last b s records
 file_through k h instance lease last b s [] of sound own all = all
 file_through k h instance lease last b s (c ∷ more) of sound own all = (

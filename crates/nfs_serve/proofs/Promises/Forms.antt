@@ -5,7 +5,7 @@ use Rattle.nfs_rpc.specs.{RecordMarking.{Gathered, start}, Stream.{End, Open, To
 use Rattle.nfs_rpc.proofs.Readings.{one_reading, part_unfinished}
 use Rattle.nfs_serve.specs.{declared.fault.Stop.Stop, declared.fault.ReplayFault.ReplayFault, declared.form.Form.Form, declared.form.Flow.Flow}
 use Rattle.nfs_serve.specs.{declared.moving.WriteFailed.WriteFailed, declared.form.Form.TheVariants.{Tagged, Plain}, declared.talking.Talk.Talk}
-use Rattle.nfs_serve.specs.{Script.{Entry, spell_entry}, Step.{State, step}}
+use Rattle.nfs_serve.specs.{Script.{Entry, spell_entry}, Step.{ServerState, step}}
 use Rattle.nfs_serve.specs.Run.{Streams, with_stream, all_closed, Brings, TakesPiece, TakesAll, StreamEvent, Arrives, Overflows, events_of, Move, events, after, after_event, output, Runs, RunsInto}
 use Rattle.nfs_serve.specs.{Server.{Stands, FeedsOr}, Replay.{Replayed, ReplaysFault}, Talk.SpeaksUntil, Hub.at}
 use Rattle.nfs_serve.specs.{Promises.Endpoint.{Answer, Server, Arrival, stepped, ran}, Promises.Seen.server, Promises.Points.state_after_all}
@@ -15,13 +15,13 @@ use Rattle.nfs_serve.specs.declared.talking.Talk.TheVariants as talks
 use Rattle.nfs_serve.proofs.{Moves.{events-append, after-append, output-last, TakesAll-more}, Pieces.start_holds, Runs.takes_piece, Promises.Whole.runs_script}
 
 -- the state behind moves is that of their records
-by_event : (find : List ℕ → Option Answer) (mode instance lease : ℕ) (s : State) (moves : List Move) (e : StreamEvent) (choice : Option ℕ)
-    → ((t : State) → after t moves ≡ ran (server find mode instance lease) t (records_of moves))
+by_event : (find : List ℕ → Option Answer) (mode instance lease : ℕ) (s : ServerState) (moves : List Move) (e : StreamEvent) (choice : Option ℕ)
+    → ((t : ServerState) → after t moves ≡ ran (server find mode instance lease) t (records_of moves))
     → after (after_event s e choice) moves ≡ ran (server find mode instance lease) s (record_of e choice ++ records_of moves)
 by_event find mode instance lease s moves (Arrives conn moment call) choice rest = rest (step s call moment choice).state
 by_event find mode instance lease s moves (Overflows conn) choice rest = rest s
 
-after_is : (find : List ℕ → Option Answer) (mode instance lease : ℕ) (s : State) (moves : List Move) → after s moves ≡ ran (server find mode instance lease) s (records_of moves)
+after_is : (find : List ℕ → Option Answer) (mode instance lease : ℕ) (s : ServerState) (moves : List Move) → after s moves ≡ ran (server find mode instance lease) s (records_of moves)
 after_is find mode instance lease s [] = refl
 after_is find mode instance lease s (m ∷ moves) = by_event find mode instance lease s moves m.event m.choice (λ t. after_is find mode instance lease t moves)
 
@@ -29,12 +29,12 @@ runs_on : (s : Server) (m : s.State) (before records : List Arrival) → ran s (
 runs_on s m [] records = refl
 runs_on s m (a ∷ more) records = runs_on s (stepped s m a).state more records
 
-points_are : (find : List ℕ → Option Answer) (mode instance lease : ℕ) (s : State) (records : List Arrival)
+points_are : (find : List ℕ → Option Answer) (mode instance lease : ℕ) (s : ServerState) (records : List Arrival)
     → ran (server find mode instance lease) s records ≡ state_after_all s records
 points_are find mode instance lease s [] = refl
 points_are find mode instance lease s (a ∷ more) = points_are find mode instance lease (step s a.bytes a.now a.choice).state more
 
-all_ran : (form : Form) (old new : State) (entries : List Entry) (streams : Streams) (written : List ℕ) → Runs form old new entries streams written → AllRun form old new entries written
+all_ran : (form : Form) (old new : ServerState) (entries : List Entry) (streams : Streams) (written : List ℕ) → Runs form old new entries streams written → AllRun form old new entries written
 all_ran form old new entries streams written r =
     (r.moves, record { streams = streams; brought = r.reads; state = λ find mode instance lease. r.state ∙ after_is find mode instance lease old r.moves }, r.wrote)
 
@@ -83,7 +83,7 @@ nothing_brought conn moment (Open rest) brought end unfinished b =
 nothing_brought conn moment TooLong brought end unfinished b = b.0
 
 -- a run that breaks off is that of its entries, the last one cut behind its last record
-front_ran : (form : Form) (old new : State) (entries before : List Entry) (last : Entry) (streams : Streams) (written : List ℕ)
+front_ran : (form : Form) (old new : ServerState) (entries before : List Entry) (last : Entry) (streams : Streams) (written : List ℕ)
     → entries ≡ before ++ last ∷ [] → RunsInto form old new before last streams written → FrontRuns form old new entries written
 front_ran form old new entries before last streams written order r = record {
   before = before;
@@ -130,7 +130,7 @@ front_ran form old new entries before last streams written order r = record {
         (subst (λ (p : List ℕ). Brings last.conn last.moment (streams last.conn) p (events own) r.end) none r.brings))
 
 -- a piece
-fed : (result : Result Flow WriteFailed) (old new : State) (was is : Gathered) (conn moment : ℕ) (piece : List ℕ) (form : Form) (h0 h1 : Option (List ℕ)) (failed : Bool)
+fed : (result : Result Flow WriteFailed) (old new : ServerState) (was is : Gathered) (conn moment : ℕ) (piece : List ℕ) (form : Form) (h0 h1 : Option (List ℕ)) (failed : Bool)
     → FeedsOr result old new was is conn moment piece form h0 h1 failed
     → (moves : List Move) × (taken : List ℕ) × (dropped : List ℕ) × (piece ≡ taken ++ dropped) × LeavesOf old new (records_of moves)
     × ((before : End) → Stands before was → (end : End) × Brings conn moment before taken (events moves) end)
@@ -152,10 +152,10 @@ fed (Err e) old new was is conn moment piece form h0 h1 failed (f, broken) = (
 )
 
 -- a script
-abbrev Read : State → State → List ℕ → List ℕ → Type 0
+abbrev Read : ServerState → ServerState → List ℕ → List ℕ → Type 0
 Read old new read written = (entries : List Entry) × (rest : List ℕ) × (read ≡ flat_map spell_entry entries ++ rest) × RunUpTo Tagged old new entries written
 
-fault_ran : (stop : Stop) (entry : ℕ) (old new : State) (held : List Gathered) (read written : List ℕ) → ReplaysFault stop entry old new held read written → Read old new read written
+fault_ran : (stop : Stop) (entry : ℕ) (old new : ServerState) (held : List Gathered) (read written : List ℕ) → ReplaysFault stop entry old new held read written → Read old new read written
 fault_ran stops.WriteFailed entry old new held read written (entries, last, is, which, (streams, into, all)) =
     (entries ++ last ∷ [], [], is.spelled, inr (front_ran Tagged old new (entries ++ last ∷ []) entries last streams written refl into))
 fault_ran stops.Cut entry old new held read written (entries, rest, is, which, (streams, runs, all)) = (entries, rest, is.spelled, inl (all_ran Tagged old new entries streams written runs))
@@ -165,13 +165,13 @@ fault_ran stops.Late entry old new held read written (entries, rest, is, which, 
 fault_ran stops.Many entry old new held read written (entries, rest, is, which, (streams, runs, all)) = (entries, rest, is.spelled, inl (all_ran Tagged old new entries streams written runs))
 fault_ran stops.ReadFailed entry old new held read written (entries, rest, is, which, (streams, runs, all)) = (entries, rest, is.spelled, inl (all_ran Tagged old new entries streams written runs))
 
-replayed : (answer : Result (Unit {0}) ReplayFault) (old new : State) (held : List Gathered) (read written : List ℕ) → Replayed answer old new held read written → Read old new read written
+replayed : (answer : Result (Unit {0}) ReplayFault) (old new : ServerState) (held : List Gathered) (read written : List ℕ) → Replayed answer old new held read written → Read old new read written
 replayed (Ok u) old new held read written (entries, is, (streams, runs, all)) =
     (entries, [], is.spelled ∙ sym (append-nil (flat_map spell_entry entries)), inl (all_ran Tagged old new entries streams written runs))
 replayed (Err fault) old new held read written h = fault_ran fault.number fault.entry old new held read written h
 
 -- a talk
-spoke : (ending : Talk) (old new : State) (pieces : List Entry) (written : List ℕ) → SpeaksUntil ending old new pieces written → RunUpTo Plain old new pieces written
+spoke : (ending : Talk) (old new : ServerState) (pieces : List Entry) (written : List ℕ) → SpeaksUntil ending old new pieces written → RunUpTo Plain old new pieces written
 spoke talks.Ended old new pieces written (few, rest, (streams, runs, end)) = inl (all_ran Plain old new pieces streams written runs)
 spoke talks.ReadFailed old new pieces written (few, rest, (streams, runs, end)) = inl (all_ran Plain old new pieces streams written runs)
 spoke talks.TooMany old new pieces written (few, rest, (streams, runs, end)) = inl (all_ran Plain old new pieces streams written runs)

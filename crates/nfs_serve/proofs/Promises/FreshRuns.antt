@@ -3,34 +3,35 @@ use Rattle.std.proofs.{Common.{◌≡◌, ℕ, ◌≤◌, true, List, ◌∷◌,
 use Rattle.std.proofs.lemmas.Option.{same_Some, slice_get_within}
 use Rattle.std.specs.Prelude.{◌==◌, ◌&&◌, ◌||◌, is_some, slice_get}
 use Rattle.nfs_xdr.specs.{Caller.Caller, Text.IsBytes}
+use Rattle.nfs_xdr.specs.Numbers.{next_number}
 use Rattle.nfs_compound.specs.{declared.op.Item.Item, declared.op.Item.TheVariants.Operation, declared.session_args.Sequence.Sequence, Request.Request}
 use Rattle.nfs_compound.specs.declared.op.Op.TheVariants as Op
-use Rattle.nfs_slots.specs.Slot.{SlotState, next_number}
+use Rattle.nfs_slots.specs.Slot.{SlotState}
 use Rattle.nfs_sessions.specs.{Id.id_of, Sessions.{Session, session_at}}
 use Rattle.nfs_exec.specs.{Step.Executing.{executes, is_alone}, Step.Laws.{first_runs, if_runs}, Step.Machine.Machine}
 use Rattle.nfs_exec.specs.{Step.Parts.by_session, Step.Sequence.Runs}
 use Rattle.nfs_exec.specs.Step.Sequence as sequence
 use Rattle.nfs_rpc.specs.CallHead.{call_of}
-use Rattle.nfs_serve.specs.{Step.State, Promises.Endpoint.{Place, Heading, Arrival, stepped, ran}}
+use Rattle.nfs_serve.specs.{Step.ServerState, Promises.Endpoint.{Place, Heading, Arrival, stepped, ran}}
 use Rattle.nfs_serve.specs.{Promises.Seen.{ReplyReader, slot_in, ticked, executes_by, server}, Promises.AnsweredAgain.Stands}
 use Rattle.nfs_serve.specs.Promises.FreshRuns.{IsRun, FreshRuns, NextRuns, Passes}
 use Rattle.nfs_serve.proofs.Promises.KeptSlots.{heads, executes_is, answers_numbered}
 use Rattle.nfs_serve.proofs.Promises.AnsweredAgain.{is_first, of_slot, below_of, slotted_all, slotted_behind, slot_left}
 use Rattle.nfs_serve.proofs.Promises.Slotted.{IsSlotted, ticked_slotted}
 
-verdict_runs : (r : Request) (who : Caller) (size : ℕ) (q : Sequence) (y : Session) (x z : SlotState) → length y.slots.slots ≡ y.slots.channel.slots
-    → slice_get y.slots.slots q.slotid ≡ Some x → slice_get y.slots.slots q.highest_slotid ≡ Some z → q.sequenceid ≡ next_number x.number
-    → size ≤ y.slots.channel.request → r.declared ≤ y.slots.channel.operations → by_session r who size q (Some y) ≡ Runs y.slots.channel
+verdict_runs : (r : Request) (who : Caller) (size : ℕ) (q : Sequence) (y : Session) (x z : SlotState) → length y.slots ≡ y.channel.maxrequests
+    → slice_get y.slots q.slotid ≡ Some x → slice_get y.slots q.highest_slotid ≡ Some z → q.sequenceid ≡ next_number x.number
+    → size ≤ y.channel.maxrequestsize → r.declared ≤ y.channel.maxoperations → by_session r who size q (Some y) ≡ Runs y.channel
 verdict_runs r who size q y x z count here below next short few =
-    let on = slice_get_within y.slots.slots q.slotid x here in
-    let under = slice_get_within y.slots.slots q.highest_slotid z below in
+    let on = slice_get_within y.slots q.slotid x here in
+    let under = slice_get_within y.slots q.highest_slotid z below in
     rw (
-      lt-leb y.slots.channel.slots q.slotid (omega (arith, on, count)),
-      lt-leb y.slots.channel.slots q.highest_slotid (omega (arith, under, count)),
+      lt-leb y.channel.maxrequests q.slotid (omega (arith, on, count)),
+      lt-leb y.channel.maxrequests q.highest_slotid (omega (arith, under, count)),
       here,
       eq-eqb q.sequenceid (next_number x.number) next,
-      le-ltb y.slots.channel.request size short,
-      le-ltb y.slots.channel.operations r.declared few,
+      le-ltb y.channel.maxrequestsize size short,
+      le-ltb y.channel.maxoperations r.declared few,
     ) refl
 
 executes_first : (m : Machine) (r : Request) (who : Caller) (size : ℕ) (q : Sequence) (more : List Item) → r.minor ≡ 1 → r.left ≡ Operation (Op.Sequence q) ∷ more
@@ -41,7 +42,7 @@ executes_first m r who size q more minor list runs =
     ∙ ap (λ b. b || is_alone r.declared (Operation (Op.Sequence q) ∷ more)) runs)
 
 -- a record that is fresh on a slot which stands, in a session that lets it pass
-runs_there : (reader : ReplyReader) (mode instance lease : ℕ) (m : State) (b : Arrival) (g : Heading) (p : Place) → IsSlotted m.machine.sessions → IsBytes b.bytes
+runs_there : (reader : ReplyReader) (mode instance lease : ℕ) (m : ServerState) (b : Arrival) (g : Heading) (p : Place) → IsSlotted m.machine.sessions → IsBytes b.bytes
     → (server reader.find mode instance lease).heading b.bytes ≡ Some g → g.place ≡ p → (stands : Stands (server reader.find mode instance lease) m p g.highest b.now)
     → g.compound.number ≡ next_number stands.slot.number → Passes (ticked m b.now) p b.bytes → IsRun (server reader.find mode instance lease) m b g
 runs_there reader mode instance lease m b g p slotted fits reads on stands next passes =
@@ -52,17 +53,17 @@ runs_there reader mode instance lease m b g p slotted fits reads on stands next 
     let here : slot_in to.first.slotid (session_at t.machine.sessions id) ≡ Some stands.slot =
     ap (λ (p : Place). slot_in p.slot (session_at t.machine.sessions p.session)) (sym place) ∙ stands.here in
     let found = of_slot to.first.slotid (session_at t.machine.sessions id) stands.slot here in
-    let below : slice_get found.0.slots.slots to.first.highest_slotid ≡ Some stands.top =
+    let below : slice_get found.0.slots to.first.highest_slotid ≡ Some stands.top =
     ap (slot_in to.first.highest_slotid) (sym found.1) ∙ below_of reader mode instance lease m b g p to place stands in
     let same : passes.session ≡ found.0 =
     same_Some passes.session found.0 (sym passes.there ∙ (ap (λ (p : Place). session_at t.machine.sessions p.session) place ∙ found.1)) in
     let number : to.first.sequenceid ≡ next_number stands.slot.number = ap (λ (y : Heading). y.compound.number) to.is ∙ next in
-    let verdict : sequence.sequenced t.machine to.request to.call.who (length b.bytes) to.first ≡ Runs found.0.slots.channel =
+    let verdict : sequence.sequenced t.machine to.request to.call.who (length b.bytes) to.first ≡ Runs found.0.channel =
     ap (by_session to.request to.call.who (length b.bytes) to.first) found.1
     ∙ verdict_runs to.request to.call.who (length b.bytes) to.first found.0 stands.slot stands.top
     ((ticked_slotted m b.now slotted).slots id found.0 found.1) found.2 below number
-    (subst (λ (y : Session). length b.bytes ≤ y.slots.channel.request) same passes.short)
-    (subst (λ (y : Session). to.request.declared ≤ y.slots.channel.operations) same (passes.few to.call to.request to.called to.asked)) in
+    (subst (λ (y : Session). length b.bytes ≤ y.channel.maxrequestsize) same passes.short)
+    (subst (λ (y : Session). to.request.declared ≤ y.channel.maxoperations) same (passes.few to.call to.request to.called to.asked)) in
     let first = is_first to.request to.first to.begins in
     let does : executes_by t (length b.bytes) (call_of b.bytes) ≡ true =
     executes_is t (length b.bytes) b.bytes to.call to.request to.called to.asked
@@ -74,13 +75,13 @@ runs_there reader mode instance lease m b g p slotted fits reads on stands next 
 pub fresh_runs : (reader : ReplyReader) (mode instance lease : ℕ) → FreshRuns (server reader.find mode instance lease) Passes
 fresh_runs reader mode instance lease before b g fits reads stands next passes =
     let s = server reader.find mode instance lease in
-    let m : State = ran s s.new before in
+    let m : ServerState = ran s s.new before in
     runs_there reader mode instance lease m b g g.place (slotted_all reader mode instance lease before) fits reads refl stands next passes
 
 pub next_runs : (reader : ReplyReader) (mode instance lease : ℕ) → NextRuns (server reader.find mode instance lease) Passes
 next_runs reader mode instance lease before a h between b g fits reads does elsewhere fits_b reads_b place next stands passes =
     let s = server reader.find mode instance lease in
     let (run, slot) = slot_left reader mode instance lease before a h between b g fits reads does elsewhere stands in
-    let m : State = ran s (stepped s (ran s s.new before) a).state between in
+    let m : ServerState = ran s (stepped s (ran s s.new before) a).state between in
     runs_there reader mode instance lease m b g h.place (slotted_behind reader mode instance lease before a between) fits_b reads_b place stands
     (next ∙ ap (λ (x : SlotState). next_number x.number) (sym slot)) passes

@@ -5,18 +5,19 @@ use Rattle.std.specs.Prelude.{◌==◌}
 use Rattle.nfs_xdr.specs.Spelling as spelling
 use Rattle.nfs_xdr.specs.{Limits.opaque_limit, Codec.{number, opaque}, Caller.Caller, Status.status_number}
 use Rattle.nfs_xdr.proofs.StatusLaws.{is_status_listing}
-use Rattle.nfs_compound.specs.{declared.op.Item.Item, declared.op.Item.TheVariants.Operation, Request.{Request, Lists, HasBody, IsRequest}}
+use Rattle.nfs_compound.specs.{declared.channel_attrs.ChannelAttrs.ChannelAttrs, declared.op.Item.Item, declared.op.Item.TheVariants.Operation, Request.{Request, Lists, HasBody, IsRequest}}
 use Rattle.nfs_compound.specs.declared.session_args.Sequence.{Sequence}
 use Rattle.nfs_compound.specs.declared.op.Op.TheVariants as Op
 use Rattle.nfs_results.specs.Items as results
-use Rattle.nfs_sessions.specs.{declared.channel.Channel.Channel, Id.id_of}
+use Rattle.nfs_sessions.specs.Id.{id_of}
 use Rattle.nfs_exec.specs.{Step.Machine.Machine, Step.Sequence.{Sequenced, Refuses, Repeats, Runs, sequence_ok}, Step.Run.behind_here}
-use Rattle.nfs_exec.specs.{Step.Compound.{renewed, run_in, in_session, by_first, compound}, Step.Laws.{if_runs, first_runs}}
+use Rattle.nfs_exec.specs.{Step.Compound.{renewed, in_session, by_first, compound}, Step.Laws.{if_runs, first_runs}}
 use Rattle.nfs_exec.specs.Step.Executing.{first_sequence, sequence_of}
 use Rattle.nfs_exec.specs.Step.Sequence as sequence
 use Rattle.nfs_serve.specs.Promises.Seen.{Bears}
 use Rattle.nfs_serve.proofs.{Promises.Reader.sequence_front, Promises.Replies.bears_spelled}
 use Rattle.nfs_exec.proofs.Runs.SessionsBehind.{ran_in}
+use Rattle.nfs_exec.proofs.Step.Terms.{run_in}
 
 nested_sequence : (id n slot more rest : List ℕ) → (id ++ (n ++ (slot ++ more))) ++ rest ≡ id ++ (n ++ (slot ++ (more ++ rest)))
 nested_sequence id n slot more rest =
@@ -33,7 +34,7 @@ pub record IsAnswered (tag : List ℕ) (q : Sequence) (text : List ℕ) : Type 0
   pub is : text ≡ (spelling.number status ++ (spelling.opaque tag ++ spelling.number count))
       ++ ((spelling.number 53 ++ spelling.number 0) ++ (spelling.fixed q.sessionid ++ (spelling.number q.sequenceid ++ (spelling.number q.slotid ++ rest))))
 
-answered : (m : Machine) (r : Request) (who : Caller) (now : ℕ) (choice : Option ℕ) (q : Sequence) (more : List Item) (c : Channel)
+answered : (m : Machine) (r : Request) (who : Caller) (now : ℕ) (choice : Option ℕ) (q : Sequence) (more : List Item) (c : ChannelAttrs)
     → IsAnswered r.tag q (in_session m r who now choice q more (Runs c)).text
 unfolding results.sequence
 answered m r who now choice q more c =

@@ -5,7 +5,7 @@ use Rattle.std.specs.{Prelude.{◌==◌, ◌&&◌, ◌||◌, option_map, Ok}, In
 use Rattle.nfs_xdr.specs.{Caller.Caller, Tables.In}
 use Rattle.nfs_xdr.proofs.Lists.{any_in, in_any}
 use Rattle.nfs_tree.specs.{declared.object.Object.Object, declared.stored.Stored.Stored, Files.stored_in}
-use Rattle.nfs_attrs.specs.Permissions.{in_group, class_bits, read, write, execute, change}
+use Rattle.nfs_attrs.specs.Permissions.{in_group, class_bits, read, write, execute, change_entries}
 use Rattle.nfs_opens.specs.declared.share.Share.{Share}
 use Rattle.nfs_names.specs.{declared.context.Context.Context, declared.node.Node.Node, Checks.{node_as, node_at, permits, current}, State.State}
 use Rattle.nfs_files.specs.Bytes.{want_of}
@@ -156,7 +156,7 @@ module _ (x : Context) (d : Node) where
   unfolding permits
   executes e = granted d.object x.who Executes e
 
-  pub changes : permits x d change ≡ true → Gets Writes × Gets Executes
+  pub changes : permits x d change_entries ≡ true → Gets Writes × Gets Executes
   unfolding permits
   changes e = let p = and_parts (bit_of Writes) (bit_of Executes) e in (granted d.object x.who Writes p.0, granted d.object x.who Executes p.1)
 
@@ -187,7 +187,7 @@ module _ (x : Context) (d : Node) where
   both_bits true false e f = absurd (false≢true f)
   both_bits false q e f = absurd (false≢true e)
 
-  pub may_change : Gets Writes → Gets Executes → permits x d change ≡ true
+  pub may_change : Gets Writes → Gets Executes → permits x d change_entries ≡ true
   unfolding permits
   may_change write execute = both_bits (bit_of Writes) (bit_of Executes) (has_granted d.object x.who Writes write) (has_granted d.object x.who Executes execute)
 

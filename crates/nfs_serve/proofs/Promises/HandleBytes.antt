@@ -4,22 +4,23 @@ use Rattle.nfs_xdr.specs.Tables.{In}
 use Rattle.nfs_files.specs.Written.{Byte, OpensEmpty, Reads, GivesIt}
 use Rattle.nfs_compound.specs.declared.op.Item.TheVariants.{Operation}
 use Rattle.nfs_compound.specs.declared.op.Op.TheVariants as Op
-use Rattle.nfs_tree.specs.Files.{lookup}
+use Rattle.nfs_tree.specs.Files.{object_named}
 use Rattle.nfs_names.specs.GetFh.{get_fh}
 use Rattle.nfs_exec.specs.{Runs.Ops.RanOp, Runs.WrittenRun.{WritesIt, SparesIt, AreSpared, StandsWhile}}
 use Rattle.nfs_exec.proofs.Runs.Handles.{handle_in}
-use Rattle.nfs_serve.specs.{Step.{State, new_state}, Promises.Endpoint.Arrival}
+use Rattle.nfs_serve.specs.{Step.{ServerState, new_state}, Promises.Endpoint.Arrival}
 use Rattle.nfs_serve.specs.Promises.HandleBytes.{ByteAt, in_file, MayBe, SparesAt, AllSpareAt, GivesAt, ReadsBack, ReadsBackThrough, names_behind, BytesFollow}
 use Rattle.nfs_serve.specs.{Promises.HandleBytes.{writes, reads, written, byte, answering, AreReadBack}, Promises.Exchanges.words, Promises.Handles.given}
 use Rattle.nfs_serve.specs.Promises.HeldLock.{last_of}
-use Rattle.nfs_serve.specs.Promises.KnownHandles.{KnownName, Known, Bears, starts, led_by, opened, behind, known_after, known_after_all, names_after, root_of}
+use Rattle.nfs_serve.specs.Promises.KnownHandles.{KnownName, Known, IsHandleOf, starts, led_by, opened, behind, known_after, known_after_all, names_after}
+use Rattle.nfs_serve.specs.Promises.KnownHandles.{root_of}
 use Rattle.nfs_serve.specs.{Promises.KnownHandlesWorked.found, Promises.Points.{state_after, state_after_all, reached, ops_of}}
 use Rattle.nfs_serve.specs.Promises.WrittenStays.{StaysWritten}
 use Rattle.nfs_serve.proofs.{Promises.Computing.computing, Promises.Handles.{first_of, two}, Promises.HeldLock.nothing}
 use Rattle.nfs_serve.proofs.{Promises.KnownHandles.{HoldsAt, HoldsIn, AllHold, one_record, first_holds, numbers, same_number}, Promises.NameSaid.some_same}
 use Rattle.nfs_serve.proofs.{Promises.NameStays.rows, Promises.WrittenStays.bytes_stay, Promises.WrittenWorked.{wrote, reads_it}}
 
-module _ (instance : ℕ) (low : instance < 2 ^ 32) (b : ByteAt) (n : ℕ) (its : Bears instance b.handle n) where
+module _ (instance : ℕ) (low : instance < 2 ^ 32) (b : ByteAt) (n : ℕ) (its : IsHandleOf instance b.handle n) where
   abbrev top : List ℕ
   top = root_of instance
 
@@ -27,7 +28,7 @@ module _ (instance : ℕ) (low : instance < 2 ^ 32) (b : ByteAt) (n : ℕ) (its 
   it = in_file n b
 
   -- one filehandle bears it
-  only_one : (g : List ℕ) (m : ℕ) → Bears instance g m → m ≡ n → g ≡ b.handle
+  only_one : (g : List ℕ) (m : ℕ) → IsHandleOf instance g m → m ≡ n → g ≡ b.handle
   only_one g m bears same = bears.is ∙ (ap (handle_in instance) same ∙ sym its.is)
 
   -- what is known of the current filehandle does not rule it out where its file is current
@@ -43,7 +44,7 @@ module _ (instance : ℕ) (low : instance < 2 ^ 32) (b : ByteAt) (n : ℕ) (its 
       ap (λ i. (behind top k i d.result).current) e.is ∙ ap (λ claim. (opened claim k).current) e.claim in
       let m = numbers instance low k.names (rows d.before) k.current d.context.current e.name g is.holds.names is.holds.seated.at_current (sym after ∙ known) in
       let at = some_same d.context.current m.directory e.directory m.at e.at in
-      let leads : Some m.number ≡ Some n = sym m.leads ∙ (ap (λ directory. lookup d.before.store.tree directory e.name) at ∙ e.names) in
+      let leads : Some m.number ≡ Some n = sym m.leads ∙ (ap (λ directory. object_named d.before.store.tree directory e.name) at ∙ e.names) in
       let same : m.number ≡ n = cc in
       only_one g m.number m.of_it same
 
@@ -70,7 +71,7 @@ module _ (instance : ℕ) (low : instance < 2 ^ 32) (b : ByteAt) (n : ℕ) (its 
   reads_back k (d ∷ more) is while =
       (gives k d is.0 while.0.read, λ spares. reads_back (known_after top k d) more is.1 (while.1 (spared k d is.0 spares)).1)
 
-  back_through : (names : List KnownName) (s : State) (records : List Arrival) → HoldsIn instance low names s → StaysWritten it s records
+  back_through : (names : List KnownName) (s : ServerState) (records : List Arrival) → HoldsIn instance low names s → StaysWritten it s records
       → ReadsBackThrough top b names s records
   back_through names s [] is stays = tt
   back_through names s (c ∷ more) is stays =
@@ -81,7 +82,7 @@ module _ (instance : ℕ) (low : instance < 2 ^ 32) (b : ByteAt) (n : ℕ) (its 
 
 -- What is known behind records, and behind operations.
 
-pub held_behind : (instance : ℕ) (low : instance < 2 ^ 32) (names : List KnownName) (s : State) (records : List Arrival) → HoldsIn instance low names s
+pub held_behind : (instance : ℕ) (low : instance < 2 ^ 32) (names : List KnownName) (s : ServerState) (records : List Arrival) → HoldsIn instance low names s
     → HoldsIn instance low (names_behind (root_of instance) names s records) (state_after_all s records)
 held_behind instance low names s [] is = is
 held_behind instance low names s (c ∷ more) is =
@@ -103,8 +104,8 @@ bytes_follow mode instance lease low earlier c b n front write back same known b
     let one = one_record instance low names s c here in
     let at = held_back instance low (starts names) front (write ∷ back) (subst (AllHold instance low (starts names)) same one.0) in
     let seat = at.0.holds.seated.at_current b.handle known in
-    let its : Bears instance b.handle n =
-    subst (Bears instance b.handle) (some_same write.context.current seat.0 n seat.2 brings.over.at) seat.1 in
+    let its : IsHandleOf instance b.handle n =
+    subst (IsHandleOf instance b.handle) (some_same write.context.current seat.0 n seat.2 brings.over.at) seat.1 in
     let stay = bytes_stay mode instance lease earlier c (in_file n b) front write back same brings in (
       reads_back instance low b n its (known_after top k write) back at.1 stay.0,
       λ spare more. back_through instance low b n its (names_after top names s c) (state_after s c) more one.1

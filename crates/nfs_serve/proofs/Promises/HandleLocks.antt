@@ -10,9 +10,9 @@ use Rattle.nfs_names.proofs.Found.{came, checked_ok}
 use Rattle.nfs_files.specs.{LockTold.LockTold, Ranges.{wished, range}, Bytes.file_checks, Target.the_file, Parts.wish}
 use Rattle.nfs_files.proofs.WrittenOps.{current_number}
 use Rattle.nfs_exec.specs.{Runs.LockHeld.{LocksFor, AreSpared, Tells, the_lock}, Runs.Ops.RanOp}
-use Rattle.nfs_serve.specs.{Step.{State, new_state}, Promises.Endpoint.Arrival, Promises.HandleBytes.names_behind}
+use Rattle.nfs_serve.specs.{Step.{ServerState, new_state}, Promises.Endpoint.Arrival, Promises.HandleBytes.names_behind}
 use Rattle.nfs_serve.specs.{Promises.HandleLocks.{IsKnownAt, OnlyOneByHandle, IsOneWriter}, Promises.Handles.given, Promises.HeldLock.last_of}
-use Rattle.nfs_serve.specs.Promises.KnownHandles.{Bears, starts, known_after_all, root_of}
+use Rattle.nfs_serve.specs.Promises.KnownHandles.{IsHandleOf, starts, known_after_all, root_of}
 use Rattle.nfs_serve.specs.Promises.Points.{state_after, state_after_all, reached, taken, ops_of}
 use Rattle.nfs_serve.specs.Promises.HandleLocks as worked
 use Rattle.nfs_serve.specs.Promises.HeldLock as held
@@ -37,7 +37,7 @@ wished_on s x how offset size w e =
 -- the file of a LOCK under a filehandle that is known is the one whose number it bears
 lock_on : (mode instance lease : ℕ) (low : instance < 2 ^ 32) (records : List Arrival) (c : Arrival) (front : List RanOp) (lock : RanOp) (back : List RanOp) (h : List ℕ)
     (n : ℕ) (w : Wish) → ops_of (reached mode instance lease records) c ≡ front ++ lock ∷ back → IsKnownAt mode instance lease records front h → LocksFor lock n w
-    → Bears instance h w.file
+    → IsHandleOf instance h w.file
 lock_on mode instance lease low records c front lock back h n w same known locks =
     let s = reached mode instance lease records in
     let names = names_behind (root_of instance) [] (new_state mode instance lease) records in
@@ -47,9 +47,9 @@ lock_on mode instance lease low records c front lock back h n w same known locks
     let on = wished_on lock.before.store lock.context locks.asked.locktype locks.asked.offset locks.asked.length w locks.wish in
     let number : ◌≡◌ {A = Option ℕ} (Some seat.0) (Some w.file) = sym seat.2 ∙ on in
     let is : seat.0 ≡ w.file = cc in
-    subst (Bears instance h) is seat.1
+    subst (IsHandleOf instance h) is seat.1
 
-after_both : (s : State) (records more : List Arrival) → state_after_all s (records ++ more) ≡ state_after_all (state_after_all s records) more
+after_both : (s : ServerState) (records more : List Arrival) → state_after_all s (records ++ more) ≡ state_after_all (state_after_all s records) more
 after_both s [] more = refl
 after_both s (c ∷ records) more = after_both (state_after s c) records more
 
@@ -76,7 +76,7 @@ four x (a ∷ b ∷ c ∷ []) e = absurd (omega arith)
 four x (a ∷ b ∷ c ∷ d ∷ []) e = refl
 four x (a ∷ b ∷ c ∷ d ∷ f ∷ more) e = absurd (omega arith)
 
-abbrev asked : State
+abbrev asked : ServerState
 asked = state_after_all worked.locked held.waits
 
 known_first : IsKnownAt 511 7 90 held.earlier (take 3 (ops_of held.start worked.locks)) given

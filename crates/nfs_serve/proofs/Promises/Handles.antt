@@ -9,7 +9,7 @@ use Rattle.nfs_exec.proofs.{Runs.WhatWasDone.event_run, Runs.Handles.{given_in, 
 use Rattle.nfs_exec.proofs.{Runs.OneWalk.throughout, Runs.KeptByRuns.Is}
 use Rattle.nfs_serve.specs.{Promises.Endpoint.Arrival, Promises.Handles.{HandlesLead, HandlesTell, found, led_to, IsLedBack}}
 use Rattle.nfs_serve.specs.{Promises.HeldLock.{last_of, locked}, Promises.Points.{state_after, state_after_all, reached, taken, before, asked_by, ops_of}}
-use Rattle.nfs_serve.specs.Step.{State, new_state}
+use Rattle.nfs_serve.specs.Step.{ServerState, new_state}
 use Rattle.nfs_serve.specs.Promises.Handles as worked
 use Rattle.nfs_serve.proofs.{Promises.Computing.computing, Promises.HeldLock.{nothing, three}}
 use Rattle.nfs_serve.proofs.Promises.Points.{left, for_asked, next_is, IsSound, whole_before, sound_next, sound_all, sound_new}
@@ -17,15 +17,15 @@ use Rattle.nfs_serve.proofs.Promises.Points.{left, for_asked, next_is, IsSound, 
 -- The instance does not change.
 
 abbrev pub Has : ℕ → Machine → Type 0
-Has instance m = m.store.instance ≡ instance
+Has instance m = m.store.opens.instance ≡ instance
 
-pub has_next : (s : State) (c : Arrival) (instance : ℕ) → IsSound s → Has instance s.machine → Has instance (state_after s c).machine
+pub has_next : (s : ServerState) (c : Arrival) (instance : ℕ) → IsSound s → Has instance s.machine → Has instance (state_after s c).machine
 has_next s c instance sound is =
-    subst (λ (s : State). Has instance s.machine) (sym (next_is s c))
+    subst (λ (s : ServerState). Has instance s.machine) (sym (next_is s c))
     (for_asked (λ o. Has instance (left (before s c) o)) s c is (λ r who.
-    (throughout (λ s. s.instance ≡ instance) (instance_kept instance) (before s c) (Asks r who (length c.bytes) (taken s c) c.choice) (whole_before s c sound.whole) is).behind))
+    (throughout (λ s. s.opens.instance ≡ instance) (instance_kept instance) (before s c) (Asks r who (length c.bytes) (taken s c) c.choice) (whole_before s c sound.whole) is).behind))
 
-pub has_all : (s : State) (records : List Arrival) (instance : ℕ) → IsSound s → Has instance s.machine → Has instance (state_after_all s records).machine
+pub has_all : (s : ServerState) (records : List Arrival) (instance : ℕ) → IsSound s → Has instance s.machine → Has instance (state_after_all s records).machine
 has_all s [] instance sound is = is
 has_all s (c ∷ more) instance sound is = has_all (state_after s c) more instance (sound_next s c sound) (has_next s c instance sound is)
 
@@ -34,7 +34,7 @@ given_by : (m : Machine) (o : Option MachineEvent) (instance : ℕ) → Is m →
 given_by m None instance is own d there n h gives = absurd there
 given_by m (Some e) instance is own d there n h gives =
     let its = given_in d (event_run m e is d there).0 n h gives in
-    (its.is ∙ ap (λ instance. handle_in instance n) ((throughout (λ s. s.instance ≡ instance) (instance_kept instance) m e is own).within d there), its.small)
+    (its.is ∙ ap (λ instance. handle_in instance n) ((throughout (λ s. s.opens.instance ≡ instance) (instance_kept instance) m e is own).within d there), its.small)
 
 leads_by : (m : Machine) (o : Option MachineEvent) (instance n : ℕ) (h : List ℕ) → Is m → Has instance m → h ≡ handle_in instance n → instance < 2 ^ 32 → n < 2 ^ 64
     → Leads n h (option_map_or (ops_by m) o [])

@@ -10,7 +10,7 @@ use Rattle.nfs_results.specs.{declared.res.Res.Res, Results.status_of_result}
 use Rattle.nfs_ranges.specs.{declared.Kind.Kind, Holders.{holding, cleared, is_within}}
 use Rattle.nfs_opens.specs.{declared.records.LockState.LockState, declared.records.OpenState.OpenState, declared.stateid.StateId.StateId}
 use Rattle.nfs_opens.specs.{declared.locking.Wish.Wish, Holding.{FileHolders, on_file}, Table.{Table, Asked, lock_at, with_open}, TableInvariants.IsTable}
-use Rattle.nfs_opens.specs.{Closing.{stands, not_under, held_within, without_open, without_lock}, Locking.raised}
+use Rattle.nfs_opens.specs.{Closing.{held_within, without_open, without_lock}, Locking.raised}
 use Rattle.nfs_opens.specs.Opening as opening
 use Rattle.nfs_opens.proofs.CallLaws.{IsLocked, first_state}
 use Rattle.nfs_names.specs.{declared.context.Context.Context, Outcome.is_ok, State.{State, moment}}
@@ -23,6 +23,7 @@ use Rattle.nfs_exec.specs.{Runs.LockHeld.LocksFor, Runs.Ops.RanOp}
 use Rattle.nfs_exec.proofs.{Runs.KeptByRuns.Is, Runs.LockOwners.owned_behind, Runs.LockStates.changed_from, Runs.OneRun.{IsRun, by_ok, by_run}}
 use Rattle.nfs_exec.proofs.Runs.WhatWasDone.{did_lock}
 use Rattle.nfs_serve.specs.Promises.Denials.{Grants}
+use Rattle.nfs_opens.proofs.Terms.{not_under, stands}
 
 -- The lock state stands, with its client, its owner and its open, and holds the first byte.
 pub record Holds (k : LockTold) (name : List ℕ) (t : Table) : Type 0 where

@@ -12,7 +12,7 @@ use Rattle.nfs_compound.specs.declared.lock_args.LockType.TheVariants as LockTyp
 use Rattle.nfs_names.specs.Context.{begins}
 use Rattle.nfs_files.specs.{Ranges.wished, LockTold.{LockTold, Names}}
 use Rattle.nfs_exec.specs.{Runs.Ops.RanOp, Runs.LockHeld.{LocksFor, Spares, AreSpared}}
-use Rattle.nfs_serve.specs.{Step.State, Promises.Endpoint.Arrival, Promises.Points.{state_after, state_after_all, taken, ops_of}}
+use Rattle.nfs_serve.specs.{Step.ServerState, Promises.Endpoint.Arrival, Promises.Points.{state_after, state_after_all, taken, ops_of}}
 use Rattle.nfs_serve.specs.{Promises.LockKept.{renews_by, replaces_by, AreInTime}, Promises.HeldLock.{start, locks, last_of, IsHeldTo, AreBothTold}}
 use Rattle.nfs_serve.specs.Promises.HeldLock as worked
 use Rattle.nfs_serve.proofs.Promises.Computing.{computing}
@@ -68,14 +68,14 @@ not_so false e = refl
 
 -- So the premises can be tested.
 
-abbrev in_time : LockTold → (lease last : ℕ) → State → List Arrival → Bool
+abbrev in_time : LockTold → (lease last : ℕ) → ServerState → List Arrival → Bool
 in_time k lease last s [] = true
 in_time k lease last s (c ∷ more) =
     nat_le (taken s c) (last + lease)
     && (all_spare (ops_of s c)
     && (not (replaces_by k.client s c) && in_time k lease (if renews_by k.client s c then taken s c else last) (state_after s c) more))
 
-pub are_in_time : (k : LockTold) (lease last : ℕ) (s : State) (cs : List Arrival) → in_time k lease last s cs ≡ true → AreInTime k lease last s cs (λ last t. Unit {0})
+pub are_in_time : (k : LockTold) (lease last : ℕ) (s : ServerState) (cs : List Arrival) → in_time k lease last s cs ≡ true → AreInTime k lease last s cs (λ last t. Unit {0})
 are_in_time k lease last s [] e = tt
 are_in_time k lease last s (c ∷ more) e =
     let p = and_parts _ _ e in
@@ -88,11 +88,11 @@ are_in_time k lease last s (c ∷ more) e =
     )
 
 -- and up to what holds behind them
-abbrev pub last_of_all : ℕ → ℕ → State → List Arrival → ℕ
+abbrev pub last_of_all : ℕ → ℕ → ServerState → List Arrival → ℕ
 last_of_all client last s [] = last
 last_of_all client last s (c ∷ more) = last_of_all client (if renews_by client s c then taken s c else last) (state_after s c) more
 
-pub up_to : (k : LockTold) (lease last : ℕ) (s : State) (cs : List Arrival) (Then : ℕ → State → Type 0) → AreInTime k lease last s cs (λ last t. Unit {0})
+pub up_to : (k : LockTold) (lease last : ℕ) (s : ServerState) (cs : List Arrival) (Then : ℕ → ServerState → Type 0) → AreInTime k lease last s cs (λ last t. Unit {0})
     → Then (last_of_all k.client last s cs) (state_after_all s cs) → AreInTime k lease last s cs Then
 up_to k lease last s [] Then all holds = holds
 up_to k lease last s (c ∷ more) Then all holds =
@@ -146,7 +146,7 @@ unfolding computing
 is_held_to = record {
   front = take 2 (ops_of start locks);
   lock = last_of nothing (ops_of start locks);
-  ops = refl;
+  ops = three nothing (ops_of start locks) refl;
   tells = record {
     wish = worked.wish 1 0;
     locks = locks_for (last_of nothing (ops_of start locks)) 1 0 2 refl refl refl refl refl;

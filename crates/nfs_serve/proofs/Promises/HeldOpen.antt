@@ -6,7 +6,7 @@ use Rattle.nfs_compound.specs.{declared.op.Item.Item, declared.op.Item.TheVarian
 use Rattle.nfs_compound.specs.declared.op.Op.TheVariants as Op
 use Rattle.nfs_files.specs.OpenTold.{OpenTold, Bits}
 use Rattle.nfs_exec.specs.{Runs.Ops.RanOp, Runs.OpenHeld.{NoneCloses, bits_left}}
-use Rattle.nfs_serve.specs.{Step.State, Promises.Endpoint.Arrival, Promises.Points.{state_after, state_after_all, taken, ops_of}}
+use Rattle.nfs_serve.specs.{Step.ServerState, Promises.Endpoint.Arrival, Promises.Points.{state_after, state_after_all, taken, ops_of}}
 use Rattle.nfs_serve.specs.{Promises.LockKept.{renews_by, replaces_by}, Promises.OpenKept.LeaveOpen, Promises.HeldLock.last_of, Promises.HeldOpen.IsOpenTo}
 use Rattle.nfs_serve.specs.Promises.WrongOpens.{reads_too}
 use Rattle.nfs_serve.specs.Promises.HeldLock as locks
@@ -36,17 +36,17 @@ none_closes k (x ∷ ds) e d there closes = (let p = and_parts _ _ e in elim the
 
 -- So the premises can be tested.
 
-abbrev in_time : ℕ → (lease last : ℕ) → State → List Arrival → Bool
+abbrev in_time : ℕ → (lease last : ℕ) → ServerState → List Arrival → Bool
 in_time client lease last s [] = true
 in_time client lease last s (c ∷ more) =
     nat_le (taken s c) (last + lease)
     && (none_is_close (ops_of s c) && (not (replaces_by client s c) && in_time client lease (if renews_by client s c then taken s c else last) (state_after s c) more))
 
-abbrev bits_of_all : ℕ → Bits → State → List Arrival → Bits
+abbrev bits_of_all : ℕ → Bits → ServerState → List Arrival → Bits
 bits_of_all n b s [] = b
 bits_of_all n b s (c ∷ more) = bits_of_all n (bits_left n b (ops_of s c)) (state_after s c) more
 
-pub leave_open : (k : OpenTold) (b : Bits) (lease last : ℕ) (s : State) (cs : List Arrival) (Then : Bits → ℕ → State → Type 0)
+pub leave_open : (k : OpenTold) (b : Bits) (lease last : ℕ) (s : ServerState) (cs : List Arrival) (Then : Bits → ℕ → ServerState → Type 0)
     → in_time k.client lease last s cs ≡ true → Then (bits_of_all k.number b s cs) (last_of_all k.client last s cs) (state_after_all s cs)
     → LeaveOpen k b lease last s cs Then
 leave_open k b lease last s [] Then e holds = holds

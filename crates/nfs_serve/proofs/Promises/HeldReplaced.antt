@@ -9,20 +9,21 @@ use Rattle.nfs_compound.specs.declared.session_args.CreateSession.{CreateSession
 use Rattle.nfs_compound.specs.declared.op.Op.TheVariants as Op
 use Rattle.nfs_sessions.specs.{declared.id.SessionId.SessionId, declared.sessions.SessionFault.SessionFault, Sessions.{SessionTable, create}}
 use Rattle.nfs_sessions.specs.declared.sessions.SessionFault.TheVariants as F
-use Rattle.nfs_clients.specs.{Roster.{ClientRecord, client_at, id_of, next_id}, CreateSession.{is_other_confirmed_of, leaving, leaving_by, create_verdict}}
+use Rattle.nfs_clients.specs.{Roster.{ClientRecord, client_at, first_id, next_id}, CreateSession.{is_other_confirmed_of, leaving, create_verdict}}
 use Rattle.nfs_clients.specs.CreateSession as clients
 use Rattle.nfs_clients.specs.declared.created.CreateResult.TheVariants as results
 use Rattle.nfs_opens.specs.{declared.records.LockState.LockState, declared.records.OpenState.OpenState, Table.Table, TableInvariants.IsTable}
 use Rattle.nfs_names.specs.{Ending.{has_open, table_staying}, Outcome.is_ok}
 use Rattle.nfs_names.specs.State as of_store
 use Rattle.nfs_files.specs.LockTold.{LockTold}
-use Rattle.nfs_exec.specs.{Step.Machine.{by_fault, Machine, IsMachine, Outcome, refuses}, Step.Place.item_fault}
+use Rattle.nfs_exec.specs.{Step.Machine.{by_fault, Machine, IsMachine, MachineOutcome, with_refusal}, Step.Place.item_fault}
 use Rattle.nfs_exec.specs.{Step.CreateSession.{without_any_opens, wish_of}, Step.Run.is_here}
 use Rattle.nfs_exec.specs.{Step.Compound.{carried_out, first_item, bare, by_first, compound}, Step.Laws.Asks}
 use Rattle.nfs_exec.specs.Runs.LockHeld.{is_of_owner, takes_place, replaces_in, replaces}
 use Rattle.nfs_exec.proofs.Step.InSteps.{create_session_is}
 use Rattle.nfs_exec.specs.Step.Parts.{by_created, creates, by_number}
 use Rattle.nfs_serve.proofs.{Promises.HeldBefore.Holds, Promises.HeldLock.not_so, Promises.HeldTraced.held_staying}
+use Rattle.nfs_clients.proofs.Members.{leaving_by}
 
 never_both : (b : Bool) → b && false ≡ true → ⊥
 never_both true e = false≢true e
@@ -76,7 +77,7 @@ module _ (client : ℕ) (P : Table → Type 0) (had : IsHad client P) (m : Machi
       go (Some d) found other owned =
           (let (q, there, passes) = in_any (λ (c : ClientRecord). (c.id == client) && bytes_eq c.owner d.owner) m.clients.records owned in
           let tests = and_parts _ _ passes in
-          let same : q ≡ its.row = in_once (λ (c : ClientRecord). c.id) (id_of m.clients.instance 1) (next_id m.clients) m.clients.records q its.row is.clients.rising
+          let same : q ≡ its.row = in_once (λ (c : ClientRecord). c.id) (first_id m.clients) (next_id m.clients) m.clients.records q its.row is.clients.rising
           there its.there (eqb-true q.id client tests.0 ∙ sym its.id) in
           let owner : bytes_eq its.row.owner d.owner ≡ true = subst (λ (c : ClientRecord). bytes_eq c.owner d.owner ≡ true) same tests.1 in
           let number : d.id ≡ c.clientid = eqb-true d.id c.clientid (find_in (λ (e : ClientRecord). e.id == c.clientid) m.clients.records d found).1 in
@@ -109,8 +110,8 @@ module _ (client : ℕ) (P : Table → Type 0) (had : IsHad client P) (m : Machi
   by_new now refused c takes =
       let did = create m.sessions c.clientid (wish_of m c) in
       let o = creates m now c did in
-      elim (refused && is_ok o.status) as (λ b. is_ok (cond b (refuses m 43 Delay) o).status ≡ true
-      → P (cond b (refuses m 43 Delay) o).machine.store.opens → (cond b (refuses m 43 Delay) o).machine ≡ m) [
+      elim (refused && is_ok o.status) as (λ b. is_ok (cond b (with_refusal m 43 Delay) o).status ≡ true
+      → P (cond b (with_refusal m 43 Delay) o).machine.store.opens → (cond b (with_refusal m 43 Delay) o).machine ≡ m) [
         | true ↦ λ ok holds. refl
         | false ↦ by_made now c did.after did.answer takes
       ]
@@ -131,7 +132,7 @@ module _ (client : ℕ) (P : Table → Type 0) (had : IsHad client P) (m : Machi
     where
       go : (f : Option Status) → (let o = by_fault m (item_number (Operation (Op.CreateSession c))) f (carried_out m who now refused (Operation (Op.CreateSession c))) in
           is_ok o.status ≡ true → P o.machine.store.opens → o.machine ≡ m)
-      go None = subst (λ (o : Outcome). is_ok o.status ≡ true → P o.machine.store.opens → o.machine ≡ m) (sym (create_session_is m who now refused c))
+      go None = subst (λ (o : MachineOutcome). is_ok o.status ≡ true → P o.machine.store.opens → o.machine ≡ m) (sym (create_session_is m who now refused c))
           (by_answer now refused c (create_verdict m.clients c.clientid c.sequence who.uid) takes)
       go (Some status) = λ ok holds. refl
   first_same declared who now refused i takes = absurd (false≢true takes)

@@ -14,7 +14,7 @@ use Rattle.nfs_ranges.specs.{declared.Kind.Kind, Holders.{cleared, is_within}}
 use Rattle.nfs_ranges.proofs.CanonicalLemmas.{within_is}
 use Rattle.nfs_opens.specs.{declared.records.LockState.LockState, declared.records.OpenState.OpenState, declared.stateid.StateId.StateId}
 use Rattle.nfs_opens.specs.declared.stateid.CurrentSeqid.TheVariants.{Own}
-use Rattle.nfs_opens.specs.{declared.locking.Wish.Wish, Holding.{FileHolders, on_file}, Table.Table, TableInvariants.IsTable, Closing.{not_under, without_open}}
+use Rattle.nfs_opens.specs.{declared.locking.Wish.Wish, Holding.{FileHolders, on_file}, Table.Table, TableInvariants.IsTable, Closing.{without_open}}
 use Rattle.nfs_opens.specs.Locking.{unlock}
 use Rattle.nfs_opens.specs.Closing as closing
 use Rattle.nfs_opens.proofs.CallLaws.{IsUnlocked}
@@ -27,6 +27,7 @@ use Rattle.nfs_files.proofs.ToldGrants.{lock_refused, told_held, unlock_tells, c
 use Rattle.nfs_exec.specs.{Runs.LockHeld.{LocksFor, UnlocksFor, ClosesOf, Spares}, Runs.Ops.RanOp}
 use Rattle.nfs_exec.proofs.{Runs.KeptByRuns.Is, Runs.LockStates.changed_from, Runs.OneRun.{IsRun, by_item}}
 use Rattle.nfs_serve.proofs.Promises.HeldBefore.{Holds}
+use Rattle.nfs_opens.proofs.Terms.{not_under}
 
 -- A lock state holds bytes of one file.
 

@@ -8,12 +8,12 @@ use Rattle.nfs_xdr.proofs.Lists.{in_at, in_filter, in_push, in_map}
 use Rattle.nfs_compound.specs.{declared.session_args.Sequence.Sequence, Request.Request}
 use Rattle.nfs_lease.specs.Renewals.{has_run_out}
 use Rattle.nfs_slots.specs.Slot.{SlotState, kept, unused_slot}
+use Rattle.nfs_slots.specs.Slot as slots
 use Rattle.nfs_sessions.specs.{declared.id.SessionId.SessionId, Channel.granted, Id.id_of}
 use Rattle.nfs_sessions.specs.Sessions.{Session, SessionTable, is_session, keep}
-use Rattle.nfs_sessions.specs.SessionSlots as slots
 use Rattle.nfs_exec.specs.{Step.Machine.Machine, Step.Sequence.compared, Step.Compound.compound}
 use Rattle.nfs_exec.proofs.{Runs.SlotNumbers.IsHeld, Runs.SessionsBehind.{ran_in, quiet_compound, told_compound}}
-use Rattle.nfs_serve.specs.{Step.{State, new_state}, Promises.Endpoint.Arrival, Promises.Seen.ticked}
+use Rattle.nfs_serve.specs.{Step.{ServerState, new_state}, Promises.Endpoint.Arrival, Promises.Seen.ticked}
 use Rattle.nfs_serve.specs.Promises.Points.{state_after, state_after_all, reached}
 use Rattle.nfs_serve.proofs.{Promises.FirstSaid.{first_said, first_there, tag_short}, Promises.Good.answered_compound, Promises.KeptSlots.{asked_is, step_holds}}
 
@@ -25,7 +25,7 @@ abbrev pub IsGood : List ℕ → Type 0
 IsGood reply = first_said reply ≡ bad_sequence → ⊥
 
 abbrev pub KeepGood : SessionTable → Type 0
-KeepGood t = (s : Session) → In s t.sessions → (x : SlotState) → In x s.slots.slots → IsGood x.reply
+KeepGood t = (s : Session) → In s t.sessions → (x : SlotState) → In x s.slots → IsGood x.reply
 
 none_good : IsGood []
 unfolding number
@@ -66,7 +66,7 @@ held_good = record {
   made = λ t client wish is s there x slot. elim (in_push t.sessions _ s there) [
     | inr old ↦ is s old x slot
     | inl new ↦ (
-        let unused : x ≡ unused_slot = in_replicate (granted wish.fore).slots unused_slot x (subst (λ (s : Session). In x s.slots.slots) new slot) in
+        let unused : x ≡ unused_slot = in_replicate (granted wish.fore).maxrequests unused_slot x (subst (λ (s : Session). In x s.slots) new slot) in
         subst (λ (x : SlotState). IsGood x.reply) (sym unused) none_good)
   ];
 }
@@ -74,10 +74,10 @@ held_good = record {
 kept_good : (t : SessionTable) (id : SessionId) (slot number uid : ℕ) (args reply : List ℕ) → IsGood reply → KeepGood t → KeepGood (keep t id slot number uid args reply)
 kept_good t id slot number uid args reply good is s there x slotted =
     let (y, was, same) = in_map _ t.sessions s there in
-    by y was (is_session id y) (subst (λ (s : Session). In x s.slots.slots) same slotted)
+    by y was (is_session id y) (subst (λ (s : Session). In x s.slots) same slotted)
   where
-    by : (y : Session) → In y t.sessions → (b : Bool) → In x (cond b (record y { slots = slots.keep y.slots slot number uid args reply }) y).slots.slots → IsGood x.reply
-    by y was true slotted = elim (in_set y.slots.slots slot _ x slotted) [
+    by : (y : Session) → In y t.sessions → (b : Bool) → In x (cond b (record y { slots = slots.keep y.slots slot number uid args reply }) y).slots → IsGood x.reply
+    by y was true slotted = elim (in_set y.slots slot _ x slotted) [
       | inl new ↦ subst (λ (x : SlotState). IsGood x.reply) (sym new) good
       | inr old ↦ is y was x old
     ]
@@ -101,17 +101,17 @@ compound_good m r who size now choice small is = by (ran_in m r who size) refl
         subst KeepGood (sym told.kept) (kept_good m.sessions (id_of s.sessionid) s.slotid s.sequenceid who.uid (compared r) (compound m r who size now choice).text
         (ran_good m r who size now choice s small ran) is)
 
-pub ticked_good : (s : State) (now : ℕ) → KeepGood s.machine.sessions → KeepGood (ticked s now).machine.sessions
-ticked_good s now is = held_good.fewer s.machine.sessions (λ (x : Session). not (has_run_out s.machine.leases (ticked s now).moment x.client)) is
+pub ticked_good : (s : ServerState) (now : ℕ) → KeepGood s.machine.sessions → KeepGood (ticked s now).machine.sessions
+ticked_good s now is = held_good.fewer s.machine.sessions (λ (x : Session). not (has_run_out s.machine.store.lease s.machine.leases (ticked s now).moment x.client)) is
 
-pub next_good : (s : State) (c : Arrival) → KeepGood s.machine.sessions → KeepGood (state_after s c).machine.sessions
+pub next_good : (s : ServerState) (c : Arrival) → KeepGood s.machine.sessions → KeepGood (state_after s c).machine.sessions
 next_good s c is =
     let t = ticked s c.now in
     let here = ticked_good s c.now is in
     step_holds KeepGood s c.bytes c.now c.choice here (λ call r called asked.
     compound_good t.machine r call.who (length c.bytes) t.moment c.choice (tag_short call.args r (asked_is call call.procedure r asked)) here)
 
-all_good : (s : State) (records : List Arrival) → KeepGood s.machine.sessions → KeepGood (state_after_all s records).machine.sessions
+all_good : (s : ServerState) (records : List Arrival) → KeepGood s.machine.sessions → KeepGood (state_after_all s records).machine.sessions
 all_good s [] is = is
 all_good s (c ∷ more) is = all_good (state_after s c) more (next_good s c is)
 

@@ -16,10 +16,10 @@ use Rattle.nfs_compound.specs.declared.session_args.Sequence.{Sequence}
 use Rattle.nfs_compound.specs.declared.op.Op.TheVariants as Op
 use Rattle.nfs_compound.proofs.RequestLaws.{request_takes}
 use Rattle.nfs_lease.specs.Renewals.{has_run_out}
-use Rattle.nfs_slots.specs.{Slot.{SlotState, judge_slot}, declared.slot.Verdict.Verdict}
+use Rattle.nfs_slots.specs.{Slot.{SlotState, judge_slot, judge, kept}, declared.slot.Verdict.Verdict}
 use Rattle.nfs_slots.specs.declared.slot.Verdict.TheVariants as slot
-use Rattle.nfs_sessions.specs.{Id.id_of, SessionSlots.{GrantedSlots, judge, kept}, Sessions.{Session, SessionTable, session_at, keep}, SessionTables.IsSessions}
-use Rattle.nfs_sessions.specs.SessionSlots as slots
+use Rattle.nfs_slots.specs.Slot as slots
+use Rattle.nfs_sessions.specs.{Id.id_of, Sessions.{Session, SessionTable, session_at, keep}, SessionTables.IsSessions}
 use Rattle.nfs_sessions.proofs.TableLemmas.{slots_changed, sessions_filtered}
 use Rattle.nfs_exec.specs.Step.Machine.{Machine}
 use Rattle.nfs_exec.specs.Step.Sequence.{compared, Sequenced, Refuses, Repeats, Runs as RunsIn, or_refuses, by_slot}
@@ -29,7 +29,7 @@ use Rattle.nfs_exec.specs.Step.Executing.{first_sequence, sequence_of, is_alone,
 use Rattle.nfs_exec.specs.Step.Sequence as sequence
 use Rattle.nfs_exec.proofs.{Runs.SlotNumbers.IsHeld, Runs.SessionsBehind.{ran_in, quiet_compound, told_compound}}
 use Rattle.nfs_serve.specs.Promises.Endpoint.{Place, Heading, Answer}
-use Rattle.nfs_serve.specs.Step.{asked_of, State, Stepped, refused, answered, with_arguments, by_procedure, reply_to, step}
+use Rattle.nfs_serve.specs.Step.{asked_of, ServerState, Stepped, refused, answered, with_arguments, by_procedure, reply_to, step}
 use Rattle.nfs_serve.specs.Promises.Seen.{ReplyReader, IsSequenced, Bears, slot_in, ticked, executes_by, heading_of, heading_in, heading_by, heading, seen, server}
 use Rattle.nfs_serve.proofs.{Promises.ServerLaws.{Runs, Repeats as RepeatsOn, IsElsewhere, KeepsSlots}, Promises.Ticking.step_is}
 use Rattle.nfs_serve.proofs.Promises.SlotsLeft.{slot_at, IsGiven, IsLeft, Stays, stands_given, held_sessions, held_given, held_slot, kept_slot, fewer_leaves, keep_there}
@@ -99,19 +99,19 @@ heading_from bytes call r s called asked begins =
     ap heading_by called
     ∙ (ap (option_and_then (heading_in call)) asked ∙ ap (option_map (heading_of call r)) begins)
 
-pub executes_is : (t : State) (size : ℕ) (bytes : List ℕ) (call : Call) (r : Request) → call_of bytes ≡ Accepted call → asked_of call call.procedure ≡ Some r
+pub executes_is : (t : ServerState) (size : ℕ) (bytes : List ℕ) (call : Call) (r : Request) → call_of bytes ≡ Accepted call → asked_of call call.procedure ≡ Some r
     → executes_by t size (call_of bytes) ≡ executes t.machine r call.who size
 executes_is t size bytes call r called asked =
     ap (executes_by t size) called ∙ ap (λ (o : Option Request). option_map_or (λ r. executes t.machine r call.who size) o false) asked
 
 -- A step.
 
-answered_is : (t : State) (call : Call) (size : ℕ) (choice : Option ℕ) (r : Request) (p : Procedure) → asked_of call p ≡ Some r
+answered_is : (t : ServerState) (call : Call) (size : ℕ) (choice : Option ℕ) (r : Request) (p : Procedure) → asked_of call p ≡ Some r
     → by_procedure t call size choice p ≡ answered t call.xid (compound t.machine r call.who size t.moment choice)
 answered_is t call size choice r Procedures.Null e = absurd cc
 answered_is t call size choice r Procedures.Compound e = ap (with_arguments t call size choice) e
 
-pub stepped_is : (s : State) (bytes : List ℕ) (now : ℕ) (choice : Option ℕ) (call : Call) (r : Request) → call_of bytes ≡ Accepted call
+pub stepped_is : (s : ServerState) (bytes : List ℕ) (now : ℕ) (choice : Option ℕ) (call : Call) (r : Request) → call_of bytes ≡ Accepted call
     → asked_of call call.procedure ≡ Some r
     → step s bytes now choice ≡ answered (ticked s now) call.xid (compound (ticked s now).machine r call.who (length bytes) (ticked s now).moment choice)
 stepped_is s bytes now choice call r called asked =
@@ -119,7 +119,7 @@ stepped_is s bytes now choice call r called asked =
     ∙ (ap (reply_to (ticked s now) (length bytes) choice) called ∙ answered_is (ticked s now) call (length bytes) choice r call.procedure asked)
 
 -- what holds of the sessions behind expiry, and behind each compound, holds behind the step
-reply_holds : (P : SessionTable → Type 0) (t : State) (size : ℕ) (choice : Option ℕ) (called : Called) → P t.machine.sessions
+reply_holds : (P : SessionTable → Type 0) (t : ServerState) (size : ℕ) (choice : Option ℕ) (called : Called) → P t.machine.sessions
     → ((call : Call) (r : Request) → called ≡ Accepted call → asked_of call call.procedure ≡ Some r → P (compound t.machine r call.who size t.moment choice).machine.sessions)
     → P (reply_to t size choice called).state.machine.sessions
 reply_holds P t size choice (Refused Silent) is does = is
@@ -138,7 +138,7 @@ reply_holds P t size choice (Accepted call) is does = by_call call.procedure (λ
     by_call Procedures.Null f = is
     by_call Procedures.Compound f = by_request (request_at call.args) f
 
-pub step_holds : (P : SessionTable → Type 0) (s : State) (bytes : List ℕ) (now : ℕ) (choice : Option ℕ) → P (ticked s now).machine.sessions
+pub step_holds : (P : SessionTable → Type 0) (s : ServerState) (bytes : List ℕ) (now : ℕ) (choice : Option ℕ) → P (ticked s now).machine.sessions
     → ((call : Call) (r : Request) → call_of bytes ≡ Accepted call → asked_of call call.procedure ≡ Some r
     → P (compound (ticked s now).machine r call.who (length bytes) (ticked s now).moment choice).machine.sessions)
     → P (step s bytes now choice).state.machine.sessions
@@ -157,16 +157,16 @@ compound_holds P held m r who size now choice runs is = by (ran_in m r who size)
         let told = told_compound m r who size now choice s ran in
         subst P (sym told.kept) (runs s (compound m r who size now choice).text ran)
 
-step_sound : (s : State) (bytes : List ℕ) (now : ℕ) (choice : Option ℕ) → IsSessions s.machine.sessions → IsSessions (step s bytes now choice).state.machine.sessions
+step_sound : (s : ServerState) (bytes : List ℕ) (now : ℕ) (choice : Option ℕ) → IsSessions s.machine.sessions → IsSessions (step s bytes now choice).state.machine.sessions
 step_sound s bytes now choice is =
     let t = ticked s now in
-    let ticked_is = sessions_filtered s.machine.sessions (λ (x : Session). not (has_run_out s.machine.leases t.moment x.client)) is in
+    let ticked_is = sessions_filtered s.machine.sessions (λ (x : Session). not (has_run_out s.machine.store.lease s.machine.leases t.moment x.client)) is in
     step_holds IsSessions s bytes now choice ticked_is (λ call r called asked.
     compound_holds IsSessions held_sessions t.machine r call.who (length bytes) t.moment choice
-    (λ q text ran. slots_changed t.machine.sessions (id_of q.sessionid) (λ g. slots.keep g q.slotid q.sequenceid call.who.uid (compared r) text) ticked_is)
+    (λ q text ran. slots_changed t.machine.sessions (id_of q.sessionid) (λ was. slots.keep was q.slotid q.sequenceid call.who.uid (compared r) text) ticked_is)
     ticked_is)
 
-stays_given : (s : State) (bytes : List ℕ) (now : ℕ) (choice : Option ℕ) (p : Place) → IsGiven p.session s.machine.sessions
+stays_given : (s : ServerState) (bytes : List ℕ) (now : ℕ) (choice : Option ℕ) (p : Place) → IsGiven p.session s.machine.sessions
     → IsGiven p.session (step s bytes now choice).state.machine.sessions
 stays_given s bytes now choice p is =
     let t = ticked s now in
@@ -213,7 +213,7 @@ ran_executes m r who size q e = elim (cases_Bool (r.minor == 1)) [
 
 -- Any other step leaves the slot, or ends its session.
 
-leaves : (reader : ReplyReader) (mode instance lease : ℕ) (s : State) (bytes : List ℕ) (now : ℕ) (choice : Option ℕ) (p : Place)
+leaves : (reader : ReplyReader) (mode instance lease : ℕ) (s : ServerState) (bytes : List ℕ) (now : ℕ) (choice : Option ℕ) (p : Place)
     → IsSessions s.machine.sessions → IsGiven p.session s.machine.sessions → IsElsewhere (server reader.find mode instance lease) s p bytes now
     → IsLeft p.session p.slot (slot_at s.machine.sessions p.session p.slot) (step s bytes now choice).state.machine.sessions
 leaves reader mode instance lease s bytes now choice p is given elsewhere =
@@ -222,7 +222,7 @@ leaves reader mode instance lease s bytes now choice p is given elsewhere =
     let P : SessionTable → Type 0 = Stays p.session p.slot x in
     let held = held_slot p.session p.slot x in
     let before : P s.machine.sessions = record { sound = is; given = given; left = inl refl } in
-    let ticked_is : P t.machine.sessions = held.fewer s.machine.sessions (λ (x : Session). not (has_run_out s.machine.leases t.moment x.client)) before in
+    let ticked_is : P t.machine.sessions = held.fewer s.machine.sessions (λ (x : Session). not (has_run_out s.machine.store.lease s.machine.leases t.moment x.client)) before in
     (step_holds P s bytes now choice ticked_is (λ call r called asked.
     compound_holds P held t.machine r call.who (length bytes) t.moment choice
     (λ q text ran. kept_slot p.session p.slot x t.machine.sessions (id_of q.sessionid) q.slotid q.sequenceid call.who.uid (compared r) text
@@ -247,17 +247,17 @@ judged v None n uid args some e = absurd (some (sym e))
 judged v (Some x) n uid args some e = (x, refl, e)
 
 -- a slot that stands behind expiry stood before
-pub stood : (s : State) (now : ℕ) (p : Place) (x : SlotState) → IsSessions s.machine.sessions
+pub stood : (s : ServerState) (now : ℕ) (p : Place) (x : SlotState) → IsSessions s.machine.sessions
     → slot_at (ticked s now).machine.sessions p.session p.slot ≡ Some x → slot_at s.machine.sessions p.session p.slot ≡ Some x
 stood s now p x is e =
     let before = slot_at s.machine.sessions p.session p.slot in
-    let left = fewer_leaves s.machine.sessions (λ (y : Session). not (has_run_out s.machine.leases (ticked s now).moment y.client)) p.session p.slot before is (inl refl) in
+    let left = fewer_leaves s.machine.sessions (λ (y : Session). not (has_run_out s.machine.store.lease s.machine.leases (ticked s now).moment y.client)) p.session p.slot before is (inl refl) in
     elim left [
       | inl same ↦ sym same ∙ e
       | inr gone ↦ absurd (let none : None ≡ Some x = sym gone ∙ e in cc)
     ]
 
-runs_for : (reader : ReplyReader) (mode instance lease : ℕ) (s : State) (bytes : List ℕ) (now : ℕ) (choice : Option ℕ) (call : Call) (r : Request) (q : Sequence)
+runs_for : (reader : ReplyReader) (mode instance lease : ℕ) (s : ServerState) (bytes : List ℕ) (now : ℕ) (choice : Option ℕ) (call : Call) (r : Request) (q : Sequence)
     → IsBytes bytes → IsSessions s.machine.sessions → call_of bytes ≡ Accepted call → asked_of call call.procedure ≡ Some r → sequence_of r ≡ Some q
     → executes_by (ticked s now) (length bytes) (call_of bytes) ≡ true
     → Runs (server reader.find mode instance lease) s (heading_of call r q) (seen reader.find (step s bytes now choice))
@@ -271,9 +271,9 @@ runs_for reader mode instance lease s bytes now choice call r q fits is called a
     let told = told_compound t.machine r call.who size t.moment choice q ran in
     let a = compound t.machine r call.who size t.moment choice in
     let did = stepped_is s bytes now choice call r called asked in
-    let at = judged slot.Fresh (slice_get told.session.slots.slots q.slotid) q.sequenceid call.who.uid (compared r) (λ k. cc) told.fresh in
+    let at = judged slot.Fresh (slice_get told.session.slots q.slotid) q.sequenceid call.who.uid (compared r) (λ k. cc) told.fresh in
     let here : slot_at t.machine.sessions id q.slotid ≡ Some at.0 = ap (slot_in q.slotid) told.there ∙ at.1 in
-    let sound : IsSessions t.machine.sessions = sessions_filtered s.machine.sessions (λ (x : Session). not (has_run_out s.machine.leases t.moment x.client)) is in
+    let sound : IsSessions t.machine.sessions = sessions_filtered s.machine.sessions (λ (x : Session). not (has_run_out s.machine.store.lease s.machine.leases t.moment x.client)) is in
     record {
       slot = at.0;
       stands = stood s now (record { session = id; slot = q.slotid }) at.0 is here;
@@ -287,7 +287,7 @@ runs_for reader mode instance lease s bytes now choice call r q fits is called a
           ∙ keep_there t.machine.sessions id q.slotid q.sequenceid call.who.uid (compared r) a.text at.0 sound here);
     }
 
-pub runs : (reader : ReplyReader) (mode instance lease : ℕ) (s : State) (bytes : List ℕ) (now : ℕ) (choice : Option ℕ) (h : Heading) → IsBytes bytes → IsSessions s.machine.sessions
+pub runs : (reader : ReplyReader) (mode instance lease : ℕ) (s : ServerState) (bytes : List ℕ) (now : ℕ) (choice : Option ℕ) (h : Heading) → IsBytes bytes → IsSessions s.machine.sessions
     → heading bytes ≡ Some h → executes_by (ticked s now) (length bytes) (call_of bytes) ≡ true
     → Runs (server reader.find mode instance lease) s h (seen reader.find (step s bytes now choice))
 runs reader mode instance lease s bytes now choice h fits is e does =
@@ -310,23 +310,23 @@ bad_of_two false false x y z bad_x bad_y e = absurd cc
 is_refused : (x y : Status) → IsBad x → Refuses x ≡ Refuses y → IsBad y
 is_refused x y bad e = let same : x ≡ y = cc in subst IsBad same bad
 
-bad_verdict : (r : Request) (size : ℕ) (s : Sequence) (g : GrantedSlots) (v : Verdict) (status : Status) → slot_says r size s g v ≡ Refuses status → IsBad status
-bad_verdict r size s g slot.NoSlot status e = is_refused BadSlot status refl e
-bad_verdict r size s g slot.Misordered status e = is_refused SeqMisordered status refl e
-bad_verdict r size s g slot.FalseRetry status e = is_refused SeqFalseRetry status refl e
-bad_verdict r size s g slot.Again status e = absurd cc
-bad_verdict r size s g slot.Fresh status e =
-    bad_past (fresh_fault r size g.channel) (Ok (RunsIn g.channel)) status
-    (λ x is. bad_of_two (nat_lt g.channel.request size) (nat_lt g.channel.operations r.declared) ReqTooBig TooManyOps x refl refl is) (λ k. absurd cc) e
+bad_verdict : (r : Request) (size : ℕ) (s : Sequence) (x : Session) (v : Verdict) (status : Status) → slot_says r size s x v ≡ Refuses status → IsBad status
+bad_verdict r size s x slot.NoSlot status e = is_refused BadSlot status refl e
+bad_verdict r size s x slot.Misordered status e = is_refused SeqMisordered status refl e
+bad_verdict r size s x slot.FalseRetry status e = is_refused SeqFalseRetry status refl e
+bad_verdict r size s x slot.Again status e = absurd cc
+bad_verdict r size s x slot.Fresh status e =
+    bad_past (fresh_fault r size x.channel) (Ok (RunsIn x.channel)) status
+    (λ y is. bad_of_two (nat_lt x.channel.maxrequestsize size) (nat_lt x.channel.maxoperations r.declared) ReqTooBig TooManyOps y refl refl is) (λ k. absurd cc) e
 
 bad_session : (r : Request) (who : Caller) (size : ℕ) (s : Sequence) (found : Option Session) (status : Status) → by_session r who size s found ≡ Refuses status → IsBad status
 bad_session r who size s None status e = is_refused BadSession status refl e
 bad_session r who size s (Some x) status e =
-    let c = x.slots.channel in
+    let c = x.channel in
     let v = judge x.slots s.slotid s.sequenceid who.uid (compared r) in
-    bad_past (slot_fault s c) (by_slot r size s x.slots v) status
-    (λ y is. bad_of_two (nat_le c.slots s.slotid) (nat_le c.slots s.highest_slotid) BadSlot BadHighSlot y refl refl is)
-    (bad_verdict r size s x.slots v status) e
+    bad_past (slot_fault s c) (by_slot r size s x v) status
+    (λ y is. bad_of_two (nat_le c.maxrequests s.slotid) (nat_le c.maxrequests s.highest_slotid) BadSlot BadHighSlot y refl refl is)
+    (bad_verdict r size s x v status) e
 
 -- A repeat.
 
@@ -334,20 +334,20 @@ past_runs : (fault : Option Status) (c : _) (reply : List ℕ) → past fault (O
 past_runs None c reply e = absurd cc
 past_runs (Some status) c reply e = absurd cc
 
-again_slot : (r : Request) (size : ℕ) (s : Sequence) (g : GrantedSlots) (reply : List ℕ) (fault : Option Status) (v : Verdict)
-    → past fault (by_slot r size s g v) ≡ Repeats reply → (v ≡ slot.Again) × (reply ≡ kept g s.slotid)
-again_slot r size s g reply (Some status) v e = absurd cc
-again_slot r size s g reply None slot.Fresh e = absurd (past_runs (fresh_fault r size g.channel) g.channel reply e)
-again_slot r size s g reply None slot.Again e = (refl, cc)
-again_slot r size s g reply None slot.FalseRetry e = absurd cc
-again_slot r size s g reply None slot.Misordered e = absurd cc
-again_slot r size s g reply None slot.NoSlot e = absurd cc
+again_slot : (r : Request) (size : ℕ) (s : Sequence) (x : Session) (reply : List ℕ) (fault : Option Status) (v : Verdict)
+    → past fault (by_slot r size s x v) ≡ Repeats reply → (v ≡ slot.Again) × (reply ≡ kept x.slots s.slotid)
+again_slot r size s x reply (Some status) v e = absurd cc
+again_slot r size s x reply None slot.Fresh e = absurd (past_runs (fresh_fault r size x.channel) x.channel reply e)
+again_slot r size s x reply None slot.Again e = (refl, cc)
+again_slot r size s x reply None slot.FalseRetry e = absurd cc
+again_slot r size s x reply None slot.Misordered e = absurd cc
+again_slot r size s x reply None slot.NoSlot e = absurd cc
 
 pub again_session : (r : Request) (who : Caller) (size : ℕ) (s : Sequence) (found : Option Session) (reply : List ℕ) → by_session r who size s found ≡ Repeats reply
     → (session : Session) × (found ≡ Some session) × (judge session.slots s.slotid s.sequenceid who.uid (compared r) ≡ slot.Again) × (reply ≡ kept session.slots s.slotid)
 again_session r who size s None reply e = absurd cc
 again_session r who size s (Some session) reply e =
-    let again = again_slot r size s session.slots reply (slot_fault s session.slots.channel) (judge session.slots s.slotid s.sequenceid who.uid (compared r)) e in
+    let again = again_slot r size s session reply (slot_fault s session.channel) (judge session.slots s.slotid s.sequenceid who.uid (compared r)) e in
     (session, refl, again.0, again.1)
 
 -- what a good SEQUENCE answers that does not run
@@ -385,7 +385,7 @@ compound_again m r who size now choice q fits begins e good = elim (cases_Bool (
 ]
 
 -- what is answered to a call of a request
-told_answer : (reader : ReplyReader) (s : State) (bytes : List ℕ) (now : ℕ) (choice : Option ℕ) (call : Call) (r : Request) (a : Answer) → IsBytes bytes
+told_answer : (reader : ReplyReader) (s : ServerState) (bytes : List ℕ) (now : ℕ) (choice : Option ℕ) (call : Call) (r : Request) (a : Answer) → IsBytes bytes
     → call_of bytes ≡ Accepted call → asked_of call call.procedure ≡ Some r → (seen reader.find (step s bytes now choice)).answer ≡ Some a
     → (a.xid ≡ call.xid) × (a.result ≡ (compound (ticked s now).machine r call.who (length bytes) (ticked s now).moment choice).text)
 told_answer reader s bytes now choice call r a fits called asked e =
@@ -397,7 +397,7 @@ told_answer reader s bytes now choice call r a fits called asked e =
     let same = same_Some (record { xid = call.xid; result = text }) a is in
     (ap (λ (a : Answer). a.xid) (sym same), ap (λ (a : Answer). a.result) (sym same))
 
-repeats_for : (reader : ReplyReader) (mode instance lease : ℕ) (s : State) (bytes : List ℕ) (now : ℕ) (choice : Option ℕ) (call : Call) (r : Request) (q : Sequence) (a : Answer)
+repeats_for : (reader : ReplyReader) (mode instance lease : ℕ) (s : ServerState) (bytes : List ℕ) (now : ℕ) (choice : Option ℕ) (call : Call) (r : Request) (q : Sequence) (a : Answer)
     → IsBytes bytes → IsSessions s.machine.sessions → call_of bytes ≡ Accepted call → asked_of call call.procedure ≡ Some r → sequence_of r ≡ Some q
     → executes_by (ticked s now) (length bytes) (call_of bytes) ≡ false → (seen reader.find (step s bytes now choice)).answer ≡ Some a → sequenced a.result ≡ true
     → RepeatsOn (server reader.find mode instance lease) s (heading_of call r q) a.result
@@ -411,7 +411,7 @@ repeats_for reader mode instance lease s bytes now choice call r q a fits is cal
     let again = compound_again t.machine r call.who size t.moment choice q request.head.tag_fits begins
     (sym (executes_is t size bytes call r called asked) ∙ idle) (ap sequenced (sym said.1) ∙ good) in
     let found = again_session r call.who size q (session_at t.machine.sessions id) again.reply again.verdict in
-    let at = judged slot.Again (slice_get found.0.slots.slots q.slotid) q.sequenceid call.who.uid (compared r) (λ k. cc) found.2 in
+    let at = judged slot.Again (slice_get found.0.slots q.slotid) q.sequenceid call.who.uid (compared r) (λ k. cc) found.2 in
     let here : slot_at t.machine.sessions id q.slotid ≡ Some at.0 = ap (slot_in q.slotid) found.1 ∙ at.1 in
     let reply : again.reply ≡ at.0.reply = found.3 ∙ ap (λ (o : Option SlotState). option_map_or (λ (y : SlotState). y.reply) o []) at.1 in
     record {
@@ -421,7 +421,7 @@ repeats_for reader mode instance lease s bytes now choice call r q a fits is cal
       kept = said.1 ∙ (again.text_is ∙ reply);
     }
 
-repeats : (reader : ReplyReader) (mode instance lease : ℕ) (s : State) (bytes : List ℕ) (now : ℕ) (choice : Option ℕ) (h : Heading) (a : Answer) → IsBytes bytes
+repeats : (reader : ReplyReader) (mode instance lease : ℕ) (s : ServerState) (bytes : List ℕ) (now : ℕ) (choice : Option ℕ) (h : Heading) (a : Answer) → IsBytes bytes
     → IsSessions s.machine.sessions → heading bytes ≡ Some h → executes_by (ticked s now) (length bytes) (call_of bytes) ≡ false
     → (seen reader.find (step s bytes now choice)).answer ≡ Some a → sequenced a.result ≡ true → RepeatsOn (server reader.find mode instance lease) s h a.result
 repeats reader mode instance lease s bytes now choice h a fits is e idle answer good =
@@ -431,13 +431,13 @@ repeats reader mode instance lease s bytes now choice h a fits is e idle answer 
 
 -- The xid of an answer, and what begins with no good SEQUENCE.
 
-same_xid : (reader : ReplyReader) (s : State) (bytes : List ℕ) (now : ℕ) (choice : Option ℕ) (h : Heading) (a : Answer) → IsBytes bytes → heading bytes ≡ Some h
+same_xid : (reader : ReplyReader) (s : ServerState) (bytes : List ℕ) (now : ℕ) (choice : Option ℕ) (h : Heading) (a : Answer) → IsBytes bytes → heading bytes ≡ Some h
     → (seen reader.find (step s bytes now choice)).answer ≡ Some a → a.xid ≡ h.xid
 same_xid reader s bytes now choice h a fits e answer =
     let from = heads bytes h e in
     (told_answer reader s bytes now choice from.call from.request a fits from.called from.asked answer).0 ∙ ap (λ (h : Heading). h.xid) from.is
 
-refused_mute : (reader : ReplyReader) (t : State) (refusal : Refusal) → (seen reader.find (refused t refusal)).answer ≡ None
+refused_mute : (reader : ReplyReader) (t : ServerState) (refusal : Refusal) → (seen reader.find (refused t refusal)).answer ≡ None
 refused_mute reader t Silent = refl
 refused_mute reader t (Mismatch xid) = refusal_found reader (Mismatch xid)
 refused_mute reader t (Auth xid stat) = refusal_found reader (Auth xid stat)
@@ -451,7 +451,7 @@ no_first call r (Some s) e = absurd cc
 no_answer : (o : Option Answer) (a : Answer) → o ≡ None → o ≡ Some a → ⊥
 no_answer o a none some = let e : None ≡ Some a = sym none ∙ some in absurd cc
 
-call_mute : (reader : ReplyReader) (t : State) (size : ℕ) (choice : Option ℕ) (call : Call) (a : Answer) (p : Procedure) → IsCall call
+call_mute : (reader : ReplyReader) (t : ServerState) (size : ℕ) (choice : Option ℕ) (call : Call) (a : Answer) (p : Procedure) → IsCall call
     → option_and_then (heading_in call) (asked_of call p) ≡ None
     → (seen reader.find (by_procedure t call size choice p)).answer ≡ Some a → sequenced a.result ≡ false
 call_mute reader t size choice call a Procedures.Null known none e =
@@ -471,7 +471,7 @@ call_mute reader t size choice call a Procedures.Compound known none e = by (req
         ∙ mute_compound t.machine r call.who size t.moment choice (record { bytes = call.args; request = request }) request.head.tag_fits
         (no_first call r (sequence_of r) none)
 
-no_sequence : (reader : ReplyReader) (s : State) (bytes : List ℕ) (now : ℕ) (choice : Option ℕ) (a : Answer) → IsBytes bytes → heading bytes ≡ None
+no_sequence : (reader : ReplyReader) (s : ServerState) (bytes : List ℕ) (now : ℕ) (choice : Option ℕ) (a : Answer) → IsBytes bytes → heading bytes ≡ None
     → (seen reader.find (step s bytes now choice)).answer ≡ Some a → sequenced a.result ≡ false
 no_sequence reader s bytes now choice a fits none e =
     by (call_of bytes) refl none (sym (ap (λ (y : Stepped). (seen reader.find y).answer) (step_is s bytes now choice)) ∙ e)
@@ -499,7 +499,7 @@ keeps_slots reader mode instance lease = record {
 }
 
 -- What runs is answered with a good SEQUENCE, which bears its slot and number.
-pub answers_numbered : (reader : ReplyReader) (s : State) (bytes : List ℕ) (now : ℕ) (choice : Option ℕ) (h : Heading) → IsBytes bytes → heading bytes ≡ Some h
+pub answers_numbered : (reader : ReplyReader) (s : ServerState) (bytes : List ℕ) (now : ℕ) (choice : Option ℕ) (h : Heading) → IsBytes bytes → heading bytes ≡ Some h
     → executes_by (ticked s now) (length bytes) (call_of bytes) ≡ true
     → (result : List ℕ) × ((seen reader.find (step s bytes now choice)).answer ≡ Some (record { xid = h.xid; result = result }))
     × Bears result (record { place = h.place; number = h.compound.number })
@@ -519,7 +519,7 @@ answers_numbered reader s bytes now choice h fits e does =
           (numbered_compound t.machine r from.call.who size t.moment choice from.first request.head.tag_fits (sequence_fits from.call.args r from.first request from.begins) ran),
     )
 
-pub answers_well : (reader : ReplyReader) (s : State) (bytes : List ℕ) (now : ℕ) (choice : Option ℕ) (h : Heading) → IsBytes bytes → heading bytes ≡ Some h
+pub answers_well : (reader : ReplyReader) (s : ServerState) (bytes : List ℕ) (now : ℕ) (choice : Option ℕ) (h : Heading) → IsBytes bytes → heading bytes ≡ Some h
     → executes_by (ticked s now) (length bytes) (call_of bytes) ≡ true
     → (result : List ℕ) × ((seen reader.find (step s bytes now choice)).answer ≡ Some (record { xid = h.xid; result = result })) × IsSequenced result
 answers_well reader s bytes now choice h fits e does =

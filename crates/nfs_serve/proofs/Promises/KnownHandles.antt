@@ -30,9 +30,10 @@ use Rattle.nfs_exec.specs.Runs.Ops.{RanOp, done, ops_by, left_by, AreChained}
 use Rattle.nfs_exec.proofs.{Step.Instances.instance_kept, Runs.Handles.{handle_in, handle_read}, Runs.KeptByRuns.Is, Runs.OneRun.{IsRun, in_room_is}}
 use Rattle.nfs_exec.proofs.Runs.OneWalk.{throughout}
 use Rattle.nfs_exec.proofs.Runs.Handles as handles
-use Rattle.nfs_serve.specs.{Step.{State, new_state}, Promises.Endpoint.Arrival}
+use Rattle.nfs_serve.specs.{Step.{ServerState, new_state}, Promises.Endpoint.Arrival}
 use Rattle.nfs_serve.specs.Promises.KnownHandles.{Place, KnownName, Known, starts, is_at, object_of, directory_of, may_be, without, with_name, place_in, put, are_bytes, led_by, opened}
-use Rattle.nfs_serve.specs.Promises.KnownHandles.{given_in, given, renamed, behind, Bears, known_after, known_after_all, Tells, Follow, names_after, FollowThrough, root_of, HandlesFollow}
+use Rattle.nfs_serve.specs.Promises.KnownHandles.{given_in, given, renamed, behind, IsHandleOf, known_after, known_after_all, Tells, Follow, names_after}
+use Rattle.nfs_serve.specs.Promises.KnownHandles.{FollowThrough, root_of, HandlesFollow}
 use Rattle.nfs_serve.specs.Promises.NameStays.{IsDone, finds_none, TakesIt, Removed, MovedAway, MovedOver, next_of, Says, Links, Renames}
 use Rattle.nfs_serve.specs.Promises.Points.{state_after, before, asked_by, ops_of}
 use Rattle.nfs_serve.proofs.{Promises.Handles.{Has, has_next, number_in}, Promises.NameRows.{run_rows, kept_rows, takes_names, spared}}
@@ -105,13 +106,13 @@ unfolding get_fh current
 got_spelled s x n at = go (node_at s x.current) refl
   where
     go : (v : Result Node Status) → node_at s x.current ≡ v
-        → spell_result (or_refusal s x Num.GetFh (v >>= λ d. Ok (outcome.done s x (Res.GetFh (handle_in s.instance d.number))))).result ≡ none_there → ⊥
+        → spell_result (or_refusal s x Num.GetFh (v >>= λ d. Ok (outcome.done s x (Res.GetFh (handle_in s.opens.instance d.number))))).result ≡ none_there → ⊥
     go (Err f) e told =
         let same : ◌≡◌ {A = ℕ} 70 10020 =
         ap status_number (sym (stale_at s x.current n f at e)) ∙ status_in 10 10 f NoFileHandle [] [] told in
         absurd (omega arith)
     go (Ok d) e told =
-        let same : ◌≡◌ {A = ℕ} 0 10020 = status_in 10 10 Nfs4Ok NoFileHandle (opaque (handle_in s.instance d.number)) [] told in absurd (omega arith)
+        let same : ◌≡◌ {A = ℕ} 0 10020 = status_in 10 10 Nfs4Ok NoFileHandle (opaque (handle_in s.opens.instance d.number)) [] told in absurd (omega arith)
 
 got_there : (r : Room) (m : Machine) (x : Context) (n : ℕ) → x.current ≡ Some n
     → (in_room r.limit r.sofar r.now r.refused m x (Operation Op.GetFh)).outcome.result ≡ none_there → ⊥
@@ -125,7 +126,7 @@ got_there r m x n at =
 module _ (instance : ℕ) (low : instance < 2 ^ 32) where
   -- a filehandle bears the number of an object
   abbrev pub Its : List ℕ → ℕ → Type 0
-  Its h n = Bears instance h n
+  Its h n = IsHandleOf instance h n
 
   read_back : (h : List ℕ) (n : ℕ) → Its h n → handle_of h ≡ Some (record { instance = instance; number = n })
   read_back h n bears = ap handle_of bears.is ∙ handle_read instance n low bears.small
@@ -375,7 +376,7 @@ module _ (instance : ℕ) (low : instance < 2 ^ 32) where
   root_at x y at g e = (let same : the_root ≡ g = cc in (root, record { is = sym same; small = omega arith }, at))
 
   -- GETFH
-  got_at : (d : RanOp) (r : IsRun d) → d.before.store.instance ≡ instance → d.item ≡ Operation Op.GetFh → is_ok d.status ≡ true
+  got_at : (d : RanOp) (r : IsRun d) → d.before.store.opens.instance ≡ instance → d.item ≡ Operation Op.GetFh → is_ok d.status ≡ true
       → (n : ℕ) × Its (given_in d.result) n × (d.context.current ≡ Some n)
   got_at d r own item ok =
       let got = was_got (room_of d r) d.before d.context (was_ok d r (Operation Op.GetFh) item ok) in
@@ -420,7 +421,7 @@ module _ (instance : ℕ) (low : instance < 2 ^ 32) where
 
   -- What is known behind an operation that was answered NFS4_OK.
 
-  module _ (d : RanOp) (next : Option Context) (to : RunsTo d next) (k : Known) (own : d.before.store.instance ≡ instance) (ok : is_ok d.status ≡ true)
+  module _ (d : RanOp) (next : Option Context) (to : RunsTo d next) (k : Known) (own : d.before.store.opens.instance ≡ instance) (ok : is_ok d.status ≡ true)
       (seated : Seated k.current k.saved d.context) (came : (p : Place) → k.came_by ≡ Some p → CameBy p d.context (rows d.before))
       (stand : AllStand k.names (rows d.before)) where
     abbrev r : IsRun d
@@ -497,7 +498,7 @@ module _ (instance : ℕ) (low : instance < 2 ^ 32) where
     seats_behind (Operation (Op.PutFh h)) item =
         let p = was_put room d.before d.context h (was_ok d r (Operation (Op.PutFh h)) item ok) in
         seat_put k.current k.saved _ d.context (after (Operation (Op.PutFh h))) seated p.saved
-        (put_at h d.before.store.instance d.context (after (Operation (Op.PutFh h))) p own (are_bytes h) refl)
+        (put_at h d.before.store.opens.instance d.context (after (Operation (Op.PutFh h))) p own (are_bytes h) refl)
     seats_behind (Operation Op.PutRootFh) item =
         let p = root_put room d.before d.context (was_ok d r (Operation Op.PutRootFh) item ok) in
         seat_put k.current k.saved (Some the_root) d.context (after (Operation Op.PutRootFh)) seated p.1 (root_at d.context (after (Operation Op.PutRootFh)) p.0)
@@ -560,7 +561,7 @@ module _ (instance : ℕ) (low : instance < 2 ^ 32) where
 
   -- What an operation tells.
 
-  tells : (d : RanOp) → IsRun d → (k : Known) → d.before.store.instance ≡ instance → Holds k d.context (rows d.before) → Tells instance k d
+  tells : (d : RanOp) → IsRun d → (k : Known) → d.before.store.opens.instance ≡ instance → Holds k d.context (rows d.before) → Tells instance k d
   tells d r k own holds = record {
     gives = λ h known item ok.
         (let at = holds.seated.at_current h known in
@@ -614,7 +615,7 @@ module _ (instance : ℕ) (low : instance < 2 ^ 32) where
     pub begins : Begins (known_after the_root k d) (rows d.behind) next
     pub names : AllStand (known_after the_root k d).names (rows d.behind)
 
-  steps : (d : RanOp) (next : Option Context) (to : RunsTo d next) (k : Known) → d.before.store.instance ≡ instance → Holds k d.context (rows d.before) → Steps k d next
+  steps : (d : RanOp) (next : Option Context) (to : RunsTo d next) (k : Known) → d.before.store.opens.instance ≡ instance → Holds k d.context (rows d.before) → Steps k d next
   steps d next to k own holds = go (is_ok d.status) refl
     where
       go : (b : Bool) → is_ok d.status ≡ b → Steps k d next
@@ -640,14 +641,14 @@ module _ (instance : ℕ) (low : instance < 2 ^ 32) where
   -- what is known before each operation is so
   pub record HoldsAt (k : Known) (d : RanOp) : Type 0 where
     pub run : IsRun d
-    pub own : d.before.store.instance ≡ instance
+    pub own : d.before.store.opens.instance ≡ instance
     pub holds : Holds k d.context (rows d.before)
 
   abbrev pub AllHold : Known → List RanOp → Type 0
   AllHold k [] = Unit {0}
   AllHold k (d ∷ more) = HoldsAt k d × AllHold (known_after the_root k d) more
 
-  walk : (m : Machine) (ds : List RanOp) (k : Known) → AreChained m ds → AreLinked ds → ((d : RanOp) → In d ds → d.before.store.instance ≡ instance)
+  walk : (m : Machine) (ds : List RanOp) (k : Known) → AreChained m ds → AreLinked ds → ((d : RanOp) → In d ds → d.before.store.opens.instance ≡ instance)
       → Begins k (rows m) (next_of ds) → AllStand k.names (rows m) → AllHold k ds × AllStand (known_after_all the_root k ds).names (rows (left_by m ds))
   walk m [] k chained linked own begins stand = (tt, stand)
   walk m (d ∷ more) k chained linked own begins stand =
@@ -663,18 +664,18 @@ module _ (instance : ℕ) (low : instance < 2 ^ 32) where
       let rest = walk d.behind more (known_after the_root k d) chained.1 linked.1 (λ e there. own e (inr there)) step.begins step.names in
       ((record { run = linked.0.run; own = its; holds = holds }, rest.0), rest.1)
 
-  own_within : (m : Machine) (o : Option MachineEvent) → Is m → Has instance m → (d : RanOp) → In d (option_map_or (ops_by m) o []) → d.before.store.instance ≡ instance
+  own_within : (m : Machine) (o : Option MachineEvent) → Is m → Has instance m → (d : RanOp) → In d (option_map_or (ops_by m) o []) → d.before.store.opens.instance ≡ instance
   own_within m None is own d there = absurd there
-  own_within m (Some e) is own d there = (throughout (λ s. s.instance ≡ instance) (instance_kept instance) m e is own).within d there
+  own_within m (Some e) is own d there = (throughout (λ s. s.opens.instance ≡ instance) (instance_kept instance) m e is own).within d there
 
   -- A record: what is known holds before each of its operations, and the names behind it.
 
-  pub record HoldsIn (names : List KnownName) (s : State) : Type 0 where
+  pub record HoldsIn (names : List KnownName) (s : ServerState) : Type 0 where
     pub sound : IsSound s
     pub own : Has instance s.machine
     pub stand : AllStand names (rows s.machine)
 
-  pub one_record : (names : List KnownName) (s : State) (c : Arrival) → HoldsIn names s
+  pub one_record : (names : List KnownName) (s : ServerState) (c : Arrival) → HoldsIn names s
       → AllHold (starts names) (ops_of s c) × HoldsIn (names_after the_root names s c) (state_after s c)
   one_record names s c is =
       let whole = whole_before s c is.sound.whole in
@@ -685,7 +686,7 @@ module _ (instance : ℕ) (low : instance < 2 ^ 32) where
         record {
           sound = sound_next s c is.sound;
           own = has_next s c instance is.sound is.own;
-          stand = subst (AllStand (names_after the_root names s c)) (sym (ap (λ (s : State). rows s.machine) (next_is s c) ∙ runs.last)) did.1;
+          stand = subst (AllStand (names_after the_root names s c)) (sym (ap (λ (s : ServerState). rows s.machine) (next_is s c) ∙ runs.last)) did.1;
         },
       )
 
@@ -693,7 +694,7 @@ module _ (instance : ℕ) (low : instance < 2 ^ 32) where
   follow [] k all = tt
   follow (d ∷ more) k all = (tells d all.0.run k all.0.own all.0.holds, follow more (known_after the_root k d) all.1)
 
-  through : (s : State) (records : List Arrival) (names : List KnownName) → HoldsIn names s → FollowThrough instance the_root names s records
+  through : (s : ServerState) (records : List Arrival) (names : List KnownName) → HoldsIn names s → FollowThrough instance the_root names s records
   through s [] names is = tt
   through s (c ∷ more) names is =
       let one = one_record names s c is in

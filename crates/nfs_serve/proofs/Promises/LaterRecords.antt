@@ -7,7 +7,8 @@ use Rattle.nfs_names.specs.State as of_store
 use Rattle.nfs_exec.specs.{Step.Laws.{MachineEvent, Asks}, Step.Machine.Machine, Runs.Ops.{RanOp, ops_by}}
 use Rattle.nfs_exec.proofs.{Runs.WhatWasDone.event_run, Runs.OneRun.IsRun, Runs.OneWalk.{IsKept, Throughout, throughout, throughout_behind, none_at, in_back}}
 use Rattle.nfs_exec.proofs.Runs.KeptByRuns.{Is, event_ops}
-use Rattle.nfs_serve.specs.{Step.State, Promises.ChangeTells.RunsIn, Promises.Endpoint.Arrival, Promises.Points.{state_after, taken, before, asked_by, ops_of}}
+use Rattle.nfs_serve.specs.{Step.ServerState, Promises.ChangeTells.RunsIn, Promises.Endpoint.Arrival}
+use Rattle.nfs_serve.specs.Promises.Points.{state_after, taken, before, asked_by, ops_of}
 use Rattle.nfs_serve.proofs.Promises.Points.{left, for_asked, next_is, IsSound, whole_before, sound_next}
 
 -- An operation of a record was run, between two machines that are whole.
@@ -20,22 +21,22 @@ asked_done : (m : Machine) (o : Option MachineEvent) → Is m → (d : RanOp) �
 asked_done m None is d there = absurd there
 asked_done m (Some e) is d there = record { run = (event_run m e is d there).0; behind = (event_ops m e is d there).1 }
 
-pub op_done : (s : State) (c : Arrival) → IsSound s → (d : RanOp) → In d (ops_of s c) → IsDone d
+pub op_done : (s : ServerState) (c : Arrival) → IsSound s → (d : RanOp) → In d (ops_of s c) → IsDone d
 op_done s c sound d there = asked_done (before s c) (asked_by s c) (whole_before s c sound.whole) d there
 
-pub run_done : (s : State) (records : List Arrival) → IsSound s → (d : RanOp) → RunsIn s records d → IsDone d
+pub run_done : (s : ServerState) (records : List Arrival) → IsSound s → (d : RanOp) → RunsIn s records d → IsDone d
 run_done s [] sound d there = absurd there
 run_done s (c ∷ more) sound d (inl here) = op_done s c sound d here
 run_done s (c ∷ more) sound d (inr later) = run_done (state_after s c) more (sound_next s c sound) d later
 
 module _ (P : of_store.State → Type 0) (held : IsKept P) where
-  pub before_keeps : (s : State) (c : Arrival) → P s.machine.store → P (before s c).store
-  before_keeps s c is = held.end (λ client. not (has_run_out s.machine.leases (taken s c) client)) s.machine.store is
+  pub before_keeps : (s : ServerState) (c : Arrival) → P s.machine.store → P (before s c).store
+  before_keeps s c is = held.end (λ client. not (has_run_out s.machine.store.lease s.machine.leases (taken s c) client)) s.machine.store is
 
-  pub next_keeps : (s : State) (c : Arrival) → IsSound s → P s.machine.store → P (state_after s c).machine.store
+  pub next_keeps : (s : ServerState) (c : Arrival) → IsSound s → P s.machine.store → P (state_after s c).machine.store
   next_keeps s c sound is =
       let here = before_keeps s c is in
-      subst (λ (s : State). P s.machine.store) (sym (next_is s c))
+      subst (λ (s : ServerState). P s.machine.store) (sym (next_is s c))
       (for_asked (λ o. P (left (before s c) o).store) s c here (λ r who.
       (throughout P held (before s c) (Asks r who (length c.bytes) (taken s c) c.choice) (whole_before s c sound.whole) here).behind))
 
@@ -44,7 +45,7 @@ module _ (P : of_store.State → Type 0) (held : IsKept P) where
   asked_keeps m (Some e) whole is d there = (throughout P held m e whole is).within d there
 
   -- before each operation of later records
-  pub runs_keep : (s : State) (records : List Arrival) → IsSound s → P s.machine.store → (d : RanOp) → RunsIn s records d → P d.before.store
+  pub runs_keep : (s : ServerState) (records : List Arrival) → IsSound s → P s.machine.store → (d : RanOp) → RunsIn s records d → P d.before.store
   runs_keep s [] sound is d there = absurd there
   runs_keep s (c ∷ more) sound is d (inl here) = asked_keeps (before s c) (asked_by s c) (whole_before s c sound.whole) (before_keeps s c is) d here
   runs_keep s (c ∷ more) sound is d (inr later) = runs_keep (state_after s c) more (sound_next s c sound) (next_keeps s c sound is) d later
@@ -55,20 +56,20 @@ module _ (P : of_store.State → Type 0) (held : IsKept P) where
   asked_back m (Some e) front d back is same here = throughout_behind P held m e front d back is same here
 
   -- from an operation on: before each behind it, in its record and in later ones
-  pub later_keeps : (s : State) (c : Arrival) (front : List RanOp) (d : RanOp) (back : List RanOp) (more : List Arrival) → IsSound s → ops_of s c ≡ front ++ d ∷ back
+  pub later_keeps : (s : ServerState) (c : Arrival) (front : List RanOp) (d : RanOp) (back : List RanOp) (more : List Arrival) → IsSound s → ops_of s c ≡ front ++ d ∷ back
       → P d.behind.store → (e : RanOp) → In e back ⊎ RunsIn (state_after s c) more e → P e.before.store
   later_keeps s c front d back more sound same here e place =
       let rest = asked_back (before s c) (asked_by s c) front d back (whole_before s c sound.whole) same here in
       elim place [
         | inl behind ↦ rest.within e behind
-        | inr later ↦ runs_keep (state_after s c) more (sound_next s c sound) (subst (λ (s : State). P s.machine.store) (sym (next_is s c)) rest.behind) e later
+        | inr later ↦ runs_keep (state_after s c) more (sound_next s c sound) (subst (λ (s : ServerState). P s.machine.store) (sym (next_is s c)) rest.behind) e later
       ]
 
 -- and what is known of those
-pub first_there : (s : State) (c : Arrival) (front : List RanOp) (d : RanOp) (back : List RanOp) → ops_of s c ≡ front ++ d ∷ back → In d (ops_of s c)
+pub first_there : (s : ServerState) (c : Arrival) (front : List RanOp) (d : RanOp) (back : List RanOp) → ops_of s c ≡ front ++ d ∷ back → In d (ops_of s c)
 first_there s c front d back same = subst (In d) (sym same) (in_back d front (d ∷ back) (inl refl))
 
-pub later_done : (s : State) (c : Arrival) (front : List RanOp) (d : RanOp) (back : List RanOp) (more : List Arrival) → IsSound s → ops_of s c ≡ front ++ d ∷ back
+pub later_done : (s : ServerState) (c : Arrival) (front : List RanOp) (d : RanOp) (back : List RanOp) (more : List Arrival) → IsSound s → ops_of s c ≡ front ++ d ∷ back
     → (e : RanOp) → In e back ⊎ RunsIn (state_after s c) more e → IsDone e
 later_done s c front d back more sound same e (inl behind) = op_done s c sound e (subst (In e) (sym same) (in_back e front (d ∷ back) (inr behind)))
 later_done s c front d back more sound same e (inr later) = run_done (state_after s c) more (sound_next s c sound) e later

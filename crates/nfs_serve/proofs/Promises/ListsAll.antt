@@ -14,7 +14,7 @@ use Rattle.nfs_attrs.specs.Mask.{mask_of}
 use Rattle.nfs_names.specs.declared.context.Context.{Context}
 use Rattle.nfs_exec.specs.Runs.Ops.{RanOp}
 use Rattle.nfs_exec.proofs.Runs.WhatWasDone.{IsRun, in_room_is}
-use Rattle.nfs_serve.specs.{Step.{State, new_state}, Promises.ChangeTells.RunsIn, Promises.Endpoint.Arrival}
+use Rattle.nfs_serve.specs.{Step.{ServerState, new_state}, Promises.ChangeTells.RunsIn, Promises.Endpoint.Arrival}
 use Rattle.nfs_serve.specs.Promises.ListsAll.{Page, IsPage, last_cookie, ArePages, entries_of, entry_in, IsListedOnce, RowsAreListed, PagesAreParts, all_ops, NamesAreListed, GoneIsUnlisted}
 use Rattle.nfs_serve.specs.Promises.NameStays.{TakesIt, MakesIt, HoldsWhile, AllSpare, HoldsThrough, HoldsFrom, row_of, LeadsBefore, MissesBefore}
 use Rattle.nfs_serve.specs.Promises.Points.{state_after, reached, ops_of}
@@ -195,15 +195,15 @@ module _ (P : RanOp → Type 0) (Before : RanOp → Option Context → Type 0) (
     λ spares. while_for ds after (holds.1 spares) (λ all. rest (λ e there. elim there [ inl is ↦ subst Spares (sym is) spares | inr more ↦ all e more ])),
   )
 
-  through_for : (s : State) (records : List Arrival) → HoldsThrough Before Spares s records → HoldsFor P Spares (all_ops s records)
+  through_for : (s : ServerState) (records : List Arrival) → HoldsThrough Before Spares s records → HoldsFor P Spares (all_ops s records)
   through_for s [] holds = tt
   through_for s (c ∷ more) holds = while_for (ops_of s c) (all_ops (state_after s c) more) holds.0 (λ all. through_for (state_after s c) more (holds.1 all))
 
-  from_for : (s : State) (c : Arrival) (back : List RanOp) (later : List Arrival) → HoldsFrom Before Spares s c back
+  from_for : (s : ServerState) (c : Arrival) (back : List RanOp) (later : List Arrival) → HoldsFrom Before Spares s c back
       → HoldsFor P Spares (back ++ all_ops (state_after s c) later)
   from_for s c back later holds = while_for back (all_ops (state_after s c) later) holds.0 (λ all. through_for (state_after s c) later (holds.1 all later))
 
-pub in_all : (s : State) (records : List Arrival) (d : RanOp) → In d (all_ops s records) → RunsIn s records d
+pub in_all : (s : ServerState) (records : List Arrival) (d : RanOp) → In d (all_ops s records) → RunsIn s records d
 in_all s [] d there = there
 in_all s (c ∷ more) d there = elim (in_both (ops_of s c) (all_ops (state_after s c) more) d there) [ inl here ↦ inl here | inr later ↦ inr (in_all (state_after s c) more d later) ]
 

@@ -12,7 +12,7 @@ use Rattle.nfs_opens.specs.declared.locking.Wish.{Wish}
 use Rattle.nfs_files.specs.LockTold.{LockTold, Stands}
 use Rattle.nfs_exec.proofs.{Runs.LockHeld.{lock_stays, told_kept}, Runs.WhatWasDone.event_state, Runs.LeaseTold.{Lasts, stepped_lasts, event_told}}
 use Rattle.nfs_exec.proofs.Runs.KeptByRuns.{Is}
-use Rattle.nfs_serve.specs.{Step.{State, new_state}, Promises.Endpoint.Arrival}
+use Rattle.nfs_serve.specs.{Step.{ServerState, new_state}, Promises.Endpoint.Arrival}
 use Rattle.nfs_serve.specs.Promises.Points.{state_after, state_after_all, reached, taken, before, asked_by, ops_of}
 use Rattle.nfs_serve.specs.Promises.LockKept.{LockKept, OnlyOneIsTold, LeaseIsTold, EachIsTold}
 use Rattle.nfs_serve.proofs.Promises.Points.{left, for_asked, next_is, IsSound, whole_before, sound_next, sound_all, sound_new}
@@ -20,14 +20,14 @@ use Rattle.nfs_serve.proofs.Promises.Staying.{Stays, told_from, through, stays_f
 
 -- What attribute 10 says is how long a lease lasts.
 
-lasts_next : (s : State) (c : Arrival) (lease : ℕ) → IsSound s → Lasts lease s.machine → Lasts lease (state_after s c).machine
+lasts_next : (s : ServerState) (c : Arrival) (lease : ℕ) → IsSound s → Lasts lease s.machine → Lasts lease (state_after s c).machine
 lasts_next s c lease sound is =
     let here : Lasts lease (before s c) = stepped_lasts s.machine (Expires (taken s c)) lease sound.whole is in
-    subst (λ (s : State). Lasts lease s.machine) (sym (next_is s c))
+    subst (λ (s : ServerState). Lasts lease s.machine) (sym (next_is s c))
     (for_asked (λ o. Lasts lease (left (before s c) o)) s c here
     (λ r who. stepped_lasts (before s c) (Asks r who (length c.bytes) (taken s c) c.choice) lease (whole_before s c sound.whole) here))
 
-pub lasts_all : (s : State) (records : List Arrival) (lease : ℕ) → IsSound s → Lasts lease s.machine → Lasts lease (state_after_all s records).machine
+pub lasts_all : (s : ServerState) (records : List Arrival) (lease : ℕ) → IsSound s → Lasts lease s.machine → Lasts lease (state_after_all s records).machine
 lasts_all s [] lease sound is = is
 lasts_all s (c ∷ more) lease sound is = lasts_all (state_after s c) more lease (sound_next s c sound) (lasts_next s c lease sound is)
 
@@ -45,7 +45,7 @@ lease_is_told mode instance lease records c d words there =
 
 -- Behind the record that told it, and through whatever records come.
 
-abbrev Lives : LockTold → (lease last : ℕ) → State → Type 0
+abbrev Lives : LockTold → (lease last : ℕ) → ServerState → Type 0
 Lives k lease last s = Stays k.client lease last (λ u. Stands k u.opens) s
 
 told_lives : (mode instance lease : ℕ) (earlier : List Arrival) (c : Arrival) (k : LockTold) (front : List RanOp) (lock : RanOp) (back : List RanOp)

@@ -10,7 +10,7 @@ use Rattle.nfs_compound.specs.{declared.op.Item.TheVariants.{Operation, Fault}, 
 use Rattle.nfs_compound.specs.declared.op.Op.TheVariants as Op
 use Rattle.nfs_compound.specs.declared.op_num.OpNum.TheVariants as Num
 use Rattle.nfs_results.specs.{declared.res.Res.Res, Results.status_of_result}
-use Rattle.nfs_opens.specs.{Closing.not_under, Judging.judge}
+use Rattle.nfs_opens.specs.{Judging.judge}
 use Rattle.nfs_opens.specs.Locking.{lock_judged, lock_as, lock_first, lock_by_owner, lock_under, lock_known, access_in, state_of}
 use Rattle.nfs_opens.specs.{Opening.{own_open, opens_by}, Steps.{◌>>=◌, map_err, require}, StateId.last_number, Table.{Table, Asked, lock_at}}
 use Rattle.nfs_opens.specs.{declared.judging.Sort.TheVariants.{OpenOnly, LockOnly}, declared.locking.OpenFault.OpenFault}
@@ -32,9 +32,11 @@ use Rattle.nfs_files.proofs.Outcomes as files
 use Rattle.nfs_exec.specs.{Step.Machine.Machine, Step.Laws.{MachineEvent, stepped, ran}, Runs.LockHeld.LocksFor, Runs.Ops.{RanOp, ops_by, left_by, AreChained}}
 use Rattle.nfs_exec.proofs.{Runs.KeptByRuns.Is, Runs.LockStates.{IsAs, as_itself, changed_from}, Runs.OneRun.{IsRun, by_item, by_ok, by_run}}
 use Rattle.nfs_exec.proofs.{Runs.OneWalk.{EventDid, Ran, Idled, event_did, kept_ended, none_at}, Runs.WhatWasDone.event_run}
-use Rattle.nfs_serve.specs.{Step.{State, new_state}, Promises.ChangeTells.RunsIn, Promises.Endpoint.Arrival, Promises.LockMade.{MakesUnder, EachLockWasMade}}
+use Rattle.nfs_serve.specs.{Step.{ServerState, new_state}, Promises.ChangeTells.RunsIn, Promises.Endpoint.Arrival}
+use Rattle.nfs_serve.specs.Promises.LockMade.{MakesUnder, EachLockWasMade}
 use Rattle.nfs_serve.specs.Promises.Points.{state_after, state_after_all, reached, taken, before, asked_by, ops_of}
 use Rattle.nfs_serve.proofs.{Promises.LockKept.each_is_told, Promises.Points.{left, next_is, IsSound, whole_before, sound_next, sound_all, sound_new}}
+use Rattle.nfs_opens.proofs.Terms.{not_under}
 
 -- it was there, with this number and under this open
 abbrev Was : Table → LockState → Type 0
@@ -266,18 +268,18 @@ asked_made : (past : RanOp → Type 0) (m : Machine) (o : Option MachineEvent) �
 asked_made past m None is all = widened past (λ d. past d ⊎ In d []) m.store.opens (λ d is. inl is) all
 asked_made past m (Some e) is all = event_made past m e is all
 
-abbrev MadeIn : (RanOp → Type 0) → State → Type 0
+abbrev MadeIn : (RanOp → Type 0) → ServerState → Type 0
 MadeIn past s = AllMade past s.machine.store.opens
 
-before_made : (past : RanOp → Type 0) (s : State) (c : Arrival) → MadeIn past s → AllMade past (before s c).store.opens
-before_made past s c all = staying_made past (λ client. not (has_run_out s.machine.leases (taken s c) client)) s.machine.store all
+before_made : (past : RanOp → Type 0) (s : ServerState) (c : Arrival) → MadeIn past s → AllMade past (before s c).store.opens
+before_made past s c all = staying_made past (λ client. not (has_run_out s.machine.store.lease s.machine.leases (taken s c) client)) s.machine.store all
 
-next_made : (past : RanOp → Type 0) (s : State) (c : Arrival) → IsSound s → MadeIn past s → MadeIn (λ d. past d ⊎ In d (ops_of s c)) (state_after s c)
+next_made : (past : RanOp → Type 0) (s : ServerState) (c : Arrival) → IsSound s → MadeIn past s → MadeIn (λ d. past d ⊎ In d (ops_of s c)) (state_after s c)
 next_made past s c sound all =
     subst (MadeIn (λ d. past d ⊎ In d (ops_of s c))) (sym (next_is s c))
     (asked_made past (before s c) (asked_by s c) (whole_before s c sound.whole) (before_made past s c all))
 
-records_made : (past : RanOp → Type 0) (s : State) (records : List Arrival) → IsSound s → MadeIn past s
+records_made : (past : RanOp → Type 0) (s : ServerState) (records : List Arrival) → IsSound s → MadeIn past s
     → MadeIn (λ d. past d ⊎ RunsIn s records d) (state_after_all s records)
 records_made past s [] sound all = widened past (λ d. past d ⊎ RunsIn s [] d) s.machine.store.opens (λ d is. inl is) all
 records_made past s (c ∷ more) sound all =

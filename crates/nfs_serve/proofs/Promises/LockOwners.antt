@@ -7,7 +7,7 @@ use Rattle.nfs_exec.proofs.{Runs.LockStates.{Descends, descends_same, descends_k
 use Rattle.nfs_serve.specs.{Promises.ChangeTells.RunsIn, Promises.Endpoint.Arrival, Promises.Exchanges.words, Promises.HeldLock.{start, locks, locked, last_of}}
 use Rattle.nfs_serve.specs.Promises.LockKept.{InTimeFor, renews_by}
 use Rattle.nfs_serve.specs.Promises.LockOwners.{StatesHaveOneOwner, OnlyOneOwnerIsTold, asks_for_another, OneOwnerEach}
-use Rattle.nfs_serve.specs.{Promises.Points.{state_after, state_after_all, reached, taken, ops_of}, Step.{State, new_state}}
+use Rattle.nfs_serve.specs.{Promises.Points.{state_after, state_after_all, reached, taken, ops_of}, Step.{ServerState, new_state}}
 use Rattle.nfs_serve.specs.Promises.HeldLock as worked
 use Rattle.nfs_serve.proofs.{Promises.Computing.computing, Promises.Handles.{first_of, two}, Promises.HeldLock.{nothing, three, asking, locks_for}}
 use Rattle.nfs_serve.proofs.{Promises.LaterRecords.{op_done, first_there, later_keeps, later_done}, Promises.LockKept.only_one, Promises.LockOwned.one_letter}
@@ -24,13 +24,13 @@ states_have_one_owner mode instance lease earlier c front first back more second
     ((descends_kept t).run second two.run (later_keeps (λ s. Descends t s.opens) (descends_kept t) s c front first back more sound same (descends_same t) second place))
 
 -- what comes in time ends in the state behind all records
-pub end_of : (k : Kept) (client lease last : ℕ) (way : k.Way) (s : State) (cs : List Arrival) (Then : k.Way → ℕ → State → Type 0) → InTimeFor k client lease last way s cs Then
+pub end_of : (k : Kept) (client lease last : ℕ) (way : k.Way) (s : ServerState) (cs : List Arrival) (Then : k.Way → ℕ → ServerState → Type 0) → InTimeFor k client lease last way s cs Then
     → (to : k.Way) × (n : ℕ) × Then to n (state_after_all s cs)
 end_of k client lease last way s [] Then all = (way, last, all)
 end_of k client lease last way s (c ∷ more) Then all =
     end_of k client lease (cond (renews_by client s c) (taken s c) last) (after_all k.after way (ops_of s c)) (state_after s c) more Then all.3
 
-runs_last : (s : State) (cs : List Arrival) (d : Arrival) (e : RanOp) → In e (ops_of (state_after_all s cs) d) → RunsIn s (cs ++ d ∷ []) e
+runs_last : (s : ServerState) (cs : List Arrival) (d : Arrival) (e : RanOp) → In e (ops_of (state_after_all s cs) d) → RunsIn s (cs ++ d ∷ []) e
 runs_last s [] d e there = inl there
 runs_last s (c ∷ more) d e there = inr (runs_last (state_after s c) more d e there)
 

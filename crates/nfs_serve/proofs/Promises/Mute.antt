@@ -10,23 +10,25 @@ use Rattle.nfs_compound.proofs.OpNumLaws.{is_op_listing}
 use Rattle.nfs_compound.specs.{declared.op.Op.Op, declared.op.Item.Item, declared.op.Item.TheVariants.{Operation, Fault}, Arguments.arguments}
 use Rattle.nfs_compound.specs.{Request.{Request, item_number}, declared.session_args.CreateSession.CreateSession}
 use Rattle.nfs_results.specs.declared.res.Res.TheVariants as Res
-use Rattle.nfs_results.specs.{Results.{refusal, spell_result}, Refusals.{bears, can_refuse}, Parts.is_legal}
+use Rattle.nfs_results.specs.{Results.{refusal, spell_result}, Refusals.{may_return, can_refuse}, Parts.is_legal}
 use Rattle.nfs_clients.specs.{declared.exchange_id.Exchanged.Exchanged}
 use Rattle.nfs_clients.specs.{declared.exchange_id.ClientFault.ClientFault, DestroyClientId.destroy_fault, ExchangeId.exchange}
 use Rattle.nfs_clients.specs.declared.created.CreateResult.TheVariants as result
 use Rattle.nfs_clients.specs.CreateSession as clients
 use Rattle.nfs_sessions.specs.{declared.id.SessionId.SessionId, declared.sessions.SessionFault.SessionFault, Id.id_of}
-use Rattle.nfs_sessions.specs.Sessions.{SessionTable, create, session_at, fault_status}
+use Rattle.nfs_sessions.specs.Sessions.{SessionTable, create, session_at, session_fault_status}
 use Rattle.nfs_names.specs.Outcome.{is_ok}
-use Rattle.nfs_exec.specs.{Step.Machine.{by_fault, Machine, Outcome, or_delay}, Step.Place.{stands_alone, is_sequence}, Step.View.{CanBear, IsOpened}}
+use Rattle.nfs_exec.specs.{Step.Machine.{by_fault, Machine, MachineOutcome, or_with_delay}, Step.Place.{stands_alone, is_sequence}}
+use Rattle.nfs_exec.specs.Step.View.{CanBear, IsOpened}
 use Rattle.nfs_exec.specs.Step.ExchangeId.{exchange_id}
 use Rattle.nfs_exec.specs.Step.CreateSession.{wish_of}
-use Rattle.nfs_exec.specs.{Step.Destroy.{destroy_session, client_fault, client_ended}, Step.Run.is_here}
+use Rattle.nfs_exec.specs.{Step.Destroy.{destroy_session, client_fault}, Step.Run.is_here}
 use Rattle.nfs_exec.specs.{Step.Compound.{carried_out, first_item, by_first, compound}, Step.Executing.{first_sequence, sequence_of}}
 use Rattle.nfs_exec.proofs.Step.InSteps.{exchange_id_is, create_session_is}
 use Rattle.nfs_exec.specs.Step.Parts.{answered, ask_of, by_number, by_created}
 use Rattle.nfs_exec.proofs.Step.RefusalsFit.{opened_bears}
 use Rattle.nfs_serve.proofs.{Promises.Reader.sequenced, Promises.Spelled.{IsBad, IsMute, mute_spelled, bare_spelled}}
+use Rattle.nfs_exec.proofs.Step.Terms.{client_ended}
 
 small : (s : Status) → status_number s < 2 ^ 32
 small s = is_status_listing.small s
@@ -59,7 +61,7 @@ borne n s bears' = elim (cases_Bool (n == 34)) [
       (omega (arith, is), rw apart refl))
   | inr plain ↦ (
       let can : can_refuse n s ≡ true = or_right ((n == 34) && is_legal s) (can_refuse n s) bears' (rw plain refl) in
-      let bears'' : bears n s ≡ true = (and_parts (bears n s) _ can).0 in
+      let bears'' : may_return n s ≡ true = (and_parts (may_return n s) _ can).0 in
       elim (cases_Bool (n == 10044)) [
         | inl illegal ↦ (
             let is : n ≡ 10044 = eqb-true n 10044 illegal in
@@ -75,7 +77,7 @@ borne n s bears' = elim (cases_Bool (n == 34)) [
 
 -- Each lone operation.
 
-mute_delayed : (m : Machine) (refused : Bool) (n : ℕ) (o : Outcome) → n < 2 ^ 32 → IsMute o.result → IsMute (or_delay refused m n o).result
+mute_delayed : (m : Machine) (refused : Bool) (n : ℕ) (o : MachineOutcome) → n < 2 ^ 32 → IsMute o.result → IsMute (or_with_delay refused m n o).result
 mute_delayed m refused n o n_small is = elim (cases_Bool (refused && is_ok o.status)) [
   | inl here ↦ rw here (mute_bad n Delay n_small refl)
   | inr other ↦ rw other is
@@ -87,7 +89,7 @@ mute_exchanged (Err fault) = record { op = 42; first = _; rest = []; spelled = r
 
 mute_made : (m : Machine) (now : ℕ) (c : CreateSession) (t : SessionTable) (r : Result SessionId SessionFault) → IsMute (by_created m now c t r).result
 mute_made m now c t (Ok id) = record { op = 43; first = 0; rest = _; spelled = refl; op_small = omega arith; first_small = omega arith; other = refl }
-mute_made m now c t (Err fault) = mute_refusal 43 (fault_status fault) (omega arith) refl
+mute_made m now c t (Err fault) = mute_refusal 43 (session_fault_status fault) (omega arith) refl
 
 mute_created : (m : Machine) (now : ℕ) (refused : Bool) (c : CreateSession) (v : clients.Verdict) → IsMute (by_number m now refused c v).result
 mute_created m now refused c clients.Stale = mute_bad 43 StaleClientId (omega arith) refl
@@ -116,15 +118,15 @@ op_small op = is_op_listing.small (arguments op).op
 mute_carried : (m : Machine) (who : Caller) (now : ℕ) (refused : Bool) (op : Op) → IsMute (carried_out m who now refused (Operation op)).result
 mute_carried m who now refused (Op.ExchangeId e) =
     mute_delayed m refused 42 (exchange_id m who now e) (omega arith)
-    (subst (λ (o : Outcome). IsMute o.result) (sym (exchange_id_is m who now e)) (mute_exchanged (exchange m.clients (ask_of m who e)).answer))
+    (subst (λ (o : MachineOutcome). IsMute o.result) (sym (exchange_id_is m who now e)) (mute_exchanged (exchange m.clients (ask_of m who e)).answer))
 mute_carried m who now refused (Op.CreateSession c) =
-    subst (λ (o : Outcome). IsMute o.result) (sym (create_session_is m who now refused c))
+    subst (λ (o : MachineOutcome). IsMute o.result) (sym (create_session_is m who now refused c))
     (mute_created m now refused c (clients.create_verdict m.clients c.clientid c.sequence who.uid))
 mute_carried m who now refused (Op.DestroySession sessionid) = mute_destroyed m sessionid
 mute_carried m who now refused (Op.DestroyClientId client) = mute_client m client (client_fault m client)
 mute_carried m who now refused op = mute_bad (item_number (Operation op)) NotSupp (op_small op) refl
 
-mute_op : (m : Machine) (n : ℕ) (alone sequence many : Bool) (o : Outcome) → n < 2 ^ 32 → IsMute o.result
+mute_op : (m : Machine) (n : ℕ) (alone sequence many : Bool) (o : MachineOutcome) → n < 2 ^ 32 → IsMute o.result
     → IsMute (by_fault m n (if alone && many then Some NotOnlyOp else if not (alone || sequence) then Some OpNotInSession else None) o).result
 mute_op m n true sequence true o n_small is = mute_bad n _ n_small refl
 mute_op m n true sequence false o n_small is = is

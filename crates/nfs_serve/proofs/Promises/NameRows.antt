@@ -16,7 +16,7 @@ use Rattle.nfs_compound.specs.declared.op_num.OpNum.TheVariants as Num
 use Rattle.nfs_results.specs.declared.res.Res.TheVariants as Res
 use Rattle.nfs_results.specs.Results.{spell_result, done_head, head}
 use Rattle.nfs_ranges.specs.declared.Held.{Held}
-use Rattle.nfs_tree.specs.{declared.object.Object.Object, declared.row.Row.Row, Files.{Files, object_at, is_entry, entry, lookup, without_entry}}
+use Rattle.nfs_tree.specs.{declared.object.Object.Object, declared.row.Row.Row, Files.{Files, object_at, is_entry, entry, object_named, without_entry}}
 use Rattle.nfs_tree.specs.{Bytes.has_bytes, Names.{Move, moves, moved_object, with_row}}
 use Rattle.nfs_tree.proofs.RowsKept.{entry_parts, entry_self}
 use Rattle.nfs_attrs.specs.declared.wanted.Wanted.{Wanted}
@@ -94,7 +94,7 @@ both_at s x p e =
 
 did_rename : (s : State) (x : Context) (now : Time) (a : Rename) (p : _) (b : Bool) → both s x ≡ Ok p → Did s x (Operation (Op.Rename a)) (renamed s x now a p b)
 did_rename s x now a p true at =
-    Moved (move_of a p) (moved_object s.tree (move_of a p)) (s.tree.last_cookie + 1) (replaced_rows _ (lookup s.tree p.current.number a.newname))
+    Moved (move_of a p) (moved_object s.tree (move_of a p)) (s.tree.last_cookie + 1) (replaced_rows _ (object_named s.tree p.current.number a.newname))
     (MovedAway a refl refl (both_at s x p at).saved_is (_, refl)) (MovedOver a refl refl (both_at s x p at).current_is (_, refl))
     (ByRename a refl refl (both_at s x p at).current_is (_, refl))
 did_rename s x now a p false at = Same refl

@@ -13,14 +13,16 @@ use Rattle.nfs_compound.specs.declared.op.Op.TheVariants as Op
 use Rattle.nfs_compound.specs.declared.op_num.OpNum.TheVariants as Num
 use Rattle.nfs_results.specs.declared.res.Res.TheVariants as Res
 use Rattle.nfs_results.specs.Results.{spell_result, done_head, head, refusal}
-use Rattle.nfs_tree.specs.{declared.object.Object.Object, declared.row.Row.Row, Files.{Files, root, object_at, is_entry, entry, lookup, named, without_entry}}
+use Rattle.nfs_tree.specs.Object.{is_link}
+use Rattle.nfs_tree.specs.{declared.object.Object.Object, declared.row.Row.Row}
+use Rattle.nfs_tree.specs.Files.{Files, root, object_at, is_entry, entry, object_named, number_named, without_entry}
 use Rattle.nfs_tree.specs.{Create.create_checks, Names.{Move, moves, moved_object, replaced_object, link_checks, rename_checks, with_row}}
 use Rattle.nfs_tree.specs.TreeInvariants.{IsTree}
 use Rattle.nfs_tree.proofs.{Objects.stored_within, RowsKept.{entry_parts, entry_self}}
 use Rattle.nfs_attrs.specs.Permissions.{execute}
 use Rattle.nfs_names.specs.{declared.context.Context.Context, declared.node.Node.Node, State.{State, with_tree, moment}, Context.at_object}
-use Rattle.nfs_names.specs.{Checks.{node_as, node_at, saved_object, current, both, no_directory, denied, name_checks}, Create.{new_of, create}, Link.link}
-use Rattle.nfs_names.specs.{Lookup.{is_link, lookup as look_up}, Outcome.{Outcome, done, checked, or_refusal}, Remove.remove, Rename.{move_of, renamed, rename}}
+use Rattle.nfs_names.specs.{Checks.{node_as, node_at, saved_object, current, both, no_directory, no_access, name_checks}, Create.{new_of, create}, Link.link}
+use Rattle.nfs_names.specs.{Lookup.{lookup as look_up}, Outcome.{Outcome, done, checked, or_refusal}, Remove.remove, Rename.{move_of, renamed, rename}}
 use Rattle.nfs_names.specs.Operation as names
 use Rattle.nfs_names.proofs.{Found.checked_ok, Ones.by_delay}
 use Rattle.nfs_names.proofs.NameLaws as law
@@ -67,7 +69,7 @@ pub pushed_found : (rows : List Row) (new : Row) → entry rows new.directory ne
 pushed_found rows new none = find_push_none (is_entry new.directory new.name) rows new none (entry_self new)
 
 abbrev Leads : Name → Files → Type 0
-Leads k t = lookup t k.directory k.name ≡ Some k.object
+Leads k t = object_named t k.directory k.name ≡ Some k.object
 
 -- A new row leads to its object.
 
@@ -119,13 +121,13 @@ link_leads k limit sofar now refused m x at saved =
 -- LOOKUP
 pub find_leads : (k : Name) (limit sofar now : ℕ) (refused : Bool) (m : Machine) (x : Context) → x.current ≡ Some k.directory
     → (let s = in_room limit sofar now refused m x (Operation (Op.Lookup k.name)) in
-    IsDone Num.Lookup s.outcome.result → s.context.current ≡ lookup m.store.tree k.directory k.name)
+    IsDone Num.Lookup s.outcome.result → s.context.current ≡ object_named m.store.tree k.directory k.name)
 find_leads k limit sofar now refused m x at =
-    in_room_is (λ s. IsDone Num.Lookup s.outcome.result → s.context.current ≡ lookup m.store.tree k.directory k.name)
+    in_room_is (λ s. IsDone Num.Lookup s.outcome.result → s.context.current ≡ object_named m.store.tree k.directory k.name)
     limit sofar now refused m x (Operation (Op.Lookup k.name)) (λ is. absurd (not_done Num.Lookup 15 RepTooBig refl is))
-    (law.by_lookup (λ o. IsDone Num.Lookup (spell_result o.result) → o.context.current ≡ lookup m.store.tree k.directory k.name) m.store x k.name
+    (law.by_lookup (λ o. IsDone Num.Lookup (spell_result o.result) → o.context.current ≡ object_named m.store.tree k.directory k.name) m.store x k.name
     (λ f h is. absurd (not_done Num.Lookup 15 f h.done is)) (λ d n here placed named is.
-    sym named ∙ ap (λ d. lookup m.store.tree d k.name) (some_same x.current d.number k.directory (current_number m.store x d here) at)))
+    sym named ∙ ap (λ d. object_named m.store.tree d k.name) (some_same x.current d.number k.directory (current_number m.store x d here) at)))
 
 -- OPEN
 abbrev Opened : Name → ℕ → Outcome → Type 0
@@ -150,7 +152,7 @@ open_leads k limit sofar now refused m x a n claim at =
 -- RENAME
 
 -- a row leads to an object, which has a number from 1 on
-object_some : (t : Files) (d : ℕ) (name : List ℕ) (n : ℕ) → IsTree t → lookup t d name ≡ Some n → 1 ≤ n
+object_some : (t : Files) (d : ℕ) (name : List ℕ) (n : ℕ) → IsTree t → object_named t d name ≡ Some n → 1 ≤ n
 object_some t d name n is e = go (entry t.rows d name) refl e
   where
     go : (o : Option Row) → entry t.rows d name ≡ o → option_map (λ (r : Row). r.object) o ≡ Some n → 1 ≤ n
@@ -161,21 +163,21 @@ object_some t d name n is e = go (entry t.rows d name) refl e
         let within = stored_within root (t.last_object + 1) t.objects r.object is.objects there in
         let low = within.0 in omega arith
 
-named_same : (t : Files) (d : ℕ) (name : List ℕ) (n : ℕ) → 1 ≤ n → named t d name ≡ n → lookup t d name ≡ Some n
-named_same t d name n some e = go (lookup t d name) e
+named_same : (t : Files) (d : ℕ) (name : List ℕ) (n : ℕ) → 1 ≤ n → number_named t d name ≡ n → object_named t d name ≡ Some n
+named_same t d name n some e = go (object_named t d name) e
   where
     go : (o : Option ℕ) → unwrap_or o 0 ≡ n → o ≡ Some n
     go None e = absurd (omega arith)
     go (Some k) e = ap (λ k. Some k) e
 
 moved_leads : (k : Name) (s : State) (x : Context) (now : Time) (a : Rename) (p : _) (b : Bool) → both s x ≡ Ok p → IsTree s.tree → a.newname ≡ k.name → p.current.number ≡ k.directory
-    → lookup s.tree p.saved.number a.oldname ≡ Some k.object → moves s.tree (move_of a p) ≡ b → Leads k (renamed s x now a p b).state.tree
+    → object_named s.tree p.saved.number a.oldname ≡ Some k.object → moves s.tree (move_of a p) ≡ b → Leads k (renamed s x now a p b).state.tree
 moved_leads k s x now a p true here tree name at from is =
     let rows = without_entry p.saved.number a.oldname (without_entry p.current.number a.newname s.tree.rows) in
     let new : Row = record { directory = p.current.number; name = a.newname; object = moved_object s.tree (move_of a p); cookie = s.tree.last_cookie + 1 } in
     let none : entry (without_entry p.current.number a.newname s.tree.rows) p.current.number a.newname ≡ None =
     find_out (is_entry p.current.number a.newname) (λ (r : Row). not (is_entry p.current.number a.newname r)) s.tree.rows (λ r here. ap not here) in
-    leads_pushed k _ rows new (replaced_rows _ (lookup s.tree p.current.number a.newname))
+    leads_pushed k _ rows new (replaced_rows _ (object_named s.tree p.current.number a.newname))
     (find_none_kept (is_entry p.current.number a.newname) (λ (r : Row). not (is_entry p.saved.number a.oldname r)) (without_entry p.current.number a.newname s.tree.rows) none)
     at name (ap (λ o. unwrap_or o 0) from)
 moved_leads k s x now a p false here tree name at from is =
@@ -183,13 +185,13 @@ moved_leads k s x now a p false here tree name at from is =
     let from_is : moved_object s.tree (move_of a p) ≡ k.object = ap (λ o. unwrap_or o 0) from in
     let both : moved_object s.tree (move_of a p) ≡ replaced_object s.tree (move_of a p) = eqb-true _ _ (not-false _ is) in
     let target = named_same s.tree p.current.number a.newname k.object some (sym both ∙ from_is) in
-    subst (λ d. lookup s.tree d k.name ≡ Some k.object) at (subst (λ n. lookup s.tree p.current.number n ≡ Some k.object) name target)
+    subst (λ d. object_named s.tree d k.name ≡ Some k.object) at (subst (λ n. object_named s.tree p.current.number n ≡ Some k.object) name target)
 
 abbrev Renamed : Name → Outcome → Type 0
 Renamed k o = IsDone Num.Rename (spell_result o.result) → Leads k o.state.tree
 
 pub rename_leads : (k : Name) (limit sofar now : ℕ) (refused : Bool) (m : Machine) (x : Context) (a : Rename) (source : ℕ) → Is m → a.newname ≡ k.name
-    → x.current ≡ Some k.directory → saved_object x.saved ≡ Some source → lookup m.store.tree source a.oldname ≡ Some k.object
+    → x.current ≡ Some k.directory → saved_object x.saved ≡ Some source → object_named m.store.tree source a.oldname ≡ Some k.object
     → (let s = in_room limit sofar now refused m x (Operation (Op.Rename a)) in IsDone Num.Rename s.outcome.result → Leads k s.outcome.machine.store.tree)
 rename_leads k limit sofar now refused m x a source whole name at saved from =
     in_room_is (λ s. IsDone Num.Rename s.outcome.result → Leads k s.outcome.machine.store.tree)
@@ -200,7 +202,7 @@ rename_leads k limit sofar now refused m x a source whole name at saved from =
     (let are = both_at m.store x p here in
     let source_is : source ≡ p.saved.number = some_same (saved_object x.saved) source p.saved.number saved are.saved_is in
     moved_leads k m.store x (moment now) a p (moves m.store.tree (move_of a p)) here whole.tree name (some_same x.current p.current.number k.directory are.current_is at)
-    (subst (λ d. lookup m.store.tree d a.oldname ≡ Some k.object) source_is from) refl))))
+    (subst (λ d. object_named m.store.tree d a.oldname ≡ Some k.object) source_is from) refl))))
 
 -- What leads nowhere.
 
@@ -228,21 +230,21 @@ some_row None e = absurd (true≢false e)
 some_row (Some r) e = (r, refl)
 
 moved_gone : (s : State) (x : Context) (now : Time) (a : Rename) (p : _) (b : Bool) → both s x ≡ Ok p → IsTree s.tree → first_fault (rename_checks s.tree (move_of a p)) ≡ None
-    → lookup s.tree p.saved.number a.oldname ≢ lookup s.tree p.current.number a.newname → moves s.tree (move_of a p) ≡ b
+    → object_named s.tree p.saved.number a.oldname ≢ object_named s.tree p.current.number a.newname → moves s.tree (move_of a p) ≡ b
     → IsGone p.saved.number a.oldname (renamed s x now a p b).state.tree
 moved_gone s x now a p true here tree row differ is =
     let rows = without_entry p.current.number a.newname s.tree.rows in
     let new : Row = record { directory = p.current.number; name = a.newname; object = moved_object s.tree (move_of a p); cookie = s.tree.last_cookie + 1 } in
-    ap (λ rows. entry rows p.saved.number a.oldname) (replaced_rows _ (lookup s.tree p.current.number a.newname))
+    ap (λ rows. entry rows p.saved.number a.oldname) (replaced_rows _ (object_named s.tree p.current.number a.newname))
     ∙ (find_push_other (is_entry p.saved.number a.oldname) (without_entry p.saved.number a.oldname rows) new (elim (cases_Bool (is_entry p.saved.number a.oldname new)) [
       | inl same ↦ (let parts = entry_parts p.saved.number a.oldname new same in
-          absurd (differ (sym (ap (λ d. lookup s.tree d a.newname) parts.0 ∙ ap (lookup s.tree p.saved.number) parts.1))))
+          absurd (differ (sym (ap (λ d. object_named s.tree d a.newname) parts.0 ∙ ap (object_named s.tree p.saved.number) parts.1))))
       | inr other ↦ other
     ]) ∙ removed_gone rows p.saved.number a.oldname)
 moved_gone s x now a p false here tree row differ is =
     let passed = all_passed (rename_checks s.tree (move_of a p)) row in
     let from = some_row (entry s.tree.rows p.saved.number a.oldname) passed.1.1.1.0 in
-    let leads : lookup s.tree p.saved.number a.oldname ≡ Some from.0.object = ap (option_map (λ (r : Row). r.object)) from.1 in
+    let leads : object_named s.tree p.saved.number a.oldname ≡ Some from.0.object = ap (option_map (λ (r : Row). r.object)) from.1 in
     let both : moved_object s.tree (move_of a p) ≡ replaced_object s.tree (move_of a p) = eqb-true _ _ (not-false _ is) in
     let from_is : moved_object s.tree (move_of a p) ≡ from.0.object = ap (λ o. unwrap_or o 0) leads in
     absurd (differ (leads
@@ -252,7 +254,7 @@ abbrev MovedOff : ℕ → List ℕ → Outcome → Type 0
 MovedOff d name o = IsDone Num.Rename (spell_result o.result) → IsGone d name o.state.tree
 
 pub rename_gone : (d : ℕ) (name : List ℕ) (limit sofar now : ℕ) (refused : Bool) (m : Machine) (x : Context) (a : Rename) (target : ℕ) → Is m → a.oldname ≡ name
-    → saved_object x.saved ≡ Some d → x.current ≡ Some target → lookup m.store.tree d name ≢ lookup m.store.tree target a.newname
+    → saved_object x.saved ≡ Some d → x.current ≡ Some target → object_named m.store.tree d name ≢ object_named m.store.tree target a.newname
     → (let s = in_room limit sofar now refused m x (Operation (Op.Rename a)) in IsDone Num.Rename s.outcome.result → IsGone d name s.outcome.machine.store.tree)
 rename_gone d name limit sofar now refused m x a target whole old saved at differ =
     in_room_is (λ s. IsDone Num.Rename s.outcome.result → IsGone d name s.outcome.machine.store.tree)
@@ -264,8 +266,8 @@ rename_gone d name limit sofar now refused m x a target whole old saved at diffe
     let from : p.saved.number ≡ d = some_same (saved_object x.saved) p.saved.number d are.saved_is saved in
     let to : target ≡ p.current.number = some_same x.current target p.current.number at are.current_is in
     let gone = moved_gone m.store x (moment now) a p (moves m.store.tree (move_of a p)) here whole.tree row
-    (λ same. differ (ap (λ e. lookup m.store.tree e name) (sym from)
-    ∙ (ap (lookup m.store.tree p.saved.number) (sym old) ∙ (same ∙ ap (λ e. lookup m.store.tree e a.newname) (sym to))))) refl in
+    (λ same. differ (ap (λ e. object_named m.store.tree e name) (sym from)
+    ∙ (ap (object_named m.store.tree p.saved.number) (sym old) ∙ (same ∙ ap (λ e. object_named m.store.tree e a.newname) (sym to))))) refl in
     subst (λ e. IsGone e name (renamed m.store x (moment now) a p (moves m.store.tree (move_of a p))).state.tree) from
     (subst (λ n. IsGone p.saved.number n (renamed m.store x (moment now) a p (moves m.store.tree (move_of a p))).state.tree) old gone)))))
 
@@ -304,20 +306,20 @@ current_other s (Some n) f e = go (object_at s.tree n) e
     go (Some object) e = absurd cc
 
 abbrev places : Context → List ℕ → Node → List (Bool × Status)
-places x name d = (is_link d.object.kind, Symlink) ∷ no_directory d ∷ denied x d execute ∷ name_checks name
+places x name d = (is_link d.object.kind, Symlink) ∷ no_directory d ∷ no_access x d execute ∷ name_checks name
 
 abbrev Sees : State → Context → Result Outcome Status → Type 0
 Sees s x v = spell_result (or_refusal s x Num.Lookup v).result ≡ finds_none → ⊥
 
 abbrev next : State → Context → List ℕ → Node → Result Outcome Status
-next s x name k = ok_or (lookup s.tree k.number name) NoEnt >>= λ n. Ok (done s (at_object x n) Res.Lookup)
+next s x name k = ok_or (object_named s.tree k.number name) NoEnt >>= λ n. Ok (done s (at_object x n) Res.Lookup)
 
-looked_up : (s : State) (x : Context) (name : List ℕ) (d n : ℕ) → x.current ≡ Some d → lookup s.tree d name ≡ Some n
+looked_up : (s : State) (x : Context) (name : List ℕ) (d n : ℕ) → x.current ≡ Some d → object_named s.tree d name ≡ Some n
     → spell_result (look_up s x name).result ≡ finds_none → ⊥
 unfolding look_up current
 looked_up s x name d n at named = by_node (node_at s x.current) refl
   where
-    by_fault : (k : Node) (o : Option Status) → first_fault (places x name k) ≡ o → lookup s.tree k.number name ≡ Some n → Sees s x (judged o >> next s x name k)
+    by_fault : (k : Node) (o : Option Status) → first_fault (places x name k) ≡ o → object_named s.tree k.number name ≡ Some n → Sees s x (judged o >> next s x name k)
     by_fault k (Some f) e there = other_found f (first_other (places x name k) refl f e)
     by_fault k None e there = subst (λ o. Sees s x (ok_or o NoEnt >>= λ n. Ok (done s (at_object x n) Res.Lookup))) (sym there) done_found
 
@@ -325,19 +327,19 @@ looked_up s x name d n at named = by_node (node_at s x.current) refl
     by_node (Err f) e = other_found f (current_other s x.current f e)
     by_node (Ok k) e =
         let same : d ≡ k.number = some_same x.current d k.number at (current_number s x k e) in
-        by_fault k (first_fault (places x name k)) refl (subst (λ d. lookup s.tree d name ≡ Some n) same named)
+        by_fault k (first_fault (places x name k)) refl (subst (λ d. object_named s.tree d name ≡ Some n) same named)
 
-pub found_room : (d : ℕ) (name : List ℕ) (n : ℕ) (limit sofar now : ℕ) (refused : Bool) (m : Machine) (x : Context) → x.current ≡ Some d → lookup m.store.tree d name ≡ Some n
+pub found_room : (d : ℕ) (name : List ℕ) (n : ℕ) (limit sofar now : ℕ) (refused : Bool) (m : Machine) (x : Context) → x.current ≡ Some d → object_named m.store.tree d name ≡ Some n
     → (in_room limit sofar now refused m x (Operation (Op.Lookup name))).outcome.result ≡ finds_none → ⊥
-found_room d name n limit sofar now refused m x at named =
+found_room d name n limit sofar now refused m x at number_named =
     in_room_is (λ s. s.outcome.result ≡ finds_none → ⊥) limit sofar now refused m x (Operation (Op.Lookup name)) (other_found RepTooBig refl)
-    (looked_up m.store x name d n at named)
+    (looked_up m.store x name d n at number_named)
 
 -- and one of what is not there is not answered NFS4_OK
-pub none_room : (d : ℕ) (name : List ℕ) (limit sofar now : ℕ) (refused : Bool) (m : Machine) (x : Context) → x.current ≡ Some d → lookup m.store.tree d name ≡ None
+pub none_room : (d : ℕ) (name : List ℕ) (limit sofar now : ℕ) (refused : Bool) (m : Machine) (x : Context) → x.current ≡ Some d → object_named m.store.tree d name ≡ None
     → IsDone Num.Lookup (in_room limit sofar now refused m x (Operation (Op.Lookup name))).outcome.result → ⊥
 none_room d name limit sofar now refused m x at none =
     in_room_is (λ s. IsDone Num.Lookup s.outcome.result → ⊥) limit sofar now refused m x (Operation (Op.Lookup name)) (not_done Num.Lookup 15 RepTooBig refl)
     (law.by_lookup (λ o. IsDone Num.Lookup (spell_result o.result) → ⊥) m.store x name (λ f h is. not_done Num.Lookup 15 f h.done is) (λ k n here placed named is.
     (let same : k.number ≡ d = some_same x.current k.number d (current_number m.store x k here) at in
-    let bad : None ≡ Some n = sym none ∙ (ap (λ d. lookup m.store.tree d name) (sym same) ∙ named) in absurd cc)))
+    let bad : None ≡ Some n = sym none ∙ (ap (λ d. object_named m.store.tree d name) (sym same) ∙ named) in absurd cc)))

@@ -7,7 +7,7 @@ use Rattle.nfs_compound.specs.{declared.op.Item.Item, declared.op.Item.TheVarian
 use Rattle.nfs_compound.specs.declared.op.Op.TheVariants as Op
 use Rattle.nfs_compound.specs.declared.op_num.OpNum.TheVariants as Num
 use Rattle.nfs_sessions.specs.Id.{id_of}
-use Rattle.nfs_tree.specs.{declared.row.Row.Row, Files.{Files, is_entry, entry, lookup}}
+use Rattle.nfs_tree.specs.{declared.row.Row.Row, Files.{Files, is_entry, entry, object_named}}
 use Rattle.nfs_tree.proofs.RowsKept.{entry_parts}
 use Rattle.nfs_names.specs.{declared.context.Context.Context, Context.begins, Outcome.is_ok}
 use Rattle.nfs_names.specs.State as store
@@ -19,7 +19,7 @@ use Rattle.nfs_exec.specs.Runs.Ops.{RanOp, done, ops, ops_in, ops_of as ops_firs
 use Rattle.nfs_exec.specs.Step.Sequence as sequence
 use Rattle.nfs_exec.proofs.{Runs.KeptByRuns.{Is, whole_room, whole_event}, Runs.OpsRun.are_run, Step.AloneKeeps.holds_whoever, Runs.WhatWasDone.IsRun}
 use Rattle.nfs_exec.proofs.Runs.OneWalk.{none_at}
-use Rattle.nfs_serve.specs.{Step.{State, new_state}, Promises.Endpoint.Arrival, Promises.Points.{state_after, reached, taken, before, asked_by, ops_of}}
+use Rattle.nfs_serve.specs.{Step.{ServerState, new_state}, Promises.Endpoint.Arrival, Promises.Points.{state_after, reached, taken, before, asked_by, ops_of}}
 use Rattle.nfs_serve.specs.Promises.NameStays.{Name, IsDone, finds_none, MakesIt, ByCreate, ByOpen, ByLink, ByRename, TakesIt, Removed, MovedAway, MovedOver, next_of, Leaves, Says, Creates, Opens, Finds, Links, Renames, Denies, Removes}
 use Rattle.nfs_serve.specs.Promises.NameStays.{RenamesIt, Misses, HoldsWhile, AllSpare, HoldsThrough, HoldsFrom, row_of, LeadsBefore, NameStays, MissesBefore, GoneStays}
 use Rattle.nfs_serve.proofs.Promises.Points.{left, for_asked, next_is, IsSound, whole_before, sound_next, sound_all, sound_new}
@@ -96,12 +96,12 @@ session_runs m r who now choice s more (sequence.Refuses status) is = runs_none 
 session_runs m r who now choice s more (sequence.Repeats reply) is = runs_none m m refl
 session_runs m r who now choice s more (sequence.Runs c) is =
     let x = begins (id_of s.sessionid).client who in
-    let ran = are_run c.response (begun r s c) now (behind_here choice) (renewed m now s) x more in
+    let ran = are_run c.maxresponsesize (begun r s c) now (behind_here choice) (renewed m now s) x more in
     record {
       start = renewed m now s;
       first = refl;
       chained = ran.chained;
-      linked = ops_linked c.response (begun r s c) now (behind_here choice) (renewed m now s) x more is;
+      linked = ops_linked c.maxresponsesize (begun r s c) now (behind_here choice) (renewed m now s) x more is;
       last = ap rows ran.machine;
     }
 
@@ -156,17 +156,17 @@ module _ (Stands : List Row → Type 0) (Before : RanOp → Option Context → T
         λ all. (next (all d (inl refl))).1 (λ e there. all e (inr there)),
       )
 
-  through : IsKept → (s : State) (records : List Arrival) → IsSound s → Stands (rows s.machine) → HoldsThrough Before Spares s records
+  through : IsKept → (s : ServerState) (records : List Arrival) → IsSound s → Stands (rows s.machine) → HoldsThrough Before Spares s records
   through kept s [] sound stands = tt
   through kept s (c ∷ more) sound stands =
       let runs = asked_runs (before s c) (asked_by s c) (whole_before s c sound.whole) in
       let did = walk kept runs.start (ops_of s c) runs.chained runs.linked (subst Stands (sym runs.first) stands) in (
         did.0,
         λ all. through kept (state_after s c) more (sound_next s c sound)
-            (subst Stands (sym (ap (λ (s : State). rows s.machine) (next_is s c) ∙ runs.last)) (did.1 all)),
+            (subst Stands (sym (ap (λ (s : ServerState). rows s.machine) (next_is s c) ∙ runs.last)) (did.1 all)),
       )
 
-  pub from : IsKept → (s : State) (c : Arrival) (front : List RanOp) (d : RanOp) (back : List RanOp) → IsSound s → ops_of s c ≡ front ++ d ∷ back → Stands (rows d.behind)
+  pub from : IsKept → (s : ServerState) (c : Arrival) (front : List RanOp) (d : RanOp) (back : List RanOp) → IsSound s → ops_of s c ≡ front ++ d ∷ back → Stands (rows d.behind)
       → HoldsFrom Before Spares s c back
   from kept s c front d back sound same stands =
       let runs = asked_runs (before s c) (asked_by s c) (whole_before s c sound.whole) in
@@ -175,12 +175,12 @@ module _ (Stands : List Row → Type 0) (Before : RanOp → Option Context → T
       let did = walk kept d.behind back chained linked.1 stands in (
         did.0,
         λ all more. through kept (state_after s c) more (sound_next s c sound)
-            (subst Stands (sym (ap (λ (s : State). rows s.machine) (next_is s c) ∙ (runs.last ∙ ap rows (ap (left_by runs.start) same ∙ left_at runs.start front d back))))
+            (subst Stands (sym (ap (λ (s : ServerState). rows s.machine) (next_is s c) ∙ (runs.last ∙ ap rows (ap (left_by runs.start) same ∙ left_at runs.start front d back))))
             (did.1 all)),
       )
 
 -- the operation itself was run
-pub runs_at : (s : State) (c : Arrival) (front : List RanOp) (d : RanOp) (back : List RanOp) → IsSound s → ops_of s c ≡ front ++ d ∷ back → RunsTo d (next_of back)
+pub runs_at : (s : ServerState) (c : Arrival) (front : List RanOp) (d : RanOp) (back : List RanOp) → IsSound s → ops_of s c ≡ front ++ d ∷ back → RunsTo d (next_of back)
 runs_at s c front d back sound same =
     (linked_at front d back (subst AreLinked same (asked_runs (before s c) (asked_by s c) (whole_before s c sound.whole)).linked)).0
 
@@ -205,7 +205,7 @@ some_is a b e = cc
 
 -- what a LOOKUP of the directory's name comes to
 seen : (d : RanOp) (next : Option Context) (k : Name) → RunsTo d next → d.item ≡ Operation (Op.Lookup k.name) → d.context.current ≡ Some k.directory
-    → IsDone Num.Lookup d.result → (y : Context) → next ≡ Some y → y.current ≡ lookup d.before.store.tree k.directory k.name
+    → IsDone Num.Lookup d.result → (y : Context) → next ≡ Some y → y.current ≡ object_named d.before.store.tree k.directory k.name
 seen d next k to item at is y here =
     let r = to.run in
     let same : d ≡ done d.before d.context (Operation (Op.Lookup k.name)) (ran_as d r (Operation (Op.Lookup k.name))) = as_step d r (Operation (Op.Lookup k.name)) item in
@@ -213,7 +213,7 @@ seen d next k to item at is y here =
     ∙ find_leads k r.limit r.sofar r.now r.refused d.before d.context at (subst (λ (d : RanOp). IsDone Num.Lookup d.result) same is)
 
 pub missed : (d : RanOp) → IsRun d → (directory : ℕ) (name : List ℕ) (n : ℕ) → d.item ≡ Operation (Op.Lookup name) → d.context.current ≡ Some directory
-    → lookup d.before.store.tree directory name ≡ Some n → d.result ≡ finds_none → ⊥
+    → object_named d.before.store.tree directory name ≡ Some n → d.result ≡ finds_none → ⊥
 missed d r directory name n item at named told =
     let same : d ≡ done d.before d.context (Operation (Op.Lookup name)) (ran_as d r (Operation (Op.Lookup name))) = as_step d r (Operation (Op.Lookup name)) item in
     found_room directory name n r.limit r.sofar r.now r.refused d.before d.context at named (ap (λ (d : RanOp). d.result) (sym same) ∙ told)
@@ -242,7 +242,7 @@ Stands k cookie rs = entry rs k.directory k.name ≡ Some (row_of k cookie)
 
 name_kept : (k : Name) (cookie : ℕ) → IsKept (Stands k cookie) (LeadsBefore k cookie) (λ d. TakesIt k.directory k.name d → ⊥)
 name_kept k cookie = record {
-  before = λ d next to stands. (let named : lookup d.before.store.tree k.directory k.name ≡ Some k.object = ap (option_map (λ (r : Row). r.object)) stands in record {
+  before = λ d next to stands. (let named : object_named d.before.store.tree k.directory k.name ≡ Some k.object = ap (option_map (λ (r : Row). r.object)) stands in record {
     stands = stands;
     found = λ item at told. missed d to.run k.directory k.name k.object item at named told;
     there = λ item at is y here. seen d next k to item at is y here ∙ named;
@@ -258,7 +258,7 @@ row_is k r directory name object =
     ∙ (ap (λ n. record { directory = k.directory; name = n; object = r.object; cookie = r.cookie }) name
     ∙ ap (λ o. record { directory = k.directory; name = k.name; object = o; cookie = r.cookie }) object)
 
-pub stands_by : (k : Name) (t : Files) → lookup t k.directory k.name ≡ Some k.object → (cookie : ℕ) × Stands k cookie t.rows
+pub stands_by : (k : Name) (t : Files) → object_named t k.directory k.name ≡ Some k.object → (cookie : ℕ) × Stands k cookie t.rows
 stands_by k t e = go (entry t.rows k.directory k.name) refl e
   where
     go : (o : Option Row) → entry t.rows k.directory k.name ≡ o → option_map (λ (r : Row). r.object) o ≡ Some k.object → (cookie : ℕ) × Stands k cookie t.rows
@@ -273,24 +273,24 @@ handed : (d : RanOp) (next : Option Context) (i : Item) (object : ℕ) (to : Run
 handed d next i object to item leaves =
     ap (λ (y : Context). y.current) (sym (to.hands leaves.0 leaves.1 ∙ ap (λ i. (ran_as d to.run i).context) item)) ∙ leaves.2
 
-pub says_leads : (k : Name) (d : RanOp) (next : Option Context) → RunsTo d next → Says k d next → lookup d.behind.store.tree k.directory k.name ≡ Some k.object
+pub says_leads : (k : Name) (d : RanOp) (next : Option Context) → RunsTo d next → Says k d next → object_named d.behind.store.tree k.directory k.name ≡ Some k.object
 says_leads k d next to (Creates a item name at is leaves) =
     let r = to.run in
     let i = Operation (Op.Create a) in
     let same : d ≡ done d.before d.context i (ran_as d r i) = as_step d r i item in
-    subst (λ (d : RanOp). lookup d.behind.store.tree k.directory k.name ≡ Some k.object) (sym same)
+    subst (λ (d : RanOp). object_named d.behind.store.tree k.directory k.name ≡ Some k.object) (sym same)
     (create_leads k r.limit r.sofar r.now r.refused d.before d.context a name at (subst (λ (d : RanOp). IsDone Num.Create d.result) same is)
     (handed d next i k.object to item leaves))
 says_leads k d next to (Opens a item claim at n names leaves) =
     let r = to.run in
     let i = Operation (Op.Open a) in
     let same : d ≡ done d.before d.context i (ran_as d r i) = as_step d r i item in
-    subst (λ (d : RanOp). lookup d.behind.store.tree k.directory k.name ≡ Some k.object) (sym same)
+    subst (λ (d : RanOp). object_named d.behind.store.tree k.directory k.name ≡ Some k.object) (sym same)
     (open_leads k r.limit r.sofar r.now r.refused d.before d.context a n claim at (subst (λ (d : RanOp). names_open Num.Open d.result n ≡ true) same names)
     (handed d next i k.object to item leaves))
 says_leads k d next to (Finds item at is leaves) =
     let r = to.run in
-    let named : lookup d.before.store.tree k.directory k.name ≡ Some k.object = sym (seen d next k to item at is leaves.0 leaves.1) ∙ leaves.2 in
+    let named : object_named d.before.store.tree k.directory k.name ≡ Some k.object = sym (seen d next k to item at is leaves.0 leaves.1) ∙ leaves.2 in
     let row = stands_by k d.before.store.tree named in
     let spared : TakesIt k.directory k.name d → ⊥ = looks_only d k.directory k.name k.name item in
     ap (option_map (λ (r : Row). r.object)) ((name_kept k row.0).behind d r row.1 spared)
@@ -298,13 +298,13 @@ says_leads k d next to (Links item at saved is) =
     let r = to.run in
     let i = Operation (Op.Link k.name) in
     let same : d ≡ done d.before d.context i (ran_as d r i) = as_step d r i item in
-    subst (λ (d : RanOp). lookup d.behind.store.tree k.directory k.name ≡ Some k.object) (sym same)
+    subst (λ (d : RanOp). object_named d.behind.store.tree k.directory k.name ≡ Some k.object) (sym same)
     (link_leads k r.limit r.sofar r.now r.refused d.before d.context at saved (subst (λ (d : RanOp). IsDone Num.Link d.result) same is))
 says_leads k d next to (Renames a item name at source saved from is) =
     let r = to.run in
     let i = Operation (Op.Rename a) in
     let same : d ≡ done d.before d.context i (ran_as d r i) = as_step d r i item in
-    subst (λ (d : RanOp). lookup d.behind.store.tree k.directory k.name ≡ Some k.object) (sym same)
+    subst (λ (d : RanOp). object_named d.behind.store.tree k.directory k.name ≡ Some k.object) (sym same)
     (rename_leads k r.limit r.sofar r.now r.refused d.before d.context a source r.whole name at saved from
     (subst (λ (d : RanOp). IsDone Num.Rename d.result) same is))
 

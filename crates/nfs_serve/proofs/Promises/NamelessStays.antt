@@ -5,7 +5,7 @@ use Rattle.std.specs.{Prelude.{◌==◌, option_map, unwrap_or}, Option.ForSome}
 use Rattle.nfs_xdr.specs.{Tables.In, declared.time.Time.Time}
 use Rattle.nfs_xdr.proofs.{Checks.all_passed, Lists.{any_in, in_any, in_filter, in_push, find_in}}
 use Rattle.nfs_compound.specs.declared.op.Item.{Item}
-use Rattle.nfs_tree.specs.{declared.row.Row.Row, Files.{Files, root, is_there, has_row, is_entry, entry, lookup, named, without_entry}}
+use Rattle.nfs_tree.specs.{declared.row.Row.Row, Files.{Files, root, is_there, has_row, is_entry, entry, object_named, number_named, without_entry}}
 use Rattle.nfs_tree.specs.Names.{link_checks, moved_object}
 use Rattle.nfs_tree.proofs.Objects.{stored_within}
 use Rattle.nfs_opens.specs.{Closing.without_open, TableInvariants.IsTable}
@@ -21,7 +21,7 @@ use Rattle.nfs_files.proofs.Effected as files_effected
 use Rattle.nfs_files.proofs.Outcomes as files
 use Rattle.nfs_exec.specs.Runs.Ops.{RanOp}
 use Rattle.nfs_exec.proofs.{Runs.OneRun.{IsRun, by_run}, Runs.OneWalk.IsKept}
-use Rattle.nfs_serve.specs.{Step.State, Promises.Endpoint.Arrival, Promises.FileStays.{IsNameless, NamelessStays}}
+use Rattle.nfs_serve.specs.{Step.ServerState, Promises.Endpoint.Arrival, Promises.FileStays.{IsNameless, NamelessStays}}
 use Rattle.nfs_serve.specs.{Promises.NameStays.{next_of, HoldsWhile, HoldsThrough, row_of}, Promises.Points.{state_after, reached, before, asked_by, ops_of}}
 use Rattle.nfs_serve.proofs.Promises.ChangeTells.{follows_itself, run_follows, low_there}
 use Rattle.nfs_serve.proofs.Promises.LaterRecords.{before_keeps, next_keeps, asked_keeps, asked_back}
@@ -94,11 +94,11 @@ names_behind n s (Links m d name now) fits is = (let checks = all_passed (link_c
   given = is.given;
 })
 names_behind n s (Removes d name now) fits is =
-    unused_nameless n _ (named s.tree d name) (record { none = without_none n s.tree.rows d name is.none; low = is.low; given = is.given })
+    unused_nameless n _ (number_named s.tree d name) (record { none = without_none n s.tree.rows d name is.none; low = is.low; given = is.given })
 names_behind n s (Moves m now) fits is =
     let t = s.tree in
     let rest = without_none n (without_entry m.target m.name t.rows) m.source m.old (without_none n t.rows m.target m.name is.none) in
-    replaced_nameless n _ (lookup t m.target m.name) (record {
+    replaced_nameless n _ (object_named t m.target m.name) (record {
       none = push_none n (without_entry m.source m.old (without_entry m.target m.name t.rows))
           (record { directory = m.target; name = m.name; object = moved_object t m; cookie = t.last_cookie + 1 }) rest (found_none n t.rows m.source m.old is.none is.low);
       low = is.low;
@@ -156,10 +156,10 @@ while_nameless n [] linked each = tt
 while_nameless n (d ∷ more) linked each =
     (unsaid_here n d (next_of more) linked.0 (each d (inl refl)), λ spares. while_nameless n more linked.1 (λ e there. each e (inr there)))
 
-linked_of : (s : State) (c : Arrival) → IsSound s → AreLinked (ops_of s c)
+linked_of : (s : ServerState) (c : Arrival) → IsSound s → AreLinked (ops_of s c)
 linked_of s c sound = (asked_runs (before s c) (asked_by s c) (whole_before s c sound.whole)).linked
 
-through_nameless : (n : ℕ) (s : State) (records : List Arrival) → IsSound s → Here n s.machine.store → HoldsThrough (IsNameless n) (λ e. Unit {0}) s records
+through_nameless : (n : ℕ) (s : ServerState) (records : List Arrival) → IsSound s → Here n s.machine.store → HoldsThrough (IsNameless n) (λ e. Unit {0}) s records
 through_nameless n s [] sound is = tt
 through_nameless n s (c ∷ more) sound is =
     let within = asked_keeps (Here n) (nameless_kept n) (before s c) (asked_by s c) (whole_before s c sound.whole) (before_keeps (Here n) (nameless_kept n) s c is) in (
@@ -184,5 +184,5 @@ nameless_stays mode instance lease earlier c n front d back same there none =
     let linked = linked_at front d back (subst AreLinked same (linked_of s c sound)) in (
       while_nameless n back linked.1 did.within,
       λ all more. through_nameless n (state_after s c) more (sound_next s c sound)
-          (subst (λ (s : State). Here n s.machine.store) (sym (next_is s c)) did.behind),
+          (subst (λ (s : ServerState). Here n s.machine.store) (sym (next_is s c)) did.behind),
     )

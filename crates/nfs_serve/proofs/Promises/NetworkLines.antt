@@ -3,7 +3,8 @@ use Rattle.std.proofs.Common.{◌≡◌, ◌⊎◌, inl, inr, ℕ, ◌+◌, ◌-
 use Rattle.std.proofs.{lemmas.Bool.{eqb-true, eq-eqb, and_parts, and_from, true≢false, false≢true}, lemmas.Slice.Eq.bytes_eq-Decides}
 use Rattle.std.specs.Prelude.{◌==◌, ◌&&◌, not, if◌then◌else◌, bytes_eq}
 use Rattle.nfs_xdr.specs.Tables.{In}
-use Rattle.nfs_slots.specs.{Slot.{SlotState, judge_slot, next_number}, declared.slot.Verdict.TheVariants.{Fresh, Again, FalseRetry, Misordered}}
+use Rattle.nfs_xdr.specs.Numbers.{next_number}
+use Rattle.nfs_slots.specs.{Slot.{SlotState, judge_slot}, declared.slot.Verdict.TheVariants.{Fresh, Again, FalseRetry, Misordered}}
 use Rattle.nfs_slots.proofs.TableLemmas.{fresh_number}
 use Rattle.nfs_sessions.specs.{declared.id.SessionId.SessionId, Laws.is_id}
 use Rattle.nfs_serve.specs.Promises.Endpoint.{Place, Compound, Heading, Answer, Stepped, Server}

@@ -13,7 +13,7 @@ use Rattle.nfs_results.specs.{declared.res.Res.Res, Parts.parts, Results.{operat
 use Rattle.nfs_clients.specs.Marks.{has_reclaimed, with_reclaimed}
 use Rattle.nfs_names.specs.{declared.context.Context.Context, declared.node.Node.Node, Checks.current, State.moment}
 use Rattle.nfs_files.proofs.Outcomes.{comes_to}
-use Rattle.nfs_exec.specs.{Runs.Ops.RanOp, Step.Behind.otherwise, Step.Machine.{Machine, refuses, with_result}, Step.Place.status_behind}
+use Rattle.nfs_exec.specs.{Runs.Ops.RanOp, Step.Behind.otherwise, Step.Machine.{Machine, with_refusal, with_result}, Step.Place.status_behind}
 use Rattle.nfs_exec.specs.Step.ReclaimComplete.{reclaim_complete, of_one, of_all}
 use Rattle.nfs_exec.proofs.Runs.OneRun.{IsRun, by_run}
 use Rattle.nfs_serve.specs.{Step.new_state, Promises.NeverExpired.{says, NoneIsExpired}, Promises.Points.reached}
@@ -39,7 +39,7 @@ one_says m (Ok d) = spelled_says Res.ReclaimComplete
 one_says m (Err status) = spelled_says (refusal (op_number Num.ReclaimComplete) status)
 
 all_says : (m : Machine) (x : Context) → SaysStatus (of_all m x).result
-all_says m x = elim (has_reclaimed m.clients x.client) as (λ b. SaysStatus (cond b (refuses m (op_number Num.ReclaimComplete) CompleteAlready)
+all_says m x = elim (has_reclaimed m.clients x.client) as (λ b. SaysStatus (cond b (with_refusal m (op_number Num.ReclaimComplete) CompleteAlready)
     (with_result (record m { clients = with_reclaimed m.clients x.client }) Res.ReclaimComplete)).result) [
       | true ↦ spelled_says (refusal (op_number Num.ReclaimComplete) CompleteAlready)
       | false ↦ spelled_says Res.ReclaimComplete

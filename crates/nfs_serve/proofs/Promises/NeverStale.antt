@@ -6,7 +6,7 @@ use Rattle.nfs_xdr.specs.declared.status.Status.TheVariants as S
 use Rattle.nfs_compound.specs.{declared.attributes.Attributes.Attributes, declared.file_args.Read.Read, declared.file_args.SetAttr.SetAttr}
 use Rattle.nfs_compound.specs.{declared.file_args.Write.Write, declared.stateid.Stateid.Stateid}
 use Rattle.nfs_compound.specs.declared.op_num.OpNum.TheVariants as Num
-use Rattle.nfs_attrs.specs.{declared.wanted.AttrFault.AttrFault, Mask.{mask_of, asks_set_only}, Reading.fault_status}
+use Rattle.nfs_attrs.specs.{declared.wanted.AttrFault.AttrFault, Mask.{mask_of, asks_set_only}, Reading.attr_fault_status}
 use Rattle.nfs_attrs.specs.declared.wanted.AttrFault.TheVariants as F
 use Rattle.nfs_opens.specs.{declared.judging.Seat.Seat, declared.judging.Seat.TheVariants.{Anonymous, ReadBypass, Open, Lock}, declared.share.Share.Share}
 use Rattle.nfs_opens.specs.Steps.{map_err}
@@ -58,14 +58,14 @@ writable_fresh s x given v is = if_passed_without is_stale (checked v file_check
 
 -- Attributes that are set.
 
-fault_fresh : (f : AttrFault) → is_stale (fault_status f) ≡ false
+fault_fresh : (f : AttrFault) → is_stale (attr_fault_status f) ≡ false
 fault_fresh F.AttrNotSupp = refl
 fault_fresh F.Inval = refl
 fault_fresh F.BadXdr = refl
 fault_fresh F.BadOwner = refl
 
-pub read_fresh : {A : Type 0} (v : Result A AttrFault) → IsFresh (map_err fault_status v)
-read_fresh (Err f) = err_without is_stale (fault_status f) (fault_fresh f)
+pub read_fresh : {A : Type 0} (v : Result A AttrFault) → IsFresh (map_err attr_fault_status v)
+read_fresh (Err f) = err_without is_stale (attr_fault_status f) (fault_fresh f)
 read_fresh (Ok a) = ok_without is_stale a
 
 pub wanted_fresh : (a : Attributes) → IsFresh (attributes_in a)

@@ -7,12 +7,13 @@ use Rattle.nfs_compound.specs.{declared.attributes.Attributes.Attributes, declar
 use Rattle.nfs_compound.specs.declared.name_args.SecinfoStyle.{SecinfoStyle}
 use Rattle.nfs_compound.specs.declared.name_args.SecinfoStyle.TheVariants.{CurrentFh, Parent}
 use Rattle.nfs_compound.specs.declared.op_num.OpNum.TheVariants as Num
-use Rattle.nfs_tree.specs.{Files.{lookup as found, parent_in}, Object.is_directory, Create.create_checks, Names.{link_checks, moves, remove_checks, rename_checks}}
-use Rattle.nfs_attrs.specs.{Setting.make_checks, Permissions.{change, execute}}
+use Rattle.nfs_tree.specs.{Files.{object_named as found, parent_in}, Object.{is_directory, is_link}, Create.create_checks}
+use Rattle.nfs_tree.specs.Names.{link_checks, moves, remove_checks, rename_checks}
+use Rattle.nfs_attrs.specs.{Setting.make_checks, Permissions.{change_entries, execute}}
 use Rattle.nfs_names.specs.{declared.context.Context.Context, declared.node.Node.Node}
-use Rattle.nfs_names.specs.Checks.{node_at, saved_object, current, both, no_directory, denied, name_checks}
+use Rattle.nfs_names.specs.Checks.{node_at, saved_object, current, both, no_directory, no_access, name_checks}
 use Rattle.nfs_names.specs.{State.State, Faults.by_tree, Access.access, Create.{create, place_checks, new_of, attributes_in}, GetFh.get_fh, Link.link}
-use Rattle.nfs_names.specs.{Lookup.{is_link, lookup}, LookupP.lookup_p, NVerify.nverify, ReadDir.{listing_checks, fits_none, read_dir}}
+use Rattle.nfs_names.specs.{Lookup.lookup, LookupP.lookup_p, NVerify.nverify, ReadDir.{listing_checks, fits_none, read_dir}}
 use Rattle.nfs_names.specs.{ReadLink.read_link, Remove.remove, Rename.{move_of, rename}, SaveFh.save_fh, SecinfoNoName.{style_checks, secinfo_no_name}}
 use Rattle.nfs_names.specs.Verify.{same_at, compared, verify}
 use Rattle.nfs_names.specs.Rename as of_rename
@@ -54,14 +55,14 @@ module _ (s : State) (x : Context) (is : IsFresh (current s x)) where
   unfolding lookup
   lookup_answers name =
       steps_answer is_stale s x Num.Lookup _ (ends_then is_stale (current s x) _ is (λ d e.
-      (let checks = (is_link d.object.kind, S.Symlink) ∷ no_directory d ∷ denied x d execute ∷ name_checks name in
+      (let checks = (is_link d.object.kind, S.Symlink) ∷ no_directory d ∷ no_access x d execute ∷ name_checks name in
       ends_passed is_stale checks _ (good checks refl) (ends_there is_stale (found s.tree d.number name) S.NoEnt _ refl (λ n. refl)))))
 
   pub above_answers : Answers is_stale (lookup_p s x)
   unfolding lookup_p
   above_answers =
       steps_answer is_stale s x Num.LookupP _ (ends_then is_stale (current s x) _ is (λ d e.
-      (let checks = no_directory d ∷ denied x d execute ∷ [] in
+      (let checks = no_directory d ∷ no_access x d execute ∷ [] in
       ends_passed is_stale checks _ (good checks refl) (ends_there is_stale (parent_in s.tree.rows d.number) S.NoEnt _ refl (λ n. refl)))))
 
   pub verify_answers : (a : Attributes) → Answers is_stale (verify s x a)
@@ -89,7 +90,7 @@ module _ (s : State) (x : Context) (is : IsFresh (current s x)) where
   unfolding remove
   remove_answers now name =
       steps_answer is_stale s x Num.Remove _ (ends_then is_stale (current s x) _ is (λ d e.
-      (let checks = no_directory d ∷ denied x d change ∷ name_checks name in
+      (let checks = no_directory d ∷ no_access x d change_entries ∷ name_checks name in
       ends_passed is_stale checks _ (good checks refl)
       (ends_passed is_stale (by_tree (remove_checks s.tree d.number name)) _ (good (by_tree (remove_checks s.tree d.number name)) refl) refl))))
 
@@ -109,7 +110,7 @@ module _ (s : State) (x : Context) (is : IsFresh (current s x)) (saved : IsFresh
   unfolding link
   link_answers now name =
       steps_answer is_stale s x Num.Link _ (ends_then is_stale (both s x) _ (both_fresh s x is saved) (λ p e.
-      (let checks = no_directory p.current ∷ (is_directory p.saved.object.kind, S.IsDir) ∷ denied x p.current change ∷ name_checks name in
+      (let checks = no_directory p.current ∷ (is_directory p.saved.object.kind, S.IsDir) ∷ no_access x p.current change_entries ∷ name_checks name in
       ends_passed is_stale checks _ (good checks refl)
       (ends_passed is_stale (by_tree (link_checks s.tree p.saved.number p.current.number name)) _
       (good (by_tree (link_checks s.tree p.saved.number p.current.number name)) refl) refl))))

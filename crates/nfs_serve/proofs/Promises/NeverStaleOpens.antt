@@ -19,15 +19,15 @@ use Rattle.nfs_opens.specs.declared.locking.OpenFault.TheVariants as F
 use Rattle.nfs_opens.specs.Closing as closing
 use Rattle.nfs_opens.specs.Locking as locking
 use Rattle.nfs_opens.specs.Opening as opening
-use Rattle.nfs_tree.specs.{declared.fault.TreeFault.TreeFault, Files.lookup}
+use Rattle.nfs_tree.specs.{declared.fault.TreeFault.TreeFault, Files.object_named}
 use Rattle.nfs_tree.specs.declared.fault.TreeFault.TheVariants as T
 use Rattle.nfs_names.specs.{declared.context.Context.Context, declared.making.Making.Making, declared.node.Node.Node, Checks.{node_at, current}, Create.attributes_in}
-use Rattle.nfs_names.specs.{Faults.{by_tree, status_of as tree_status}, State.State, Outcome.checked}
+use Rattle.nfs_names.specs.{Faults.{by_tree, tree_fault_status as tree_status}, State.State, Outcome.checked}
 use Rattle.nfs_names.proofs.Faulted.{status_of_refusal}
 use Rattle.nfs_files.specs.{Bytes.file_checks, Close.close, Commit.commit}
-use Rattle.nfs_files.specs.{Denied.status_of, FreeStateid.free_stateid, LockT.{tested, lock_t}, LockU.lock_u, OpenDowngrade.{bits, open_downgrade}}
+use Rattle.nfs_files.specs.{Denied.open_fault_status, FreeStateid.free_stateid, LockT.{tested, lock_t}, LockU.lock_u, OpenDowngrade.{bits, open_downgrade}}
 use Rattle.nfs_files.specs.{Open.{makes, argument_checks, place_checks, absent_checks, there_checks, last_checks, open_file, tree_checks}, OpenParts.{found_by, by_name, by_handle, by_claim, asked_for}}
-use Rattle.nfs_files.specs.{Parts.{target, closes, bit_checks, narrowing, narrows, frees, wish, wished_by, reclaim_checks, unlocking, unlocks}, Ranges.{last_of, range, range_checks, wished}}
+use Rattle.nfs_files.specs.{Parts.{target, closes, bit_checks, narrowing, narrows, frees, wish, wished_by, reclaim_checks, unlocking, unlocks}, Ranges.{range, wished}}
 use Rattle.nfs_files.specs.{StateIds.meant, Target.the_file}
 use Rattle.nfs_files.specs.Lock as of_lock
 use Rattle.nfs_files.specs.Parts as parts
@@ -35,6 +35,7 @@ use Rattle.nfs_files.proofs.InSteps as in_steps
 use Rattle.nfs_serve.proofs.Promises.Without.{AreGood, Answers, append_good, by_tree_good, err_without, ok_without, by_bool, then_without, passed_without, checked_without, mapped_without}
 use Rattle.nfs_serve.proofs.Promises.Without.{if_passed_without, answers_without, meant_without, judge_without}
 use Rattle.nfs_serve.proofs.Promises.NeverStale.{is_stale, IsFresh, good, file_fresh, wanted_fresh}
+use Rattle.nfs_files.proofs.Terms.{range_checks, last_of}
 
 -- What is looked at first.
 
@@ -59,49 +60,49 @@ next_fresh : {A B F : Type 0} (g : F → Status) (v : Result A F) (next : A → 
 next_fresh g (Err f) next is more = err_without is_stale (g f) (is (g f) refl)
 next_fresh g (Ok a) next is more = more a
 
-fault_fresh : (v : Result Seat Status) → IsFresh v → IsFresh (map_err status_of (map_err F.Refused v))
+fault_fresh : (v : Result Seat Status) → IsFresh v → IsFresh (map_err open_fault_status (map_err F.Refused v))
 fault_fresh (Err f) is = err_without is_stale f (is f refl)
 fault_fresh (Ok seat) is = ok_without is_stale seat
 
-told_fresh : (o : Option Held) → IsFresh (map_err status_of (locking.unless_told o))
+told_fresh : (o : Option Held) → IsFresh (map_err open_fault_status (locking.unless_told o))
 told_fresh None = ok_without is_stale tt
-told_fresh (Some h) = err_without is_stale (status_of (F.Denied h)) refl
+told_fresh (Some h) = err_without is_stale (open_fault_status (F.Denied h)) refl
 
-judged_fresh : (t : Table) (n : ℕ) (access : Share) (w : Wish) → IsFresh (map_err status_of (locking.lock_judged t n access w))
-judged_fresh t n access w = elim (locking.permits access w.kind) as (λ b. IsFresh (map_err status_of (cond b (locking.unless_told (locking.clash t n w)) (Err (F.Refused S.OpenMode))))) [
+judged_fresh : (t : Table) (n : ℕ) (access : Share) (w : Wish) → IsFresh (map_err open_fault_status (locking.lock_judged t n access w))
+judged_fresh t n access w = elim (locking.permits access w.kind) as (λ b. IsFresh (map_err open_fault_status (cond b (locking.unless_told (locking.clash t n w)) (Err (F.Refused S.OpenMode))))) [
   | true ↦ told_fresh (locking.clash t n w)
   | false ↦ err_without is_stale S.OpenMode refl
 ]
 
-state_fresh : {A : Type 0} (o : Option A) → IsFresh (map_err status_of (ok_or o (F.Refused S.BadStateId)))
+state_fresh : {A : Type 0} (o : Option A) → IsFresh (map_err open_fault_status (ok_or o (F.Refused S.BadStateId)))
 state_fresh None = err_without is_stale S.BadStateId refl
 state_fresh (Some a) = ok_without is_stale a
 
-room_fresh : (b : Bool) → IsFresh (map_err status_of (require b (F.Refused S.ServerFault)))
+room_fresh : (b : Bool) → IsFresh (map_err open_fault_status (require b (F.Refused S.ServerFault)))
 room_fresh true = ok_without is_stale tt
 room_fresh false = err_without is_stale S.ServerFault refl
 
-as_fresh : (t : Table) (w : Wish) (n : ℕ) (access : Share) → IsFresh (map_err status_of (locking.lock_as t w n access))
+as_fresh : (t : Table) (w : Wish) (n : ℕ) (access : Share) → IsFresh (map_err open_fault_status (locking.lock_as t w n access))
 as_fresh t w n access =
-    next_fresh status_of (locking.lock_judged t n access w) _ (judged_fresh t n access w) (λ u.
-    next_fresh status_of (ok_or (lock_at t n) (F.Refused S.BadStateId)) _ (state_fresh (lock_at t n)) (λ l. ok_without is_stale _))
+    next_fresh open_fault_status (locking.lock_judged t n access w) _ (judged_fresh t n access w) (λ u.
+    next_fresh open_fault_status (ok_or (lock_at t n) (F.Refused S.BadStateId)) _ (state_fresh (lock_at t n)) (λ l. ok_without is_stale _))
 
 owner_fresh : (t : Table) (w : Wish) (opened : ℕ) (owner : List ℕ) (access : Share) (o : Option LockState)
-    → IsFresh (map_err status_of (locking.lock_by_owner t w opened owner access o))
+    → IsFresh (map_err open_fault_status (locking.lock_by_owner t w opened owner access o))
 owner_fresh t w opened owner access (Some l) = as_fresh t w l.number access
 owner_fresh t w opened owner access None =
-    next_fresh status_of (locking.lock_judged t 0 access w) _ (judged_fresh t 0 access w) (λ u.
-    next_fresh status_of (require (not (t.last == last_number)) (F.Refused S.ServerFault)) _ (room_fresh _) (λ u. ok_without is_stale _))
+    next_fresh open_fault_status (locking.lock_judged t 0 access w) _ (judged_fresh t 0 access w) (λ u.
+    next_fresh open_fault_status (require (not (t.last == last_number)) (F.Refused S.ServerFault)) _ (room_fresh _) (λ u. ok_without is_stale _))
 
-locks_fresh : (t : Table) (who : Locker) (id : StateId) (w : Wish) → IsFresh (map_err status_of (of_lock.locks_as t who id w))
+locks_fresh : (t : Table) (who : Locker) (id : StateId) (w : Wish) → IsFresh (map_err open_fault_status (of_lock.locks_as t who id w))
 locks_fresh t (OpenOwner o) id w =
-    next_fresh status_of (map_err F.Refused (judge t id w.client (Some w.file) OpenOnly)) _ (fault_fresh _ (judge_fresh t id w.client (Some w.file) OpenOnly))
+    next_fresh open_fault_status (map_err F.Refused (judge t id w.client (Some w.file) OpenOnly)) _ (fault_fresh _ (judge_fresh t id w.client (Some w.file) OpenOnly))
     (λ seat. owner_fresh t w id.number o.lock_owner.owner (locking.access_in seat) (locking.state_of t w.client o.lock_owner.owner w.file))
 locks_fresh t (LockOwner o) id w =
-    next_fresh status_of (map_err F.Refused (judge t id w.client (Some w.file) LockOnly)) _ (fault_fresh _ (judge_fresh t id w.client (Some w.file) LockOnly))
+    next_fresh open_fault_status (map_err F.Refused (judge t id w.client (Some w.file) LockOnly)) _ (fault_fresh _ (judge_fresh t id w.client (Some w.file) LockOnly))
     (λ seat. as_fresh t w id.number (locking.access_in seat))
 
-locked_answers : (s : State) (x : Context) (v : Result (StateId × Table) OpenFault) → IsFresh (map_err status_of v) → Answers is_stale (of_lock.locked s x v)
+locked_answers : (s : State) (x : Context) (v : Result (StateId × Table) OpenFault) → IsFresh (map_err open_fault_status v) → Answers is_stale (of_lock.locked s x v)
 locked_answers s x (Ok did) is = refl
 locked_answers s x (Err (F.Refused f)) is = ap is_stale (status_of_refusal 12 f) ∙ is f refl
 locked_answers s x (Err (F.Denied h)) is = refl
@@ -111,10 +112,10 @@ tested_answers : (s : State) (x : Context) (o : Option Held) → Answers is_stal
 tested_answers s x None = refl
 tested_answers s x (Some h) = refl
 
-unlock_fresh : (t : Table) (id : StateId) (client file first last : ℕ) → IsFresh (map_err status_of (locking.unlock t id client file first last))
+unlock_fresh : (t : Table) (id : StateId) (client file first last : ℕ) → IsFresh (map_err open_fault_status (locking.unlock t id client file first last))
 unlock_fresh t id client file first last =
-    next_fresh status_of (map_err F.Refused (judge t id client (Some file) LockOnly)) _ (fault_fresh _ (judge_fresh t id client (Some file) LockOnly)) (λ seat.
-    next_fresh status_of (ok_or (lock_at t id.number) (F.Refused S.BadStateId)) _ (state_fresh (lock_at t id.number)) (λ l. ok_without is_stale _))
+    next_fresh open_fault_status (map_err F.Refused (judge t id client (Some file) LockOnly)) _ (fault_fresh _ (judge_fresh t id client (Some file) LockOnly)) (λ seat.
+    next_fresh open_fault_status (ok_or (lock_at t id.number) (F.Refused S.BadStateId)) _ (state_fresh (lock_at t id.number)) (λ l. ok_without is_stale _))
 
 -- The tree's own checks.
 tree_other : (f : TreeFault) → is_stale (tree_status f) ≡ false
@@ -219,11 +220,11 @@ module _ (s : State) (x : Context) (is : IsFresh (current s x)) where
       rw (in_steps.unlock_is s x a)
       (answers_without is_stale s x Num.LockU (unlocking s x a) (unlocks s x)
       (wished_by_fresh a.lock_stateid (wished s x a.locktype a.offset a.length) (wished_fresh a.locktype a.offset a.length)) (λ k e.
-      answers_without is_stale s x Num.LockU (map_err status_of (locking.unlock s.opens k.id k.wish.client k.wish.file k.wish.first k.wish.last)) _
+      answers_without is_stale s x Num.LockU (map_err open_fault_status (locking.unlock s.opens k.id k.wish.client k.wish.file k.wish.first k.wish.last)) _
       (unlock_fresh s.opens k.id k.wish.client k.wish.file k.wish.first k.wish.last) (λ did e. refl)))
 
   -- OPEN looks at what the name leads to, too.
-  module _ (named : (d n : ℕ) (name : List ℕ) → lookup s.tree d name ≡ Some n → IsFresh (node_at s (Some n))) where
+  module _ (named : (d n : ℕ) (name : List ℕ) → object_named s.tree d name ≡ Some n → IsFresh (node_at s (Some n))) where
     found_fresh : (o : Open) (m : Making) (n : Option ℕ) → ((k : ℕ) → n ≡ Some k → IsFresh (node_at s (Some k))) → IsFresh (found_by s x o m n)
     found_fresh o m None there =
         mapped_without is_stale _ (checked (Ok m) (absent_checks x o))
@@ -237,7 +238,7 @@ module _ (s : State) (x : Context) (is : IsFresh (current s x)) where
         then_without is_stale (checked (Ok d) (place_checks x name)) _
         (checked_without is_stale (Ok d) (place_checks x name) (ok_without is_stale d) (λ d e. good (place_checks x name d) refl)) (λ d e.
         then_without is_stale (attributes_in (makes o.openhow).attributes) _ (wanted_fresh (makes o.openhow).attributes) (λ w e.
-        found_fresh o (record { place = d; wanted = w }) (lookup s.tree d.number name) (λ k at. named d.number k name at)))
+        found_fresh o (record { place = d; wanted = w }) (object_named s.tree d.number name) (λ k at. named d.number k name at)))
 
     claim_fresh : (o : Open) (claim : OpenClaim) (d : Node) → IsFresh (by_claim s x o claim d)
     claim_fresh o (Null name) d = name_fresh o name d

@@ -17,15 +17,15 @@ use Rattle.nfs_opens.specs.{declared.stateid.CurrentSeqid.TheVariants.Any, decla
 use Rattle.nfs_opens.proofs.LockLemmas.{clash_tells}
 use Rattle.nfs_names.specs.State as of_store
 use Rattle.nfs_names.specs.{State.moment, declared.context.Context.Context}
-use Rattle.nfs_files.specs.{Denied.{denied, type_of, size_of}, Lock.stateid_in, LockTold.LockTold, StateIds.meant}
+use Rattle.nfs_files.specs.{Denied.{lock_denied, type_of, size_of}, Lock.stateid_in, LockTold.LockTold, StateIds.meant}
 use Rattle.nfs_files.proofs.Wishes.{IsRange, wish_is, wish_range}
 use Rattle.nfs_exec.specs.{Step.Laws.MachineEvent, Step.Machine.{Machine, IsMachine}, Runs.LockHeld.replaces, Runs.Ops.{RanOp, ops_by}}
 use Rattle.nfs_exec.proofs.{Step.Invariant.of_start, Runs.KeptByRuns.Is, Runs.LockStates.as_itself, Runs.OneRun.{IsRun, by_item}, Runs.OneWalk.none_at}
-use Rattle.nfs_serve.specs.{Step.{State, new_state}, Promises.Endpoint.Arrival}
+use Rattle.nfs_serve.specs.{Step.{ServerState, new_state}, Promises.Endpoint.Arrival}
 use Rattle.nfs_serve.specs.{Promises.Denials.{IsRefusedFor, ByLock, ByTest, IsBegunBy, IsOthers, asks_for_lock}, Promises.ChangeTells.RunsIn}
 use Rattle.nfs_serve.specs.{Promises.NoIsTrue.{IsInLease, Passes, AllPass, IsGrantedIn, IsGranted, Before, Within, NoIsTrue}, Promises.LockKept.replaces_by}
 use Rattle.nfs_serve.specs.{Promises.Outlived.last_renewal, Promises.Points.{state_after, state_after_all, reached, taken, before, asked_by, ops_of}}
-use Rattle.nfs_serve.proofs.Promises.DenialsCaused.{WasDenied, IsLocker, IsTester, asker, is_denied, lock_denied, test_denied}
+use Rattle.nfs_serve.proofs.Promises.DenialsCaused.{WasDenied, IsLocker, IsTester, asker, is_denied, lock_was_denied, test_denied}
 use Rattle.nfs_serve.proofs.{Promises.HeldBefore.{Holds, found_at}, Promises.HeldReplaced.{lock_had, replaced_none}}
 use Rattle.nfs_serve.proofs.Promises.HeldTraced.{Traced, Stood, Given, event_traced, event_until, held_staying}
 use Rattle.nfs_serve.proofs.{Promises.OneStateEach.{HasOneEach, locker_is, each_kept}, Promises.LaterRecords.{runs_keep, op_done, first_there}}
@@ -46,7 +46,7 @@ asked_until : (k : LockTold) (owner : List ℕ) → k.last ≡ k.first → (m : 
 asked_until k owner one m None until d back is same holds = absurd (none_at until d back same)
 asked_until k owner one m (Some e) until d back is same holds = event_until k owner one m e until d back is same holds
 
-pub reached_more : (s : State) (records : List Arrival) (c : Arrival) → state_after_all s (records ++ c ∷ []) ≡ state_after (state_after_all s records) c
+pub reached_more : (s : ServerState) (records : List Arrival) (c : Arrival) → state_after_all s (records ++ c ∷ []) ≡ state_after (state_after_all s records) c
 reached_more s [] c = refl
 reached_more s (r ∷ more) c = reached_more (state_after s r) more c
 
@@ -82,7 +82,7 @@ module _ (mode instance lease : ℕ) (small : instance < 2 ^ 32) where
       let m = before s c in
       elim (cases_Bool (replaces_by k.client s c)) [
         | inr leaves ↦ inl leaves
-        | inl takes ↦ inr (ap (λ (s : State). s.machine) (next_is s c)
+        | inl takes ↦ inr (ap (λ (s : ServerState). s.machine) (next_is s c)
             ∙ for_asked (λ o. option_map_or (replaces k.client m) o false ≡ true → Holds k owner (left m o).store.opens → left m o ≡ m) s c (λ e holds. refl)
             (λ r who. replaced_none k.client (Holds k owner) (lock_had k owner one) m (machine_at records c) r who (length c.bytes) (taken s c) c.choice) takes holds)
       ]
@@ -117,14 +117,14 @@ module _ (mode instance lease : ℕ) (small : instance < 2 ^ 32) where
   Known records = (k : LockTold) (owner : List ℕ) → k.last ≡ k.first → Holds k owner (reached mode instance lease records).machine.store.opens
       → IsGrantedIn mode instance lease k owner records
 
-  unexpired : (k : LockTold) (owner : List ℕ) → k.last ≡ k.first → (s : State) (c : Arrival) → Holds k owner (before s c).store.opens → Holds k owner s.machine.store.opens
+  unexpired : (k : LockTold) (owner : List ℕ) → k.last ≡ k.first → (s : ServerState) (c : Arrival) → Holds k owner (before s c).store.opens → Holds k owner s.machine.store.opens
   unexpired k owner one s c is = held_staying k owner one s.machine.store.opens _ is
 
   known_next : (records : List Arrival) (c : Arrival) → Known records → Known (records ++ c ∷ [])
   known_next records c known k owner one is =
       let s = reached mode instance lease records in
       let here : Holds k owner (left (before s c) (asked_by s c)).store.opens =
-      subst (λ (s : State). Holds k owner s.machine.store.opens) (reached_more (new_state mode instance lease) records c ∙ next_is s c) is in
+      subst (λ (s : ServerState). Holds k owner s.machine.store.opens) (reached_more (new_state mode instance lease) records c ∙ next_is s c) is in
       elim (asked_traced k owner one (before s c) (asked_by s c) (whole_at mode instance lease records c) here) [
         | Given front lock back same grants spared ↦ record {
           earlier = records;
@@ -172,12 +172,12 @@ asked_states_until : (m : Machine) (o : Option MachineEvent) (until : List RanOp
 asked_states_until m None until d back is same l there = absurd (none_at until d back same)
 asked_states_until m (Some e) until d back is same l there = until_states m e until d back is same l there
 
-runs_before : (s : State) (records more : List Arrival) (d : RanOp) → RunsIn s records d → RunsIn s (records ++ more) d
+runs_before : (s : ServerState) (records more : List Arrival) (d : RanOp) → RunsIn s records d → RunsIn s (records ++ more) d
 runs_before s [] more d there = absurd there
 runs_before s (c ∷ records) more d (inl here) = inl here
 runs_before s (c ∷ records) more d (inr later) = inr (runs_before (state_after s c) records more d later)
 
-runs_last : (s : State) (records : List Arrival) (c : Arrival) (d : RanOp) → In d (ops_of (state_after_all s records) c) → RunsIn s (records ++ c ∷ []) d
+runs_last : (s : ServerState) (records : List Arrival) (c : Arrival) (d : RanOp) → In d (ops_of (state_after_all s records) c) → RunsIn s (records ++ c ∷ []) d
 runs_last s [] c d there = inl there
 runs_last s (b ∷ records) c d there = inr (runs_last (state_after s b) records c d there)
 
@@ -205,7 +205,7 @@ module _ (mode instance lease : ℕ) where
   begun_next records c begun l there =
       let s = reached mode instance lease records in
       let here : In l (left (before s c) (asked_by s c)).store.opens.locks =
-      subst (λ (s : State). In l s.machine.store.opens.locks) (reached_more (new_state mode instance lease) records c ∙ next_is s c) there in
+      subst (λ (s : ServerState). In l s.machine.store.opens.locks) (reached_more (new_state mode instance lease) records c ∙ next_is s c) there in
       elim (asked_states (before s c) (asked_by s c) (whole_at mode instance lease records c) l here) [
         | inl b ↦ (b.first, runs_last (new_state mode instance lease) records c b.first b.there, b.begun)
         | inr was ↦ (let b = was_begun records c begun l was in (b.0, runs_before (new_state mode instance lease) records (c ∷ []) b.0 b.1, b.2))
@@ -242,8 +242,8 @@ report h l = record {
   owner = record { clientid = l.client; owner = take opaque_limit l.owner };
 }
 
-report_of : (t : Table) (h : Held) (l : LockState) → lock_at t h.owner ≡ Some l → denied t h ≡ report h l
-unfolding denied
+report_of : (t : Table) (h : Held) (l : LockState) → lock_at t h.owner ≡ Some l → lock_denied t h ≡ report h l
+unfolding lock_denied
 report_of t h l found = rw found refl
 
 -- The lock that is reported is not of whoever asks.
@@ -272,7 +272,7 @@ record Found (d : RanOp) : Type 0 where
   pub number : ℕ
   pub met : clash d.before.store.opens number wish ≡ Some held
   pub range : (wish.first ≤ wish.last) × (wish.last < 2 ^ 64)
-  pub refused : IsRefusedFor d wish (denied d.before.store.opens held)
+  pub refused : IsRefusedFor d wish (lock_denied d.before.store.opens held)
   pub others : HasOneEach d.before.store.opens → (l : LockState) → In l d.before.store.opens.locks → l.file ≡ wish.file → l.number ≢ number
       → IsOthers d l.number l.client l.owner
 
@@ -321,7 +321,7 @@ lock_found d r a is status =
     let x = d.context in
     let (answer, text, did) = (by_item (λ status text u. status ≡ Denied → Reported s x a.locktype a.offset a.length text Res.LockDenied (IsLocker s x a)) d r (Operation (Op.Lock a)) is
     (λ e. let bad : RepTooBig ≡ Denied = e in absurd cc)
-    (λ e. record { was = (_, refl, lock_denied s x (moment r.now) r.refused a (ap is_denied e)) }) status).was in
+    (λ e. record { was = (_, refl, lock_was_denied s x (moment r.now) r.refused a (ap is_denied e)) }) status).was in
     record {
       wish = did.wish;
       held = did.held;

@@ -9,7 +9,7 @@ use Rattle.nfs_names.specs.State as of_store
 use Rattle.nfs_files.specs.OpenTold.{OpenTold, Bits, IsOpenWith}
 use Rattle.nfs_exec.specs.{Runs.LockHeld.replaces, Runs.OpenHeld.bits_left, Runs.Ops.{RanOp, ops_by}, Step.Laws.MachineEvent, Step.Machine.{Machine, IsMachine}}
 use Rattle.nfs_exec.proofs.{Step.Invariant.of_start, Runs.KeptByRuns.Is, Runs.OneWalk.none_at}
-use Rattle.nfs_serve.specs.{Step.{State, new_state}, Promises.Endpoint.Arrival, Promises.LockKept.replaces_by, Promises.NoIsTrue.IsInLease}
+use Rattle.nfs_serve.specs.{Step.{ServerState, new_state}, Promises.Endpoint.Arrival, Promises.LockKept.replaces_by, Promises.NoIsTrue.IsInLease}
 use Rattle.nfs_serve.specs.Promises.OpenGranted.{LeavesOpen, AllLeaveOpen, bits_through, IsOpenSince, IsGrantedOpen, Before, Within}
 use Rattle.nfs_serve.specs.Promises.Points.{state_after, state_after_all, reached, taken, before, asked_by, ops_of}
 use Rattle.nfs_serve.proofs.{Promises.HeldReplaced.{IsHad, replaced_none}, Promises.NoIsTrue.{reached_more, whole_at}}
@@ -45,12 +45,12 @@ open_had k = record {
       false≢true (sym (ap not (eq-eqb is.1.state.client k.client is.1.client)) ∙ passes));
 }
 
-through_more : (n : ℕ) (b : Bits) (s : State) (records : List Arrival) (c : Arrival)
+through_more : (n : ℕ) (b : Bits) (s : ServerState) (records : List Arrival) (c : Arrival)
     → bits_through n b s (records ++ c ∷ []) ≡ bits_left n (bits_through n b s records) (ops_of (state_after_all s records) c)
 through_more n b s [] c = refl
 through_more n b s (r ∷ more) c = through_more n (bits_left n b (ops_of s r)) (state_after s r) more c
 
-after_append : (s : State) (records more : List Arrival) → state_after_all s (records ++ more) ≡ state_after_all (state_after_all s records) more
+after_append : (s : ServerState) (records more : List Arrival) → state_after_all s (records ++ more) ≡ state_after_all (state_after_all s records) more
 after_append s [] more = refl
 after_append s (r ∷ records) more = after_append (state_after s r) records more
 
@@ -74,7 +74,7 @@ module _ (mode instance lease : ℕ) (small : instance < 2 ^ 32) (k : OpenTold) 
       let m = before s c in
       elim (cases_Bool (replaces_by k.client s c)) [
         | inr leaves ↦ inl leaves
-        | inl takes ↦ inr (ap (λ (s : State). s.machine) (next_is s c)
+        | inl takes ↦ inr (ap (λ (s : ServerState). s.machine) (next_is s c)
             ∙ for_asked (λ o. option_map_or (replaces k.client m) o false ≡ true → IsSome k (left m o).store.opens → left m o ≡ m) s c (λ e holds. refl)
             (λ r who. replaced_none k.client (IsSome k) (open_had k) m (machine_at records c) r who (length c.bytes) (taken s c) c.choice) takes (b, stands))
       ]
@@ -117,14 +117,14 @@ module _ (mode instance lease : ℕ) (small : instance < 2 ^ 32) (k : OpenTold) 
   abbrev Known : List Arrival → Type 0
   Known records = (b : Bits) → IsOpenWith k b (reached mode instance lease records).machine.store.opens → IsOpenSince mode instance lease k b records
 
-  unexpired : (b : Bits) (s : State) (c : Arrival) → IsOpenWith k b (before s c).store.opens → IsOpenWith k b s.machine.store.opens
+  unexpired : (b : Bits) (s : ServerState) (c : Arrival) → IsOpenWith k b (before s c).store.opens → IsOpenWith k b s.machine.store.opens
   unexpired b s c is = open_staying k b s.machine.store.opens _ is
 
   known_next : (records : List Arrival) (c : Arrival) → Known records → Known (records ++ c ∷ [])
   known_next records c known b is =
       let s = reached mode instance lease records in
       let here : IsOpenWith k b (left (before s c) (asked_by s c)).store.opens =
-      subst (λ (s : State). IsOpenWith k b s.machine.store.opens) (reached_more (new_state mode instance lease) records c ∙ next_is s c) is in
+      subst (λ (s : ServerState). IsOpenWith k b s.machine.store.opens) (reached_more (new_state mode instance lease) records c ∙ next_is s c) is in
       elim (asked_open k b (before s c) (asked_by s c) (whole_at mode instance lease records c) here) [
         | Given front first back asked same grants unclosed bits ↦ record {
           earlier = records;

@@ -9,19 +9,19 @@ use Rattle.nfs_compound.specs.declared.stateid.Stateid.{Stateid}
 use Rattle.nfs_compound.specs.declared.op.Op.TheVariants as Op
 use Rattle.nfs_results.specs.Results.{status_of_result}
 use Rattle.nfs_tree.specs.{declared.object.FileType.FileType, declared.object.FileType.TheVariants.{Regular, Directory, Link}, declared.stored.Stored.Stored}
-use Rattle.nfs_tree.specs.{Files.stored_in, Object.{is_directory, is_regular}}
+use Rattle.nfs_tree.specs.{Files.stored_in, Object.{is_directory, is_regular, is_link}}
 use Rattle.nfs_attrs.specs.Mask.{mask_of, asks_set_only}
 use Rattle.nfs_opens.specs.{declared.judging.Seat.Seat, declared.judging.Seat.TheVariants.Open, declared.judging.Sort.TheVariants.Either}
 use Rattle.nfs_opens.specs.{declared.records.OpenState.OpenState, declared.share.Share.Share, declared.stateid.CurrentSeqid.TheVariants.Any}
 use Rattle.nfs_opens.specs.{declared.stateid.StateId.StateId, Judging.judge, Share.is_part, StateId.{last_seqid, has_ones, is_anonymous, is_bypass}}
 use Rattle.nfs_opens.specs.{Table.{Table, open_at}, TableInvariants.IsTable}
-use Rattle.nfs_names.specs.{declared.context.Context.Context, declared.node.Node.Node, Checks.current, GetAttr.get_attr, Lookup.is_link, Outcome.is_ok}
+use Rattle.nfs_names.specs.{declared.context.Context.Context, declared.node.Node.Node, Checks.current, GetAttr.get_attr, Outcome.is_ok}
 use Rattle.nfs_names.specs.State.{State, is_open}
 use Rattle.nfs_files.specs.{Bytes.{file_checks, seat, reading, seat_checks, may_use}, OpenTold.{OpenTold, Bits, bits_behind, IsOpenWith}, Parts.readable}
 use Rattle.nfs_files.specs.StateIds.{meant}
 use Rattle.nfs_files.specs.Read as of_read
 use Rattle.nfs_files.proofs.TreeFiles.{IsWhole}
-use Rattle.nfs_exec.specs.{Step.Behind.stays, Runs.Kept.While, Runs.OpenHeld.{the_open, bits_left}, Runs.Ops.RanOp}
+use Rattle.nfs_exec.specs.{Step.Behind.refused_step, Runs.Kept.While, Runs.OpenHeld.{the_open, bits_left}, Runs.Ops.RanOp}
 use Rattle.nfs_exec.proofs.{Step.RefusalsFit.refused_status, Runs.OneRun.{IsRun, by_item}, Runs.OneWalk.in_back}
 use Rattle.nfs_serve.specs.Step as of_step
 use Rattle.nfs_serve.specs.{Promises.Endpoint.Arrival, Promises.LockKept.{renews_by, StaysFor}}
@@ -115,7 +115,7 @@ read_is_done s x a d e = rw (in_steps.read_is s x a, e) refl
 abbrev Done : Status → Type 0
 Done status = (is_ok status ≡ true) ⊎ (status ≡ RepTooBig)
 
-big_done : (d : RanOp) (i : Item) → Done (stays d.before d.context i RepTooBig).outcome.status
+big_done : (d : RanOp) (i : Item) → Done (refused_step d.before d.context i RepTooBig).outcome.status
 big_done d i = inr (refused_status (item_number i) RepTooBig)
 
 read_done : (k : OpenTold) (b : Bits) (d : RanOp) → IsRun d → IsOpenWith k b d.before.store.opens → (a : Read) (id : StateId) → d.item ≡ Operation (Op.Read a)
@@ -156,7 +156,7 @@ had_while k b (d ∷ more) runs all = (
   λ spares. (let next = all.1 spares in (next.0, had_while k (bits_behind k.number d.item d.result b) more (λ e there. runs e (inr there)) next.1)),
 )
 
-had_through : (k : OpenTold) (lease last : ℕ) (b : Bits) (s : of_step.State) (records : List Arrival) → IsSound s → StaysFor (the_open k) k.client lease last b s records
+had_through : (k : OpenTold) (lease last : ℕ) (b : Bits) (s : of_step.ServerState) (records : List Arrival) → IsSound s → StaysFor (the_open k) k.client lease last b s records
     → StaysFor (its_file k) k.client lease last b s records
 had_through k lease last b s [] sound all = all
 had_through k lease last b s (c ∷ more) sound all = (

@@ -3,18 +3,18 @@ use Rattle.std.proofs.{Common.{◌≡◌, ℕ, ◌+◌, Bool, true, not, List, [
 use Rattle.std.specs.Prelude.{◌&&◌, nat_le}
 use Rattle.nfs_opens.specs.Closing.{without_lock, without_open}
 use Rattle.nfs_files.specs.Own.{opens_of, locks_of}
-use Rattle.nfs_serve.specs.{Step.State, Promises.Endpoint.Arrival, Promises.Points.{state_after, taken}, Promises.LockKept.{renews_by, replaces_by}}
+use Rattle.nfs_serve.specs.{Step.ServerState, Promises.Endpoint.Arrival, Promises.Points.{state_after, taken}, Promises.LockKept.{renews_by, replaces_by}}
 use Rattle.nfs_serve.specs.Promises.Others.{AreOthers, is_named, AreStrangers, strangers, ComeInTime}
 use Rattle.nfs_serve.specs.Promises.HeldLock as worked
 use Rattle.nfs_serve.proofs.{Promises.HeldLock.not_so, Promises.Computing.computing}
 
 -- the premises can be tested
-abbrev in_time : ℕ → (lease last : ℕ) → State → List Arrival → Bool
+abbrev in_time : ℕ → (lease last : ℕ) → ServerState → List Arrival → Bool
 in_time client lease last s [] = true
 in_time client lease last s (c ∷ more) =
     not (renews_by client s c) && (nat_le (taken s c) (last + lease) && (not (replaces_by client s c) && in_time client lease last (state_after s c) more))
 
-are_others : (client lease last : ℕ) (s : State) (cs : List Arrival) → in_time client lease last s cs ≡ true → AreOthers client lease last s cs
+are_others : (client lease last : ℕ) (s : ServerState) (cs : List Arrival) → in_time client lease last s cs ≡ true → AreOthers client lease last s cs
 are_others client lease last s [] e = tt
 are_others client lease last s (c ∷ more) e =
     let p = and_parts _ _ e in
@@ -23,12 +23,12 @@ are_others client lease last s (c ∷ more) e =
     (not_so (renews_by client s c) p.0, leb-true _ _ q.0, not_so (replaces_by client s c) r.0, are_others client lease last (state_after s c) more r.1)
 
 -- and so can these
-abbrev strange_in_time : ℕ → (lease last : ℕ) → State → List Arrival → Bool
+abbrev strange_in_time : ℕ → (lease last : ℕ) → ServerState → List Arrival → Bool
 strange_in_time client lease last s [] = true
 strange_in_time client lease last s (c ∷ more) =
     not (is_named client s c) && (nat_le (taken s c) (last + lease) && strange_in_time client lease last (state_after s c) more)
 
-are_strangers : (client lease last : ℕ) (s : State) (cs : List Arrival) → strange_in_time client lease last s cs ≡ true → AreStrangers client lease last s cs
+are_strangers : (client lease last : ℕ) (s : ServerState) (cs : List Arrival) → strange_in_time client lease last s cs ≡ true → AreStrangers client lease last s cs
 are_strangers client lease last s [] e = tt
 are_strangers client lease last s (c ∷ more) e =
     let p = and_parts _ _ e in

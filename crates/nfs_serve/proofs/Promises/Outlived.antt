@@ -9,36 +9,37 @@ use Rattle.nfs_lease.specs.{Renewals.{Book, is_out, has_run_out}, Queue.IsLatest
 use Rattle.nfs_clients.specs.Roster.{Roster, ClientRecord, client_at}
 use Rattle.nfs_opens.specs.declared.records.OpenState.{OpenState}
 use Rattle.nfs_names.specs.Ending.{has_open}
-use Rattle.nfs_exec.specs.{Step.Machine.{IsMachine, is_client, is_confirmed}, Step.Expiry.leases_kept, Step.Laws.Asks, Runs.Renewing.renews_or_begins}
+use Rattle.nfs_exec.specs.{Step.Machine.{IsMachine, is_client, is_confirmed}, Step.Laws.Asks, Runs.Renewing.renews_or_begins}
 use Rattle.nfs_exec.proofs.{Step.Invariant.{of_start, of_expired, of_compound}, Step.LeaseMoments.{expired_all, latest_compound}}
 use Rattle.nfs_exec.proofs.Runs.Outlasting.{IsStill, compound_still}
-use Rattle.nfs_serve.specs.{Step.{State, new_state}, Promises.Endpoint.Arrival, Promises.Points.{state_after, state_after_all, reached, taken, before}}
+use Rattle.nfs_serve.specs.{Step.{ServerState, new_state}, Promises.Endpoint.Arrival, Promises.Points.{state_after, state_after_all, reached, taken, before}}
 use Rattle.nfs_serve.specs.Promises.Outlived.{renewed_by, last_renewal, NoneOutlives}
 use Rattle.nfs_serve.proofs.Promises.Points.{left, for_asked, next_is, IsSound, whole_before, latest_before, sound_next, sound_all, sound_new}
 use Rattle.nfs_serve.proofs.Promises.Staying.{lease_all}
+use Rattle.nfs_exec.proofs.Step.Terms.{leases_kept}
 
 -- What holds of every machine.
 
-pub machine_before : (s : State) (c : Arrival) → IsMachine s.machine → IsMachine (before s c)
+pub machine_before : (s : ServerState) (c : Arrival) → IsMachine s.machine → IsMachine (before s c)
 machine_before s c is = of_expired s.machine (taken s c) is
 
-pub machine_next : (s : State) (c : Arrival) → IsMachine s.machine → IsMachine (state_after s c).machine
+pub machine_next : (s : ServerState) (c : Arrival) → IsMachine s.machine → IsMachine (state_after s c).machine
 machine_next s c is =
     let m = machine_before s c is in
-    subst (λ (s : State). IsMachine s.machine) (sym (next_is s c))
+    subst (λ (s : ServerState). IsMachine s.machine) (sym (next_is s c))
     (for_asked (λ o. IsMachine (left (before s c) o)) s c m (λ r who. of_compound (before s c) r who (length c.bytes) (taken s c) c.choice m))
 
-pub machine_all : (s : State) (records : List Arrival) → IsMachine s.machine → IsMachine (state_after_all s records).machine
+pub machine_all : (s : ServerState) (records : List Arrival) → IsMachine s.machine → IsMachine (state_after_all s records).machine
 machine_all s [] is = is
 machine_all s (c ∷ more) is = machine_all (state_after s c) more (machine_next s c is)
 
 -- A lease that stands was renewed no later than by the last record that renewed it.
 
 abbrev IsUpTo : ℕ → Option ℕ → Book → Type 0
-IsUpTo client last b = (r : ℕ) → b.renewed client ≡ Some r → (q : ℕ) × (last ≡ Some q) × (r ≤ q)
+IsUpTo client last b = (r : ℕ) → b client ≡ Some r → (q : ℕ) × (last ≡ Some q) × (r ≤ q)
 
-up_expired : (client now : ℕ) (last : Option ℕ) (b : Book) → IsUpTo client last b → IsUpTo client last (leases_kept b now)
-up_expired client now last b up r e = elim (cases_Bool (has_run_out b now client)) [
+up_expired : (lease client now : ℕ) (last : Option ℕ) (b : Book) → IsUpTo client last b → IsUpTo client last (leases_kept lease b now)
+up_expired lease client now last b up r e = elim (cases_Bool (has_run_out lease b now client)) [
   | inl out ↦ absurd (let bad : None ≡ Some r = rw out at e in cc)
   | inr stays ↦ up r (rw stays at e)
 ]
@@ -47,7 +48,7 @@ up_still : (client : ℕ) (last : Option ℕ) (b left : Book) → IsStill client
 up_still client last b left (inl none) up r e = absurd (let bad : None ≡ Some r = sym none ∙ e in cc)
 up_still client last b left (inr same) up r e = up r (sym same ∙ e)
 
-up_compound : (s : State) (c : Arrival) (client : ℕ) (last : Option ℕ) (r : Request) (who : Caller) → IsSound s → IsUpTo client last (before s c).leases
+up_compound : (s : ServerState) (c : Arrival) (client : ℕ) (last : Option ℕ) (r : Request) (who : Caller) → IsSound s → IsUpTo client last (before s c).leases
     → (let e = Asks r who (length c.bytes) (taken s c) c.choice in
     IsUpTo client (cond (renews_or_begins client (before s c) e) (Some (taken s c)) last) (left (before s c) (Some e)).leases)
 up_compound s c client last r who sound up = go (renews_or_begins client (before s c) (Asks r who (length c.bytes) (taken s c) c.choice)) refl
@@ -61,15 +62,15 @@ up_compound s c client last r who sound up = go (renews_or_begins client (before
     go false e = up_still client last (before s c).leases (left (before s c) (Some (Asks r who (length c.bytes) (taken s c) c.choice))).leases
         (compound_still (before s c) r who (length c.bytes) (taken s c) client c.choice e) up
 
-up_next : (s : State) (c : Arrival) (client : ℕ) (last : Option ℕ) → IsSound s → IsUpTo client last s.machine.leases
+up_next : (s : ServerState) (c : Arrival) (client : ℕ) (last : Option ℕ) → IsSound s → IsUpTo client last s.machine.leases
     → IsUpTo client (cond (renewed_by client s c) (Some (taken s c)) last) (state_after s c).machine.leases
 up_next s c client last sound up =
-    let here : IsUpTo client last (before s c).leases = up_expired client (taken s c) last s.machine.leases up in
-    subst (λ (s' : State). IsUpTo client (cond (renewed_by client s c) (Some (taken s c)) last) s'.machine.leases) (sym (next_is s c))
+    let here : IsUpTo client last (before s c).leases = up_expired s.machine.store.lease client (taken s c) last s.machine.leases up in
+    subst (λ (s' : ServerState). IsUpTo client (cond (renewed_by client s c) (Some (taken s c)) last) s'.machine.leases) (sym (next_is s c))
     (for_asked (λ o. IsUpTo client (cond (option_map_or (renews_or_begins client (before s c)) o false) (Some (taken s c)) last) (left (before s c) o).leases) s c here
     (λ r who. up_compound s c client last r who sound here))
 
-up_all : (s : State) (records : List Arrival) (client : ℕ) (last : Option ℕ) → IsSound s → IsUpTo client last s.machine.leases
+up_all : (s : ServerState) (records : List Arrival) (client : ℕ) (last : Option ℕ) → IsSound s → IsUpTo client last s.machine.leases
     → IsUpTo client (last_renewal client last s records) (state_after_all s records).machine.leases
 up_all s [] client last sound up = up
 up_all s (c ∷ more) client last sound up =
@@ -106,14 +107,14 @@ renewed_in_time mode instance lease client records c small open_there =
     let new = sound_new mode instance lease in
     let is : IsMachine m = machine_before s c (machine_all first records (of_start mode instance lease small)) in
     let known = confirmed_is m.clients client (is.opened client open_there) in
-    let (r, at) = some_of (m.leases.renewed client) (is.leased client ∙ known) in
-    let up = up_expired client (taken s c) (last_renewal client None first records) s.machine.leases
+    let (r, at) = some_of (m.leases client) (is.leased client ∙ known) in
+    let up = up_expired s.machine.store.lease client (taken s c) (last_renewal client None first records) s.machine.leases
     (up_all first records client None new (λ r e. absurd (let bad : None ≡ Some r = e in cc))) in
     let (q, last, low) = up r at in
-    let stays : is_out m.leases.lease (taken s c) (Some r) ≡ false =
-    ap (is_out m.leases.lease (taken s c)) (sym at) ∙ expired_all s.machine.leases (taken s c) client in
-    let lasts : m.leases.lease ≡ lease = lease_all first records in
-    let within = not_out m.leases.lease (taken s c) r stays in
+    let stays : is_out m.store.lease (taken s c) (Some r) ≡ false =
+    ap (is_out m.store.lease (taken s c)) (sym at) ∙ expired_all s.machine.store.lease s.machine.leases (taken s c) client in
+    let lasts : m.store.lease ≡ lease = lease_all first records in
+    let within = not_out m.store.lease (taken s c) r stays in
     record { last = q; renewed = last; within = omega arith }
 
 pub none_outlives : NoneOutlives

@@ -12,7 +12,7 @@ use Rattle.nfs_results.specs.declared.res.Res.TheVariants as Res
 use Rattle.nfs_tree.specs.{declared.object.Object.Object, declared.row.Row.Row, Files.{Files, listed, object_at, entry}, TreeInvariants.IsTree}
 use Rattle.nfs_attrs.specs.{Attributes.readable, Mask.{mask_of, common, without_last_zeros}, declared.mask.Mask.Mask}
 use Rattle.nfs_attrs.proofs.Bounds.{attributes_within}
-use Rattle.nfs_names.specs.{Attributes.about, ReadDir.{attributes_at, entry_of, left, longest, fits, fitting, fits_none}, State.State}
+use Rattle.nfs_names.specs.{Attributes.about, ReadDir.{attributes_at, entry_of, left, longest, fitting, fits_none}, State.State}
 use Rattle.nfs_names.specs.{declared.context.Context.Context, declared.node.Node.Node}
 use Rattle.nfs_names.specs.ReadDir as reading
 use Rattle.nfs_names.proofs.Masks.{at_most_three_words}
@@ -20,6 +20,7 @@ use Rattle.nfs_names.proofs.NameLaws as law
 use Rattle.nfs_files.proofs.WrittenOps.{current_number}
 use Rattle.nfs_serve.proofs.{Promises.NameSaid.{not_done, some_same}, Promises.PageLists.{Rises, first_in}}
 use Rattle.nfs_serve.proofs.Promises.PageText.{AreWords, ArePlain, IsPlain, AllPlain, one_page}
+use Rattle.nfs_names.proofs.Terms.{fits}
 
 abbrev pub entry_at : State → Mask → Row → Entry
 entry_at s mask r = entry_of s mask (listed r)

@@ -6,11 +6,11 @@ use Rattle.nfs_xdr.specs.declared.status.Status.TheVariants as S
 use Rattle.nfs_compound.specs.{declared.op.Item.TheVariants.Operation, declared.open_args.Open.Open, declared.open_args.OpenClaim.TheVariants.{Null, Fh}}
 use Rattle.nfs_compound.specs.declared.op.Op.TheVariants as Op
 use Rattle.nfs_compound.specs.declared.op_num.OpNum.TheVariants as Num
-use Rattle.nfs_tree.specs.{declared.fault.TreeFault.TreeFault, declared.stored.Stored.Stored, Files.{stored_in, lookup}}
+use Rattle.nfs_tree.specs.{declared.fault.TreeFault.TreeFault, declared.stored.Stored.Stored, Files.{stored_in, object_named}}
 use Rattle.nfs_tree.specs.declared.fault.TreeFault.TheVariants as F
 use Rattle.nfs_attrs.specs.{Permissions.{write as to_write, execute as to_execute}, Setting.make_checks}
 use Rattle.nfs_names.specs.{declared.context.Context.Context, declared.making.Making.Making, declared.node.Node.Node}
-use Rattle.nfs_names.specs.{Checks.{node_as, node_at, no_directory, permits, name_checks, current}, Create.attributes_in, Faults.{status_of, by_tree}}
+use Rattle.nfs_names.specs.{Checks.{node_as, node_at, no_directory, permits, name_checks, current}, Create.attributes_in, Faults.{tree_fault_status, by_tree}}
 use Rattle.nfs_names.specs.{Outcome.checked, State.{State, moment}}
 use Rattle.nfs_names.proofs.{Found.{ok_is, checked_ok}, Ones.by_delay}
 use Rattle.nfs_files.specs.Bytes.{file_checks, want_of}
@@ -28,7 +28,7 @@ use Rattle.nfs_files.proofs.InSteps as in_steps
 
 -- The checks of the tree answer otherwise.
 
-tree_good : (f : TreeFault) → is_access (status_of f) ≡ false
+tree_good : (f : TreeFault) → is_access (tree_fault_status f) ≡ false
 tree_good F.NoEnt = refl
 tree_good F.Exist = refl
 tree_good F.NotDir = refl
@@ -64,15 +64,15 @@ module _ (s : State) (x : Context) (o : Open) where
   found_let m (Some n) make find = mapped_without is_access _ (checked (node_at s (Some n)) (there_checks x o))
       (checked_without is_access (node_at s (Some n)) (there_checks x o) (at_without s (Some n)) (λ f e. there_let f (find n refl f e)))
 
-  name_let : (name : List ℕ) (d : Node) → permits x d to_execute ≡ true → (lookup s.tree d.number name ≡ None → permits x d to_write ≡ true)
-      → ((n : ℕ) → lookup s.tree d.number name ≡ Some n → MayOpen n) → IsWithout is_access (by_name s x o name d)
+  name_let : (name : List ℕ) (d : Node) → permits x d to_execute ≡ true → (object_named s.tree d.number name ≡ None → permits x d to_write ≡ true)
+      → ((n : ℕ) → object_named s.tree d.number name ≡ Some n → MayOpen n) → IsWithout is_access (by_name s x o name d)
   name_let name d enter make find = then_without is_access (checked (Ok d) (place_checks x name)) _
       (checked_without is_access (Ok d) (place_checks x name) (ok_without is_access d) (λ k e.
       lets (no_directory k ∷ []) (name_checks name) (permits x k to_execute) (ap (λ (d : Node). permits x d to_execute) (sym (ok_is refl e)) ∙ enter) refl)) (λ p e.
       (let same : d ≡ p = ok_is refl (checked_ok (Ok d) (place_checks x name) p e).0 in
       then_without is_access (attributes_in (makes o.openhow).attributes) _ (wanted_without (makes o.openhow).attributes) (λ w g.
-      subst (λ (d : Node). IsWithout is_access (found_by s x o (record { place = d; wanted = w }) (lookup s.tree d.number name))) same
-      (found_let (record { place = d; wanted = w }) (lookup s.tree d.number name) make find))))
+      subst (λ (d : Node). IsWithout is_access (found_by s x o (record { place = d; wanted = w }) (object_named s.tree d.number name))) same
+      (found_let (record { place = d; wanted = w }) (object_named s.tree d.number name) make find))))
 
   handle_let : (d : Node) → permits x d (want_of (access_of o)) ≡ true → IsWithout is_access (by_claim s x o Fh d)
   handle_let d may = by_bool is_access (makes o.openhow).creates _ _ (err_without is_access S.Inval refl)
@@ -114,8 +114,8 @@ asks_all : (x : Context) (a : Open) (f : Node) (r : Rights) → rights_of f.obje
 asks_all x a f r is all = may_ask x f (access_of a) (λ right has. subst (λ r. Grants r x.who right) (sym is) (all right has))
 
 pub name_refused : (d : RanOp) → IsRun d → (n : ℕ) (r : Rights) → IsAt n r d → d.status ≡ Access → (a : Open) (name : List ℕ) → d.item ≡ Operation (Op.Open a)
-    → a.claim ≡ Null name → Grants r d.context.who Executes → (lookup d.before.store.tree n name ≡ None → Grants r d.context.who Writes)
-    → ((m : ℕ) (q : Rights) → lookup d.before.store.tree n name ≡ Some m → rights_at d.before.store.tree m ≡ Some q → (right : Right) → has_right (access_of a) right ≡ true
+    → a.claim ≡ Null name → Grants r d.context.who Executes → (object_named d.before.store.tree n name ≡ None → Grants r d.context.who Writes)
+    → ((m : ℕ) (q : Rights) → object_named d.before.store.tree n name ≡ Some m → rights_at d.before.store.tree m ≡ Some q → (right : Right) → has_right (access_of a) right ≡ true
     → Grants q d.context.who right) → ⊥
 name_refused d run n r at refused a name same claim enter make find =
     let s = d.before.store in
@@ -125,9 +125,9 @@ name_refused d run n r at refused a name same claim enter make find =
     let is : n ≡ k.number = cc in
     subst (λ c. IsWithout is_access (by_claim s x a c k)) (sym claim)
     (name_let s x a name k (may_execute x k (gives s x n r k Executes at.at at.is there enter))
-    (λ none. may_write x k (gives s x n r k Writes at.at at.is there (make (ap (λ n. lookup s.tree n name) is ∙ none))))
+    (λ none. may_write x k (gives s x n r k Writes at.at at.is there (make (ap (λ n. object_named s.tree n name) is ∙ none))))
     (λ m leads f found. (let q = rights_there s m f found in
-    asks_all x a f q.0 q.2 (find m q.0 (ap (λ n. lookup s.tree n name) is ∙ leads) q.1))))))
+    asks_all x a f q.0 q.2 (find m q.0 (ap (λ n. object_named s.tree n name) is ∙ leads) q.1))))))
 
 pub handle_refused : (d : RanOp) → IsRun d → (n : ℕ) (r : Rights) → IsAt n r d → d.status ≡ Access → (a : Open) → d.item ≡ Operation (Op.Open a) → a.claim ≡ Fh
     → ((right : Right) → has_right (access_of a) right ≡ true → Grants r d.context.who right) → ⊥

@@ -12,20 +12,20 @@ use Rattle.nfs_compound.specs.declared.op.Op.TheVariants as Op
 use Rattle.nfs_compound.specs.declared.op_num.OpNum.TheVariants as Num
 use Rattle.nfs_results.specs.declared.res.Res.TheVariants as Res
 use Rattle.nfs_results.specs.Results.{status_of_result}
-use Rattle.nfs_tree.specs.{declared.object.Object.Object, Create.create_checks, Files.{lookup as found, parent_in, object_at, most_text}}
-use Rattle.nfs_tree.specs.{Names.{link_checks, remove_checks}, Object.is_directory}
+use Rattle.nfs_tree.specs.{declared.object.Object.Object, Create.create_checks, Files.{object_named as found, parent_in, object_at, most_text}}
+use Rattle.nfs_tree.specs.{Names.{link_checks, remove_checks}, Object.{is_directory, is_link}}
 use Rattle.nfs_attrs.specs.{declared.wanted.AttrFault.AttrFault, Mask.{mask_of, asks_set_only}}
-use Rattle.nfs_attrs.specs.{Permissions.{read as to_read, execute as to_execute, change as to_change}, Reading.fault_status, Setting.make_checks}
+use Rattle.nfs_attrs.specs.{Permissions.{read as to_read, execute as to_execute, change_entries as to_change}, Reading.attr_fault_status, Setting.make_checks}
 use Rattle.nfs_attrs.specs.declared.wanted.AttrFault.TheVariants as F
 use Rattle.nfs_opens.specs.Steps.{map_err}
 use Rattle.nfs_names.specs.{declared.context.Context.Context, declared.node.Node.Node}
-use Rattle.nfs_names.specs.Checks.{node_as, node_at, saved_object, no_directory, denied, permits, name_checks, current, both}
+use Rattle.nfs_names.specs.Checks.{node_as, node_at, saved_object, no_directory, no_access, permits, name_checks, current, both}
 use Rattle.nfs_names.specs.{Create.{is_made, text_is, new_of, place_checks, wanted_of, attributes_in, create}, Faults.by_tree, Link.link}
-use Rattle.nfs_names.specs.{Lookup.{is_link, lookup}, LookupP.lookup_p, Context.at_object, Outcome.{Outcome, done, is_ok}}
+use Rattle.nfs_names.specs.{Lookup.lookup, LookupP.lookup_p, Context.at_object, Outcome.{Outcome, done, is_ok}}
 use Rattle.nfs_names.specs.{ReadDir.{zeros, fits_none, listing_checks, read_dir}, Remove.remove, State.{State, moment}}
 use Rattle.nfs_names.proofs.{Found.{came, ok_is}, NameLaws.{by_lookup, by_lookup_p, by_read_dir, by_create, by_link, by_remove, link_places, remove_places}}
 use Rattle.nfs_names.proofs.Ones.{by_delay}
-use Rattle.nfs_exec.specs.{Step.Behind.stays, Runs.Ops.RanOp}
+use Rattle.nfs_exec.specs.{Step.Behind.refused_step, Runs.Ops.RanOp}
 use Rattle.nfs_exec.proofs.{Step.RefusalsFit.refused_status, Runs.OneRun.{IsRun, by_item, by_ok}}
 use Rattle.nfs_serve.specs.Promises.Permitted.{Rights, Right, Reads, Writes, Executes, Grants, rights_of, rights_at, wants, IsAt}
 use Rattle.nfs_serve.proofs.Promises.Granting.{reads, executes, changes, may_read, may_execute, may_change, rights_here, current_at}
@@ -63,12 +63,12 @@ module _ (s : State) (x : Context) (n : ℕ) (r : Rights) (at : x.current ≡ So
 
   lookup_done : (name : List ℕ) → IsOk (lookup s x name) (Grants r x.who Executes)
   lookup_done name = by_lookup (λ o. IsOk o (Grants r x.who Executes)) s x name (λ f refusal ok. absurd (false≢true (sym refusal.done ∙ ok))) (λ d k there placed named ok.
-      (let checks = all_passed ((is_link d.object.kind, Symlink) ∷ no_directory d ∷ denied x d to_execute ∷ name_checks name) placed in
+      (let checks = all_passed ((is_link d.object.kind, Symlink) ∷ no_directory d ∷ no_access x d to_execute ∷ name_checks name) placed in
       gets s x n r d Executes at is there (executes x d (not-false _ checks.1.1.0))))
 
   lookup_p_done : IsOk (lookup_p s x) (Grants r x.who Executes)
   lookup_p_done = by_lookup_p (λ o. IsOk o (Grants r x.who Executes)) s x (λ f refusal ok. absurd (false≢true (sym refusal.done ∙ ok))) (λ d k there placed stands ok.
-      (let checks = all_passed (no_directory d ∷ denied x d to_execute ∷ []) placed in gets s x n r d Executes at is there (executes x d (not-false _ checks.1.0))))
+      (let checks = all_passed (no_directory d ∷ no_access x d to_execute ∷ []) placed in gets s x n r d Executes at is there (executes x d (not-false _ checks.1.0))))
 
   read_dir_done : (a : ReadDir) → IsOk (read_dir s x a) (Grants r x.who Reads)
   read_dir_done a = by_read_dir (λ o. IsOk o (Grants r x.who Reads)) s x a (λ f refusal ok. absurd (false≢true (sym refusal.done ∙ ok))) (λ d there placed some ok.
@@ -174,14 +174,14 @@ place_rest c =
     ∷ (text_is (nat_lt most_text) c.objtype, S.NameTooLong)
     ∷ name_checks c.objname
 
-fault_without : (f : AttrFault) → is_access (fault_status f) ≡ false
+fault_without : (f : AttrFault) → is_access (attr_fault_status f) ≡ false
 fault_without F.AttrNotSupp = refl
 fault_without F.Inval = refl
 fault_without F.BadXdr = refl
 fault_without F.BadOwner = refl
 
-read_without : {A : Type 0} (v : Result A AttrFault) → IsWithout is_access (map_err fault_status v)
-read_without (Err f) = err_without is_access (fault_status f) (fault_without f)
+read_without : {A : Type 0} (v : Result A AttrFault) → IsWithout is_access (map_err attr_fault_status v)
+read_without (Err f) = err_without is_access (attr_fault_status f) (fault_without f)
 read_without (Ok a) = ok_without is_access a
 
 pub wanted_without : (a : Attributes) → IsWithout is_access (attributes_in a)
@@ -191,14 +191,14 @@ module _ (s : State) (x : Context) (n : ℕ) (r : Rights) (at : x.current ≡ So
   lookup_let : (name : List ℕ) → Grants r x.who Executes → Answers is_access (lookup s x name)
   unfolding lookup
   lookup_let name grants = steps_answer is_access s x Num.Lookup _ (ends_then is_access (current s x) _ (current_without s x) (λ d e.
-      ends_passed is_access ((is_link d.object.kind, Symlink) ∷ no_directory d ∷ denied x d to_execute ∷ name_checks name) _
+      ends_passed is_access ((is_link d.object.kind, Symlink) ∷ no_directory d ∷ no_access x d to_execute ∷ name_checks name) _
       (lets ((is_link d.object.kind, Symlink) ∷ no_directory d ∷ []) (name_checks name) (permits x d to_execute) (may_execute x d (gives s x n r d Executes at is e grants)) refl)
       (ends_there is_access (found s.tree d.number name) NoEnt (λ k. Ok (done s (at_object x k) Res.Lookup)) refl (λ k. refl))))
 
   lookup_p_let : Grants r x.who Executes → Answers is_access (lookup_p s x)
   unfolding lookup_p
   lookup_p_let grants = steps_answer is_access s x Num.LookupP _ (ends_then is_access (current s x) _ (current_without s x) (λ d e.
-      ends_passed is_access (no_directory d ∷ denied x d to_execute ∷ []) _ (lets (no_directory d ∷ []) [] (permits x d to_execute) (may_execute x d (gives s x n r d Executes at is e grants)) refl)
+      ends_passed is_access (no_directory d ∷ no_access x d to_execute ∷ []) _ (lets (no_directory d ∷ []) [] (permits x d to_execute) (may_execute x d (gives s x n r d Executes at is e grants)) refl)
       (ends_there is_access (parent_in s.tree.rows d.number) NoEnt (λ k. Ok (done s (at_object x k) Res.LookupP)) refl (λ k. refl))))
 
   read_dir_let : (a : ReadDir) → Grants r x.who Reads → Answers is_access (read_dir s x a)
@@ -237,7 +237,7 @@ module _ (s : State) (x : Context) (n : ℕ) (r : Rights) (at : x.current ≡ So
 abbrev Other : Status → List ℕ → State → Type 0
 Other status text s = is_access status ≡ false
 
-pub big_other : (d : RanOp) (i : Item) → is_access (stays d.before d.context i RepTooBig).outcome.status ≡ false
+pub big_other : (d : RanOp) (i : Item) → is_access (refused_step d.before d.context i RepTooBig).outcome.status ≡ false
 big_other d i = ap is_access (refused_status (item_number i) RepTooBig)
 
 named_let : (d : RanOp) → IsRun d → (n : ℕ) (r : Rights) → IsAt n r d → (i : Item) → d.item ≡ i → (first : Right) → In first (wants i)

@@ -8,7 +8,7 @@ use Rattle.nfs_compound.specs.declared.open_args.OpenClaim.TheVariants.{Null, Pr
 use Rattle.nfs_compound.specs.declared.op.Op.TheVariants as Op
 use Rattle.nfs_compound.specs.declared.op_num.OpNum.TheVariants as Num
 use Rattle.nfs_results.specs.Results.{status_of_result}
-use Rattle.nfs_tree.specs.Files.{lookup}
+use Rattle.nfs_tree.specs.Files.{object_named}
 use Rattle.nfs_attrs.specs.declared.wanted.Wanted.{Wanted}
 use Rattle.nfs_names.specs.{declared.context.Context.Context, declared.making.Making.Making, declared.node.Node.Node, Checks.{node_at, current}}
 use Rattle.nfs_names.specs.{Create.attributes_in, Outcome.{Outcome, is_ok, checked}, State.{State, moment}}
@@ -42,12 +42,12 @@ enters s x o name d f e =
 
 -- and then what the name leads to
 pub finds : (s : State) (x : Context) (o : Open) (name : List ℕ) (d : Node) (f : _) → by_name s x o name d ≡ Ok f
-    → (w : Wanted) × (attributes_in (makes o.openhow).attributes ≡ Ok w) × (found_by s x o (record { place = d; wanted = w }) (lookup s.tree d.number name) ≡ Ok f)
+    → (w : Wanted) × (attributes_in (makes o.openhow).attributes ≡ Ok w) × (found_by s x o (record { place = d; wanted = w }) (object_named s.tree d.number name) ≡ Ok f)
 finds s x o name d f e =
     let p = came (checked (Ok d) (place_checks x name)) _ f e in
     let same : d ≡ p.found = ok_is refl (checked_ok (Ok d) (place_checks x name) p.found p.is).0 in
     let w = came (attributes_in (makes o.openhow).attributes) _ f p.then in
-    (w.found, w.is, subst (λ (d : Node). found_by s x o (record { place = d; wanted = w.found }) (lookup s.tree d.number name) ≡ Ok f) (sym same) w.then)
+    (w.found, w.is, subst (λ (d : Node). found_by s x o (record { place = d; wanted = w.found }) (object_named s.tree d.number name) ≡ Ok f) (sym same) w.then)
 
 -- what is not there is made, if the directory may be written
 makes_there : (s : State) (x : Context) (o : Open) (m : Making) (f : _) → found_by s x o m None ≡ Ok f → Grants (rights_of m.place.object) x.who Writes
@@ -89,7 +89,7 @@ claim_gives : (s : State) (x : Context) (o : Open) (claim : OpenClaim) (d : Node
     → rights_at s.tree n ≡ Some r → claimed s.tree x claim ≡ Some n → by_claim s x o claim d ≡ Ok f → has_right (access_of o) right ≡ true → Grants r x.who right
 claim_gives s x o (Null name) d n r f right there is leads e has =
     let its = finds s x o name d f e in
-    let found : lookup s.tree d.number name ≡ Some n = ap (named_in s.tree name) (sym (current_number s x d there)) ∙ leads in
+    let found : object_named s.tree d.number name ≡ Some n = ap (named_in s.tree name) (sym (current_number s x d there)) ∙ leads in
     finds_there s x o (record { place = d; wanted = its.0 }) n r f right is
     (subst (λ k. found_by s x o (record { place = d; wanted = its.0 }) k ≡ Ok f) found its.2) has
 claim_gives s x o Fh d n r f right there is leads e has =
@@ -120,11 +120,11 @@ open_granted d run n r is ok a same leads right has = open_done d run (Grants r 
     (let its = found_as d.before.store d.context a f asked in claim_gives d.before.store d.context a a.claim its.0 n r f right its.1 is leads its.2 has))
 
 pub enter_granted : (d : RanOp) → IsRun d → (n : ℕ) (r : Rights) → IsAt n r d → is_ok d.status ≡ true → (a : Open) (name : List ℕ) → d.item ≡ Operation (Op.Open a)
-    → a.claim ≡ Null name → Grants r d.context.who Executes × (lookup d.before.store.tree n name ≡ None → Grants r d.context.who Writes)
+    → a.claim ≡ Null name → Grants r d.context.who Executes × (object_named d.before.store.tree n name ≡ None → Grants r d.context.who Writes)
 enter_granted d run n r at ok a name same claim =
     let s = d.before.store in
     let x = d.context in
-    open_done d run (Grants r x.who Executes × (lookup s.tree n name ≡ None → Grants r x.who Writes)) ok a same (λ f asked.
+    open_done d run (Grants r x.who Executes × (object_named s.tree n name ≡ None → Grants r x.who Writes)) ok a same (λ f asked.
     (let its = found_as s x a f asked in
     let d = its.0 in
     let there = its.1 in
@@ -132,7 +132,7 @@ enter_granted d run n r at ok a name same claim =
     let number : Some n ≡ Some d.number = sym at.at ∙ current_number s x d there in
     let found = finds s x a name d f named in (
       gets s x n r d Executes at.at at.is there (enters s x a name d f named),
-      λ none. (let nothing : lookup s.tree d.number name ≡ None = ap (named_in s.tree name) (sym number) ∙ none in
+      λ none. (let nothing : object_named s.tree d.number name ≡ None = ap (named_in s.tree name) (sym number) ∙ none in
           gets s x n r d Writes at.at at.is there
           (makes_there s x a (record { place = d; wanted = found.0 }) f (subst (λ k. found_by s x a (record { place = d; wanted = found.0 }) k ≡ Ok f) nothing found.2))),
     )))

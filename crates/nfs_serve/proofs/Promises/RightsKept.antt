@@ -6,8 +6,8 @@ use Rattle.nfs_xdr.specs.declared.time.Time.{Time}
 use Rattle.nfs_xdr.proofs.Lists.{find_in, find_past, find_out, find_push_other}
 use Rattle.nfs_compound.specs.{declared.op.Item.Item, declared.op.Item.TheVariants.Operation, declared.op.Op.Op}
 use Rattle.nfs_tree.specs.{declared.object.Object.Object, declared.sets.Sets.Sets, declared.stored.Stored.Stored, Object.{changed, modified, no_sets}}
-use Rattle.nfs_tree.specs.Files.{Files, stored_in, change_at, with_changed, with_entries_changed, with_links_changed, lookup, named}
-use Rattle.nfs_tree.specs.{Create.{New, with_new, new_object, data_of}, Names.{without_name, replaced_object, with_both_changed, with_moved}}
+use Rattle.nfs_tree.specs.Files.{Files, stored_in, change_at, with_changed, with_entries_changed, with_links_changed, object_named, number_named}
+use Rattle.nfs_tree.specs.{Create.{New, with_new, new_object}, Names.{without_name, replaced_object, with_both_changed, with_moved}}
 use Rattle.nfs_tree.specs.Bytes.{written, resized, with_bytes, with_resized}
 use Rattle.nfs_tree.proofs.Objects.{keeps_changed, stored_map}
 use Rattle.nfs_opens.specs.Closing.{without_open}
@@ -92,7 +92,7 @@ rest_have n r p xs is k e = elim (cases_Bool (p n)) [
 
 pub new_have : (n : ℕ) (r : Rights) (t : Files) (d : ℕ) (name : List ℕ) (new : New) (sets : Sets) (now : Time) → Have n r t → Have n r (with_new t d name new sets now)
 new_have n r t d name new sets now is =
-    let made : Stored = record { number = t.last_object + 1; object = new_object now new sets; bytes = data_of new } in
+    let made : Stored = record { number = t.last_object + 1; object = new_object now new sets; bytes = new.bytes } in
     let given = is.given in
     let other : t.last_object + 1 ≢ n = λ same. absurd (omega arith) in
     record {
@@ -124,11 +124,11 @@ names_behind : (n : ℕ) (r : Rights) (s : store.State) (e : names_effects.Effec
 names_behind n r s (Makes d name new sets now) is = new_have n r s.tree d name new sets now is
 names_behind n r s (Links m d name now) is =
     record { given = is.given; rights = links_have n r m now (with_entries_changed d now s.tree.objects) (entries_have n r d now s.tree.objects is.rights) }
-names_behind n r s (Removes d name now) is = unused_have n r (with_tree s (without_name s.tree d name now)) (named s.tree d name) (record {
+names_behind n r s (Removes d name now) is = unused_have n r (with_tree s (without_name s.tree d name now)) (number_named s.tree d name) (record {
   given = is.given;
-  rights = links_have n r (named s.tree d name) now (with_entries_changed d now s.tree.objects) (entries_have n r d now s.tree.objects is.rights);
+  rights = links_have n r (number_named s.tree d name) now (with_entries_changed d now s.tree.objects) (entries_have n r d now s.tree.objects is.rights);
 })
-names_behind n r s (Moves m now) is = replaced_have n r (with_tree s (with_moved s.tree m now)) (lookup s.tree m.target m.name) (record {
+names_behind n r s (Moves m now) is = replaced_have n r (with_tree s (with_moved s.tree m now)) (object_named s.tree m.target m.name) (record {
   given = is.given;
   rights = both_have n r m.source m.target now (with_links_changed (replaced_object s.tree m) now s.tree.objects)
       (links_have n r (replaced_object s.tree m) now s.tree.objects is.rights);

@@ -13,8 +13,8 @@ use Rattle.nfs_compound.specs.declared.op.Op.TheVariants as Op
 use Rattle.nfs_compound.specs.declared.op_num.OpNum.TheVariants as Num
 use Rattle.nfs_results.specs.Results.{status_of_result}
 use Rattle.nfs_tree.specs.{declared.sets.Sets.Sets, declared.stored.Stored.Stored, Object.{modified, no_sets}}
-use Rattle.nfs_tree.specs.Files.{Files, root, stored_in, is_there, change_at, with_changed, with_entries_changed, lookup}
-use Rattle.nfs_tree.specs.{Create.{New, with_new, new_object, data_of, new_tree, Directory}, Bytes.{resized, with_bytes, with_resized}}
+use Rattle.nfs_tree.specs.Files.{Files, root, stored_in, is_there, change_at, with_changed, with_entries_changed, object_named}
+use Rattle.nfs_tree.specs.{Create.{New, with_new, new_object, new_directory, new_tree}, Bytes.{resized, with_bytes, with_resized}}
 use Rattle.nfs_tree.proofs.Objects.{keeps_changed, stored_map}
 use Rattle.nfs_attrs.specs.declared.wanted.Wanted.{Wanted}
 use Rattle.nfs_lease.specs.Renewals.{has_run_out}
@@ -30,10 +30,10 @@ use Rattle.nfs_files.specs.Open as of_open
 use Rattle.nfs_files.specs.SetAttrParts as set_parts
 use Rattle.nfs_files.specs.SetAttr as of_set
 use Rattle.nfs_files.proofs.{Passing.{if_passed_ok, mapped_came}, SetAnswers.asked_refuses, WrittenOps.{by_found, current_number}}
-use Rattle.nfs_exec.specs.{Step.Behind.stays, Step.Machine.Machine, Step.Laws.MachineEvent, Runs.Kept.{Kept, While}, Runs.Ops.{RanOp, ops_by}}
+use Rattle.nfs_exec.specs.{Step.Behind.refused_step, Step.Machine.Machine, Step.Laws.MachineEvent, Runs.Kept.{Kept, While}, Runs.Ops.{RanOp, ops_by}}
 use Rattle.nfs_exec.proofs.{Step.RefusalsFit.refused_status, Runs.KeptByRuns.Is, Runs.OneRun.{IsRun, by_item, by_run}}
 use Rattle.nfs_exec.proofs.Runs.OneWalk.{Stays, back_walked, kept_ended, none_at}
-use Rattle.nfs_serve.specs.{Step.{State, new_state}, Promises.Endpoint.Arrival, Promises.Permitted.{Rights, rights_of}}
+use Rattle.nfs_serve.specs.{Step.{ServerState, new_state}, Promises.Endpoint.Arrival, Promises.Permitted.{Rights, rights_of}}
 use Rattle.nfs_serve.specs.Promises.Points.{state_after, reached, taken, before, asked_by, ops_of}
 use Rattle.nfs_serve.specs.Promises.RightsTold.{with_given, with_wanted, rights_left, rights_after, rights_after_all, HasRights, RightsWhile, RightsThrough, user_rights, MakesWith}
 use Rattle.nfs_serve.specs.Promises.RightsTold.{ByCreate, ByOpen, RightsAreTold, RootIsTold}
@@ -75,7 +75,7 @@ claim_tree : (s : store.State) (x : Context) (now : Time) (o : Open) (claim : Op
     → OpenTree s.tree x now o (of_open.tree_of s.tree x now o f)
 claim_tree s x now o (Null name) d f e =
     let its = finds s x o name d f e in
-    found_tree s x now o (record { place = d; wanted = its.0 }) (lookup s.tree d.number name) f its.1 its.2
+    found_tree s x now o (record { place = d; wanted = its.0 }) (object_named s.tree d.number name) f its.1 its.2
 claim_tree s x now o Fh d f e = handle_tree s x now o (makes o.openhow).creates d f e
 claim_tree s x now o (Previous type) d f e = absurd cc
 claim_tree s x now o (DelegateCur id file) d f e = absurd cc
@@ -220,12 +220,12 @@ run_have : (n : ℕ) (r : Rights) (d : RanOp) → IsRun d → Have n r d.before.
     → Leaves n r (rights_left n r d.context i) d.status d.behind.store
 run_have n r d run is (Operation (Op.SetAttr a)) same =
     by_item (λ status text u. Leaves n r (rights_left n r d.context (Operation (Op.SetAttr a))) status u) d run (Operation (Op.SetAttr a)) same
-    (refused_have n r (rights_left n r d.context (Operation (Op.SetAttr a))) (stays d.before d.context (Operation (Op.SetAttr a)) RepTooBig).outcome.status d.before.store
+    (refused_have n r (rights_left n r d.context (Operation (Op.SetAttr a))) (refused_step d.before d.context (Operation (Op.SetAttr a)) RepTooBig).outcome.status d.before.store
     (ap is_ok (refused_status (item_number (Operation (Op.SetAttr a))) RepTooBig)) is)
     (set_have n r d.before.store d.context (moment run.now) a is)
 run_have n r d run is (Operation (Op.Open a)) same =
     by_item (λ status text u. Leaves n r r status u) d run (Operation (Op.Open a)) same
-    (same_left n r (is_ok (stays d.before d.context (Operation (Op.Open a)) RepTooBig).outcome.status) d.before.store.tree is)
+    (same_left n r (is_ok (refused_step d.before d.context (Operation (Op.Open a)) RepTooBig).outcome.status) d.before.store.tree is)
     (by_delay (λ o. Leaves n r r (status_of_result o.result) o.state) run.refused d.before.store d.context Num.Open (open_file d.before.store d.context (moment run.now) a) is
     (let o = open_file d.before.store d.context (moment run.now) a in
     same_left n r (is_ok (status_of_result o.result)) o.state.tree
@@ -253,7 +253,7 @@ new_made : (n : ℕ) (t : Files) (d : ℕ) (name : List ℕ) (new : New) (sets :
     → is_there (with_new t d name new sets now) n ≡ true → rights_of (new_object now new sets) ≡ r → Have n r (with_new t d name new sets now)
 new_made n t d name new sets now r absent there has =
     let xs = with_entries_changed d now t.objects in
-    let made : Stored = record { number = t.last_object + 1; object = new_object now new sets; bytes = data_of new } in
+    let made : Stored = record { number = t.last_object + 1; object = new_object now new sets; bytes = new.bytes } in
     let none : stored_in xs n ≡ None = still_none n d now t (none_there t n absent) in
     elim (cases_eq (t.last_object + 1) n) [
       | inl same ↦ record {
@@ -343,16 +343,16 @@ while_rights : (n : ℕ) (r : Rights) (ds : List RanOp) → While (the_rights n)
 while_rights n r [] all = tt
 while_rights n r (d ∷ more) all = (all.0, while_rights n (rights_after n r d) more (all.1 tt).1)
 
-here_before : (n : ℕ) (r : Rights) (s : State) (c : Arrival) → Have n r s.machine.store.tree → Have n r (before s c).store.tree
-here_before n r s c is = staying_have n r (λ client. not (has_run_out s.machine.leases (taken s c) client)) s.machine.store is
+here_before : (n : ℕ) (r : Rights) (s : ServerState) (c : Arrival) → Have n r s.machine.store.tree → Have n r (before s c).store.tree
+here_before n r s c is = staying_have n r (λ client. not (has_run_out s.machine.store.lease s.machine.leases (taken s c) client)) s.machine.store is
 
-through_rights : (n : ℕ) (r : Rights) (s : State) (records : List Arrival) → IsSound s → Have n r s.machine.store.tree → RightsThrough n r s records
+through_rights : (n : ℕ) (r : Rights) (s : ServerState) (records : List Arrival) → IsSound s → Have n r s.machine.store.tree → RightsThrough n r s records
 through_rights n r s [] sound is = tt
 through_rights n r s (c ∷ more) sound is =
     let did = through_asked (the_rights n) Leave (λ m o. Unit {0}) (λ m r who size now choice leaves. tt) (rights_stay n) r s c sound (here_before n r s c is) in (
       while_rights n r (ops_of s c) did.0,
       through_rights n (rights_after_all n r (ops_of s c)) (state_after s c) more (sound_next s c sound)
-          (subst (λ (u : State). Have n (rights_after_all n r (ops_of s c)) u.machine.store.tree) (sym (next_is s c)) (did.1 (λ d there. tt) tt)),
+          (subst (λ (u : ServerState). Have n (rights_after_all n r (ops_of s c)) u.machine.store.tree) (sym (next_is s c)) (did.1 (λ d there. tt) tt)),
     )
 
 back_rights : (n : ℕ) (r : Rights) (m : Machine) (o : Option MachineEvent) (front : List RanOp) (d : RanOp) (back : List RanOp) → Is m
@@ -370,13 +370,13 @@ rights_are_told mode instance lease earlier c front d back more n r same making 
     let did = back_rights n r (before s c) (asked_by s c) front d back (whole_before s c sound.whole) same here in (
       while_rights n r back did.0,
       through_rights n (rights_after_all n r back) (state_after s c) more (sound_next s c sound)
-          (subst (λ (u : State). Have n (rights_after_all n r back) u.machine.store.tree) (sym (next_is s c)) did.1),
+          (subst (λ (u : ServerState). Have n (rights_after_all n r back) u.machine.store.tree) (sym (next_is s c)) did.1),
     )
 
 root_has : (mode : ℕ) (now : Time) → Have root (record { mode = mode; owner = 0; group = 0 }) (new_tree mode now)
 root_has mode now = record {
   given = omega arith;
-  rights = λ k e. (let one : record { number = root; object = new_object now Directory (record no_sets { mode = Some mode }); bytes = [] } ≡ k = cc in
+  rights = λ k e. (let one : record { number = root; object = new_object now new_directory (record no_sets { mode = Some mode }); bytes = [] } ≡ k = cc in
       ap (λ (k : Stored). rights_of k.object) (sym one));
 }
 

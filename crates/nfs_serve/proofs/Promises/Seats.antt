@@ -13,11 +13,12 @@ use Rattle.nfs_compound.specs.declared.op_num.OpNum.TheVariants as Num
 use Rattle.nfs_results.specs.declared.res.Res.TheVariants as Res
 use Rattle.nfs_results.specs.Results.{spell_result, status_of_result}
 use Rattle.nfs_ranges.specs.declared.Held.{Held}
-use Rattle.nfs_tree.specs.{declared.row.Row.Row, Create.create_checks, Files.{Files, root, object_at, entry, lookup, parent_in, is_directory_at}, Names.moves}
+use Rattle.nfs_tree.specs.{declared.row.Row.Row, Create.create_checks, Files.{Files, root, object_at, entry, object_named, parent_in, is_directory_at}}
+use Rattle.nfs_tree.specs.Names.{moves}
 use Rattle.nfs_tree.specs.Object.{is_directory}
 use Rattle.nfs_attrs.specs.{declared.handle.Handle.Handle, Handle.handle_of, Permissions.execute}
 use Rattle.nfs_opens.specs.Locking as locking
-use Rattle.nfs_names.specs.{declared.context.Context.Context, Checks.{saved_object, no_directory, denied}, Create.{new_of, create}, Link.link}
+use Rattle.nfs_names.specs.{declared.context.Context.Context, Checks.{saved_object, no_directory, no_access}, Create.{new_of, create}, Link.link}
 use Rattle.nfs_names.specs.{Outcome.{Outcome, checked, is_ok}, PutPubFh.put_pub_fh, PutRootFh.put_root_fh, Rename.{move_of, renamed, rename}}
 use Rattle.nfs_names.specs.State.{State, moment}
 use Rattle.nfs_names.specs.Operation as names
@@ -150,13 +151,13 @@ pub record PutTo (instance : ℕ) (h : List ℕ) (x y : Context) : Type 0 where
   pub saved : y.saved ≡ x.saved
 
 pub was_put : (r : Room) (m : Machine) (x : Context) (h : List ℕ)
-    → (let s = ran_in r m x (Operation (Op.PutFh h)) in WasOk s → PutTo m.store.instance h x s.context)
+    → (let s = ran_in r m x (Operation (Op.PutFh h)) in WasOk s → PutTo m.store.opens.instance h x s.context)
 was_put r m x h =
-    in_room_is (λ s. WasOk s → PutTo m.store.instance h x s.context) r.limit r.sofar r.now r.refused m x (Operation (Op.PutFh h))
+    in_room_is (λ s. WasOk s → PutTo m.store.opens.instance h x s.context) r.limit r.sofar r.now r.refused m x (Operation (Op.PutFh h))
     (λ ok. absurd (too_big m x (Operation (Op.PutFh h)) ok))
-    (law.by_put_fh (Done (λ o. PutTo m.store.instance h x o.context)) m.store x h (λ f refusal ok. absurd (false≢true (sym refusal.done ∙ ok)))
-    (λ k read placed ok. (let passed = all_passed ((not (k.instance == m.store.instance), Stale) ∷ (not (is_some (object_at m.store.tree k.number)), Stale) ∷ []) placed in
-    record { handle = k; read = read; own = eqb-true k.instance m.store.instance (not-false _ passed.0); current = refl; saved = refl })))
+    (law.by_put_fh (Done (λ o. PutTo m.store.opens.instance h x o.context)) m.store x h (λ f refusal ok. absurd (false≢true (sym refusal.done ∙ ok)))
+    (λ k read placed ok. (let passed = all_passed ((not (k.instance == m.store.opens.instance), Stale) ∷ (not (is_some (object_at m.store.tree k.number)), Stale) ∷ []) placed in
+    record { handle = k; read = read; own = eqb-true k.instance m.store.opens.instance (not-false _ passed.0); current = refl; saved = refl })))
 
 -- PUTROOTFH and PUTPUBFH
 abbrev pub AtRoot : Context → Context → Type 0
@@ -207,7 +208,7 @@ pub record LedTo (name : List ℕ) (t : Files) (x y : Context) : Type 0 where
   pub object : ℕ
   pub from : x.current ≡ Some directory
   pub to : y.current ≡ Some object
-  pub leads : lookup t directory name ≡ Some object
+  pub leads : object_named t directory name ≡ Some object
   pub saved : y.saved ≡ x.saved
 
 pub looked_up : (r : Room) (m : Machine) (x : Context) (name : List ℕ)
@@ -280,7 +281,7 @@ parent_found r m x =
     in_room_is (λ s. WasOk s → IsParent m.store.tree x s.context) r.limit r.sofar r.now r.refused m x (Operation Op.LookupP)
     (λ ok. absurd (too_big m x (Operation Op.LookupP) ok))
     (law.by_lookup_p (Done (λ o. IsParent m.store.tree x o.context)) m.store x (λ f refusal ok. absurd (false≢true (sym refusal.done ∙ ok)))
-    (λ d n there placed stands ok. (let passed = all_passed (no_directory d ∷ denied x d execute ∷ []) placed in
+    (λ d n there placed stands ok. (let passed = all_passed (no_directory d ∷ no_access x d execute ∷ []) placed in
     record {
       object = d.number;
       parent = n;
@@ -336,10 +337,10 @@ linked_as r m x name =
 
 -- GETFH, if it is answered NFS4_OK, gives the filehandle of the current object
 abbrev pub Got : State → Context → Step → Type 0
-Got st x s = (n : ℕ) × (x.current ≡ Some n) × (s.outcome.result ≡ spell_result (Res.GetFh (handle_in st.instance n)))
+Got st x s = (n : ℕ) × (x.current ≡ Some n) × (s.outcome.result ≡ spell_result (Res.GetFh (handle_in st.opens.instance n)))
 
 pub was_got : (r : Room) (m : Machine) (x : Context) → (let s = ran_in r m x (Operation Op.GetFh) in WasOk s → Got m.store x s)
 was_got r m x =
     in_room_is (λ s. WasOk s → Got m.store x s) r.limit r.sofar r.now r.refused m x (Operation Op.GetFh) (λ ok. absurd (too_big m x (Operation Op.GetFh) ok))
-    (law.by_get_fh (Done (λ o. (n : ℕ) × (x.current ≡ Some n) × (spell_result o.result ≡ spell_result (Res.GetFh (handle_in m.store.instance n))))) m.store x
+    (law.by_get_fh (Done (λ o. (n : ℕ) × (x.current ≡ Some n) × (spell_result o.result ≡ spell_result (Res.GetFh (handle_in m.store.opens.instance n))))) m.store x
     (λ f refusal ok. absurd (false≢true (sym refusal.done ∙ ok))) (λ d there ok. (d.number, current_number m.store x d there, refl)))

@@ -13,11 +13,11 @@ use Rattle.nfs_names.specs.Outcome.{is_ok}
 use Rattle.nfs_sessions.specs.{declared.id.SessionId.SessionId, declared.sessions.SessionFault.SessionFault, Sessions.{SessionTable, session_at, create}}
 use Rattle.nfs_exec.specs.{Runs.OneSession.MakesOne, Step.Compound.{bare, by_first, carried_out, compound, first_item}, Step.ExchangeId.without_any_lease}
 use Rattle.nfs_exec.specs.{Step.CreateSession.wish_of, Step.Laws.{Asks}}
-use Rattle.nfs_exec.specs.{Step.Machine.{Machine, Outcome, by_fault, refuses}, Step.Place.item_fault, Step.Run.is_here}
+use Rattle.nfs_exec.specs.{Step.Machine.{Machine, MachineOutcome, by_fault, with_refusal}, Step.Place.item_fault, Step.Run.is_here}
 use Rattle.nfs_exec.proofs.Step.InSteps.{create_session_is}
 use Rattle.nfs_exec.specs.Step.Parts.{by_created, by_number, creates}
 use Rattle.nfs_exec.proofs.Runs.Renewing.{AtLeast}
-use Rattle.nfs_serve.specs.{Step.{State, new_state}, Promises.Endpoint.Arrival, Promises.Points.{state_after, reached, taken, before, asked_by}}
+use Rattle.nfs_serve.specs.{Step.{ServerState, new_state}, Promises.Endpoint.Arrival, Promises.Points.{state_after, reached, taken, before, asked_by}}
 use Rattle.nfs_serve.specs.{Promises.SessionStays.{HasSession, StaysThere}, Promises.SessionsOnce.GivesIn}
 use Rattle.nfs_serve.proofs.{Promises.Points.{left, for_asked, next_is, IsSound, sound_next, sound_all, sound_new}, Promises.SessionStays.stays}
 use Rattle.nfs_serve.proofs.Promises.Staying.{lease_next, lease_all}
@@ -27,7 +27,7 @@ mapped_now now r None e = (let bad : None ≡ Some r = e in absurd cc)
 mapped_now now r (Some moment) e = (let same : Some now ≡ Some r = e in let is : now ≡ r = cc in omega arith)
 
 renewal_least : (b : Book) (client now : ℕ) → AtLeast now client (with_renewal b client now)
-renewal_least b client now r e = mapped_now now r (b.renewed client) (rw (eq-eqb client client refl) at e)
+renewal_least b client now r e = mapped_now now r (b client) (rw (eq-eqb client client refl) at e)
 
 -- The one CREATE_SESSION behind which a session stands that did not before renews its client's lease.
 module _ (session : SessionId) (m : Machine) (absent : session_at m.sessions session ≡ None) (now n : ℕ) where
@@ -46,7 +46,7 @@ module _ (session : SessionId) (m : Machine) (absent : session_at m.sessions ses
   by_new refused c mine =
       let did = create m.sessions c.clientid (wish_of m c) in
       let o = creates m now c did in
-      elim (refused && is_ok o.status) as (λ b. Renews (cond b (refuses m 43 Delay) o).machine) [
+      elim (refused && is_ok o.status) as (λ b. Renews (cond b (with_refusal m 43 Delay) o).machine) [
         | true ↦ same m refl
         | false ↦ by_made c did.after did.answer mine
       ]
@@ -59,7 +59,7 @@ module _ (session : SessionId) (m : Machine) (absent : session_at m.sessions ses
   by_answer refused c clients.InUse mine = same m refl
   by_answer refused c clients.Runs mine = by_new refused c mine
 
-  by_place : (number : ℕ) (f : Option Status) (o : Outcome) → Renews o.machine → Renews (by_fault m number f o).machine
+  by_place : (number : ℕ) (f : Option Status) (o : MachineOutcome) → Renews o.machine → Renews (by_fault m number f o).machine
   by_place number None o renews = renews
   by_place number (Some status) o renews = same m refl
 
@@ -68,7 +68,7 @@ module _ (session : SessionId) (m : Machine) (absent : session_at m.sessions ses
   first_renews declared who refused c mine =
       by_place (item_number (Operation (Op.CreateSession c))) (item_fault declared (Operation (Op.CreateSession c)))
       (carried_out m who now refused (Operation (Op.CreateSession c)))
-      (subst (λ (o : Outcome). Renews o.machine) (sym (create_session_is m who now refused c))
+      (subst (λ (o : MachineOutcome). Renews o.machine) (sym (create_session_is m who now refused c))
       (by_answer refused c (create_verdict m.clients c.clientid c.sequence who.uid) mine))
 
   create_renews : (r : Request) (who : Caller) (size : ℕ) (choice : Option ℕ) (c : CreateSession) (more : List Item) → r.left ≡ Operation (Op.CreateSession c) ∷ more
@@ -81,11 +81,11 @@ module _ (session : SessionId) (m : Machine) (absent : session_at m.sessions ses
 
 -- So it stays from there on.
 
-asked_now : (s : State) (c : Arrival) (r : Request) (who : Caller) (size now : ℕ) (choice : Option ℕ) → asked_by s c ≡ Some (Asks r who size now choice) → now ≡ taken s c
+asked_now : (s : ServerState) (c : Arrival) (r : Request) (who : Caller) (size now : ℕ) (choice : Option ℕ) → asked_by s c ≡ Some (Asks r who size now choice) → now ≡ taken s c
 asked_now s c r who size now choice = for_asked (λ o. o ≡ Some (Asks r who size now choice) → now ≡ taken s c) s c (λ e. absurd cc) (λ q by e.
     (let same : Asks q by (length c.bytes) (taken s c) c.choice ≡ Asks r who size now choice = same_Some _ _ e in cc))
 
-made_least : (s : State) (c : Arrival) (id : SessionId) (number : ℕ) (text : List ℕ) → GivesIn id.client number text s c
+made_least : (s : ServerState) (c : Arrival) (id : SessionId) (number : ℕ) (text : List ℕ) → GivesIn id.client number text s c
     → (makes : MakesOne id.client text (before s c).sessions (state_after s c).machine.sessions) → makes.session ≡ id → AtLeast (taken s c) id.client (state_after s c).machine.leases
 made_least s c id number text g makes named =
     let m = before s c in
@@ -93,7 +93,7 @@ made_least s c id number text g makes named =
     let asks : asked_by s c ≡ Some (Asks gives.request gives.who gives.size gives.now gives.choice) = g.asks ∙ ap Some gives.is in
     let now = asked_now s c gives.request gives.who gives.size gives.now gives.choice asks in
     let machine : (state_after s c).machine ≡ (compound m gives.request gives.who gives.size gives.now gives.choice).machine =
-    ap (λ (s : State). s.machine) (next_is s c) ∙ ap (left m) asks in
+    ap (λ (s : ServerState). s.machine) (next_is s c) ∙ ap (left m) asks in
     let there : is_some (session_at (compound m gives.request gives.who gives.size gives.now gives.choice).machine.sessions makes.session) ≡ true =
     subst (λ (m : Machine). is_some (session_at m.sessions makes.session) ≡ true) machine makes.there in
     subst (λ (m : Machine). AtLeast (taken s c) id.client m.leases) (sym machine)
@@ -111,6 +111,6 @@ made_stays mode instance lease earlier c id number text g makes named more =
       sound = sound_next s c sound;
       stands = tt;
       least = made_least s c id number text g makes named;
-      low = subst (λ n. taken s c ≤ n) (sym (ap (λ (s : State). s.moment) (next_is s c))) (omega arith);
+      low = subst (λ n. taken s c ≤ n) (sym (ap (λ (s : ServerState). s.moment) (next_is s c))) (omega arith);
       lasts = lease_next s c ∙ lease_all (new_state mode instance lease) earlier;
     }) (subst (λ i. HasSession i (state_after s c).machine) named makes.there)

@@ -6,21 +6,21 @@ use Rattle.nfs_xdr.specs.{Caller.Caller, Spelling.number, Status.status_number, 
 use Rattle.nfs_xdr.specs.declared.status.Status.TheVariants as S
 use Rattle.nfs_xdr.proofs.Lists.{find_in}
 use Rattle.nfs_rpc.specs.{CallHead.{Call, Accepted, call_of}, Reply.spell_head}
-use Rattle.nfs_compound.specs.{Request.item_number, declared.op.Item.Item, declared.op.Item.TheVariants.Operation, declared.session_args.Sequence.Sequence, Request.Request}
+use Rattle.nfs_compound.specs.{declared.channel_attrs.ChannelAttrs.ChannelAttrs, Request.item_number, declared.op.Item.Item, declared.op.Item.TheVariants.Operation, declared.session_args.Sequence.Sequence, Request.Request}
 use Rattle.nfs_compound.specs.{OpNum.op_number, declared.op_num.OpNum.OpNum}
 use Rattle.nfs_compound.specs.declared.op.Op.TheVariants as Op
 use Rattle.nfs_compound.specs.declared.op_num.OpNum.TheVariants as Num
 use Rattle.nfs_results.specs.Results.{spell_compound_head}
-use Rattle.nfs_slots.specs.declared.slot.Verdict.{Verdict}
+use Rattle.nfs_slots.specs.{Slot.judge, declared.slot.Verdict.Verdict}
 use Rattle.nfs_slots.specs.declared.slot.Verdict.TheVariants as V
-use Rattle.nfs_sessions.specs.{declared.channel.Channel.Channel, declared.id.SessionId.SessionId, Id.id_of, SessionSlots.{GrantedSlots, judge}}
+use Rattle.nfs_sessions.specs.{declared.id.SessionId.SessionId, Id.id_of}
 use Rattle.nfs_sessions.specs.Sessions.{Session, is_session, session_at}
 use Rattle.nfs_exec.specs.{Step.Compound.{bare, by_first, compound, first_item, in_session}, Step.Destroy.destroy_session, Step.Laws.{first_runs, if_runs}}
-use Rattle.nfs_exec.specs.{Step.Machine.{Machine, Outcome, by_fault}, Step.Place.item_fault, Step.Run.is_here}
+use Rattle.nfs_exec.specs.{Step.Machine.{Machine, MachineOutcome, by_fault}, Step.Place.item_fault, Step.Run.is_here}
 use Rattle.nfs_exec.specs.Step.Sequence.{Sequenced, Refuses, Repeats, Runs, or_refuses, by_slot, compared, sequenced}
 use Rattle.nfs_exec.specs.Step.Parts.{past, slot_says, slot_fault, fresh_fault, by_session}
 use Rattle.nfs_exec.proofs.{Step.RefusalsFit.refused_status, Runs.SessionsBehind.ran_in}
-use Rattle.nfs_serve.specs.{Step.{State, Stepped, asked_of}, Promises.Endpoint.{Arrival, Heading}, Promises.LockKept.{renews_by, replaces_by}}
+use Rattle.nfs_serve.specs.{Step.{ServerState, Stepped, asked_of}, Promises.Endpoint.{Arrival, Heading}, Promises.LockKept.{renews_by, replaces_by}}
 use Rattle.nfs_serve.specs.{Promises.Points.{state_after, state_after_all, reached, taken, before}, Promises.Seen.ticked, Promises.SessionStays.{HasSession, StaysThere, ends_by}}
 use Rattle.nfs_serve.specs.Promises.SessionsDenied.{SaysFirst, IsBadSession, BySequence, ByDestroy, HasEnded, Stands, Made, Ran, BadSessionIsTrue}
 use Rattle.nfs_serve.proofs.{Promises.AnsweredAgain.{IsFirst, is_first}, Promises.FirstSaid.{first_said, first_there, none_there, same_status, tag_short, one_result, begins_so}}
@@ -42,23 +42,22 @@ past_good : (o : Option Status) (v : Result Sequenced Status) → ((f : Status) 
 past_good None v good is = is
 past_good (Some f) v good is = good f refl
 
-verdict_good : (r : Request) (size : ℕ) (q : Sequence) (g : GrantedSlots) (v : Verdict) → says_bad (slot_says r size q g v) ≡ false
+verdict_good : (r : Request) (size : ℕ) (q : Sequence) (x : Session) (v : Verdict) → says_bad (slot_says r size q x v) ≡ false
 unfolding is_bad
-verdict_good r size q g V.NoSlot = refl
-verdict_good r size q g V.Misordered = refl
-verdict_good r size q g V.FalseRetry = refl
-verdict_good r size q g V.Again = refl
-verdict_good r size q g V.Fresh = past_good (fresh_fault r size g.channel) (Ok (Runs g.channel))
-    (are_good is_bad ((nat_lt g.channel.request size, S.ReqTooBig) ∷ (nat_lt g.channel.operations r.declared, S.TooManyOps) ∷ []) refl) refl
+verdict_good r size q x V.NoSlot = refl
+verdict_good r size q x V.Misordered = refl
+verdict_good r size q x V.FalseRetry = refl
+verdict_good r size q x V.Again = refl
+verdict_good r size q x V.Fresh = past_good (fresh_fault r size x.channel) (Ok (Runs x.channel))
+    (are_good is_bad ((nat_lt x.channel.maxrequestsize size, S.ReqTooBig) ∷ (nat_lt x.channel.maxoperations r.declared, S.TooManyOps) ∷ []) refl) refl
 
 session_good : (r : Request) (who : Caller) (size : ℕ) (q : Sequence) (o : Option Session) → is_some o ≡ true → says_bad (by_session r who size q o) ≡ false
 unfolding is_bad
 session_good r who size q None e = absurd (false≢true e)
 session_good r who size q (Some s) e =
-    let g = s.slots in
-    let v = judge g q.slotid q.sequenceid who.uid (compared r) in
-    past_good (slot_fault q g.channel) (by_slot r size q g v)
-    (are_good is_bad ((nat_le g.channel.slots q.slotid, S.BadSlot) ∷ (nat_le g.channel.slots q.highest_slotid, S.BadHighSlot) ∷ []) refl) (verdict_good r size q g v)
+    let v = judge s.slots q.slotid q.sequenceid who.uid (compared r) in
+    past_good (slot_fault q s.channel) (by_slot r size q s v)
+    (are_good is_bad ((nat_le s.channel.maxrequests q.slotid, S.BadSlot) ∷ (nat_le s.channel.maxrequests q.highest_slotid, S.BadHighSlot) ∷ []) refl) (verdict_good r size q s v)
 
 -- DESTROY_SESSION
 
@@ -66,7 +65,7 @@ destroy_good : (m : Machine) (sessionid : List ℕ) → is_some (session_at m.se
 unfolding is_bad
 destroy_good m sessionid some = rw some refl
 
-faulted_good : (m : Machine) (n : ℕ) (o : Option Status) (done : Outcome) → ((f : Status) → o ≡ Some f → is_bad f ≡ false) → is_bad done.status ≡ false
+faulted_good : (m : Machine) (n : ℕ) (o : Option Status) (done : MachineOutcome) → ((f : Status) → o ≡ Some f → is_bad f ≡ false) → is_bad done.status ≡ false
     → is_bad (by_fault m n o done).status ≡ false
 faulted_good m n None done good is = is
 faulted_good m n (Some f) done good is = ap is_bad (refused_status n f) ∙ good f refl
@@ -99,7 +98,7 @@ verdict_said m r who size now choice q v small keeps first is said = by v is (sy
         ap (λ (n : ℕ). (cond (n == 1) (by_first m r who size now choice r.left) (bare r S.MinorVersMismatch m)).text) first.minor
         ∙ (ap (λ (items : List Item). (by_first m r who size now choice items).text) first.list ∙ ap (λ (v : Sequenced). (in_session m r who now choice q first.more v).text) is)
 
-    runs : (c : Channel) → sequenced m r who size q ≡ Runs c → ran_in m r who size ≡ Some q
+    runs : (c : ChannelAttrs) → sequenced m r who size q ≡ Runs c → ran_in m r who size ≡ Some q
     runs c e =
         ap (λ (n : ℕ). cond (n == 1) (first_runs m r who size r.left) None) first.minor
         ∙ (ap (first_runs m r who size) first.list ∙ ap (if_runs q) e)
@@ -108,7 +107,7 @@ verdict_said m r who size now choice q v small keeps first is said = by v is (sy
     kept reply e bad =
         let (session, found, again, same) = again_session r who size q (session_at m.sessions (id_of q.sessionid)) reply e in
         let there = find_in (is_session (id_of q.sessionid)) m.sessions.sessions session found in
-        kept_said session.slots.slots q.slotid (keeps session there.0) (ap first_said (sym same) ∙ bad)
+        kept_said session.slots q.slotid (keeps session there.0) (ap first_said (sym same) ∙ bad)
 
     by : (v : Sequenced) → sequenced m r who size q ≡ v → first_said (in_session m r who now choice q first.more v).text ≡ bad_sequence → says_bad v ≡ true
     by (Refuses f) e bad = status_said f 53 f r small bad
@@ -117,7 +116,7 @@ verdict_said m r who size now choice q v small keeps first is said = by v is (sy
 
 -- of a DESTROY_SESSION
 
-abbrev SpellsStatus : Outcome → Type 0
+abbrev SpellsStatus : MachineOutcome → Type 0
 SpellsStatus o = o.result ≡ (number 44 ++ number (status_number o.status)) ++ []
 
 destroy_spells : (m : Machine) (sessionid : List ℕ) → SpellsStatus (destroy_session m sessionid)
@@ -126,7 +125,7 @@ destroy_spells m sessionid = elim (cases_Bool (is_some (session_at m.sessions (i
   | inr gone ↦ rw gone refl
 ]
 
-faulted_spells : (m : Machine) (o : Option Status) (done : Outcome) → SpellsStatus done → SpellsStatus (by_fault m 44 o done)
+faulted_spells : (m : Machine) (o : Option Status) (done : MachineOutcome) → SpellsStatus done → SpellsStatus (by_fault m 44 o done)
 faulted_spells m None done is = is
 faulted_spells m (Some f) done is = refl
 
@@ -135,7 +134,7 @@ first_spells : (m : Machine) (declared : ℕ) (who : Caller) (now : ℕ) (refuse
 first_spells m declared who now refused sessionid =
     faulted_spells m (item_fault declared (Operation (Op.DestroySession sessionid))) (destroy_session m sessionid) (destroy_spells m sessionid)
 
-abbrev destroyed : Machine → Request → Caller → ℕ → Option ℕ → List ℕ → Outcome
+abbrev destroyed : Machine → Request → Caller → ℕ → Option ℕ → List ℕ → MachineOutcome
 destroyed m r who now choice sessionid = first_item m r.declared who now (is_here choice) (Operation (Op.DestroySession sessionid))
 
 destroy_said : (m : Machine) (r : Request) (who : Caller) (size now : ℕ) (choice : Option ℕ) (sessionid : List ℕ) (more : List Item) → length r.tag < 2 ^ 32
@@ -155,11 +154,11 @@ destroy_said m r who size now choice sessionid more small first said = by (r.min
 -- A session that stands.
 
 -- what the reply says is what its compound comes to
-abbrev Says : OpNum → State → Arrival → Call → Request → Type 0
+abbrev Says : OpNum → ServerState → Arrival → Call → Request → Type 0
 Says n s c call r = first_said (compound (ticked s c.now).machine r call.who (length c.bytes) (ticked s c.now).moment c.choice).text
     ≡ number (op_number n) ++ number (status_number S.BadSession)
 
-says : (n : OpNum) (s : State) (c : Arrival) (call : Call) (r : Request) → call_of c.bytes ≡ Accepted call → asked_of call call.procedure ≡ Some r
+says : (n : OpNum) (s : ServerState) (c : Arrival) (call : Call) (r : Request) → call_of c.bytes ≡ Accepted call → asked_of call call.procedure ≡ Some r
     → SaysFirst n S.BadSession s c → Says n s c call r
 says n s c call r called asked told =
     let text = (compound (ticked s c.now).machine r call.who (length c.bytes) (ticked s c.now).moment c.choice).text in
@@ -167,7 +166,7 @@ says n s c call r called asked told =
     let sent : told.reply ≡ spell_head call.xid ++ text = same_Some _ _ (sym told.sent ∙ ap (λ (y : Stepped). y.reply) did) in
     ap first_said (sym (one_result told.reply call.xid text told.answer sent told.is)) ∙ begins_so (op_number n) S.BadSession told.answer.result told.first
 
-never_bad : (id : SessionId) (s : State) (c : Arrival) → KeepGood s.machine.sessions → HasSession id (before s c) → IsBadSession id s c → ⊥
+never_bad : (id : SessionId) (s : ServerState) (c : Arrival) → KeepGood s.machine.sessions → HasSession id (before s c) → IsBadSession id s c → ⊥
 never_bad id s c keeps has (BySequence h reads same told) =
     let m = (ticked s c.now).machine in
     let from = heads c.bytes h reads in
@@ -187,7 +186,7 @@ never_bad id s c keeps has (ByDestroy call r sessionid more called asked first s
     false≢true (sym (first_good m r.declared call.who (ticked s c.now).moment (is_here c.choice) sessionid some) ∙ bad)
 
 -- one of the records ended it, or time did
-ended : (id : SessionId) (lease last : ℕ) (s : State) (between : List Arrival) (d : Arrival) → KeepGood s.machine.sessions → StaysThere id lease last s (between ++ d ∷ [])
+ended : (id : SessionId) (lease last : ℕ) (s : ServerState) (between : List Arrival) (d : Arrival) → KeepGood s.machine.sessions → StaysThere id lease last s (between ++ d ∷ [])
     → IsBadSession id (state_after_all s between) d → HasEnded id lease last s between d
 ended id lease last s [] d keeps stays bad = elim (cases_lt (last + lease) (taken s d)) [
   | inl past ↦ past

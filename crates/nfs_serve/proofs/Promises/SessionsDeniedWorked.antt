@@ -7,7 +7,7 @@ use Rattle.nfs_compound.specs.{OpNum.op_number, declared.op_num.OpNum.OpNum}
 use Rattle.nfs_compound.specs.declared.op_num.OpNum.TheVariants as Num
 use Rattle.nfs_sessions.specs.{declared.id.SessionId.SessionId, Sessions.is_session}
 use Rattle.nfs_exec.specs.{Runs.OneSession.MakesOne}
-use Rattle.nfs_serve.specs.{Step.{State, step}, Promises.Endpoint.Arrival, Promises.Exchanges.words, Promises.HeldLock.{start, locks, renewal, waits}}
+use Rattle.nfs_serve.specs.{Step.{ServerState, step}, Promises.Endpoint.Arrival, Promises.Exchanges.words, Promises.HeldLock.{start, locks, renewal, waits}}
 use Rattle.nfs_serve.specs.{Promises.LockKept.{renews_by, replaces_by}, Promises.Points.{state_after, state_after_all, taken, before, asked_by}, Promises.Seen.accepted_reply}
 use Rattle.nfs_serve.specs.{Promises.SessionsDenied.{SaysFirst, IsBadSession, BySequence, ByDestroy, HasEnded, Made}, Promises.SessionStays.{id, ends_by, forgetful}}
 use Rattle.nfs_serve.specs.Promises.SessionsDeniedWorked.{known, creates, goes_on, too_late, destroys, destroys_again, restarts, hasty, IsLeft, EndsAreRefused}
@@ -30,7 +30,7 @@ makes = record {
 abbrev denial : OpNum → List ℕ
 denial n = words (10052 ∷ 0 ∷ 1 ∷ op_number n ∷ 10052 ∷ [])
 
-said : (n : OpNum) (s : State) (c : Arrival) (xid : ℕ) → xid < 2 ^ 32 → (step s c.bytes c.now c.choice).reply ≡ Some ((accepted_reply xid).bytes ++ denial n)
+said : (n : OpNum) (s : ServerState) (c : Arrival) (xid : ℕ) → xid < 2 ^ 32 → (step s c.bytes c.now c.choice).reply ≡ Some ((accepted_reply xid).bytes ++ denial n)
     → SaysFirst n BadSession s c
 unfolding computing
 said n s c xid small sent = record {
@@ -42,7 +42,7 @@ said n s c xid small sent = record {
 }
 
 -- So it can be tested: each record comes in time, and ends nothing.
-abbrev lasts : SessionId → (lease last : ℕ) → State → List Arrival → Arrival → Bool
+abbrev lasts : SessionId → (lease last : ℕ) → ServerState → List Arrival → Arrival → Bool
 lasts id lease last s [] d = nat_le (taken s d) (last + lease)
 lasts id lease last s (c ∷ more) d =
     nat_le (taken s c) (last + lease)
@@ -52,7 +52,7 @@ lasts id lease last s (c ∷ more) d =
 late : (a b : ℕ) → nat_le a b ≡ true → b < a → ⊥
 late a b test past = (let within = leb-true a b test in omega (arith, within, past))
 
-not_ended : (id : SessionId) (lease last : ℕ) (s : State) (records : List Arrival) (d : Arrival) → lasts id lease last s records d ≡ true
+not_ended : (id : SessionId) (lease last : ℕ) (s : ServerState) (records : List Arrival) (d : Arrival) → lasts id lease last s records d ≡ true
     → HasEnded id lease last s records d → ⊥
 not_ended id lease last s [] d test past = late (taken s d) (last + lease) test past
 not_ended id lease last s (c ∷ more) d test ended =
@@ -70,7 +70,7 @@ not_ended id lease last s (c ∷ more) d test ended =
       ]
     ]
 
-bad_renewal : (s : State) → (step s renewal.bytes renewal.now renewal.choice).reply ≡ Some ((accepted_reply 4).bytes ++ denial Num.Sequence) → IsBadSession id s renewal
+bad_renewal : (s : ServerState) → (step s renewal.bytes renewal.now renewal.choice).reply ≡ Some ((accepted_reply 4).bytes ++ denial Num.Sequence) → IsBadSession id s renewal
 unfolding computing
 bad_renewal s sent = BySequence _ refl refl (said Num.Sequence s renewal 4 (omega arith) sent)
 

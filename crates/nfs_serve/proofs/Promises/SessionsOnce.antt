@@ -1,33 +1,33 @@
 -- A CREATE_SESSION makes one session and its repeat none, in whole runs.
 use Rattle.std.proofs.Common.{◌≡◌, ◌⊎◌, ℕ, ◌+◌, ◌^◌, ◌<◌, false, cond, List, [], ◌∷◌, ◌++◌, length, Option, Some, None, refl, sym, ◌∙◌, ap, subst, append_assoc, append-nil, arith, inl, inr}
 use Rattle.std.specs.Option.{option_map_or}
-use Rattle.nfs_clients.specs.CreateSession.{following}
+use Rattle.nfs_xdr.specs.Numbers.{next_number}
 use Rattle.nfs_exec.specs.{Step.Machine.{Machine, IsMachine}, Step.Laws.{MachineEvent, Expires, Asks, stepped}, Runs.OneSession.{asks_session, MakesOne}}
 use Rattle.nfs_exec.proofs.{Step.Invariant.of_start, Runs.SlotNumbers.IsCounted, Runs.SlotNumbersAlong.counted_step}
 use Rattle.nfs_exec.proofs.Runs.SessionNumbers.{After, ToldBy, more, tells_more, tells_carried}
 use Rattle.nfs_exec.proofs.Runs.OneSession.{IsMadeBy, first_bytes, event_after, event_carried, event_tells, given_after, given_again, given_next, gives_made, gives_one}
-use Rattle.nfs_serve.specs.{Step.{State, new_state}, Promises.Endpoint.Arrival}
+use Rattle.nfs_serve.specs.{Step.{ServerState, new_state}, Promises.Endpoint.Arrival}
 use Rattle.nfs_serve.specs.Promises.Points.{state_after, state_after_all, reached, taken, before, asked_by}
 use Rattle.nfs_serve.specs.Promises.SessionsOnce.{asks_by, asked, GivesIn, WasMade, EachMakesOne, EachWasMade, RepeatsMakeNone, NextMakesOne}
 use Rattle.nfs_serve.proofs.{Promises.Points.{left, for_asked, next_is}, Promises.Outlived.{machine_before, machine_all}}
 
 -- The client's number, from one record to the next.
 
-before_after : (n number most : ℕ) (body : List ℕ) (s : State) (c : Arrival) → After n number body most s.machine.clients → After n number body most (before s c).clients
+before_after : (n number most : ℕ) (body : List ℕ) (s : ServerState) (c : Arrival) → After n number body most s.machine.clients → After n number body most (before s c).clients
 before_after n number most body s c a =
     more n number most (most + 0) body (before s c).clients (omega arith) (event_after n number most body s.machine (Expires (taken s c)) a)
 
-next_after : (n number most : ℕ) (body : List ℕ) (s : State) (c : Arrival) → After n number body most s.machine.clients
+next_after : (n number most : ℕ) (body : List ℕ) (s : ServerState) (c : Arrival) → After n number body most s.machine.clients
     → After n number body (most + cond (asks_by n s c) 1 0) (state_after s c).machine.clients
 next_after n number most body s c a =
     let m = before s c in
     let here = before_after n number most body s c a in
-    subst (λ (t : State). After n number body (most + cond (asks_by n s c) 1 0) t.machine.clients) (sym (next_is s c))
+    subst (λ (t : ServerState). After n number body (most + cond (asks_by n s c) 1 0) t.machine.clients) (sym (next_is s c))
     (for_asked (λ o. After n number body (most + cond (option_map_or (asks_session n) o false) 1 0) (left m o).clients) s c
     (more n number (most + 0) most body m.clients (omega arith) here)
     (λ r who. event_after n number most body m (Asks r who (length c.bytes) (taken s c) c.choice) here))
 
-all_after : (n number most : ℕ) (body : List ℕ) (s : State) (records : List Arrival) → After n number body most s.machine.clients
+all_after : (n number most : ℕ) (body : List ℕ) (s : ServerState) (records : List Arrival) → After n number body most s.machine.clients
     → After n number body (most + asked n s records) (state_after_all s records).machine.clients
 all_after n number most body s [] a = more n number (most + 0) most body s.machine.clients (omega arith) a
 all_after n number most body s (c ∷ rest) a =
@@ -37,20 +37,20 @@ all_after n number most body s (c ∷ rest) a =
 
 -- No session's counter is above the last that was given.
 
-counted_next : (s : State) (c : Arrival) → IsCounted s.machine.sessions → IsCounted (state_after s c).machine.sessions
+counted_next : (s : ServerState) (c : Arrival) → IsCounted s.machine.sessions → IsCounted (state_after s c).machine.sessions
 counted_next s c is =
     let m = before s c in
     let here : IsCounted m.sessions = counted_step s.machine (Expires (taken s c)) is in
-    subst (λ (t : State). IsCounted t.machine.sessions) (sym (next_is s c))
+    subst (λ (t : ServerState). IsCounted t.machine.sessions) (sym (next_is s c))
     (for_asked (λ o. IsCounted (left m o).sessions) s c here (λ r who. counted_step m (Asks r who (length c.bytes) (taken s c) c.choice) here))
 
-counted_all : (s : State) (records : List Arrival) → IsCounted s.machine.sessions → IsCounted (state_after_all s records).machine.sessions
+counted_all : (s : ServerState) (records : List Arrival) → IsCounted s.machine.sessions → IsCounted (state_after_all s records).machine.sessions
 counted_all s [] is = is
 counted_all s (c ∷ rest) is = counted_all (state_after s c) rest (counted_next s c is)
 
 -- the machine behind a record that asks for something
-next_machine : (s : State) (c : Arrival) (e : MachineEvent) → asked_by s c ≡ Some e → (state_after s c).machine ≡ stepped (before s c) e
-next_machine s c e asks = ap (λ (t : State). t.machine) (next_is s c) ∙ ap (left (before s c)) asks
+next_machine : (s : ServerState) (c : Arrival) (e : MachineEvent) → asked_by s c ≡ Some e → (state_after s c).machine ≡ stepped (before s c) e
+next_machine s c e asks = ap (λ (t : ServerState). t.machine) (next_is s c) ∙ ap (left (before s c)) asks
 
 pub each_makes_one : EachMakesOne
 each_makes_one mode instance lease records c client number id g =
@@ -96,13 +96,13 @@ next_makes_one mode instance lease earlier c between d client number id other sm
 
 -- Who made the session that is answered: the client's number and what is kept under it tell, from one record to the next.
 
-record Told (client number : ℕ) (body : List ℕ) (start : State) (records : List Arrival) : Type 0 where
+record Told (client number : ℕ) (body : List ℕ) (start : ServerState) (records : List Arrival) : Type 0 where
   id : List ℕ
   was : WasMade client number id start records
   text : id ++ was.gives.gives.behind ≡ body
 
 -- it is told behind more records too
-told_later : (client number : ℕ) (body : List ℕ) (start : State) (records : List Arrival) (c : Arrival) → Told client number body start records
+told_later : (client number : ℕ) (body : List ℕ) (start : ServerState) (records : List Arrival) (c : Arrival) → Told client number body start records
     → Told client number body start (records ++ c ∷ [])
 told_later client number body start records c t = record {
   id = t.id;
@@ -118,7 +118,7 @@ told_later client number body start records c t = record {
 }
 
 -- the last of the records made it
-made_last : (client number : ℕ) (id : List ℕ) (start : State) (records : List Arrival) (c : Arrival) → GivesIn client number id (state_after_all start records) c
+made_last : (client number : ℕ) (id : List ℕ) (start : ServerState) (records : List Arrival) (c : Arrival) → GivesIn client number id (state_after_all start records) c
     → MakesOne client id (before (state_after_all start records) c).sessions (state_after (state_after_all start records) c).machine.sessions
     → WasMade client number id start (records ++ c ∷ [])
 made_last client number id start records c gives makes = record {
@@ -130,7 +130,7 @@ made_last client number id start records c gives makes = record {
   makes = makes;
 }
 
-told_last : (client number : ℕ) (body : List ℕ) (start : State) (records : List Arrival) (c : Arrival) (e : MachineEvent) → asked_by (state_after_all start records) c ≡ Some e
+told_last : (client number : ℕ) (body : List ℕ) (start : ServerState) (records : List Arrival) (c : Arrival) (e : MachineEvent) → asked_by (state_after_all start records) c ≡ Some e
     → IsMadeBy client number body (before (state_after_all start records) c) e → Told client number body start (records ++ c ∷ [])
 unfolding made_last
 told_last client number body start records c e asks made =
@@ -142,25 +142,25 @@ told_last client number body start records c e asks made =
       text = made.text;
     }
 
-tells_before : (client number : ℕ) (body : List ℕ) (X : Type 0) (s : State) (c : Arrival) → ToldBy client (following number) body X s.machine.clients
-    → ToldBy client (following number) body X (before s c).clients
+tells_before : (client number : ℕ) (body : List ℕ) (X : Type 0) (s : ServerState) (c : Arrival) → ToldBy client (next_number number) body X s.machine.clients
+    → ToldBy client (next_number number) body X (before s c).clients
 tells_before client number body X s c tells =
-    event_carried client (ToldBy client (following number) body X) (tells_carried client (following number) body X) s.machine (Expires (taken s c)) refl tells
+    event_carried client (ToldBy client (next_number number) body X) (tells_carried client (next_number number) body X) s.machine (Expires (taken s c)) refl tells
 
-tells_next : (client number : ℕ) (body : List ℕ) (start : State) (records : List Arrival) (c : Arrival) → number < 2 ^ 32
+tells_next : (client number : ℕ) (body : List ℕ) (start : ServerState) (records : List Arrival) (c : Arrival) → number < 2 ^ 32
     → (let s = state_after_all start records in IsMachine s.machine → IsCounted s.machine.sessions
-    → ToldBy client (following number) body (Told client number body start records) s.machine.clients
-    → ToldBy client (following number) body (Told client number body start (records ++ c ∷ [])) (state_after s c).machine.clients)
+    → ToldBy client (next_number number) body (Told client number body start records) s.machine.clients
+    → ToldBy client (next_number number) body (Told client number body start (records ++ c ∷ [])) (state_after s c).machine.clients)
 tells_next client number body start records c low is counted tells =
-    subst (λ (t : State). ToldBy client (following number) body (Told client number body start (records ++ c ∷ [])) t.machine.clients)
+    subst (λ (t : ServerState). ToldBy client (next_number number) body (Told client number body start (records ++ c ∷ [])) t.machine.clients)
     (sym (next_is (state_after_all start records) c)) (by_event (asked_by (state_after_all start records) c) refl)
   where
     by_event : (o : Option MachineEvent) → asked_by (state_after_all start records) c ≡ o
-        → ToldBy client (following number) body (Told client number body start (records ++ c ∷ [])) (left (before (state_after_all start records) c) o).clients
+        → ToldBy client (next_number number) body (Told client number body start (records ++ c ∷ [])) (left (before (state_after_all start records) c) o).clients
     by_event None asks =
         let X = Told client number body start records in
         let Y = Told client number body start (records ++ c ∷ []) in
-        tells_more client (following number) body X Y (before (state_after_all start records) c).clients (told_later client number body start records c)
+        tells_more client (next_number number) body X Y (before (state_after_all start records) c).clients (told_later client number body start records c)
         (tells_before client number body X (state_after_all start records) c tells)
     by_event (Some e) asks =
         let s = state_after_all start records in
@@ -169,21 +169,21 @@ tells_next client number body start records c low is counted tells =
         event_tells client number body X Y (before s c) e (machine_before s c is).clients (counted_step s.machine (Expires (taken s c)) counted) low
         (told_later client number body start records c) (told_last client number body start records c e asks) (tells_before client number body X s c tells)
 
-next_last : (s : State) (records : List Arrival) (c : Arrival) → state_after_all s (records ++ c ∷ []) ≡ state_after (state_after_all s records) c
+next_last : (s : ServerState) (records : List Arrival) (c : Arrival) → state_after_all s (records ++ c ∷ []) ≡ state_after (state_after_all s records) c
 next_last s [] c = refl
 next_last s (first ∷ more) c = next_last (state_after s first) more c
 
 -- what the client's record tells behind these records
-abbrev TellsAt : (client number : ℕ) → List ℕ → State → List Arrival → Type 0
-TellsAt client number body start records = ToldBy client (following number) body (Told client number body start records) (state_after_all start records).machine.clients
+abbrev TellsAt : (client number : ℕ) → List ℕ → ServerState → List Arrival → Type 0
+TellsAt client number body start records = ToldBy client (next_number number) body (Told client number body start records) (state_after_all start records).machine.clients
 
-tells_all : (client number : ℕ) (body : List ℕ) (start : State) (done rest : List Arrival) → number < 2 ^ 32 → IsMachine start.machine → IsCounted start.machine.sessions
+tells_all : (client number : ℕ) (body : List ℕ) (start : ServerState) (done rest : List Arrival) → number < 2 ^ 32 → IsMachine start.machine → IsCounted start.machine.sessions
     → TellsAt client number body start done → TellsAt client number body start (done ++ rest)
 tells_all client number body start done [] low is counted tells = subst (TellsAt client number body start) (sym (append-nil done)) tells
 tells_all client number body start done (c ∷ rest) low is counted tells =
     subst (TellsAt client number body start) (append_assoc done (c ∷ []) rest)
     (tells_all client number body start (done ++ c ∷ []) rest low is counted
-    (subst (λ (t : State). ToldBy client (following number) body (Told client number body start (done ++ c ∷ [])) t.machine.clients) (sym (next_last start done c))
+    (subst (λ (t : ServerState). ToldBy client (next_number number) body (Told client number body start (done ++ c ∷ [])) t.machine.clients) (sym (next_last start done c))
     (tells_next client number body start done c low (machine_all start done is) (counted_all start done counted) tells)))
 
 pub each_was_made : EachWasMade
@@ -194,7 +194,7 @@ each_was_made mode instance lease records c client number id small low g =
     let counted : IsCounted start.machine.sessions = λ x there. absurd there in
     let body = id ++ g.gives.behind in
     let X = Told client number body start records in
-    let tells : ToldBy client (following number) body X s.machine.clients = tells_all client number body start [] records low is counted
+    let tells : ToldBy client (next_number number) body X s.machine.clients = tells_all client number body start [] records low is counted
     (record { small = λ x there. absurd there; told = λ x there. absurd there }) in
     elim (gives_made client number id X (before s c) g.event (counted_step s.machine (Expires (taken s c)) (counted_all start records counted)) g.gives
     (tells_before client number body X s c tells)) [

@@ -3,14 +3,14 @@ use Rattle.std.proofs.Common.{◌≡◌, ℕ, ◌+◌, ◌*◌, ◌^◌, Bool, t
 use Rattle.std.proofs.{lemmas.Bool.{and_parts, eqb-true, false≢true}, lemmas.Slice.Eq.bytes_eq-Decides}
 use Rattle.std.specs.Prelude.{◌==◌, ◌&&◌, bytes_eq, is_some}
 use Rattle.nfs_xdr.specs.declared.status.Status.TheVariants.{Nfs4Ok}
+use Rattle.nfs_xdr.specs.Numbers.{next_number}
 use Rattle.nfs_compound.specs.{declared.op.Item.Item, declared.op.Item.TheVariants.Operation, Request.Request}
 use Rattle.nfs_compound.specs.declared.op.Op.TheVariants as Op
 use Rattle.nfs_compound.specs.declared.op_num.OpNum.TheVariants as Num
 use Rattle.nfs_results.specs.Results.{done_head, spell_compound_head}
 use Rattle.nfs_sessions.specs.Sessions.{SessionTable}
-use Rattle.nfs_clients.specs.CreateSession.{following}
 use Rattle.nfs_exec.specs.{Step.Machine.Machine, Step.Compound.compound, Step.Laws.{MachineEvent, Expires, Asks}, Runs.OneSession.MakesOne}
-use Rattle.nfs_serve.specs.{Step.State, Promises.Endpoint.Arrival, Promises.Points.{state_after, before, asked_by}, Promises.Exchanges.words}
+use Rattle.nfs_serve.specs.{Step.ServerState, Promises.Endpoint.Arrival, Promises.Points.{state_after, before, asked_by}, Promises.Exchanges.words}
 use Rattle.nfs_serve.specs.Promises.SessionsOnce.{GivesIn, start, creates, again, goes_on, repeated, id, IsGivenOnce}
 use Rattle.nfs_serve.proofs.Promises.Computing.{computing}
 
@@ -27,7 +27,7 @@ abbrev gives_so : (client number : ℕ) → List ℕ → Machine → Option Mach
 gives_so client number id m (Some (Asks r who size now choice)) = answers_so client number id r (compound m r who size now choice).text r.left
 gives_so client number id m o = false
 
-pub given : (client number : ℕ) (id : List ℕ) (s : State) (c : Arrival) (o : Option MachineEvent) → asked_by s c ≡ o → gives_so client number id (before s c) o ≡ true
+pub given : (client number : ℕ) (id : List ℕ) (s : ServerState) (c : Arrival) (o : Option MachineEvent) → asked_by s c ≡ o → gives_so client number id (before s c) o ≡ true
     → GivesIn client number id s c
 given client number id s c (Some (Asks r who size now choice)) e test = by_items r.left refl test
   where
@@ -73,7 +73,7 @@ is_given_once = record {
   few = refl;
   second = given (7 * 2 ^ 32 + 1) 1 id repeated again (asked_by repeated again) refl refl;
   other = λ same. differ (ap (λ (bytes : List ℕ). get_or bytes 15 0) same);
-  third = given (7 * 2 ^ 32 + 1) (following 1) (words (7 ∷ 1 ∷ 0 ∷ 2 ∷ [])) (state_after repeated again) goes_on (asked_by (state_after repeated again) goes_on) refl refl;
+  third = given (7 * 2 ^ 32 + 1) (next_number 1) (words (7 ∷ 1 ∷ 0 ∷ 2 ∷ [])) (state_after repeated again) goes_on (asked_by (state_after repeated again) goes_on) refl refl;
   none = unmade (7 * 2 ^ 32 + 1) (before start creates).sessions;
   twice = unmade (7 * 2 ^ 32 + 1) (state_after start creates).machine.sessions;
 }

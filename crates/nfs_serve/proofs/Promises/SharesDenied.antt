@@ -12,16 +12,19 @@ use Rattle.nfs_compound.specs.declared.open_args.OpenClaim.TheVariants.{Null, Pr
 use Rattle.nfs_compound.specs.declared.op.Op.TheVariants as Op
 use Rattle.nfs_compound.specs.declared.op_num.OpNum.TheVariants as Num
 use Rattle.nfs_results.specs.Results.{status_of_result}
-use Rattle.nfs_tree.specs.{declared.fault.TreeFault.TreeFault, declared.object.Object.Object, Bytes.has_bytes, Files.{object_at, lookup}, TreeInvariants.IsTree}
+use Rattle.nfs_tree.specs.{declared.fault.TreeFault.TreeFault, declared.object.Object.Object, Bytes.has_bytes, Files.{object_at, object_named}}
+use Rattle.nfs_tree.specs.TreeInvariants.{IsTree}
 use Rattle.nfs_tree.specs.declared.fault.TreeFault.TheVariants as T
-use Rattle.nfs_attrs.specs.{declared.wanted.AttrFault.AttrFault, declared.wanted.Wanted.Wanted, Reading.fault_status}
+use Rattle.nfs_attrs.specs.{declared.wanted.AttrFault.AttrFault, declared.wanted.Wanted.Wanted, Reading.attr_fault_status}
 use Rattle.nfs_attrs.specs.declared.wanted.AttrFault.TheVariants as F
 use Rattle.nfs_opens.specs.{declared.judging.Seat.Seat, declared.judging.Seat.TheVariants.{Anonymous, ReadBypass, Open as OpenSeat, Lock as LockSeat}}
 use Rattle.nfs_opens.specs.{declared.judging.Sort.TheVariants.Either, declared.records.OpenState.OpenState, declared.share.Share.Share, Share.meets}
-use Rattle.nfs_opens.specs.{declared.stateid.CurrentSeqid.TheVariants.Any, declared.stateid.StateId.StateId, Judging.{judge, judge_named, named, special}}
+use Rattle.nfs_opens.specs.{declared.stateid.CurrentSeqid.TheVariants.Any, declared.stateid.StateId.StateId, Judging.{judge, judge_named, state_named, special}}
 use Rattle.nfs_opens.specs.{Opening.own_open, StateId.{last_number, is_anonymous, is_bypass}, Steps.map_err, Table.{Table, clashes_with}}
-use Rattle.nfs_names.specs.{declared.context.Context.Context, declared.making.Making.Making, declared.node.Node.Node, Checks.{node_as, node_at, denied, current}}
-use Rattle.nfs_names.specs.{Create.{wanted_of, attributes_in}, Faults.{status_of, by_tree}, Outcome.{Outcome, passed, checked, answers}, State.{State, moment}}
+use Rattle.nfs_names.specs.{declared.context.Context.Context, declared.making.Making.Making, declared.node.Node.Node}
+use Rattle.nfs_names.specs.Checks.{node_as, node_at, no_access, current}
+use Rattle.nfs_names.specs.{Create.{wanted_of, attributes_in}, Faults.{tree_fault_status, by_tree}, Outcome.{Outcome, passed, checked, answers}}
+use Rattle.nfs_names.specs.State.{State, moment}
 use Rattle.nfs_names.specs.StoreInvariants.{IsStore}
 use Rattle.nfs_names.proofs.{Faulted.status_of_refusal, Found.{came, ok_is, checked_ok, or_fault, first_append}, Ones.by_delay}
 use Rattle.nfs_files.specs.{Bytes.{file_checks, seat, reading, writing, want_of, denials, seat_checks, may_use}, Parts.{if_passed, readable, writable}, StateIds.meant}
@@ -66,15 +69,15 @@ current_other : (s : State) (x : Context) → IsOther (current s x)
 unfolding current
 current_other s x = at_other s x.current
 
-fault_other : (f : AttrFault) → is_reason (fault_status f) ≡ false
+fault_other : (f : AttrFault) → is_reason (attr_fault_status f) ≡ false
 unfolding is_reason
 fault_other F.AttrNotSupp = refl
 fault_other F.Inval = refl
 fault_other F.BadXdr = refl
 fault_other F.BadOwner = refl
 
-read_other : {A : Type 0} (v : Result A AttrFault) → IsOther (map_err fault_status v)
-read_other (Err f) = err_without is_reason (fault_status f) (fault_other f)
+read_other : {A : Type 0} (v : Result A AttrFault) → IsOther (map_err attr_fault_status v)
+read_other (Err f) = err_without is_reason (attr_fault_status f) (fault_other f)
 read_other (Ok a) = ok_without is_reason a
 
 wanted_other : (a : Attributes) → IsOther (attributes_in a)
@@ -132,7 +135,7 @@ module _ (s : State) (x : Context) (o : Open) where
   name_other name d = then_without is_reason (checked (Ok d) (place_checks x name)) _
       (checked_without is_reason (Ok d) (place_checks x name) (ok_without is_reason d) (λ k e. good (place_checks x name k) refl)) (λ p e.
       then_without is_reason (attributes_in (makes o.openhow).attributes) _ (wanted_other (makes o.openhow).attributes) (λ w g.
-      found_other (record { place = p; wanted = w }) (lookup s.tree p.number name)))
+      found_other (record { place = p; wanted = w }) (object_named s.tree p.number name)))
 
   claim_other : (claim : OpenClaim) (d : Node) → IsOther (by_claim s x o claim d)
   unfolding is_reason
@@ -153,7 +156,7 @@ module _ (s : State) (x : Context) (o : Open) where
 
 -- The checks of the tree answer otherwise.
 
-tree_other : (f : TreeFault) → is_reason (status_of f) ≡ false
+tree_other : (f : TreeFault) → is_reason (tree_fault_status f) ≡ false
 unfolding is_reason
 tree_other T.NoEnt = refl
 tree_other T.Exist = refl
@@ -170,8 +173,8 @@ tree_other T.Memory = refl
 by_tree_good : (checks : List (Bool × TreeFault)) → AreGood is_reason (by_tree checks)
 by_tree_good [] f e = absurd cc
 by_tree_good (check ∷ checks) f e = elim (cases_Bool check.0) [
-  | inl fails ↦ (let is : Some (status_of check.1) ≡ Some f = rw fails at e in
-      let same : status_of check.1 ≡ f = cc in ap is_reason (sym same) ∙ tree_other check.1)
+  | inl fails ↦ (let is : Some (tree_fault_status check.1) ≡ Some f = rw fails at e in
+      let same : tree_fault_status check.1 ≡ f = cc in ap is_reason (sym same) ∙ tree_other check.1)
   | inr passes ↦ by_tree_good checks f (rw passes at e)
 ]
 
@@ -219,8 +222,8 @@ claim_file : (s : State) (x : Context) (o : Open) (claim : OpenClaim) (d : Node)
     → IsClaimed s x claim (file_of s.tree f)
 claim_file s x o (Null name) d f at e =
     let its = finds s x o name d f e in
-    let leads : claimed s.tree x (Null name) ≡ lookup s.tree d.number name = ap (named_in s.tree name) at in
-    elim (found_file s x o (record { place = d; wanted = its.0 }) (lookup s.tree d.number name) f its.2) [ inl there ↦ inl (leads ∙ there) | inr next ↦ inr next ]
+    let leads : claimed s.tree x (Null name) ≡ object_named s.tree d.number name = ap (named_in s.tree name) at in
+    elim (found_file s x o (record { place = d; wanted = its.0 }) (object_named s.tree d.number name) f its.2) [ inl there ↦ inl (leads ∙ there) | inr next ↦ inr next ]
 claim_file s x o Fh d f at e = inl (handle_file s x o d f (makes o.openhow).creates at e)
 claim_file s x o (Previous type) d f at e = absurd cc
 claim_file s x o (DelegateCur id file) d f at e = absurd cc
@@ -379,11 +382,11 @@ by_seat s x wanted given d Anonymous status seat is e =
       id = seat.0;
       means = seat.1;
       special = some;
-      read = λ reads. anonymous_is (is_anonymous seat.0) (is_bypass seat.0) (judge_named x.client (Some d.number) Either seat.0.seqid (named s.opens seat.0)) some seat.2;
-      by = any_denied s wanted d (first_of (meets wanted (denials s d)) S.Locked (denied x d (want_of wanted) ∷ []) status (good (denied x d (want_of wanted) ∷ []) refl) is e);
+      read = λ reads. anonymous_is (is_anonymous seat.0) (is_bypass seat.0) (judge_named x.client (Some d.number) Either seat.0.seqid (state_named s.opens seat.0)) some seat.2;
+      by = any_denied s wanted d (first_of (meets wanted (denials s d)) S.Locked (no_access x d (want_of wanted) ∷ []) status (good (no_access x d (want_of wanted) ∷ []) refl) is e);
     }
 by_seat s x wanted given d ReadBypass status seat is e =
-    let both = and_parts _ _ (first_of (wanted.writes && (denials s d).writes) S.Locked (denied x d (want_of wanted) ∷ []) status (good (denied x d (want_of wanted) ∷ []) refl) is e) in
+    let both = and_parts _ _ (first_of (wanted.writes && (denials s d).writes) S.Locked (no_access x d (want_of wanted) ∷ []) status (good (no_access x d (want_of wanted) ∷ []) refl) is e) in
     record {
       id = seat.0;
       means = seat.1;

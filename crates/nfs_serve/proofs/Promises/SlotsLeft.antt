@@ -5,10 +5,10 @@ use Rattle.std.specs.{Prelude.{◌==◌, find, filter, if◌then◌else◌}, Opt
 use Rattle.nfs_xdr.specs.Tables.{IsRising}
 use Rattle.nfs_xdr.proofs.{Tables.{in_bounds, in_once}, Lists.{in_filter, find_in, find_none, find_kept, find_none_kept, some_or_none}}
 use Rattle.nfs_slots.specs.Slot.{SlotState}
+use Rattle.nfs_slots.specs.Slot as slots
 use Rattle.nfs_slots.proofs.TableLemmas.{slice_get-set_same, slice_get-set_other}
-use Rattle.nfs_sessions.specs.{declared.id.SessionId.SessionId, declared.channel.Wish.Wish, Channel.granted, SessionSlots.{GrantedSlots, unused}}
-use Rattle.nfs_sessions.specs.{Sessions.{Session, SessionTable, is_session, session_at, with_session, keep}, SessionTables.IsSessions, Laws.is_id}
-use Rattle.nfs_sessions.specs.SessionSlots as slots
+use Rattle.nfs_sessions.specs.{declared.id.SessionId.SessionId, declared.channel.Wish.Wish, Channel.granted}
+use Rattle.nfs_sessions.specs.{Sessions.{Session, SessionTable, new_session, is_session, session_at, with_session, keep}, SessionTables.IsSessions, Laws.is_id}
 use Rattle.nfs_sessions.proofs.{LawLemmas.sessions_are_a_map, TableLemmas.{sessions_filtered, sessions_with, slots_changed, is_counter}}
 use Rattle.nfs_exec.proofs.Runs.SlotNumbers.{IsHeld}
 use Rattle.nfs_serve.specs.Promises.Seen.{slot_in}
@@ -46,12 +46,12 @@ taken number uid args reply = record { number = number; used = true; uid = uid; 
 kept_in : (found : Option Session) (k number uid : ℕ) (args reply : List ℕ) (x : SlotState) → slot_in k found ≡ Some x
     → slot_in k (option_map (λ (s : Session). record s { slots = slots.keep s.slots k number uid args reply }) found) ≡ Some (taken number uid args reply)
 kept_in None k number uid args reply x e = absurd cc
-kept_in (Some s) k number uid args reply x e = slice_get-set_same s.slots.slots k x _ e
+kept_in (Some s) k number uid args reply x e = slice_get-set_same s.slots k x _ e
 
 kept_out : (found : Option Session) (k j number uid : ℕ) (args reply : List ℕ) → (j ≡ k → ⊥)
     → slot_in j (option_map (λ (s : Session). record s { slots = slots.keep s.slots k number uid args reply }) found) ≡ slot_in j found
 kept_out None k j number uid args reply ne = refl
-kept_out (Some s) k j number uid args reply ne = slice_get-set_other s.slots.slots k j _ ne
+kept_out (Some s) k j number uid args reply ne = slice_get-set_other s.slots k j _ ne
 
 is_id_self : (id : SessionId) → is_id id id ≡ true
 is_id_self id = and_from (id.counter == id.counter) (id.client == id.client) (eq-eqb id.counter id.counter refl) (eq-eqb id.client id.client refl)
@@ -65,7 +65,7 @@ id_is id other e =
 pub keep_there : (t : SessionTable) (id : SessionId) (k number uid : ℕ) (args reply : List ℕ) (x : SlotState) → IsSessions t → slot_at t id k ≡ Some x
     → slot_at (keep t id k number uid args reply) id k ≡ Some (taken number uid args reply)
 keep_there t id k number uid args reply x is e =
-    let change : GrantedSlots → GrantedSlots = λ g. slots.keep g k number uid args reply in
+    let change : List SlotState → List SlotState = λ was. slots.keep was k number uid args reply in
     let changed = (sessions_are_a_map t is).changed_at id id change in
     ap (slot_in k) changed
     ∙ (ap (λ (b : Bool). slot_in k (if b then option_map (λ (s : Session). record s { slots = change s.slots }) (session_at t id) else session_at t id)) (is_id_self id)
@@ -74,7 +74,7 @@ keep_there t id k number uid args reply x is e =
 pub keep_elsewhere : (t : SessionTable) (id other : SessionId) (k j number uid : ℕ) (args reply : List ℕ) → IsSessions t → ((other ≡ id) × (j ≡ k) → ⊥)
     → slot_at (keep t id k number uid args reply) other j ≡ slot_at t other j
 keep_elsewhere t id other k j number uid args reply is ne =
-    let change : GrantedSlots → GrantedSlots = λ g. slots.keep g k number uid args reply in
+    let change : List SlotState → List SlotState = λ was. slots.keep was k number uid args reply in
     let changed = (sessions_are_a_map t is).changed_at id other change in
     ap (slot_in j) changed
     ∙ by (is_id other id) (option_map (λ (s : Session). record s { slots = change s.slots }) (session_at t other)) refl
@@ -96,7 +96,7 @@ created_leaves t client wish id k is given =
     ap (slot_in k) ((sessions_are_a_map t is).created client wish id) ∙ by (is_id id new) refl
   where
     by : (b : Bool) → is_id id (record { client = client; counter = t.last + 1 }) ≡ b
-        → slot_in k (if b then Some (record { counter = t.last + 1; client = client; slots = unused (granted wish.fore) }) else session_at t id) ≡ slot_in k (session_at t id)
+        → slot_in k (if b then Some (new_session (t.last + 1) client (granted wish.fore)) else session_at t id) ≡ slot_in k (session_at t id)
     by true e =
         let counter : id.counter ≡ t.last + 1 = ap (λ (y : SessionId). y.counter) (id_is id (record { client = client; counter = t.last + 1 }) e) in
         absurd (omega (arith, counter, given))
@@ -156,7 +156,7 @@ pub kept_slot : (id : SessionId) (k : ℕ) (x : Option SlotState) (t : SessionTa
 kept_slot id k x t at slot number uid args reply apart is =
     let same = keep_elsewhere t at id slot k number uid args reply is.sound apart in
     record {
-      sound = slots_changed t at (λ g. slots.keep g slot number uid args reply) is.sound;
+      sound = slots_changed t at (λ was. slots.keep was slot number uid args reply) is.sound;
       given = is.given;
       left = elim is.left [ inl e ↦ inl (same ∙ e) | inr e ↦ inr (same ∙ e) ];
     }

@@ -3,19 +3,19 @@ use Rattle.std.proofs.Common.{◌≡◌, inl, inr, ℕ, ◌+◌, suc, Bool, true
 use Rattle.std.proofs.{lemmas.Option.same_Some, lemmas.List.{length-set, length-replicate}}
 use Rattle.std.specs.Prelude.{not, filter, if◌then◌else◌, option_map}
 use Rattle.nfs_lease.specs.Renewals.{has_run_out}
-use Rattle.nfs_slots.specs.Slot.{unused_slot}
+use Rattle.nfs_slots.specs.Slot.{SlotState, unused_slot}
+use Rattle.nfs_slots.specs.Slot as slots
 use Rattle.nfs_sessions.specs.{declared.id.SessionId.SessionId, declared.channel.Wish.Wish, Channel.granted, Id.id_of, Laws.is_id}
-use Rattle.nfs_sessions.specs.{SessionSlots.{GrantedSlots, unused}, Sessions.{Session, SessionTable, is_session, session_at, with_session, keep}}
+use Rattle.nfs_sessions.specs.Sessions.{Session, SessionTable, new_session, is_session, session_at, with_session, keep}
 use Rattle.nfs_sessions.specs.SessionTables.{IsSessions}
-use Rattle.nfs_sessions.specs.SessionSlots as slots
 use Rattle.nfs_sessions.proofs.{LawLemmas.sessions_are_a_map, TableLemmas.{sessions_filtered, sessions_with, slots_changed, is_counter}}
 use Rattle.nfs_exec.specs.Step.Sequence.{compared}
 use Rattle.nfs_exec.proofs.Runs.SlotNumbers.{IsHeld}
-use Rattle.nfs_serve.specs.{Promises.Endpoint.{Arrival, ran}, Promises.Seen.{ReplyReader, ticked, server}, Step.{State, step}}
+use Rattle.nfs_serve.specs.{Promises.Endpoint.{Arrival, ran}, Promises.Seen.{ReplyReader, ticked, server}, Step.{ServerState, step}}
 use Rattle.nfs_serve.proofs.{Promises.SlotsLeft.found_fewer, Promises.KeptSlots.{step_holds, compound_holds}}
 
 abbrev pub HasSlots : Session → Type 0
-HasSlots s = length s.slots.slots ≡ s.slots.channel.slots
+HasSlots s = length s.slots ≡ s.channel.maxrequests
 
 pub record IsSlotted (t : SessionTable) : Type 0 where
   pub sound : IsSessions t
@@ -37,8 +37,8 @@ made_slotted t client wish is = record {
 }
   where
     by : (id : SessionId) (s : Session) (b : Bool)
-        → (if b then Some (record { counter = t.last + 1; client = client; slots = unused (granted wish.fore) }) else session_at t id) ≡ Some s → HasSlots s
-    by id s true e = subst HasSlots (same_Some _ s e) (length-replicate (granted wish.fore).slots unused_slot)
+        → (if b then Some (new_session (t.last + 1) client (granted wish.fore)) else session_at t id) ≡ Some s → HasSlots s
+    by id s true e = subst HasSlots (same_Some _ s e) (length-replicate (granted wish.fore).maxrequests unused_slot)
     by id s false e = is.slots id s e
 
 kept_slotted : (t : SessionTable) (at : SessionId) (slot number uid : ℕ) (args reply : List ℕ) → IsSlotted t → IsSlotted (keep t at slot number uid args reply)
@@ -47,12 +47,12 @@ kept_slotted t at slot number uid args reply is = record {
   slots = λ id s e. by id s (is_id id at) (sym ((sessions_are_a_map t is.sound).changed_at at id change) ∙ e);
 }
   where
-    change : GrantedSlots → GrantedSlots
-    change g = slots.keep g slot number uid args reply
+    change : List SlotState → List SlotState
+    change was = slots.keep was slot number uid args reply
 
     moved : (o : Option Session) (s : Session) → ((x : Session) → o ≡ Some x → HasSlots x) → option_map (λ (x : Session). record x { slots = change x.slots }) o ≡ Some s → HasSlots s
     moved None s was e = absurd cc
-    moved (Some x) s was e = subst HasSlots (same_Some _ s e) (length-set x.slots.slots slot _ ∙ was x refl)
+    moved (Some x) s was e = subst HasSlots (same_Some _ s e) (length-set x.slots slot _ ∙ was x refl)
 
     by : (id : SessionId) (s : Session) (b : Bool)
         → (if b then option_map (λ (x : Session). record x { slots = change x.slots }) (session_at t id) else session_at t id) ≡ Some s → HasSlots s
@@ -62,10 +62,10 @@ kept_slotted t at slot number uid args reply is = record {
 held_slotted : IsHeld IsSlotted
 held_slotted = record { fewer = fewer_slotted; made = made_slotted }
 
-pub ticked_slotted : (s : State) (now : ℕ) → IsSlotted s.machine.sessions → IsSlotted (ticked s now).machine.sessions
-ticked_slotted s now is = fewer_slotted s.machine.sessions (λ (x : Session). not (has_run_out s.machine.leases (ticked s now).moment x.client)) is
+pub ticked_slotted : (s : ServerState) (now : ℕ) → IsSlotted s.machine.sessions → IsSlotted (ticked s now).machine.sessions
+ticked_slotted s now is = fewer_slotted s.machine.sessions (λ (x : Session). not (has_run_out s.machine.store.lease s.machine.leases (ticked s now).moment x.client)) is
 
-pub step_slotted : (s : State) (bytes : List ℕ) (now : ℕ) (choice : Option ℕ) → IsSlotted s.machine.sessions → IsSlotted (step s bytes now choice).state.machine.sessions
+pub step_slotted : (s : ServerState) (bytes : List ℕ) (now : ℕ) (choice : Option ℕ) → IsSlotted s.machine.sessions → IsSlotted (step s bytes now choice).state.machine.sessions
 step_slotted s bytes now choice is =
     let t = ticked s now in
     let ticked_is = ticked_slotted s now is in
@@ -75,7 +75,7 @@ step_slotted s bytes now choice is =
     ticked_is)
 
 -- behind any records
-pub ran_slotted : (reader : ReplyReader) (mode instance lease : ℕ) (s : State) (records : List Arrival) → IsSlotted s.machine.sessions
+pub ran_slotted : (reader : ReplyReader) (mode instance lease : ℕ) (s : ServerState) (records : List Arrival) → IsSlotted s.machine.sessions
     → IsSlotted (ran (server reader.find mode instance lease) s records).machine.sessions
 ran_slotted reader mode instance lease s [] is = is
 ran_slotted reader mode instance lease s (a ∷ more) is =

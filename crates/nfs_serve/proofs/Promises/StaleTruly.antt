@@ -9,7 +9,7 @@ use Rattle.nfs_compound.specs.{declared.op.Item.Item, declared.op.Item.TheVarian
 use Rattle.nfs_compound.specs.declared.op.Op.TheVariants as Op
 use Rattle.nfs_compound.specs.declared.op_num.OpNum.TheVariants as Num
 use Rattle.nfs_results.specs.declared.res.Res.TheVariants as Res
-use Rattle.nfs_tree.specs.{declared.object.Object.Object, declared.row.Row.Row, Files.{entry, is_there, lookup, object_at}}
+use Rattle.nfs_tree.specs.{declared.object.Object.Object, declared.row.Row.Row, Files.{entry, is_there, object_named, object_at}}
 use Rattle.nfs_tree.specs.Bytes.{has_bytes}
 use Rattle.nfs_attrs.specs.{declared.handle.Handle.Handle, Handle.handle_of}
 use Rattle.nfs_clients.specs.Marks.{has_reclaimed, with_reclaimed}
@@ -20,7 +20,7 @@ use Rattle.nfs_names.specs.{Create.create, Outcome.{Outcome, done}, State.{State
 use Rattle.nfs_names.proofs.Ones.{by_delay}
 use Rattle.nfs_files.proofs.TreeFiles.{IsWhole}
 use Rattle.nfs_files.specs.{Lock.lock, LockU.{lock_u, wants_memory}, Open.open_file, TestStateid.test_stateid, Write.write}
-use Rattle.nfs_exec.specs.{Step.Behind.step, Step.Machine.{Machine, refuses, with_result}, Step.ReclaimComplete.{of_one, of_all}, Runs.Ops.RanOp}
+use Rattle.nfs_exec.specs.{Step.Behind.step, Step.Machine.{Machine, with_refusal, with_result}, Step.ReclaimComplete.{of_one, of_all}, Runs.Ops.RanOp}
 use Rattle.nfs_exec.proofs.{Step.RefusalsFit.refused_status, Runs.OneRun.{IsRun, by_item}, Runs.WrittenRun.used_there}
 use Rattle.nfs_compound.specs.OpNum.{op_number}
 use Rattle.nfs_serve.specs.{Step.new_state, Promises.FileStaysWorked.{first_of, reads, removed, with_status}, Promises.HeldLock.last_of, Promises.Points.{ops_of, reached}}
@@ -48,7 +48,7 @@ unfolding current
 current_is s x fresh = fresh
 
 -- what a name leads to is there
-named_fresh : (s : State) (d n : ℕ) (name : _) → IsWhole s → lookup s.tree d name ≡ Some n → IsFresh (node_at s (Some n))
+named_fresh : (s : State) (d n : ℕ) (name : _) → IsWhole s → object_named s.tree d name ≡ Some n → IsFresh (node_at s (Some n))
 named_fresh s d n name whole at = by (entry s.tree.rows d name) refl at
   where
     by : (o : Option Row) → entry s.tree.rows d name ≡ o → option_map (λ (r : Row). r.object) o ≡ Some n → IsFresh (node_at s (Some n))
@@ -66,7 +66,7 @@ one_other m (Ok d) fresh = refl
 one_other m (Err f) fresh = ap is_stale (refused_status (op_number Num.ReclaimComplete) f) ∙ fresh f refl
 
 all_other : (m : Machine) (x : Context) → is_stale (of_all m x).status ≡ false
-all_other m x = elim (has_reclaimed m.clients x.client) as (λ b. is_stale (cond b (refuses m (op_number Num.ReclaimComplete) S.CompleteAlready)
+all_other m x = elim (has_reclaimed m.clients x.client) as (λ b. is_stale (cond b (with_refusal m (op_number Num.ReclaimComplete) S.CompleteAlready)
     (with_result (record m { clients = with_reclaimed m.clients x.client }) Res.ReclaimComplete)).status ≡ false) [ true ↦ refl | false ↦ refl ]
 
 -- where the current filehandle's object is there
@@ -169,7 +169,7 @@ lost_saved d on lost =
 put_for : (d : RanOp) → IsRun d → (h : _) → d.item ≡ Operation (Op.PutFh h) → d.status ≡ S.Stale → IsStaleFor d
 put_for d r h is stale = by (handle_of h) refl
   where
-    own : (g : Handle) → handle_of h ≡ Some g → g.instance ≡ d.before.store.instance → IsStaleFor d
+    own : (g : Handle) → handle_of h ≡ Some g → g.instance ≡ d.before.store.opens.instance → IsStaleFor d
     own g read same = elim (cases_Bool (is_used d.before.store g.number)) [
       | inr lost ↦ OfGiven h g is read (inr lost)
       | inl used ↦ absurd (not_stale d.status (put_other d r g.number h (used_there d.before.store g.number r.whole used)
@@ -178,7 +178,7 @@ put_for d r h is stale = by (handle_of h) refl
 
     by : (o : Option Handle) → handle_of h ≡ o → IsStaleFor d
     by None none = absurd (not_stale d.status (answers_other d r (Operation (Op.PutFh h)) is (unread_answers d.before.store d.context h none)) stale)
-    by (Some g) read = elim (cases_eq g.instance d.before.store.instance) [ inl same ↦ own g read same | inr other ↦ OfGiven h g is read (inl other) ]
+    by (Some g) read = elim (cases_eq g.instance d.before.store.opens.instance) [ inl same ↦ own g read same | inr other ↦ OfGiven h g is read (inl other) ]
 
 restore_for : (d : RanOp) → IsRun d → d.item ≡ Operation Op.RestoreFh → d.status ≡ S.Stale → IsStaleFor d
 restore_for d r is stale = elim (fresh_or_lost d.before.store (saved_object d.context.saved) r.whole) [
@@ -188,7 +188,7 @@ restore_for d r is stale = elim (fresh_or_lost d.before.store (saved_object d.co
 
 -- The others look at no filehandle.
 
-behind_other : (d : RanOp) (r : IsRun d) (i : Item) (f : Status) → is_stale f ≡ false → d.item ≡ i → (step d.before d.context r.now r.refused i).outcome ≡ refuses d.before (item_number i) f
+behind_other : (d : RanOp) (r : IsRun d) (i : Item) (f : Status) → is_stale f ≡ false → d.item ≡ i → (step d.before d.context r.now r.refused i).outcome ≡ with_refusal d.before (item_number i) f
     → is_stale d.status ≡ false
 behind_other d r i f other is same =
     answers_other d r i is (ap (λ (o : _). is_stale o.status) same ∙ (ap is_stale (refused_status (item_number i) f) ∙ other))
@@ -248,13 +248,13 @@ not_lost d n at used off other (OfGiven h g is read why) = false≢true (sym oth
 put_same : (j h : _) → Operation (Op.PutFh j) ≡ Operation (Op.PutFh h) → j ≡ h
 put_same j h e = cc
 
-not_lost_given : (d : RanOp) (h : _) (n : ℕ) → d.item ≡ Operation (Op.PutFh h) → handle_of h ≡ Some (record { instance = d.before.store.instance; number = n })
+not_lost_given : (d : RanOp) (h : _) (n : ℕ) → d.item ≡ Operation (Op.PutFh h) → handle_of h ≡ Some (record { instance = d.before.store.opens.instance; number = n })
     → is_used d.before.store n ≡ true → IsStaleFor d → ⊥
 not_lost_given d h n is read used (OfCurrent k on here lost) = false≢true (sym (ap is_on_current is) ∙ on)
 not_lost_given d h n is read used (OfSaved saved on here lost) = false≢true (sym (ap is_on_saved is) ∙ on)
 not_lost_given d h n is read used (OfGiven j g named told why) =
     let one = put_same j h (sym named ∙ is) in
-    let same : g ≡ record { instance = d.before.store.instance; number = n } = same_Some g _ (sym told ∙ (ap handle_of one ∙ read)) in
+    let same : g ≡ record { instance = d.before.store.opens.instance; number = n } = same_Some g _ (sym told ∙ (ap handle_of one ∙ read)) in
     elim why [
       | inl other ↦ other (ap (λ (g : Handle). g.instance) same)
       | inr lost ↦ false≢true (sym lost ∙ (ap (λ (g : Handle). is_used d.before.store g.number) same ∙ used))

@@ -10,7 +10,7 @@ use Rattle.nfs_compound.specs.{declared.lock_args.OpenToLockOwner.OpenToLockOwne
 use Rattle.nfs_compound.specs.declared.op.Op.{Op}
 use Rattle.nfs_results.specs.{declared.res.Res.Res, Results.status_of_result}
 use Rattle.nfs_opens.specs.{declared.records.LockState.LockState, declared.records.OpenState.OpenState, declared.judging.Sort.TheVariants.LockOnly}
-use Rattle.nfs_opens.specs.{declared.locking.OpenFault.TheVariants.Refused, declared.locking.Wish.Wish, declared.stateid.StateId.StateId, Closing.not_under}
+use Rattle.nfs_opens.specs.{declared.locking.OpenFault.TheVariants.Refused, declared.locking.Wish.Wish, declared.stateid.StateId.StateId}
 use Rattle.nfs_opens.specs.{Judging.judge, Locking.{access_in, lock_judged, lock_known}, Steps.map_err, Table.{Table, Asked, lock_at}, TableInvariants.IsTable}
 use Rattle.nfs_opens.specs.Opening as opening
 use Rattle.nfs_opens.proofs.CallLaws.{IsLocked, first_state, came, ok_is}
@@ -26,6 +26,7 @@ use Rattle.nfs_exec.proofs.{Runs.KeptByRuns.Is, Runs.LockOwners.{owned_behind, o
 use Rattle.nfs_exec.proofs.{Runs.OneRun.{IsRun, by_ok, by_run}, Runs.OneWalk.{Ran, Idled, event_did, ended, none_at}}
 use Rattle.nfs_serve.specs.Promises.Denials.{IsBegunBy}
 use Rattle.nfs_serve.proofs.{Promises.HeldBefore.{IsGranting, Granting, granted_told}, Promises.HeldTraced.{IsDone, done_of, chained_front, in_front}}
+use Rattle.nfs_opens.proofs.Terms.{not_under}
 
 -- Tables.
 

@@ -9,18 +9,18 @@ use Rattle.nfs_rpc.specs.declared.call.Procedure.TheVariants as Procedures
 use Rattle.nfs_compound.specs.{declared.op.Item.Item, declared.op.Item.TheVariants.{Operation, Fault}, Request.{Request, item_number}, ReadRequest.request_at}
 use Rattle.nfs_compound.specs.declared.session_args.Sequence.{Sequence}
 use Rattle.nfs_compound.specs.declared.op.Op.TheVariants as Op
-use Rattle.nfs_exec.specs.{Step.Machine.{by_fault, Machine, Outcome}, Step.Place.place_fault, Step.Sequence.{Sequenced, sequenced}, Step.Run.is_here}
+use Rattle.nfs_exec.specs.{Step.Machine.{by_fault, Machine, MachineOutcome}, Step.Place.place_fault, Step.Sequence.{Sequenced, sequenced}, Step.Run.is_here}
 use Rattle.nfs_exec.specs.{Step.Compound.{carried_out, first_item, in_session, by_first, compound}, Step.Expiry.expired}
 use Rattle.nfs_exec.specs.{Step.Laws.{if_runs, first_runs}, Step.Executing.{is_alone, executes}}
 use Rattle.nfs_exec.specs.Step.Sequence as sequence
 use Rattle.nfs_exec.proofs.Step.Repeating.{expires}
 use Rattle.nfs_serve.proofs.{Promises.ServerLaws.KeepsTime, Promises.Settled.{IsSettled, settled_new, settled_step, ticks_nothing}}
-use Rattle.nfs_serve.specs.{Promises.Endpoint.Answer, Step.{asked_of, State, Stepped, with_arguments, by_procedure, reply_to, step}}
+use Rattle.nfs_serve.specs.{Promises.Endpoint.Answer, Step.{asked_of, ServerState, Stepped, with_arguments, by_procedure, reply_to, step}}
 use Rattle.nfs_serve.specs.Promises.Seen.{ticked, executes_by, seen, server}
 
 -- A compound that does not execute changes nothing.
 
-faulted : (m : Machine) (n : ℕ) (f : Option Status) (o : Outcome) → o.machine ≡ m → (by_fault m n f o).machine ≡ m
+faulted : (m : Machine) (n : ℕ) (f : Option Status) (o : MachineOutcome) → o.machine ≡ m → (by_fault m n f o).machine ≡ m
 faulted m n None o same = same
 faulted m n (Some status) o same = refl
 
@@ -59,7 +59,7 @@ compound_idle m r who size now choice e = elim (cases_Bool (r.minor == 1)) [
 
 -- A step.
 
-reply_moment : (s : State) (size : ℕ) (choice : Option ℕ) (called : Called) → (reply_to s size choice called).state.moment ≡ s.moment
+reply_moment : (s : ServerState) (size : ℕ) (choice : Option ℕ) (called : Called) → (reply_to s size choice called).state.moment ≡ s.moment
 reply_moment s size choice (Refused Silent) = refl
 reply_moment s size choice (Refused (Mismatch xid)) = refl
 reply_moment s size choice (Refused (Auth xid stat)) = refl
@@ -74,7 +74,7 @@ reply_moment s size choice (Accepted call) = by_call call.procedure
     by_call Procedures.Null = refl
     by_call Procedures.Compound = by_request (request_at call.args)
 
-reply_idle : (s : State) (size : ℕ) (choice : Option ℕ) (called : Called) → executes_by s size called ≡ false → (reply_to s size choice called).state ≡ s
+reply_idle : (s : ServerState) (size : ℕ) (choice : Option ℕ) (called : Called) → executes_by s size called ≡ false → (reply_to s size choice called).state ≡ s
 reply_idle s size choice (Refused Silent) e = refl
 reply_idle s size choice (Refused (Mismatch xid)) e = refl
 reply_idle s size choice (Refused (Auth xid stat)) e = refl
@@ -84,34 +84,34 @@ reply_idle s size choice (Accepted call) e = by_call call.procedure e
     by_request : (o : Option Request) → option_map_or (λ r. executes s.machine r call.who size) o false ≡ false → (with_arguments s call size choice o).state ≡ s
     by_request None e = refl
     by_request (Some r) e =
-        ap (λ (m : Machine). let y : State = record { machine = m; moment = s.moment } in y) (compound_idle s.machine r call.who size s.moment choice e)
+        ap (λ (m : Machine). let y : ServerState = record { machine = m; moment = s.moment } in y) (compound_idle s.machine r call.who size s.moment choice e)
 
     by_call : (p : Procedure) → option_map_or (λ r. executes s.machine r call.who size) (asked_of call p) false ≡ false → (by_procedure s call size choice p).state ≡ s
     by_call Procedures.Null e = refl
     by_call Procedures.Compound e = by_request (request_at call.args) e
 
-pub step_is : (s : State) (bytes : List ℕ) (now : ℕ) (choice : Option ℕ) → step s bytes now choice ≡ reply_to (ticked s now) (length bytes) choice (call_of bytes)
+pub step_is : (s : ServerState) (bytes : List ℕ) (now : ℕ) (choice : Option ℕ) → step s bytes now choice ≡ reply_to (ticked s now) (length bytes) choice (call_of bytes)
 unfolding step
 step_is s bytes now choice = refl
 
-twice : (s : State) (early late : ℕ) → ticked (ticked s early) late ≡ ticked s (max early late)
+twice : (s : ServerState) (early late : ℕ) → ticked (ticked s early) late ≡ ticked s (max early late)
 twice s early late =
     let first : ℕ = max s.moment early in
     let last : ℕ = max first late in
     let once : expired last (expired first s.machine) ≡ expired last s.machine = expires s.machine first last (omega arith) in
     let same : last ≡ max s.moment (max early late) = omega arith in
-    ap (λ (m : Machine). let y : State = record { machine = m; moment = last } in y) once
-    ∙ ap (λ (n : ℕ). let y : State = record { machine = expired n s.machine; moment = n } in y) same
+    ap (λ (m : Machine). let y : ServerState = record { machine = m; moment = last } in y) once
+    ∙ ap (λ (n : ℕ). let y : ServerState = record { machine = expired n s.machine; moment = n } in y) same
 
-later : (s : State) (now : ℕ) → ticked s now ≡ ticked s (max s.moment now)
+later : (s : ServerState) (now : ℕ) → ticked s now ≡ ticked s (max s.moment now)
 later s now =
     let same : max s.moment now ≡ max s.moment (max s.moment now) = omega arith in
-    ap (λ (n : ℕ). let y : State = record { machine = expired n s.machine; moment = n } in y) same
+    ap (λ (n : ℕ). let y : ServerState = record { machine = expired n s.machine; moment = n } in y) same
 
-stepped_from : (s t : State) (bytes : List ℕ) (now then' : ℕ) (choice : Option ℕ) → ticked s now ≡ ticked t then' → step s bytes now choice ≡ step t bytes then' choice
+stepped_from : (s t : ServerState) (bytes : List ℕ) (now then' : ℕ) (choice : Option ℕ) → ticked s now ≡ ticked t then' → step s bytes now choice ≡ step t bytes then' choice
 stepped_from s t bytes now then' choice same =
     step_is s bytes now choice
-    ∙ (ap (λ (u : State). reply_to u (length bytes) choice (call_of bytes)) same ∙ sym (step_is t bytes then' choice))
+    ∙ (ap (λ (u : ServerState). reply_to u (length bytes) choice (call_of bytes)) same ∙ sym (step_is t bytes then' choice))
 
 pub keeps_time : (find : List ℕ → Option Answer) (mode instance lease : ℕ) → KeepsTime (server find mode instance lease)
 keeps_time find mode instance lease = record {
@@ -120,8 +120,8 @@ keeps_time find mode instance lease = record {
       ap (λ (r : Stepped). r.state.moment) (step_is s bytes now choice) ∙ reply_moment (ticked s now) (length bytes) choice (call_of bytes);
   takes_later = λ s bytes now choice. ap (seen find) (stepped_from s s bytes now (max s.moment now) choice (later s now));
   ticks_first = λ s bytes early late choice. ap (seen find) (stepped_from (ticked s early) s bytes late (max early late) choice (twice s early late));
-  executes_later = λ s bytes now. ap (λ (t : State). executes_by t (length bytes) (call_of bytes)) (later s now);
-  executes_ticked = λ s bytes early late. ap (λ (t : State). executes_by t (length bytes) (call_of bytes)) (twice s early late);
+  executes_later = λ s bytes now. ap (λ (t : ServerState). executes_by t (length bytes) (call_of bytes)) (later s now);
+  executes_ticked = λ s bytes early late. ap (λ (t : ServerState). executes_by t (length bytes) (call_of bytes)) (twice s early late);
   only_ticks = λ s bytes now choice e.
       ap (λ (r : Stepped). r.state) (step_is s bytes now choice) ∙ reply_idle (ticked s now) (length bytes) choice (call_of bytes) e;
   Sound = IsSettled;

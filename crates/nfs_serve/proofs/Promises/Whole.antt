@@ -4,7 +4,7 @@ use Rattle.std.proofs.{Common.{append-nil, arith, nat_eq, eqb, if◌then◌else�
 use Rattle.std.proofs.{lemmas.List.Elements.{All-nil, All-cons, All-append}, lemmas.List.Concat.flat_map-append}
 use Rattle.nfs_rpc.specs.{RecordMarking.start, Stream.{Open, IsReading}}
 use Rattle.nfs_rpc.proofs.Readings.{part_unfinished}
-use Rattle.nfs_serve.specs.{declared.form.Form.TheVariants.Plain, Script.{Entry, Fits, last_connection}, Step.State}
+use Rattle.nfs_serve.specs.{declared.form.Form.TheVariants.Plain, Script.{Entry, Fits, last_connection}, Step.ServerState}
 use Rattle.nfs_serve.specs.Run.{Streams, with_stream, all_closed, TakesAll, StreamEvent, Move, events, after, after_event, output_of}
 use Rattle.nfs_serve.specs.{Desk.{opened, Act, Goes}, Hub.{Desks, none_live, Round, Opens, Turns, OthersStay, Turning}, Promises.Laws.{call_on, NoneCloses}}
 use Rattle.nfs_serve.specs.Promises.Account.{came, taken, part_of}
@@ -20,7 +20,7 @@ TakesAll-append old (e ∷ es) fs first later between new h k =
     let (here, more, middle, is, takes, rest) = h in
     (here, more ++ later, middle, ap (λ l. l ++ later) is ∙ append_assoc here more later, takes, TakesAll-append middle es fs more later between new rest k)
 
-output_on-append : (port : ℕ) (s : State) (xs ys : List Move) → output_on port s (xs ++ ys) ≡ output_on port s xs ++ output_on port (after s xs) ys
+output_on-append : (port : ℕ) (s : ServerState) (xs ys : List Move) → output_on port s (xs ++ ys) ≡ output_on port s xs ++ output_on port (after s xs) ys
 output_on-append port s [] ys = refl
 output_on-append port s (m ∷ xs) ys =
     let here = if nat_eq (port_of m.event) port then output_of Plain s m.event m.choice else [] in
@@ -28,13 +28,13 @@ output_on-append port s (m ∷ xs) ys =
     ap (λ l. here ++ l) (output_on-append port u xs ys) ∙ sym (append_assoc here (output_on port u xs) (output_on port (after u xs) ys))
 
 -- a connection that was served all along
-record Carried (s : State) (old : Desks) (rounds : List Round) (moves : List Move) (new : Desks) (port : ℕ) : Type 0 where
+record Carried (s : ServerState) (old : Desks) (rounds : List Round) (moves : List Move) (new : Desks) (port : ℕ) : Type 0 where
   none : All (λ r. r ≢ Opens port) rounds
   open_on : NoneCloses port (script rounds)
   flow : Flow (old port) (acts_on port rounds) (output_on port s moves) (new port)
 
 -- and one that has begun since
-record Begun (s : State) (from : Streams) (rounds : List Round) (moves : List Move) (to : Streams) (new : Desks) (port : ℕ) : Type 0 where
+record Begun (s : ServerState) (from : Streams) (rounds : List Round) (moves : List Move) (to : Streams) (new : Desks) (port : ℕ) : Type 0 where
   before : List Round
   since : List Round
   split : rounds ≡ before ++ Opens port ∷ since
@@ -49,7 +49,7 @@ record Begun (s : State) (from : Streams) (rounds : List Round) (moves : List Mo
   in_order : flat_map came (acts_on port since) ≡ flat_map part_of (acts_on port since) ++ (new port).unread
   out_order : output_on port (after s earlier) later ≡ flat_map taken (acts_on port since) ++ (new port).owed
 
-record Whole (s : State) (old : Desks) (from : Streams) (rounds : List Round) (t : State) (new : Desks) : Type 0 where
+record Whole (s : ServerState) (old : Desks) (from : Streams) (rounds : List Round) (t : ServerState) (new : Desks) : Type 0 where
   moves : List Move
   to : Streams
   fits : All Fits (script rounds)
@@ -71,7 +71,7 @@ turn_opens : {p q : ℕ} {acts : List Act} → Turns p acts ≡ Opens q → ⊥
 turn_opens e = cc
 
 -- a first round in which a connection begins
-module _ (s t : State) (old between new : Desks) (from : Streams) (rounds : List Round) (p : ℕ) (is : between p ≡ opened)
+module _ (s t : ServerState) (old between new : Desks) (from : Streams) (rounds : List Round) (p : ℕ) (is : between p ≡ opened)
     (others : (c : ℕ) → c ≢ p → between c ≡ old c) (w : Whole s between (with_stream from p (Open [])) rounds t new) where
   began_here : Carried s between rounds w.moves new p → Begun s from (Opens p ∷ rounds) w.moves w.to new p
   began_here c = record {
@@ -142,7 +142,7 @@ module _ (s t : State) (old between new : Desks) (from : Streams) (rounds : List
       cases port (inr b) h = inr (begun_behind port b)
 
 -- a first round that is a turn
-module _ (s u t : State) (old between new : Desks) (from : Streams) (rounds : List Round) (p : ℕ) (acts : List Act)
+module _ (s u t : ServerState) (old between new : Desks) (from : Streams) (rounds : List Round) (p : ℕ) (acts : List Act)
     (others : (c : ℕ) → c ≢ p → between c ≡ old c) (r : Ran p acts s (old p) from u (between p)) (w : Whole u between r.to rounds t new) where
   carried_on : Carried u between rounds w.moves new p → Carried s old (Turns p acts ∷ rounds) (r.moves ++ w.moves) new p
   carried_on c =
@@ -206,14 +206,14 @@ module _ (s u t : State) (old between new : Desks) (from : Streams) (rounds : Li
       cases port (inr b) h = inr (begun_later port b)
 
 -- the rounds, whether or not their turns have ended
-Going : State → Desks → List Round → State → Desks → Type 0
+Going : ServerState → Desks → List Round → ServerState → Desks → Type 0
 Going s old [] t new = (t ≡ s) × ((c : ℕ) → new c ≡ old c)
 Going s old (Opens port ∷ rounds) t new = (between : Desks) × (port ≤ last_connection) × (between port ≡ opened) × OthersStay old between port
     × Going s between rounds t new
-Going s old (Turns port acts ∷ rounds) t new = (u : State) × (between : Desks) × (port ≤ last_connection) × Goes port s (old port) acts u (between port)
+Going s old (Turns port acts ∷ rounds) t new = (u : ServerState) × (between : Desks) × (port ≤ last_connection) × Goes port s (old port) acts u (between port)
     × OthersStay old between port × Going u between rounds t new
 
-turning_goes : (s t : State) (old new : Desks) (rounds : List Round) → Turning s old rounds t new → Going s old rounds t new
+turning_goes : (s t : ServerState) (old new : Desks) (rounds : List Round) → Turning s old rounds t new → Going s old rounds t new
 unfolding Going
 turning_goes s t old new [] h = h
 turning_goes s t old new (Opens port ∷ rounds) h =
@@ -223,7 +223,7 @@ turning_goes s t old new (Turns port acts ∷ rounds) h =
     let (u, between, le, goes, ends, others, later) = h in
     (u, between, le, goes, others, turning_goes u t between new rounds later)
 
-into_goes : (s t : State) (old new : Desks) (rounds : List Round) (p : ℕ) (acts : List Act)
+into_goes : (s t : ServerState) (old new : Desks) (rounds : List Round) (p : ℕ) (acts : List Act)
     → TurningInto s old rounds p acts t new → Going s old (rounds ++ Turns p acts ∷ []) t new
 unfolding Going
 into_goes s t old new [] p acts h =
@@ -238,7 +238,7 @@ into_goes s t old new (Turns port done ∷ rounds) p acts h =
     let (v, first, le, went, ends, rest, later) = turning in
     (v, first, le, went, rest, into_goes v t first new rounds p acts (u, between, later, within, goes, others))
 
-whole : (s t : State) (old new : Desks) (from : Streams) (rounds : List Round) → ((port : ℕ) → Holds (from port) (old port))
+whole : (s t : ServerState) (old new : Desks) (from : Streams) (rounds : List Round) → ((port : ℕ) → Holds (from port) (old port))
     → Going s old rounds t new → Whole s old from rounds t new
 unfolding Going
 whole s t old new from [] holds h = record {
@@ -271,10 +271,10 @@ whole s t old new from (Turns p acts ∷ rounds) holds h =
     let all = changed Holds from r.to old between p r.others others r.holds holds in
     behind_turn s u t old between new from rounds p acts others r (whole u t between new r.to rounds all later)
 
-from_start : (old new : State) (rounds : List Round) (desks : Desks) → Going old none_live rounds new desks → Whole old none_live all_closed rounds new desks
+from_start : (old new : ServerState) (rounds : List Round) (desks : Desks) → Going old none_live rounds new desks → Whole old none_live all_closed rounds new desks
 from_start old new rounds desks h = whole old new none_live desks all_closed rounds (λ port. record { stands = not_served }) h
 
-module _ {old new : State} {rounds : List Round} {desks : Desks} (w : Whole old none_live all_closed rounds new desks) where
+module _ {old new : ServerState} {rounds : List Round} {desks : Desks} (w : Whole old none_live all_closed rounds new desks) where
   abbrev run_of : RunsScript old rounds new desks
   run_of = record { moves = w.moves; streams = w.to; fits = w.fits; reads = w.reads; state = w.state; stands = λ port. (w.holds port).stands }
 

@@ -10,11 +10,12 @@ use Rattle.nfs_tree.specs.declared.fault.TreeFault.{TreeFault}
 use Rattle.nfs_opens.specs.{declared.judging.Seat.Seat, declared.judging.Seat.TheVariants.{Anonymous, ReadBypass}, declared.judging.Sort.Sort}
 use Rattle.nfs_opens.specs.{declared.judging.Sort.TheVariants.{Either, LockOnly, OpenOnly}, declared.stateid.CurrentSeqid.CurrentSeqid}
 use Rattle.nfs_opens.specs.{declared.stateid.CurrentSeqid.TheVariants.Any, declared.stateid.StateId.StateId}
-use Rattle.nfs_opens.specs.{Judging.{judge_checks, seated, judge_named, special, judge, named}, StateId.{is_current, with_seqid, is_anonymous, is_bypass}, Table.Table}
+use Rattle.nfs_opens.specs.{Judging.{judge_checks, seated, judge_named, special, judge, state_named}, StateId.{is_current, with_seqid, is_anonymous, is_bypass}}
+use Rattle.nfs_opens.specs.Table.{Table}
 use Rattle.nfs_opens.specs.Steps.{◌>>=◌, ◌>>◌, in_order, require}
 use Rattle.nfs_names.specs.{declared.context.Context.Context, declared.node.Node.Node, Outcome.{Outcome, passed, checked, mapped, answers, or_refusal}}
 use Rattle.nfs_names.specs.State.{State}
-use Rattle.nfs_names.specs.Faults.{status_of, by_tree}
+use Rattle.nfs_names.specs.Faults.{tree_fault_status, by_tree}
 use Rattle.nfs_names.proofs.{Faulted.status_of_refusal, Found.{or_fault, first_append}}
 use Rattle.nfs_files.specs.{Bytes.seat, StateIds.{state_id, meant}, Parts.if_passed}
 use Rattle.nfs_files.proofs.Prompt.{all_pass, first_passes, not_true}
@@ -38,11 +39,11 @@ module _ (bad : Status → Bool) where
   are_good checks all f e = not_true (bad f) (first_passes (λ f. not (bad f)) checks all f e)
 
   -- the tree's own checks, and checks behind others
-  pub by_tree_good : ((f : TreeFault) → bad (status_of f) ≡ false) → (checks : List (Bool × TreeFault)) → AreGood (by_tree checks)
+  pub by_tree_good : ((f : TreeFault) → bad (tree_fault_status f) ≡ false) → (checks : List (Bool × TreeFault)) → AreGood (by_tree checks)
   by_tree_good other [] f e = absurd cc
   by_tree_good other (check ∷ checks) f e = elim (cases_Bool check.0) [
-    | inl fails ↦ (let is : Some (status_of check.1) ≡ Some f = rw fails at e in
-        let same : status_of check.1 ≡ f = cc in ap bad (sym same) ∙ other check.1)
+    | inl fails ↦ (let is : Some (tree_fault_status check.1) ≡ Some f = rw fails at e in
+        let same : tree_fault_status check.1 ≡ f = cc in ap bad (sym same) ∙ other check.1)
     | inr passes ↦ by_tree_good other checks f (rw passes at e)
   ]
 
@@ -139,8 +140,8 @@ module _ (bad : Status → Bool) (b : bad S.BadStateId ≡ false) (o : bad S.Old
   special_without OpenOnly k = err_without bad S.BadStateId b
   special_without LockOnly k = err_without bad S.BadStateId b
 
-  named_without : (t : Table) (id : StateId) (client : ℕ) (file : Option ℕ) (sort : Sort) → IsWithout bad (judge_named client file sort id.seqid (named t id))
-  named_without t id client file sort = elim (named t id) as (λ k. IsWithout bad (judge_named client file sort id.seqid k)) [
+  named_without : (t : Table) (id : StateId) (client : ℕ) (file : Option ℕ) (sort : Sort) → IsWithout bad (judge_named client file sort id.seqid (state_named t id))
+  named_without t id client file sort = elim (state_named t id) as (λ k. IsWithout bad (judge_named client file sort id.seqid k)) [
     | None ↦ err_without bad S.BadStateId b
     | Some n ↦ (let checks = judge_checks client file sort id.seqid n in
         seated_without n.seat (first_fault checks) (passed_without bad n.seat (first_fault checks) (are_good bad checks (rw (b, o) refl))))

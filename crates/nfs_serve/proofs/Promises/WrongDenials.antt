@@ -14,7 +14,7 @@ use Rattle.nfs_opens.specs.declared.locking.Wish.{Wish}
 use Rattle.nfs_files.specs.LockTold.{LockTold}
 use Rattle.nfs_exec.specs.{Runs.LockHeld.LocksFor, Runs.Ops.RanOp}
 use Rattle.nfs_exec.proofs.Runs.OneWalk.{in_back}
-use Rattle.nfs_serve.specs.{Step.{State, new_state}, Promises.Endpoint.Arrival, Promises.HeldLock.{earlier, locks, clashes, start, asked, last_of}}
+use Rattle.nfs_serve.specs.{Step.{ServerState, new_state}, Promises.Endpoint.Arrival, Promises.HeldLock.{earlier, locks, clashes, start, asked, last_of}}
 use Rattle.nfs_serve.specs.{Promises.ChangeTells.RunsIn, Promises.Exchanges.words, Promises.Denials.{IsBegunBy, IsRefusedFor, ByLock, ByTest, byte_of, Grants}}
 use Rattle.nfs_serve.specs.{Promises.NoIsTrue.{IsInLease, IsGrantedIn, IsGranted, Before, Within, IsTrue}, Promises.Outlived.last_renewal}
 use Rattle.nfs_serve.specs.Promises.Points.{state_after, state_after_all, reached, taken, ops_of}
@@ -30,7 +30,7 @@ is_lock item = false
 abbrev grants : RanOp → Bool
 grants d = is_lock d.item && says_ok d.result
 
-abbrev pub all_ops : State → List Arrival → List RanOp
+abbrev pub all_ops : ServerState → List Arrival → List RanOp
 all_ops s [] = []
 all_ops s (c ∷ more) = ops_of s c ++ all_ops (state_after s c) more
 
@@ -48,7 +48,7 @@ in_first d [] back there = absurd there
 in_first d (f ∷ front) back (inl here) = inl here
 in_first d (f ∷ front) back (inr later) = inr (in_first d front back later)
 
-pub in_records : (s : State) (before : List Arrival) (c : Arrival) (more : List Arrival) (d : RanOp) → In d (ops_of (state_after_all s before) c) → In d (all_ops s (before ++ c ∷ more))
+pub in_records : (s : ServerState) (before : List Arrival) (c : Arrival) (more : List Arrival) (d : RanOp) → In d (ops_of (state_after_all s before) c) → In d (all_ops s (before ++ c ∷ more))
 in_records s [] c more d there = in_first d (ops_of s c) (all_ops (state_after s c) more) there
 in_records s (b ∷ before) c more d there = in_back d (ops_of s b) (all_ops (state_after s b) (before ++ c ∷ more)) (in_records (state_after s b) before c more d there)
 
@@ -152,7 +152,7 @@ again = record (asking 0) {
   });
 }
 
-runs_ops : (s : State) (records : List Arrival) (d : RanOp) → RunsIn s records d → In d (all_ops s records)
+runs_ops : (s : ServerState) (records : List Arrival) (d : RanOp) → RunsIn s records d → In d (all_ops s records)
 runs_ops s [] d there = there
 runs_ops s (c ∷ more) d (inl here) = in_first d (ops_of s c) (all_ops (state_after s c) more) here
 runs_ops s (c ∷ more) d (inr later) = in_back d (ops_of s c) (all_ops (state_after s c) more) (runs_ops (state_after s c) more d later)

@@ -13,7 +13,7 @@ use Rattle.nfs_files.specs.{StateIds.meant, LockTold.Stands}
 use Rattle.nfs_exec.specs.{Step.Machine.Machine, Step.Compound.{Answered, compound}, Step.Laws.{MachineEvent, Expires, Asks, first_runs}}
 use Rattle.nfs_exec.specs.{Step.Delayed.{IsDelayed, kept_by, with_ok}, Runs.Ops.RanOp, Runs.LockHeld.{Spares, AreSpared}}
 use Rattle.nfs_serve.specs.{Promises.Exchanges.words, Promises.LockKept.{StaysHeld, replaces_by}, Promises.Outlived.{last_renewal, IsInTime}}
-use Rattle.nfs_serve.specs.{Step.{State, new_state}, Promises.Endpoint.Arrival, Promises.Points.{state_after, taken, before, ops_of, asked_by}}
+use Rattle.nfs_serve.specs.{Step.{ServerState, new_state}, Promises.Endpoint.Arrival, Promises.Points.{state_after, taken, before, ops_of, asked_by}}
 use Rattle.nfs_serve.specs.Promises.HeldLock.{renewal, last_of}
 use Rattle.nfs_serve.specs.Promises.WrongLocks.{AreRefused, repeats, ended, NoneDelayed, short_leases, set_back, told_anyway, closes_another}
 use Rattle.nfs_serve.specs.Promises.HeldLock as worked
@@ -62,7 +62,7 @@ unheld t none is =
 none_spared : (ds : List RanOp) → ds ≡ [] → AreSpared worked.told ds
 none_spared ds none d there = absurd (subst (In d) none there)
 
-gone : (s : State) → (taken s renewal ≤ 102 + 90) → ops_of s renewal ≡ [] → replaces_by worked.told.client s renewal ≡ false
+gone : (s : ServerState) → (taken s renewal ≤ 102 + 90) → ops_of s renewal ≡ [] → replaces_by worked.told.client s renewal ≡ false
     → (state_after s renewal).machine.store.opens.held 2 2 0 ≡ None → StaysHeld worked.told 90 102 s (renewal ∷ []) → ⊥
 gone s low none spares free stays =
     unheld (state_after s renewal).machine.store.opens free

@@ -2,7 +2,7 @@
 use Rattle.std.specs.Prelude.{◌≡◌, ℕ, List, ◌++◌, Option, Some, None, ⊤}
 use Rattle.nfs_xdr.specs.Spelling.{number}
 use Rattle.nfs_rpc.specs.{declared.refusal.Refusal.TheVariants.{Silent, Mismatch, Auth, Accept}, CallHead.{Called, Accepted, Refused, call_of}}
-use Rattle.nfs_serve.specs.Step.{State, step}
+use Rattle.nfs_serve.specs.Step.{ServerState, step}
 
 -- the xid of a record that is a call, as far as it can be read
 abbrev pub xid_of : Called → Option ℕ
@@ -19,4 +19,4 @@ IsUnder (Some reply) (Some xid) = (rest : List ℕ) × (reply ≡ number xid ++ 
 IsUnder reply xid = ⊥
 
 abbrev pub EachIsAnswered : Type 0
-EachIsAnswered = (s : State) (bytes : List ℕ) (now : ℕ) (choice : Option ℕ) → IsUnder (step s bytes now choice).reply (xid_of (call_of bytes))
+EachIsAnswered = (s : ServerState) (bytes : List ℕ) (now : ℕ) (choice : Option ℕ) → IsUnder (step s bytes now choice).reply (xid_of (call_of bytes))

@@ -3,8 +3,8 @@
 -- same, under another xid and with another highest slot: it is answered what was answered first.
 use Rattle.std.specs.Prelude.{◌≡◌, ℕ, true, List, [], ◌∷◌, ◌++◌, Option, Some, None}
 use Rattle.nfs_xdr.specs.Text.{IsBytes}
+use Rattle.nfs_xdr.specs.Numbers.{next_number}
 use Rattle.nfs_rpc.specs.CallHead.{call_of}
-use Rattle.nfs_slots.specs.Slot.{next_number}
 use Rattle.nfs_serve.specs.{Step.{new_state, step}, Promises.Endpoint.{Answer, Arrival, stepped, ran}, Promises.Exchanges.words}
 use Rattle.nfs_serve.specs.{Promises.HeldLock.{came, in_session}, Promises.LostReply.{before, here, place, packet, answer, exchange_id}}
 use Rattle.nfs_serve.specs.{Promises.AnsweredAgain.{AreElsewhere, Stands}, Promises.Answering.xid_of, Promises.FreshRuns.Passes, Promises.Seen.ticked}

@@ -4,7 +4,7 @@ use Rattle.std.specs.Prelude.{◌≡◌, ◌⊎◌, ℕ, true, List, ◌∷◌, 
 use Rattle.nfs_xdr.specs.{Tables.In, declared.status.Status.Status, declared.status.Status.TheVariants.{Nfs4Ok, NoEnt}}
 use Rattle.nfs_compound.specs.declared.op.Item.TheVariants.{Operation}
 use Rattle.nfs_compound.specs.declared.op.Op.TheVariants as Op
-use Rattle.nfs_tree.specs.Files.{is_there, change_of, lookup, listing}
+use Rattle.nfs_tree.specs.Files.{is_there, change_of, object_named, listing}
 use Rattle.nfs_exec.specs.Runs.Ops.{RanOp}
 use Rattle.nfs_serve.specs.{Promises.Endpoint.Arrival, Promises.Points.{state_after, reached, ops_of}, Promises.ChangeTells.RunsIn}
 
@@ -16,7 +16,7 @@ pub record LooksUp (n : ℕ) (name : List ℕ) (status : Status) (d : RanOp) : T
 
 -- At both moments the names are the same, and so are the entries behind each cookie; and of two LOOKUPs of a name neither finds it where the other finds none.
 pub record AreNamed (n : ℕ) (d e : RanOp) : Type 0 where
-  pub names : (name : List ℕ) → lookup e.before.store.tree n name ≡ lookup d.before.store.tree n name
+  pub names : (name : List ℕ) → object_named e.before.store.tree n name ≡ object_named d.before.store.tree n name
   pub entries : (cookie : ℕ) → listing e.before.store.tree.rows n cookie ≡ listing d.before.store.tree.rows n cookie
   pub found : (name : List ℕ) → LooksUp n name Nfs4Ok d → LooksUp n name NoEnt e → ⊥
   pub missed : (name : List ℕ) → LooksUp n name NoEnt d → LooksUp n name Nfs4Ok e → ⊥

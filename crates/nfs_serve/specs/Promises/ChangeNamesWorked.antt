@@ -2,7 +2,7 @@
 -- looked up in the root, and once more by a later compound; the root's change is the same.
 use Rattle.std.specs.Prelude.{◌≡◌, ℕ, true, List, [], ◌∷◌, ◌++◌, take, Some}
 use Rattle.nfs_xdr.specs.declared.status.Status.TheVariants.{Nfs4Ok, NoEnt}
-use Rattle.nfs_tree.specs.Files.{root, is_there, change_of, lookup}
+use Rattle.nfs_tree.specs.Files.{root, is_there, change_of, object_named}
 use Rattle.nfs_exec.specs.Runs.Ops.{RanOp}
 use Rattle.nfs_serve.specs.{Promises.Points.ops_of, Promises.HeldLock.last_of, Promises.WrittenWorked.{closed, reads}}
 use Rattle.nfs_serve.specs.{Promises.ChangeWorked.{reads_again, read_once}, Promises.ChangeTells.RunsIn, Promises.ChangeNames.{LooksUp, AreNamed}}
@@ -28,7 +28,7 @@ pub record IsFoundAgain : Type 0 where
   pub same : change_of again.before.store.tree root ≡ change_of first.before.store.tree root
   pub finds : LooksUp root name Nfs4Ok first
   pub also : LooksUp root name Nfs4Ok again
-  pub leads : lookup again.before.store.tree root name ≡ Some 2
+  pub leads : object_named again.before.store.tree root name ≡ Some 2
 
 -- The promise refuses these.
 pub record FindingsAreRefused : Type 0 where

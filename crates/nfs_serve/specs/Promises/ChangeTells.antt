@@ -9,7 +9,7 @@ use Rattle.nfs_tree.specs.{declared.row.Row.Row, Files.{Files, stored_in, is_the
 use Rattle.nfs_attrs.specs.Mask.{mask_of, has}
 use Rattle.nfs_names.specs.Outcome.{is_ok}
 use Rattle.nfs_exec.specs.{Runs.AttributesTold.TellsValue, Runs.Ops.RanOp}
-use Rattle.nfs_serve.specs.{Step.State, Promises.Endpoint.Arrival, Promises.Points.{state_after, reached, ops_of}}
+use Rattle.nfs_serve.specs.{Step.ServerState, Promises.Endpoint.Arrival, Promises.Points.{state_after, reached, ops_of}}
 
 -- the entries of a directory
 abbrev pub entries_in : List Row → ℕ → List Row
@@ -27,7 +27,7 @@ pub record Tells (n : ℕ) (before behind : Files) : Type 0 where
   pub same : change_of behind n ≡ change_of before n → IsAlike n before behind
 
 -- an operation that the compound of one of these records runs
-abbrev pub RunsIn : State → List Arrival → RanOp → Type 0
+abbrev pub RunsIn : ServerState → List Arrival → RanOp → Type 0
 RunsIn s [] e = ⊥
 RunsIn s (c ∷ more) e = In e (ops_of s c) ⊎ RunsIn (state_after s c) more e
 

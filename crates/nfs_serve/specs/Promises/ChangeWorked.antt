@@ -5,7 +5,7 @@ use Rattle.nfs_compound.specs.declared.op_num.OpNum.TheVariants as Num
 use Rattle.nfs_results.specs.Results.{done_head}
 use Rattle.nfs_tree.specs.{declared.stored.Stored.Stored, Files.{Files, root, is_there, change_of}}
 use Rattle.nfs_exec.specs.Runs.Ops.{RanOp}
-use Rattle.nfs_serve.specs.{Step.State, Promises.Endpoint.Arrival, Promises.Points.{state_after, ops_of}, Promises.Exchanges.words}
+use Rattle.nfs_serve.specs.{Step.ServerState, Promises.Endpoint.Arrival, Promises.Points.{state_after, ops_of}, Promises.Exchanges.words}
 use Rattle.nfs_serve.specs.{Promises.HeldLock.{came, in_session, last_of}, Promises.WrittenWorked.{made, writes, closed, reads, answering}}
 use Rattle.nfs_serve.specs.Promises.ChangeTells.{Tells, ReadsOf, GetsOf, RunsIn}
 use Rattle.nfs_serve.specs.Promises.SeenWrite as seen
@@ -14,14 +14,14 @@ use Rattle.nfs_serve.specs.Promises.SeenWrite as seen
 abbrev pub reads_again : Arrival
 reads_again = came 107 8 (in_session 1 6 4 seen.reads)
 
-abbrev pub read_once : State
+abbrev pub read_once : ServerState
 read_once = state_after closed reads
 
 -- PUTROOTFH, LOOKUP of `f`, and GETATTR of change, size, mode and numlinks, which are attributes 3, 4, 33 and 35
 abbrev pub gets : (now xid number : ℕ) → Arrival
 gets now xid number = came now xid (in_session 1 number 4 (words (24 ∷ 15 ∷ 1 ∷ 0x6600_0000 ∷ 9 ∷ 2 ∷ 0x18 ∷ 0xa ∷ [])))
 
-abbrev pub got_once : State
+abbrev pub got_once : ServerState
 got_once = state_after read_once (gets 107 8 6)
 
 -- It meets the premises of what GETATTR promises, and computes to what that says.

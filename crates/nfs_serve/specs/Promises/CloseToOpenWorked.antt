@@ -6,7 +6,8 @@ use Rattle.nfs_compound.specs.declared.op_num.OpNum.TheVariants as Num
 use Rattle.nfs_results.specs.Results.{done_head}
 use Rattle.nfs_files.specs.Written.{GivesIt, bytes_in}
 use Rattle.nfs_exec.specs.Runs.Ops.{RanOp}
-use Rattle.nfs_serve.specs.{Step.{State, new_state}, Promises.CloseToOpen.{TellsChange, Keeps, IsWritten}, Promises.Endpoint.Arrival, Promises.Exchanges.words}
+use Rattle.nfs_serve.specs.{Step.{ServerState, new_state}, Promises.CloseToOpen.{TellsChange, Keeps, IsWritten}, Promises.Endpoint.Arrival}
+use Rattle.nfs_serve.specs.Promises.Exchanges.{words}
 use Rattle.nfs_serve.specs.{Promises.HeldLock.{came, in_session, last_of}, Promises.ListsAll.all_ops, Promises.LostReply.{exchange_id, create_session}}
 use Rattle.nfs_serve.specs.{Promises.Points.{state_after, ops_of}, Promises.WrittenWorked.{makes, made, byte}}
 use Rattle.nfs_serve.specs.Promises.SeenWrite as seen
@@ -65,28 +66,28 @@ records =
     ∷ []
 
 -- the states between them
-abbrev pub there : State
+abbrev pub there : ServerState
 there = state_after made comes
 
-abbrev pub ready : State
+abbrev pub ready : ServerState
 ready = state_after there begins
 
-abbrev pub looked : State
+abbrev pub looked : ServerState
 looked = state_after ready looks
 
-abbrev pub read_early : State
+abbrev pub read_early : ServerState
 read_early = state_after looked reads_early
 
-abbrev pub written : State
+abbrev pub written : ServerState
 written = state_after read_early writes
 
-abbrev pub closed : State
+abbrev pub closed : ServerState
 closed = state_after written closes
 
-abbrev pub opened : State
+abbrev pub opened : ServerState
 opened = state_after closed first_open
 
-abbrev pub read_again : State
+abbrev pub read_again : ServerState
 read_again = state_after opened reads
 
 -- The run meets the premises of the promise: the second OPEN finds the change that the first one found, which is 2. B has kept the four bytes.

@@ -3,7 +3,7 @@ use Rattle.std.specs.Prelude.{◌≡◌, ◌⊎◌, ℕ, List, ◌∷◌, ◌++�
 use Rattle.nfs_xdr.specs.Tables.{In}
 use Rattle.nfs_results.specs.{declared.res.Entry.Entry, Results.spell_result}
 use Rattle.nfs_results.specs.declared.res.Res.TheVariants as Res
-use Rattle.nfs_tree.specs.Files.{change_of, lookup}
+use Rattle.nfs_tree.specs.Files.{change_of, object_named}
 use Rattle.nfs_exec.specs.Runs.Ops.{RanOp}
 use Rattle.nfs_serve.specs.{Promises.ChangeTells.{RunsIn, GetsOf}, Promises.Endpoint.Arrival, Promises.ListsAll.{Page, IsPage}}
 use Rattle.nfs_serve.specs.Promises.Points.{state_after, reached, ops_of}
@@ -13,7 +13,7 @@ use Rattle.nfs_serve.specs.Promises.Points.{state_after, reached, ops_of}
 pub data TellsOf (n : ℕ) (words : List ℕ) (d : RanOp) (told : List ℕ) : Type 0 where
   Gets : GetsOf n words d → d.result ≡ told → TellsOf n words d told
   Lists : (directory cookie : ℕ) (p : Page) (e : Entry) → IsPage directory cookie p → p.op ≡ d → p.asked.attr_request ≡ words → In e p.told.entries
-      → lookup p.op.before.store.tree directory e.name ≡ Some n → spell_result (Res.GetAttr e.attrs) ≡ told → TellsOf n words d told
+      → object_named p.op.before.store.tree directory e.name ≡ Some n → spell_result (Res.GetAttr e.attrs) ≡ told → TellsOf n words d told
 
 -- In every run of a server, from its start on: two operations tell of an object, and its change is the same before both. Then they tell the same.
 abbrev pub EntriesAreAlike : Type 0

@@ -9,7 +9,7 @@ use Rattle.nfs_attrs.specs.Mask.{mask_of, has}
 use Rattle.nfs_names.specs.Outcome.{is_ok}
 use Rattle.nfs_exec.specs.{Runs.AttributesTold.TellsValue, Runs.Ops.RanOp}
 use Rattle.nfs_files.specs.FileImage.{Image, unwritten, new_size, left_of, read_answer}
-use Rattle.nfs_serve.specs.{Step.State, Promises.Endpoint.Arrival, Promises.Points.{state_after, reached, ops_of}}
+use Rattle.nfs_serve.specs.{Step.ServerState, Promises.Endpoint.Arrival, Promises.Points.{state_after, reached, ops_of}}
 
 -- What it leaves, and what a list of operations does; one that is answered otherwise leaves all.
 abbrev pub image_after : ℕ → Image → RanOp → Image
@@ -35,7 +35,7 @@ abbrev pub ReadsWhole : ℕ → Image → List RanOp → Type 0
 ReadsWhole n img [] = Unit {0}
 ReadsWhole n img (d ∷ more) = ReadsImage n img d × SizeIsTold n img d × ReadsWhole n (image_after n img d) more
 
-abbrev pub ReadsThrough : ℕ → Image → State → List Arrival → Type 0
+abbrev pub ReadsThrough : ℕ → Image → ServerState → List Arrival → Type 0
 ReadsThrough n img s [] = Unit {0}
 ReadsThrough n img s (c ∷ more) = ReadsWhole n img (ops_of s c) × ReadsThrough n (image_after_all n img (ops_of s c)) (state_after s c) more
 

@@ -3,7 +3,7 @@
 use Rattle.std.specs.Prelude.{◌≡◌, ℕ, List, [], ◌∷◌, ◌++◌}
 use Rattle.nfs_files.specs.FileImage.{Image, unwritten, bytes_read, read_answer}
 use Rattle.nfs_exec.specs.Runs.Ops.{RanOp}
-use Rattle.nfs_serve.specs.{Step.State, Promises.Endpoint.Arrival, Promises.Points.{state_after, ops_of}, Promises.Exchanges.words}
+use Rattle.nfs_serve.specs.{Step.ServerState, Promises.Endpoint.Arrival, Promises.Points.{state_after, ops_of}, Promises.Exchanges.words}
 use Rattle.nfs_serve.specs.Promises.HeldLock.{came, in_session, start, last_of}
 use Rattle.nfs_serve.specs.Promises.WrittenWorked.{makes, made, writes, written, goes_on, grown, closes, closed, reads, answering}
 use Rattle.nfs_serve.specs.Promises.FileRead.{image_after_all, ReadsImage, MakesFile}
@@ -24,13 +24,13 @@ grows = sets 108 9 7 6
 abbrev pub reads_hole : Arrival
 reads_hole = came 109 10 (in_session 1 8 4 seen.reads)
 
-abbrev pub read_once : State
+abbrev pub read_once : ServerState
 read_once = state_after closed reads
 
-abbrev pub short : State
+abbrev pub short : ServerState
 short = state_after read_once cuts
 
-abbrev pub longer : State
+abbrev pub longer : ServerState
 longer = state_after short grows
 
 -- what the file has by the answers: when it is closed, and behind the second growth

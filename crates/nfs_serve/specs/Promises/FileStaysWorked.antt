@@ -10,7 +10,7 @@ use Rattle.nfs_opens.specs.Share.{neither}
 use Rattle.nfs_names.specs.declared.context.Context.{Context}
 use Rattle.nfs_files.specs.{FileImage.{Image, unwritten}, OpenTold.Bits}
 use Rattle.nfs_exec.specs.{Runs.OpenHeld.TellsOpen, Runs.Ops.RanOp}
-use Rattle.nfs_serve.specs.{Step.State, Promises.Endpoint.Arrival, Promises.Exchanges.words, Promises.FileRead.{image_after_all, ReadsImage}}
+use Rattle.nfs_serve.specs.{Step.ServerState, Promises.Endpoint.Arrival, Promises.Exchanges.words, Promises.FileRead.{image_after_all, ReadsImage}}
 use Rattle.nfs_serve.specs.{Promises.FileStays.{IsHandleOf, IsThere, IsNameless}, Promises.Handles.given}
 use Rattle.nfs_serve.specs.{Promises.HeldLock.{came, in_session, start, last_of, statuses}, Promises.HeldOpen.its_open}
 use Rattle.nfs_serve.specs.{Promises.NameWorked.{looks_up, with_names}, Promises.OpenKept.LeaveOpen, Promises.OpenReads.CanBeHad}
@@ -39,19 +39,19 @@ closes = came 109 9 (in_session 1 7 3 (words (22 ∷ 16 ∷ 7 ∷ 0 ∷ 0 ∷ 2 
 abbrev pub returns : Arrival
 returns = came 110 10 (in_session 1 8 2 (words (22 ∷ 16 ∷ 7 ∷ 0 ∷ 0 ∷ 2 ∷ [])))
 
-abbrev pub found : State
+abbrev pub found : ServerState
 found = state_after written finds
 
-abbrev pub removed : State
+abbrev pub removed : ServerState
 removed = state_after found removes
 
-abbrev pub read_once : State
+abbrev pub read_once : ServerState
 read_once = state_after removed reads
 
-abbrev pub missed : State
+abbrev pub missed : ServerState
 missed = state_after read_once misses
 
-abbrev pub closed : State
+abbrev pub closed : ServerState
 closed = state_after missed closes
 
 -- open 1 is for reading and writing, and denies nothing

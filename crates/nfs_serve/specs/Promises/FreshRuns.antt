@@ -2,11 +2,11 @@
 -- 18.36 and 18.46). What is behind SEQUENCE then runs, and is answered operation by operation, up to the first that fails.
 use Rattle.std.specs.Prelude.{◌≡◌, ℕ, ◌≤◌, true, List, length, Some}
 use Rattle.nfs_xdr.specs.Text.{IsBytes}
+use Rattle.nfs_xdr.specs.Numbers.{next_number}
 use Rattle.nfs_rpc.specs.CallHead.{Call, Accepted, call_of}
 use Rattle.nfs_compound.specs.Request.{Request}
-use Rattle.nfs_slots.specs.Slot.{next_number}
 use Rattle.nfs_sessions.specs.Sessions.{Session, session_at}
-use Rattle.nfs_serve.specs.{Step.{State, asked_of}, Promises.Endpoint.{Place, Heading, Server, Arrival, stepped, ran}}
+use Rattle.nfs_serve.specs.{Step.{ServerState, asked_of}, Promises.Endpoint.{Place, Heading, Server, Arrival, stepped, ran}}
 use Rattle.nfs_serve.specs.Promises.AnsweredAgain.{AreElsewhere, Stands}
 
 -- it executes, and is answered under its xid by a result whose SEQUENCE is NFS4_OK and bears the slot and the number
@@ -35,8 +35,8 @@ NextRuns s Passes =
     Stands s m h.place g.highest b.now → Passes (s.tick m b.now) h.place b.bytes → IsRun s m b g)
 
 -- This server lets a record pass: it has no more bytes and declares no more operations than the channel that was granted to the session.
-pub record Passes (s : State) (p : Place) (bytes : List ℕ) : Type 0 where
+pub record Passes (s : ServerState) (p : Place) (bytes : List ℕ) : Type 0 where
   pub session : Session
   pub there : session_at s.machine.sessions p.session ≡ Some session
-  pub short : length bytes ≤ session.slots.channel.request
-  pub few : (call : Call) (r : Request) → call_of bytes ≡ Accepted call → asked_of call call.procedure ≡ Some r → r.declared ≤ session.slots.channel.operations
+  pub short : length bytes ≤ session.channel.maxrequestsize
+  pub few : (call : Call) (r : Request) → call_of bytes ≡ Accepted call → asked_of call call.procedure ≡ Some r → r.declared ≤ session.channel.maxoperations

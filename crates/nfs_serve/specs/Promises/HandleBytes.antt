@@ -5,7 +5,7 @@ use Rattle.nfs_compound.specs.declared.op_num.OpNum.TheVariants as Num
 use Rattle.nfs_results.specs.Results.{done_head}
 use Rattle.nfs_files.specs.Written.{Byte, WritesOver, SetsSize, OpensEmpty, Reads, GivesIt}
 use Rattle.nfs_exec.specs.{Runs.Ops.RanOp, Runs.WrittenRun.WritesIt}
-use Rattle.nfs_serve.specs.{Step.{State, new_state}, Promises.Endpoint.Arrival, Promises.Exchanges.words, Promises.Handles.given}
+use Rattle.nfs_serve.specs.{Step.{ServerState, new_state}, Promises.Endpoint.Arrival, Promises.Exchanges.words, Promises.Handles.given}
 use Rattle.nfs_serve.specs.Promises.HeldLock.{came, in_session}
 use Rattle.nfs_serve.specs.Promises.KnownHandles.{KnownName, Known, starts, behind, known_after, known_after_all, names_after, root_of}
 use Rattle.nfs_serve.specs.{Promises.KnownHandlesWorked.found, Promises.Points.{state_after, reached, ops_of}}
@@ -42,14 +42,14 @@ abbrev pub ReadsBack : List ℕ → ByteAt → Known → List RanOp → Type 0
 ReadsBack top b k [] = Unit {0}
 ReadsBack top b k (d ∷ more) = GivesAt b k d × (SparesAt top b k d → ReadsBack top b (known_after top k d) more)
 
-abbrev pub ReadsBackThrough : List ℕ → ByteAt → List KnownName → State → List Arrival → Type 0
+abbrev pub ReadsBackThrough : List ℕ → ByteAt → List KnownName → ServerState → List Arrival → Type 0
 ReadsBackThrough top b names s [] = Unit {0}
 ReadsBackThrough top b names s (c ∷ more) =
     ReadsBack top b (starts names) (ops_of s c)
     × (AllSpareAt top b (starts names) (ops_of s c) → ReadsBackThrough top b (names_after top names s c) (state_after s c) more)
 
 -- the names that are known behind records
-abbrev pub names_behind : List ℕ → List KnownName → State → List Arrival → List KnownName
+abbrev pub names_behind : List ℕ → List KnownName → ServerState → List Arrival → List KnownName
 names_behind top names s [] = names
 names_behind top names s (c ∷ more) = names_behind top (names_after top names s c) (state_after s c) more
 
@@ -74,7 +74,7 @@ writes = came 105 5 (in_session 1 3 3 (words (22 ∷ 16 ∷ []) ++ (given ++ wor
 abbrev pub reads : Arrival
 reads = came 106 6 (in_session 1 4 3 (words (22 ∷ 16 ∷ []) ++ (given ++ words (25 ∷ 0 ∷ 0 ∷ 0 ∷ 0 ∷ 0 ∷ 0 ∷ 8 ∷ []))))
 
-abbrev pub written : State
+abbrev pub written : ServerState
 written = state_after found writes
 
 -- the first `e` of `seen`

@@ -8,7 +8,7 @@ use Rattle.nfs_ranges.specs.Told.{meets}
 use Rattle.nfs_opens.specs.declared.locking.Wish.{Wish}
 use Rattle.nfs_files.specs.LockTold.{LockTold}
 use Rattle.nfs_exec.specs.{Runs.LockHeld.{LocksFor, AreSpared, Tells}, Runs.Ops.RanOp}
-use Rattle.nfs_serve.specs.{Step.{State, new_state}, Promises.Endpoint.Arrival, Promises.Exchanges.words, Promises.HandleBytes.names_behind}
+use Rattle.nfs_serve.specs.{Step.{ServerState, new_state}, Promises.Endpoint.Arrival, Promises.Exchanges.words, Promises.HandleBytes.names_behind}
 use Rattle.nfs_serve.specs.{Promises.Handles.given, Promises.HeldLock.{came, in_session, earlier, waits, start, told, wish, stateid_of_lock}}
 use Rattle.nfs_serve.specs.{Promises.KnownHandles.{starts, known_after_all, root_of}, Promises.LockKept.AreInTime}
 use Rattle.nfs_serve.specs.Promises.Points.{state_after, reached, taken, ops_of}
@@ -47,7 +47,7 @@ locks = came 102 3 (in_session 1 1 5 opens_gets_and_locks)
 abbrev pub clashes : Arrival
 clashes = came 372 8 (in_session 2 1 5 opens_gets_and_locks)
 
-abbrev pub locked : State
+abbrev pub locked : ServerState
 locked = state_after start locks
 
 -- a LOCK that is answered NFS4_OK, and the stateid of a lock state of its own

@@ -7,7 +7,7 @@ use Rattle.nfs_compound.specs.declared.op.Op.TheVariants as Op
 use Rattle.nfs_compound.specs.declared.op_num.OpNum.TheVariants as Num
 use Rattle.nfs_results.specs.Results.{spell_result, refusal}
 use Rattle.nfs_exec.specs.{Runs.Handles.{Gives, Leads}, Runs.Ops.RanOp}
-use Rattle.nfs_serve.specs.{Step.State, Promises.Endpoint.Arrival, Promises.Exchanges.words, Promises.HeldLock.{came, in_session, locked}}
+use Rattle.nfs_serve.specs.{Step.ServerState, Promises.Endpoint.Arrival, Promises.Exchanges.words, Promises.HeldLock.{came, in_session, locked}}
 use Rattle.nfs_serve.specs.Promises.Points.{state_after, reached, ops_of}
 
 -- What a GETFH gave leads back to its object by PUTFH, in whatever record, whatever came before that: so too in each that comes behind it, whoever sends it.
@@ -35,7 +35,7 @@ given = words (7 ∷ 0 ∷ 0 ∷ 2 ∷ [])
 abbrev pub returns : Arrival
 returns = came 104 5 (in_session 1 3 3 (words (22 ∷ 16 ∷ []) ++ (given ++ words (10 ∷ []))))
 
-abbrev pub found : State
+abbrev pub found : ServerState
 found = state_after locked finds
 
 -- the operation finds another object

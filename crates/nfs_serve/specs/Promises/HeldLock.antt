@@ -8,7 +8,8 @@ use Rattle.nfs_ranges.specs.declared.Kind.TheVariants.{Write}
 use Rattle.nfs_opens.specs.declared.locking.Wish.{Wish}
 use Rattle.nfs_files.specs.LockTold.{LockTold}
 use Rattle.nfs_exec.specs.{Runs.Ops.RanOp, Runs.LockHeld.{LocksFor, AreSpared, Tells}}
-use Rattle.nfs_serve.specs.{Step.{State, new_state}, Promises.Endpoint.Arrival, Promises.Points.{state_after, state_after_all, reached, taken, before, ops_of}}
+use Rattle.nfs_serve.specs.{Step.{ServerState, new_state}, Promises.Endpoint.Arrival}
+use Rattle.nfs_serve.specs.Promises.Points.{state_after, state_after_all, reached, taken, before, ops_of}
 use Rattle.nfs_serve.specs.{Promises.LockKept.AreInTime, Promises.Outlived.last_renewal, Promises.Exchanges.words}
 use Rattle.nfs_serve.specs.Promises.LostReply.{call, exchange_id, create_session}
 
@@ -54,13 +55,13 @@ goes_beside = came 372 8 (in_session 2 1 4 (opens_and_locks 1))
 abbrev pub gives_up : Arrival
 gives_up = came 372 9 (in_session 1 4 3 unlocks)
 
-abbrev pub start : State
+abbrev pub start : ServerState
 start = reached 511 7 90 earlier
 
-abbrev pub locked : State
+abbrev pub locked : ServerState
 locked = state_after start locks
 
-abbrev pub asked : State
+abbrev pub asked : ServerState
 asked = state_after_all locked waits
 
 -- Lock state 2 of client 1, under open 1: byte 0 of object 2, as Write.

@@ -7,7 +7,7 @@ use Rattle.nfs_xdr.specs.declared.status.Status.TheVariants.{Nfs4Ok, ShareDenied
 use Rattle.nfs_opens.specs.Share.{neither}
 use Rattle.nfs_files.specs.OpenTold.{OpenTold, Bits}
 use Rattle.nfs_exec.specs.{Runs.Ops.RanOp, Runs.OpenHeld.TellsOpen}
-use Rattle.nfs_serve.specs.{Step.State, Promises.Endpoint.Arrival, Promises.Points.{state_after, state_after_all, ops_of}, Promises.OpenKept.LeaveOpen}
+use Rattle.nfs_serve.specs.{Step.ServerState, Promises.Endpoint.Arrival, Promises.Points.{state_after, state_after_all, ops_of}, Promises.OpenKept.LeaveOpen}
 use Rattle.nfs_serve.specs.{Promises.Exchanges.words, Promises.HeldLock.{came, in_session, waits, start, statuses}}
 
 -- PUTROOTFH; and OPEN by the open owner `o` of `f`, which is made where it is not there, without attributes
@@ -48,16 +48,16 @@ first_bits = record { access = record { reads = true; writes = true }; deny = re
 abbrev pub last_bits : Bits
 last_bits = record { access = record { reads = true; writes = false }; deny = neither }
 
-abbrev pub opened : State
+abbrev pub opened : ServerState
 opened = state_after start opens
 
-abbrev pub asked : State
+abbrev pub asked : ServerState
 asked = state_after_all opened waits
 
-abbrev pub asked_again : State
+abbrev pub asked_again : ServerState
 asked_again = state_after (state_after asked asks) opens_again
 
-abbrev pub downgraded : State
+abbrev pub downgraded : ServerState
 downgraded = state_after (state_after asked_again asks_again) downgrades
 
 -- The run meets the premises of the promise, and computes to what it says.

@@ -14,7 +14,7 @@ use Rattle.nfs_tree.specs.Files.{root}
 use Rattle.nfs_attrs.specs.Wire.{nfs_fh4}
 use Rattle.nfs_names.specs.Outcome.{is_ok}
 use Rattle.nfs_exec.specs.Runs.Ops.{RanOp}
-use Rattle.nfs_serve.specs.{Step.{State, new_state}, Promises.Endpoint.Arrival, Promises.NameStays.finds_none, Promises.Points.{state_after, ops_of}}
+use Rattle.nfs_serve.specs.{Step.{ServerState, new_state}, Promises.Endpoint.Arrival, Promises.NameStays.finds_none, Promises.Points.{state_after, ops_of}}
 
 -- a name in a directory
 pub record Place : Type 0 where
@@ -121,7 +121,7 @@ known_after_all top k [] = k
 known_after_all top k (d ∷ more) = known_after_all top (known_after top k d) more
 
 -- the text of a filehandle of this server's start bears the number of an object
-pub record Bears (instance : ℕ) (h : List ℕ) (n : ℕ) : Type 0 where
+pub record IsHandleOf (instance : ℕ) (h : List ℕ) (n : ℕ) : Type 0 where
   pub is : h ≡ (nfs_fh4 (record { instance = instance; number = n })).bytes
   pub small : n < 2 ^ 64
 
@@ -131,17 +131,17 @@ pub record Tells (instance : ℕ) (k : Known) (d : RanOp) : Type 0 where
   pub gives : (h : List ℕ) → k.current ≡ Some h → d.item ≡ Operation Op.GetFh → is_ok d.status ≡ true → d.result ≡ spell_result (Res.GetFh h)
   pub there : (h : List ℕ) → k.current ≡ Some h → d.item ≡ Operation Op.GetFh → d.result ≡ spell_result (refusal (op_number Num.GetFh) NoFileHandle) → ⊥
   pub finds : (h name object : List ℕ) → k.current ≡ Some h → object_of k.names h name ≡ Some object → d.item ≡ Operation (Op.Lookup name) → d.result ≡ finds_none → ⊥
-  pub on : (h : List ℕ) → k.current ≡ Some h → (n : ℕ) × Bears instance h n × (d.context.current ≡ Some n)
+  pub on : (h : List ℕ) → k.current ≡ Some h → (n : ℕ) × IsHandleOf instance h n × (d.context.current ≡ Some n)
 
 -- each of a compound's operations, and each that records bring
 abbrev pub Follow : (instance : ℕ) (top : List ℕ) → Known → List RanOp → Type 0
 Follow instance top k [] = Unit {0}
 Follow instance top k (d ∷ more) = Tells instance k d × Follow instance top (known_after top k d) more
 
-abbrev pub names_after : List ℕ → List KnownName → State → Arrival → List KnownName
+abbrev pub names_after : List ℕ → List KnownName → ServerState → Arrival → List KnownName
 names_after top names s c = (known_after_all top (starts names) (ops_of s c)).names
 
-abbrev pub FollowThrough : (instance : ℕ) (top : List ℕ) → List KnownName → State → List Arrival → Type 0
+abbrev pub FollowThrough : (instance : ℕ) (top : List ℕ) → List KnownName → ServerState → List Arrival → Type 0
 FollowThrough instance top names s [] = Unit {0}
 FollowThrough instance top names s (c ∷ more) =
     Follow instance top (starts names) (ops_of s c) × FollowThrough instance top (names_after top names s c) (state_after s c) more

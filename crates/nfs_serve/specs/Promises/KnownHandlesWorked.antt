@@ -7,7 +7,7 @@ use Rattle.nfs_compound.specs.OpNum.{op_number}
 use Rattle.nfs_results.specs.declared.res.Res.TheVariants as Res
 use Rattle.nfs_results.specs.Results.{spell_result, refusal}
 use Rattle.nfs_exec.specs.Runs.Ops.{RanOp}
-use Rattle.nfs_serve.specs.{Step.State, Promises.Endpoint.Arrival, Promises.Exchanges.words, Promises.Handles.given, Promises.HeldLock.{came, in_session}}
+use Rattle.nfs_serve.specs.{Step.ServerState, Promises.Endpoint.Arrival, Promises.Exchanges.words, Promises.Handles.given, Promises.HeldLock.{came, in_session}}
 use Rattle.nfs_serve.specs.{Promises.KnownHandles.{KnownName, starts, Follow, names_after}, Promises.NameStays.finds_none}
 use Rattle.nfs_serve.specs.{Promises.Points.{state_after, ops_of}, Promises.WrittenWorked.made}
 
@@ -23,10 +23,10 @@ links = came 105 5 (in_session 1 3 8 (words (22 ∷ 16 ∷ []) ++ (given ++ word
 abbrev pub renames : Arrival
 renames = came 106 6 (in_session 1 4 8 (words (24 ∷ 32 ∷ 29 ∷ 1 ∷ 0x6600_0000 ∷ 1 ∷ 0x6800_0000 ∷ 15 ∷ 1 ∷ 0x6800_0000 ∷ 10 ∷ 31 ∷ 10 ∷ [])))
 
-abbrev pub found : State
+abbrev pub found : ServerState
 found = state_after made finds
 
-abbrev pub linked : State
+abbrev pub linked : ServerState
 linked = state_after found links
 
 -- the filehandle of object 1, the root, and of object 3

@@ -10,7 +10,7 @@ use Rattle.nfs_tree.specs.{declared.row.Row.Row, Files.listed}
 use Rattle.nfs_attrs.specs.Mask.{mask_of}
 use Rattle.nfs_names.specs.ReadDir.{entry_of}
 use Rattle.nfs_exec.specs.Runs.Ops.{RanOp}
-use Rattle.nfs_serve.specs.{Step.{State, new_state}, Promises.ChangeTells.RunsIn, Promises.Endpoint.Arrival}
+use Rattle.nfs_serve.specs.{Step.{ServerState, new_state}, Promises.ChangeTells.RunsIn, Promises.Endpoint.Arrival}
 use Rattle.nfs_serve.specs.Promises.NameStays.{Name, TakesIt, MakesIt, Says, Denies, AllSpare, next_of, row_of}
 use Rattle.nfs_serve.specs.Promises.Points.{state_after, reached, ops_of}
 
@@ -77,7 +77,7 @@ PagesAreParts = (mode instance lease : ℕ) (records : List Arrival) (directory 
     → IsPage directory cookie p → IsPart directory cookie p
 
 -- the operations that records run, one after the other
-abbrev pub all_ops : State → List Arrival → List RanOp
+abbrev pub all_ops : ServerState → List Arrival → List RanOp
 all_ops s [] = []
 all_ops s (c ∷ more) = ops_of s c ++ all_ops (state_after s c) more
 

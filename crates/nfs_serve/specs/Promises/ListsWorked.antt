@@ -7,7 +7,7 @@ use Rattle.nfs_results.specs.{declared.res.Entry.Entry, declared.res.ReadDirOk.R
 use Rattle.nfs_tree.specs.Files.{root}
 use Rattle.nfs_names.specs.ReadDir.{zeros}
 use Rattle.nfs_exec.specs.Runs.Ops.{RanOp}
-use Rattle.nfs_serve.specs.{Step.State, Promises.Endpoint.Arrival, Promises.Exchanges.words, Promises.HeldLock.{came, in_session, last_of}}
+use Rattle.nfs_serve.specs.{Step.ServerState, Promises.Endpoint.Arrival, Promises.Exchanges.words, Promises.HeldLock.{came, in_session, last_of}}
 use Rattle.nfs_serve.specs.Promises.ListsAll.{Page, ArePages, IsListedOnce, IsPart, all_ops}
 use Rattle.nfs_serve.specs.{Promises.NameStays.{Name, TakesIt, Says, AllSpare, next_of, row_of}, Promises.Points.{state_after, ops_of}}
 use Rattle.nfs_serve.specs.Promises.WrittenWorked.{made}
@@ -39,16 +39,16 @@ third = lists 107 6 4
 abbrev pub later : List Arrival
 later = first ∷ removes ∷ second ∷ third ∷ []
 
-abbrev pub more : State
+abbrev pub more : ServerState
 more = state_after made makes_more
 
-abbrev pub begun : State
+abbrev pub begun : ServerState
 begun = state_after more first
 
-abbrev pub removed : State
+abbrev pub removed : ServerState
 removed = state_after begun removes
 
-abbrev pub gone_on : State
+abbrev pub gone_on : ServerState
 gone_on = state_after removed second
 
 -- what is asked for, and what is told: an entry has a name of one byte

@@ -11,14 +11,14 @@ use Rattle.nfs_exec.specs.Runs.LockHeld.{LocksFor, the_lock, AreSpared, StandsWh
 use Rattle.nfs_opens.specs.declared.locking.Wish.{Wish}
 use Rattle.nfs_files.specs.LockTold.{LockTold, Clashes}
 use Rattle.nfs_exec.specs.Runs.Kept as kept
-use Rattle.nfs_serve.specs.{Step.State, Promises.Endpoint.Arrival, Promises.Points.{state_after, reached, taken, before, asked_by, ops_of}}
+use Rattle.nfs_serve.specs.{Step.ServerState, Promises.Endpoint.Arrival, Promises.Points.{state_after, reached, taken, before, asked_by, ops_of}}
 
 -- a request of it runs in a session of the client, and so renews the client's lease
-abbrev pub renews_by : ℕ → State → Arrival → Bool
+abbrev pub renews_by : ℕ → ServerState → Arrival → Bool
 renews_by client s c = option_map_or (renews client (before s c)) (asked_by s c) false
 
 -- it puts another id in the client's place: a CREATE_SESSION of another id of its owner, which is answered NFS4_OK
-abbrev pub replaces_by : ℕ → State → Arrival → Bool
+abbrev pub replaces_by : ℕ → ServerState → Arrival → Bool
 replaces_by client s c = option_map_or (replaces client (before s c)) (asked_by s c) false
 
 -- It stands here, and stays through these records, where `last` is the moment of its client's last renewal: if the next one is taken at
@@ -26,7 +26,7 @@ replaces_by client s c = option_map_or (replaces client (before s c)) (asked_by 
 -- and if they all spare it, and the record puts no other id in the client's place, the same holds of the records behind it, in the way in which it
 -- stands then. (That each record is at most one lease behind the renewal before it is the same as that neighbours among the renewals and the last
 -- record are: a record between two renewals is not later than the second.)
-abbrev pub StaysFor : (k : Kept) → (client lease last : ℕ) → k.Way → State → List Arrival → Type 0
+abbrev pub StaysFor : (k : Kept) → (client lease last : ℕ) → k.Way → ServerState → List Arrival → Type 0
 StaysFor k client lease last way s [] = k.Stands way s.machine.store
 StaysFor k client lease last way s (c ∷ more) =
     k.Stands way s.machine.store
@@ -36,7 +36,7 @@ StaysFor k client lease last way s (c ∷ more) =
     StaysFor k client lease (if renews_by client s c then taken s c else last) (after_all k.after way (ops_of s c)) (state_after s c) more))
 
 -- The records come in time, and spare it and its client, up to a way, a state and a moment of the client's last renewal of which this holds.
-abbrev pub InTimeFor : (k : Kept) → (client lease last : ℕ) → k.Way → State → List Arrival → (k.Way → ℕ → State → Type 0) → Type 0
+abbrev pub InTimeFor : (k : Kept) → (client lease last : ℕ) → k.Way → ServerState → List Arrival → (k.Way → ℕ → ServerState → Type 0) → Type 0
 InTimeFor k client lease last way s [] Then = Then way last s
 InTimeFor k client lease last way s (c ∷ more) Then =
     (taken s c ≤ last + lease)
@@ -45,10 +45,10 @@ InTimeFor k client lease last way s (c ∷ more) Then =
     × InTimeFor k client lease (if renews_by client s c then taken s c else last) (after_all k.after way (ops_of s c)) (state_after s c) more Then
 
 -- A lock does so where operations spare it: no LOCK that clashes is answered NFS4_OK.
-abbrev pub StaysHeld : LockTold → (lease last : ℕ) → State → List Arrival → Type 0
+abbrev pub StaysHeld : LockTold → (lease last : ℕ) → ServerState → List Arrival → Type 0
 StaysHeld k lease last s records = StaysFor (the_lock k) k.client lease last tt s records
 
-abbrev pub AreInTime : LockTold → (lease last : ℕ) → State → List Arrival → (ℕ → State → Type 0) → Type 0
+abbrev pub AreInTime : LockTold → (lease last : ℕ) → ServerState → List Arrival → (ℕ → ServerState → Type 0) → Type 0
 AreInTime k lease last s records Then = InTimeFor (the_lock k) k.client lease last tt s records (λ way. Then)
 
 -- In every run of a server whose leases last so many seconds, from its start on: a LOCK in the record's compound told the lock, and

@@ -8,11 +8,11 @@ use Rattle.nfs_compound.specs.{declared.op_num.OpNum.OpNum, OpNum.op_number}
 use Rattle.nfs_compound.specs.declared.op.Op.TheVariants as Op
 use Rattle.nfs_compound.specs.declared.op_num.OpNum.TheVariants as Num
 use Rattle.nfs_results.specs.Results.{spell_result, done_head, refusal}
-use Rattle.nfs_tree.specs.{declared.row.Row.Row, Files.{entry, lookup}}
+use Rattle.nfs_tree.specs.{declared.row.Row.Row, Files.{entry, object_named}}
 use Rattle.nfs_names.specs.{declared.context.Context.Context, Checks.saved_object}
 use Rattle.nfs_files.specs.OpenTold.{names_open}
 use Rattle.nfs_exec.specs.Runs.Ops.{RanOp}
-use Rattle.nfs_serve.specs.{Step.State, Promises.Endpoint.Arrival, Promises.Points.{state_after, reached, ops_of}}
+use Rattle.nfs_serve.specs.{Step.ServerState, Promises.Endpoint.Arrival, Promises.Points.{state_after, reached, ops_of}}
 
 -- a name in a directory, and the object that it leads to
 pub record Name : Type 0 where
@@ -70,14 +70,14 @@ pub data Says (k : Name) (d : RanOp) (next : Option Context) : Type 0 where
   Links : d.item ≡ Operation (Op.Link k.name) → d.context.current ≡ Some k.directory → saved_object d.context.saved ≡ Some k.object → IsDone Num.Link d.result
       → Says k d next
   Renames : (a : Rename) → d.item ≡ Operation (Op.Rename a) → a.newname ≡ k.name → d.context.current ≡ Some k.directory → (source : ℕ)
-      → saved_object d.context.saved ≡ Some source → lookup d.before.store.tree source a.oldname ≡ Some k.object → IsDone Num.Rename d.result → Says k d next
+      → saved_object d.context.saved ≡ Some source → object_named d.before.store.tree source a.oldname ≡ Some k.object → IsDone Num.Rename d.result → Says k d next
 
 -- The operation said that the name leads nowhere: a REMOVE of it was answered NFS4_OK, or a RENAME from it to a name that did not lead to the same object; or a LOOKUP of
 -- it was answered NFS4ERR_NOENT.
 pub data Denies (directory : ℕ) (name : List ℕ) (d : RanOp) : Type 0 where
   Removes : d.item ≡ Operation (Op.Remove name) → d.context.current ≡ Some directory → IsDone Num.Remove d.result → Denies directory name d
   RenamesIt : (a : Rename) → d.item ≡ Operation (Op.Rename a) → a.oldname ≡ name → saved_object d.context.saved ≡ Some directory → (target : ℕ)
-      → d.context.current ≡ Some target → lookup d.before.store.tree directory name ≢ lookup d.before.store.tree target a.newname → IsDone Num.Rename d.result
+      → d.context.current ≡ Some target → object_named d.before.store.tree directory name ≢ object_named d.before.store.tree target a.newname → IsDone Num.Rename d.result
       → Denies directory name d
   Misses : d.item ≡ Operation (Op.Lookup name) → d.context.current ≡ Some directory → d.result ≡ finds_none → Denies directory name d
 
@@ -92,13 +92,13 @@ abbrev pub AllSpare : (RanOp → Type 0) → List RanOp → Type 0
 AllSpare Spares ds = (d : RanOp) → In d ds → Spares d
 
 -- and through these records, as long as all operations of the records before spared it
-abbrev pub HoldsThrough : (Before : RanOp → Option Context → Type 0) → (Spares : RanOp → Type 0) → State → List Arrival → Type 0
+abbrev pub HoldsThrough : (Before : RanOp → Option Context → Type 0) → (Spares : RanOp → Type 0) → ServerState → List Arrival → Type 0
 HoldsThrough Before Spares s [] = Unit {0}
 HoldsThrough Before Spares s (c ∷ more) =
     HoldsWhile Before Spares (ops_of s c) × (AllSpare Spares (ops_of s c) → HoldsThrough Before Spares (state_after s c) more)
 
 -- from an operation of a record's compound on: these are behind it there, and then come whatever records
-abbrev pub HoldsFrom : (Before : RanOp → Option Context → Type 0) → (Spares : RanOp → Type 0) → State → Arrival → List RanOp → Type 0
+abbrev pub HoldsFrom : (Before : RanOp → Option Context → Type 0) → (Spares : RanOp → Type 0) → ServerState → Arrival → List RanOp → Type 0
 HoldsFrom Before Spares s c back =
     HoldsWhile Before Spares back × (AllSpare Spares back → (more : List Arrival) → HoldsThrough Before Spares (state_after s c) more)
 

@@ -6,7 +6,7 @@ use Rattle.nfs_results.specs.Results.{done_head}
 use Rattle.nfs_tree.specs.{declared.row.Row.Row, Files.root}
 use Rattle.nfs_names.specs.declared.context.Context.{Context}
 use Rattle.nfs_exec.specs.Runs.Ops.{RanOp}
-use Rattle.nfs_serve.specs.{Step.State, Promises.Endpoint.Arrival, Promises.Points.{state_after, ops_of}, Promises.Exchanges.words}
+use Rattle.nfs_serve.specs.{Step.ServerState, Promises.Endpoint.Arrival, Promises.Points.{state_after, ops_of}, Promises.Exchanges.words}
 use Rattle.nfs_serve.specs.{Promises.HeldLock.{came, in_session, last_of}, Promises.WrittenWorked.made}
 use Rattle.nfs_serve.specs.Promises.NameStays.{Name, IsDone, finds_none, TakesIt, Leaves, Says, Denies, AllSpare, next_of, LeadsBefore, MissesBefore}
 
@@ -37,22 +37,22 @@ removes = came 109 9 (in_session 1 7 3 (words (24 ∷ 28 ∷ 1 ∷ 0x6700_0000 �
 abbrev pub misses_new : Arrival
 misses_new = looks_up 10 8 0x6700_0000
 
-abbrev pub found : State
+abbrev pub found : ServerState
 found = state_after made finds
 
-abbrev pub found_again : State
+abbrev pub found_again : ServerState
 found_again = state_after found finds_again
 
-abbrev pub renamed : State
+abbrev pub renamed : ServerState
 renamed = state_after found_again renames
 
-abbrev pub found_new : State
+abbrev pub found_new : ServerState
 found_new = state_after renamed finds_new
 
-abbrev pub missed : State
+abbrev pub missed : ServerState
 missed = state_after found_new misses
 
-abbrev pub removed : State
+abbrev pub removed : ServerState
 removed = state_after missed removes
 
 -- `f` and `g` in the root, which lead to object 2

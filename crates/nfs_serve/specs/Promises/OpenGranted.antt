@@ -3,7 +3,7 @@
 use Rattle.std.specs.Prelude.{◌≡◌, ◌⊎◌, ℕ, false, List, [], ◌∷◌, ◌++◌}
 use Rattle.nfs_files.specs.{Open.{access_of, deny_of}, OpenTold.{OpenTold, Bits}}
 use Rattle.nfs_exec.specs.{Runs.OpenHeld.{OpensAs, NoneCloses, bits_left}, Runs.Ops.RanOp}
-use Rattle.nfs_serve.specs.{Step.State, Promises.Endpoint.Arrival, Promises.LockKept.replaces_by, Promises.NoIsTrue.IsInLease}
+use Rattle.nfs_serve.specs.{Step.ServerState, Promises.Endpoint.Arrival, Promises.LockKept.replaces_by, Promises.NoIsTrue.IsInLease}
 use Rattle.nfs_serve.specs.Promises.Points.{state_after, reached, before, ops_of}
 
 -- An OPEN granted it: it answered NFS4_OK and the stateid of the open, which is of the client in whose session it ran, of the owner that it names and of the file that its
@@ -27,7 +27,7 @@ AllLeaveOpen mode instance lease k records (c ∷ more) = LeavesOpen mode instan
 
 -- the bits that open n has behind these records: each OPEN that answered its stateid joined to them what it asked for, and each OPEN_DOWNGRADE that did put what it asked
 -- for in their place
-abbrev pub bits_through : ℕ → Bits → State → List Arrival → Bits
+abbrev pub bits_through : ℕ → Bits → ServerState → List Arrival → Bits
 bits_through n b s [] = b
 bits_through n b s (c ∷ more) = bits_through n (bits_left n b (ops_of s c)) (state_after s c) more
 

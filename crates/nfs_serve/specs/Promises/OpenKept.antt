@@ -7,12 +7,12 @@ use Rattle.nfs_compound.specs.declared.op_num.OpNum.TheVariants as Num
 use Rattle.nfs_compound.specs.declared.op.Op.TheVariants as Op
 use Rattle.nfs_files.specs.OpenTold.{names_open, OpenTold, Bits}
 use Rattle.nfs_exec.specs.{Runs.Ops.RanOp, Runs.OpenHeld.{the_open, OpenWhile, NoneCloses, bits_left, TellsOpen}}
-use Rattle.nfs_serve.specs.{Step.State, Promises.Endpoint.Arrival, Promises.Points.{state_after, reached, taken, ops_of}}
+use Rattle.nfs_serve.specs.{Step.ServerState, Promises.Endpoint.Arrival, Promises.Points.{state_after, reached, taken, ops_of}}
 use Rattle.nfs_serve.specs.Promises.LockKept.{StaysFor, InTimeFor}
 
 -- The open stands here with these bits, and stays through these records, with the bits that it has by then, while none of their operations closes it: no OPEN
 -- there that it forbids is answered NFS4_OK.
-abbrev pub StaysOpen : OpenTold → Bits → (lease last : ℕ) → State → List Arrival → Type 0
+abbrev pub StaysOpen : OpenTold → Bits → (lease last : ℕ) → ServerState → List Arrival → Type 0
 StaysOpen k b lease last s records = StaysFor (the_open k) k.client lease last b s records
 
 -- In every run of a server whose leases last so many seconds, from its start on: an OPEN in the record's compound told the open, and these operations are
@@ -32,5 +32,5 @@ EachOpenIsTold = (mode instance lease : ℕ) (records : List Arrival) (c : Arriv
     → (k : OpenTold) × (b : Bits) × (k.number ≡ n) × TellsOpen k b d
 
 -- The records come in time and close it nowhere, and leave its client: up to a state and a moment of the client's last renewal, and to bits, of which this holds.
-abbrev pub LeaveOpen : OpenTold → Bits → (lease last : ℕ) → State → List Arrival → (Bits → ℕ → State → Type 0) → Type 0
+abbrev pub LeaveOpen : OpenTold → Bits → (lease last : ℕ) → ServerState → List Arrival → (Bits → ℕ → ServerState → Type 0) → Type 0
 LeaveOpen k b lease last s records Then = InTimeFor (the_open k) k.client lease last b s records Then

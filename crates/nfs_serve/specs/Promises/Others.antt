@@ -5,13 +5,13 @@ use Rattle.nfs_ranges.specs.declared.Kind.TheVariants.{Write}
 use Rattle.nfs_opens.specs.Closing.{without_lock, without_open}
 use Rattle.nfs_files.specs.Own.{HasAsBefore}
 use Rattle.nfs_exec.specs.Runs.Own.{IsAsBefore, is_named_by}
-use Rattle.nfs_serve.specs.{Step.State, Promises.Endpoint.Arrival, Promises.Points.{state_after, state_after_all, reached, taken, before, asked_by}}
+use Rattle.nfs_serve.specs.{Step.ServerState, Promises.Endpoint.Arrival, Promises.Points.{state_after, state_after_all, reached, taken, before, asked_by}}
 use Rattle.nfs_serve.specs.{Promises.LockKept.{renews_by, replaces_by}, Promises.LostReply.{exchange_id, create_session}}
 use Rattle.nfs_serve.specs.Promises.HeldLock.{came, in_session, opens_and_locks, start, locks, locked, told}
 
 -- These records are others' and come in time: none runs in a session of the client, each is taken at most one lease behind the moment `last`, and none
 -- puts another id in the client's place.
-abbrev pub AreOthers : ℕ → (lease last : ℕ) → State → List Arrival → Type 0
+abbrev pub AreOthers : ℕ → (lease last : ℕ) → ServerState → List Arrival → Type 0
 AreOthers client lease last s [] = Unit {0}
 AreOthers client lease last s (c ∷ more) =
     (renews_by client s c ≡ false)
@@ -28,11 +28,11 @@ OthersLeaveAll = (mode instance lease : ℕ) (earlier : List Arrival) (c : Arriv
     → HasAsBefore client (state_after s c).machine.store.opens (state_after_all (state_after s c) others).machine.store.opens)
 
 -- what the record asks for names the client
-abbrev pub is_named : ℕ → State → Arrival → Bool
+abbrev pub is_named : ℕ → ServerState → Arrival → Bool
 is_named client s c = option_map_or (is_named_by client (before s c)) (asked_by s c) false
 
 -- None of these records names the client, and each is taken at most one lease behind the moment `last`.
-abbrev pub AreStrangers : ℕ → (lease last : ℕ) → State → List Arrival → Type 0
+abbrev pub AreStrangers : ℕ → (lease last : ℕ) → ServerState → List Arrival → Type 0
 AreStrangers client lease last s [] = Unit {0}
 AreStrangers client lease last s (c ∷ more) = (is_named client s c ≡ false) × (taken s c ≤ last + lease) × AreStrangers client lease last (state_after s c) more
 

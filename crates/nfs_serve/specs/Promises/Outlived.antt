@@ -4,14 +4,14 @@ use Rattle.nfs_xdr.specs.Tables.{In}
 use Rattle.nfs_ranges.specs.declared.Kind.{Kind}
 use Rattle.nfs_opens.specs.{declared.records.LockState.LockState, Table.Table}
 use Rattle.nfs_exec.specs.Runs.Renewing.{renews_or_begins}
-use Rattle.nfs_serve.specs.{Step.{State, new_state}, Promises.Endpoint.Arrival, Promises.Points.{state_after, reached, taken, before, asked_by}}
+use Rattle.nfs_serve.specs.{Step.{ServerState, new_state}, Promises.Endpoint.Arrival, Promises.Points.{state_after, reached, taken, before, asked_by}}
 
 -- a record renews a client's lease, or begins it
-abbrev pub renewed_by : ℕ → State → Arrival → Bool
+abbrev pub renewed_by : ℕ → ServerState → Arrival → Bool
 renewed_by client s c = option_map_or (renews_or_begins client (before s c)) (asked_by s c) false
 
 -- the moment of the last of these records that did
-abbrev pub last_renewal : ℕ → Option ℕ → State → List Arrival → Option ℕ
+abbrev pub last_renewal : ℕ → Option ℕ → ServerState → List Arrival → Option ℕ
 last_renewal client last s [] = last
 last_renewal client last s (c ∷ more) = last_renewal client (if renewed_by client s c then Some (taken s c) else last) (state_after s c) more
 

@@ -5,7 +5,7 @@ use Rattle.nfs_xdr.specs.{Caller.Caller, Tables.In, declared.status.Status.TheVa
 use Rattle.nfs_compound.specs.{declared.file_args.Read.Read, declared.file_args.Write.Write, declared.op.Item.Item, declared.op.Item.TheVariants.Operation}
 use Rattle.nfs_compound.specs.{declared.open_args.Open.Open, declared.open_args.OpenClaim.TheVariants.{Null, Fh}, declared.stateid.Stateid.Stateid}
 use Rattle.nfs_compound.specs.declared.op.Op.TheVariants as Op
-use Rattle.nfs_tree.specs.{declared.object.Object.Object, Files.{Files, stored_in, lookup}}
+use Rattle.nfs_tree.specs.{declared.object.Object.Object, Files.{Files, stored_in, object_named}}
 use Rattle.nfs_opens.specs.{declared.records.OpenState.OpenState, declared.share.Share.Share, declared.stateid.CurrentSeqid.TheVariants.Any}
 use Rattle.nfs_opens.specs.{declared.stateid.StateId.StateId, StateId.{is_anonymous, is_bypass}, Table.Table}
 use Rattle.nfs_names.specs.Outcome.{is_ok}
@@ -90,7 +90,7 @@ pub record IsGranted (d : RanOp) : Type 0 where
   pub written : (n : ℕ) (r : Rights) → IsAt n r d → is_ok d.status ≡ true → (a : Write) → d.item ≡ Operation (Op.Write a) → ByStateid n r d a.stateid Writes
   -- an OPEN by a name: the directory in which it is found, or is made
   pub entered : (n : ℕ) (r : Rights) → IsAt n r d → is_ok d.status ≡ true → (a : Open) (name : List ℕ) → d.item ≡ Operation (Op.Open a) → a.claim ≡ Null name
-      → Grants r d.context.who Executes × (lookup d.before.store.tree n name ≡ None → Grants r d.context.who Writes)
+      → Grants r d.context.who Executes × (object_named d.before.store.tree n name ≡ None → Grants r d.context.who Writes)
   -- an OPEN of a file that is there: all that it asks for
   pub opened : (n : ℕ) (r : Rights) → rights_at d.before.store.tree n ≡ Some r → is_ok d.status ≡ true → (a : Open) → d.item ≡ Operation (Op.Open a)
       → claimed d.before.store.tree d.context a.claim ≡ Some n → (right : Right) → has_right (access_of a) right ≡ true → Grants r d.context.who right
@@ -103,8 +103,8 @@ pub record IsRefused (d : RanOp) : Type 0 where
   pub written : (n : ℕ) (r : Rights) → IsAt n r d → d.status ≡ Access → (a : Write) → d.item ≡ Operation (Op.Write a) → Grants r d.context.who Writes → ⊥
   -- an OPEN by a name: not all of the directory, or not all that it asks for of a file that is there
   pub opened : (n : ℕ) (r : Rights) → IsAt n r d → d.status ≡ Access → (a : Open) (name : List ℕ) → d.item ≡ Operation (Op.Open a) → a.claim ≡ Null name
-      → Grants r d.context.who Executes → (lookup d.before.store.tree n name ≡ None → Grants r d.context.who Writes)
-      → ((m : ℕ) (q : Rights) → lookup d.before.store.tree n name ≡ Some m → rights_at d.before.store.tree m ≡ Some q → (right : Right)
+      → Grants r d.context.who Executes → (object_named d.before.store.tree n name ≡ None → Grants r d.context.who Writes)
+      → ((m : ℕ) (q : Rights) → object_named d.before.store.tree n name ≡ Some m → rights_at d.before.store.tree m ≡ Some q → (right : Right)
       → has_right (access_of a) right ≡ true → Grants q d.context.who right) → ⊥
   -- and by a filehandle
   pub opened_again : (n : ℕ) (r : Rights) → IsAt n r d → d.status ≡ Access → (a : Open) → d.item ≡ Operation (Op.Open a) → a.claim ≡ Fh

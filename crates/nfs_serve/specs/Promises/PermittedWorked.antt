@@ -4,7 +4,7 @@
 use Rattle.std.specs.Prelude.{◌≡◌, ℕ, ◌+◌, List, [], ◌∷◌, ◌++◌}
 use Rattle.nfs_xdr.specs.declared.status.Status.TheVariants.{Nfs4Ok, Access}
 use Rattle.nfs_exec.specs.Runs.Ops.{RanOp}
-use Rattle.nfs_serve.specs.{Step.State, Promises.Endpoint.Arrival, Promises.Exchanges.words, Promises.FileStaysWorked.with_status}
+use Rattle.nfs_serve.specs.{Step.ServerState, Promises.Endpoint.Arrival, Promises.Exchanges.words, Promises.FileStaysWorked.with_status}
 use Rattle.nfs_serve.specs.{Promises.HeldLock.{came, in_session, start, last_of, statuses}, Promises.Permitted.{Rights, IsAt, IsGranted, IsRefused}}
 use Rattle.nfs_serve.specs.{Promises.Points.{state_after, ops_of}, Promises.RightsTold.{rights_after_all, HasRights, MakesWith}}
 use Rattle.nfs_serve.specs.Promises.WrittenWorked.{makes, made}
@@ -35,13 +35,13 @@ asks_again = reads 7 5
 abbrev pub asks_early : Arrival
 asks_early = reads 4 2
 
-abbrev pub shut : State
+abbrev pub shut : ServerState
 shut = state_after made to_group
 
-abbrev pub refused : State
+abbrev pub refused : ServerState
 refused = state_after shut asks
 
-abbrev pub free : State
+abbrev pub free : ServerState
 free = state_after refused to_owner
 
 -- user 5's and group 6's, with a mode

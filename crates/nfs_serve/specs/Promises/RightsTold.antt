@@ -8,7 +8,7 @@ use Rattle.nfs_attrs.specs.declared.wanted.Wanted.{Wanted}
 use Rattle.nfs_names.specs.{declared.context.Context.Context, Create.{attributes_in, new_of, plain_mode}, Outcome.is_ok}
 use Rattle.nfs_files.specs.{FileImage.is_number, Open.makes}
 use Rattle.nfs_exec.specs.{Runs.Kept.after_all, Runs.Ops.RanOp}
-use Rattle.nfs_serve.specs.{Step.{State, new_state}, Promises.Endpoint.Arrival, Promises.Permitted.{Rights, rights_at}}
+use Rattle.nfs_serve.specs.{Step.{ServerState, new_state}, Promises.Endpoint.Arrival, Promises.Permitted.{Rights, rights_at}}
 use Rattle.nfs_serve.specs.Promises.Points.{state_after, reached, ops_of}
 
 -- what is given is taken over, and the rest stays
@@ -38,7 +38,7 @@ abbrev pub RightsWhile : ℕ → Rights → List RanOp → Type 0
 RightsWhile n r [] = Unit {0}
 RightsWhile n r (d ∷ more) = HasRights n r d × RightsWhile n (rights_after n r d) more
 
-abbrev pub RightsThrough : ℕ → Rights → State → List Arrival → Type 0
+abbrev pub RightsThrough : ℕ → Rights → ServerState → List Arrival → Type 0
 RightsThrough n r s [] = Unit {0}
 RightsThrough n r s (c ∷ more) = RightsWhile n r (ops_of s c) × RightsThrough n (rights_after_all n r (ops_of s c)) (state_after s c) more
 

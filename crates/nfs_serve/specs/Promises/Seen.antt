@@ -11,7 +11,7 @@ use Rattle.nfs_slots.specs.Slot.{SlotState}
 use Rattle.nfs_sessions.specs.{Id.id_of, Sessions.{Session, session_at}}
 use Rattle.nfs_exec.specs.Step.Executing as requests
 use Rattle.nfs_exec.specs.{Step.Sequence.compared, Step.Expiry.expired}
-use Rattle.nfs_serve.specs.{Promises.Endpoint.{Heading, Answer, SlotNumber, Stepped as Seen, Server}, Step.{State, Stepped, new_state, step, asked_of}}
+use Rattle.nfs_serve.specs.{Promises.Endpoint.{Heading, Answer, SlotNumber, Stepped as Seen, Server}, Step.{ServerState, Stepped, new_state, step, asked_of}}
 
 -- the head of a reply that says success: its xid, REPLY 1, MSG_ACCEPTED 0, a verifier AUTH_NONE 0 of no bytes, SUCCESS 0
 abbrev pub accepted_reply : ℕ → Text
@@ -64,27 +64,27 @@ abbrev pub heading : List ℕ → Option Heading
 heading bytes = heading_by (call_of bytes)
 
 -- the later moment is taken, and what has run out by then goes
-abbrev pub ticked : State → ℕ → State
+abbrev pub ticked : ServerState → ℕ → ServerState
 ticked s now = let moment = max s.moment now in record { machine = expired moment s.machine; moment = moment }
 
 -- a call executes, in a record of so many bytes, once its moment is taken
-abbrev pub executes_by : State → ℕ → Called → Bool
+abbrev pub executes_by : ServerState → ℕ → Called → Bool
 executes_by s size (Refused refusal) = false
 executes_by s size (Accepted call) = option_map_or (λ r. requests.executes s.machine r call.who size) (asked_of call call.procedure) false
 
 -- a slot of a session
 abbrev pub slot_in : ℕ → Option Session → Option SlotState
 slot_in slot None = None
-slot_in slot (Some s) = slice_get s.slots.slots slot
+slot_in slot (Some s) = slice_get s.slots slot
 
 -- what a network sees of a step
-abbrev pub seen : (find : List ℕ → Option Answer) → Stepped → Seen State
+abbrev pub seen : (find : List ℕ → Option Answer) → Stepped → Seen ServerState
 seen find s = record { answer = option_and_then find s.reply; state = s.state }
 
 -- a server whose root has a mode, of an instance, and whose leases last so many seconds, by what is found in its replies
 abbrev pub server : (find : List ℕ → Option Answer) (mode instance lease : ℕ) → Server
 server find mode instance lease = record {
-  State = State;
+  State = ServerState;
   new = new_state mode instance lease;
   heading = heading;
   step = λ s bytes now choice. seen find (step s bytes now choice);

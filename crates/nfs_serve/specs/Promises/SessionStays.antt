@@ -4,18 +4,18 @@ use Rattle.std.specs.{Prelude.{◌≡◌, ℕ, ◌+◌, ◌*◌, ◌^◌, ◌≤
 use Rattle.nfs_compound.specs.declared.session_args.Sequence.{Sequence}
 use Rattle.nfs_sessions.specs.{declared.id.SessionId.SessionId, Id.id_of, Sessions.{session_at, no_sessions}}
 use Rattle.nfs_exec.specs.{Step.Machine.Machine, Step.Laws.{MachineEvent, ran}, Runs.SessionLasts.ends_session}
-use Rattle.nfs_serve.specs.{Step.State, Promises.Endpoint.Arrival, Promises.Points.{state_after, reached, taken, before, asked_by}}
+use Rattle.nfs_serve.specs.{Step.ServerState, Promises.Endpoint.Arrival, Promises.Points.{state_after, reached, taken, before, asked_by}}
 use Rattle.nfs_serve.specs.{Promises.LockKept.{renews_by, replaces_by}, Promises.HeldLock.{start, locks, locked, waits}}
 
 abbrev pub HasSession : SessionId → Machine → Type 0
 HasSession id m = is_some (session_at m.sessions id) ≡ true
 
 -- the record ends the session: a DESTROY_SESSION of it that is answered NFS4_OK
-abbrev pub ends_by : SessionId → State → Arrival → Bool
+abbrev pub ends_by : SessionId → ServerState → Arrival → Bool
 ends_by id s c = option_map_or (ends_session id (before s c)) (asked_by s c) false
 
 -- a request of the record runs in the session
-pub record RunsThere (id : SessionId) (s : State) (c : Arrival) : Type 0 where
+pub record RunsThere (id : SessionId) (s : ServerState) (c : Arrival) : Type 0 where
   pub event : MachineEvent
   pub asks : asked_by s c ≡ Some event
   pub sequence : Sequence
@@ -24,7 +24,7 @@ pub record RunsThere (id : SessionId) (s : State) (c : Arrival) : Type 0 where
 
 -- The session stands here, and stays through these records, where `last` is the moment of its client's last renewal: if the next one is taken at most one lease behind
 -- that, it stands when that one's compound begins; and if that neither ends it nor puts another id in the client's place, the same holds behind it.
-abbrev pub StaysThere : SessionId → (lease last : ℕ) → State → List Arrival → Type 0
+abbrev pub StaysThere : SessionId → (lease last : ℕ) → ServerState → List Arrival → Type 0
 StaysThere id lease last s [] = HasSession id s.machine
 StaysThere id lease last s (c ∷ more) =
     HasSession id s.machine
@@ -44,11 +44,11 @@ abbrev pub id : SessionId
 id = record { client = 7 * 2 ^ 32 + 1; counter = 1 }
 
 -- a server that keeps no session behind a record
-abbrev pub forgetful : State
+abbrev pub forgetful : ServerState
 forgetful = record locked { machine = record locked.machine { sessions = no_sessions } }
 
 -- none of these ends the session
-abbrev pub NoneEnds : State → List Arrival → Type 0
+abbrev pub NoneEnds : ServerState → List Arrival → Type 0
 NoneEnds s [] = Unit {0}
 NoneEnds s (c ∷ more) = (ends_by id s c ≡ false) × NoneEnds (state_after s c) more
 

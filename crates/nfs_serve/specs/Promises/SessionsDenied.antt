@@ -9,12 +9,12 @@ use Rattle.nfs_compound.specs.declared.op_num.OpNum.TheVariants as Num
 use Rattle.nfs_results.specs.Wire.{text_of, ends}
 use Rattle.nfs_sessions.specs.{declared.id.SessionId.SessionId, Id.id_of}
 use Rattle.nfs_exec.specs.Runs.OneSession.{MakesOne}
-use Rattle.nfs_serve.specs.{Step.{State, step, asked_of}, Promises.Endpoint.{Answer, Arrival, Heading}, Promises.LockKept.{renews_by, replaces_by}}
+use Rattle.nfs_serve.specs.{Step.{ServerState, step, asked_of}, Promises.Endpoint.{Answer, Arrival, Heading}, Promises.LockKept.{renews_by, replaces_by}}
 use Rattle.nfs_serve.specs.{Promises.Points.{state_after, state_after_all, reached, taken, before}, Promises.Seen.{IsAnswer, front, heading}}
 use Rattle.nfs_serve.specs.{Promises.SessionStays.{ends_by, RunsThere}, Promises.SessionsOnce.GivesIn}
 
 -- The reply to a record says so much of the first operation of its compound: which it was, and how it ended.
-pub record SaysFirst (n : OpNum) (status : Status) (s : State) (c : Arrival) : Type 0 where
+pub record SaysFirst (n : OpNum) (status : Status) (s : ServerState) (c : Arrival) : Type 0 where
   pub reply : List ℕ
   pub sent : (step s c.bytes c.now c.choice).reply ≡ Some reply
   pub answer : Answer
@@ -22,25 +22,25 @@ pub record SaysFirst (n : OpNum) (status : Status) (s : State) (c : Arrival) : T
   pub first : Begins (front (text_of (ends (op_number n) status void))) answer.result
 
 -- The record is a call of a compound that begins with a SEQUENCE in the session, or with a DESTROY_SESSION of it; and its reply says NFS4ERR_BADSESSION of that.
-pub data IsBadSession (id : SessionId) (s : State) (c : Arrival) : Type 0 where
+pub data IsBadSession (id : SessionId) (s : ServerState) (c : Arrival) : Type 0 where
   BySequence : (h : Heading) → heading c.bytes ≡ Some h → h.place.session ≡ id → SaysFirst Num.Sequence BadSession s c → IsBadSession id s c
   ByDestroy : (call : Call) (r : Request) (sessionid : List ℕ) (more : List Item) → call_of c.bytes ≡ Accepted call
       → asked_of call call.procedure ≡ Some r → r.left ≡ Operation (Op.DestroySession sessionid) ∷ more → id_of sessionid ≡ id
       → SaysFirst Num.DestroySession BadSession s c → IsBadSession id s c
 
 -- The record comes when the lease has run out of the client that last renewed it at moment `last`; or it ends the session, or puts another id in its client's place.
-abbrev pub EndsAt : SessionId → (lease last : ℕ) → State → Arrival → Type 0
+abbrev pub EndsAt : SessionId → (lease last : ℕ) → ServerState → Arrival → Type 0
 EndsAt id lease last s c = (last + lease < taken s c) ⊎ ((ends_by id s c ≡ true) ⊎ (replaces_by id.client s c ≡ true))
 
 -- One of these records does so, where `last` is the moment of the client's last renewal before them; or the lease has run out when the last record comes.
-abbrev pub HasEnded : SessionId → (lease last : ℕ) → State → List Arrival → Arrival → Type 0
+abbrev pub HasEnded : SessionId → (lease last : ℕ) → ServerState → List Arrival → Arrival → Type 0
 HasEnded id lease last s [] d = last + lease < taken s d
 HasEnded id lease last s (c ∷ more) d =
     EndsAt id lease last s c ⊎ HasEnded id lease (if renews_by id.client s c then taken s c else last) (state_after s c) more d
 
 -- A CREATE_SESSION made the session: it was answered NFS4_OK and the session's id, which named no session before. The first one that is answered an id makes the session
 -- (`EachWasMade` of SessionsOnce). Or a request of the record ran in it.
-pub data Stands (id : SessionId) (s : State) (c : Arrival) : Type 0 where
+pub data Stands (id : SessionId) (s : ServerState) (c : Arrival) : Type 0 where
   Made : (number : ℕ) (text : List ℕ) → GivesIn id.client number text s c → (m : MakesOne id.client text (before s c).sessions (state_after s c).machine.sessions)
       → m.session ≡ id → Stands id s c
   Ran : RunsThere id s c → Stands id s c

@@ -3,13 +3,14 @@
 use Rattle.std.specs.Prelude.{◌≡◌, List, [], ◌∷◌}
 use Rattle.nfs_xdr.specs.declared.status.Status.TheVariants.{Nfs4Ok, BadStateId}
 use Rattle.nfs_exec.specs.Runs.Ops.{RanOp}
-use Rattle.nfs_serve.specs.{Step.State, Promises.Endpoint.Arrival, Promises.Exchanges.words, Promises.HeldLock.{came, in_session, start, locks, renewal, waits, last_of, statuses}}
+use Rattle.nfs_serve.specs.{Step.ServerState, Promises.Endpoint.Arrival, Promises.Exchanges.words}
+use Rattle.nfs_serve.specs.Promises.HeldLock.{came, in_session, start, locks, renewal, waits, last_of, statuses}
 use Rattle.nfs_serve.specs.{Promises.HeldOpen.{opened}, Promises.LostReply.{exchange_id, create_session}, Promises.NeverExpired.IsNotExpired}
 use Rattle.nfs_serve.specs.{Promises.Points.{state_after_all, reached, ops_of}, Promises.SessionStays.{id, forgetful}}
 use Rattle.nfs_serve.specs.Promises.SessionsDenied.{IsBadSession, HasEnded, Stands}
 
 -- behind EXCHANGE_ID of `A`, its CREATE_SESSION
-abbrev pub known : State
+abbrev pub known : ServerState
 known = reached 511 7 90 (came 100 1 (exchange_id 0x4100_0000) ∷ [])
 
 abbrev pub creates : Arrival
@@ -23,7 +24,7 @@ abbrev pub too_late : Arrival
 too_late = came 193 4 (in_session 1 2 1 [])
 
 -- a server whose leases last a second, behind A's LOCK
-abbrev pub hasty : State
+abbrev pub hasty : ServerState
 hasty = reached 511 7 1 (came 100 1 (exchange_id 0x4100_0000) ∷ came 101 2 (create_session 1) ∷ locks ∷ [])
 
 -- DESTROY_SESSION of session 1, and once more

@@ -53,7 +53,7 @@ pub data IsStaleFor (d : RanOp) : Type 0 where
   OfCurrent : (n : ℕ) → is_on_current d.item ≡ true → d.context.current ≡ Some n → is_used d.before.store n ≡ false → IsStaleFor d
   OfSaved : (saved : Saved) → is_on_saved d.item ≡ true → d.context.saved ≡ Some saved → is_used d.before.store saved.object ≡ false → IsStaleFor d
   OfGiven : (h : List ℕ) (g : Handle) → d.item ≡ Operation (Op.PutFh h) → handle_of h ≡ Some g
-      → (g.instance ≢ d.before.store.instance) ⊎ (is_used d.before.store g.number ≡ false) → IsStaleFor d
+      → (g.instance ≢ d.before.store.opens.instance) ⊎ (is_used d.before.store g.number ≡ false) → IsStaleFor d
 
 abbrev pub IsStaleTruly : RanOp → Type 0
 IsStaleTruly d = (op : Op) → d.item ≡ Operation op → d.status ≡ Stale → IsStaleFor d

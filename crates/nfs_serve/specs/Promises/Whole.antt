@@ -2,7 +2,7 @@
 -- end (RFC 5531 section 11). This server's profile.
 use Rattle.std.specs.Prelude.{◌≡◌, ◌≢◌, ◌≤◌, ℕ, nat_eq, List, [], ◌∷◌, ◌++◌, All, flat_map, true, if◌then◌else◌}
 use Rattle.nfs_rpc.specs.Stream.{IsReading}
-use Rattle.nfs_serve.specs.{declared.form.Form.TheVariants.Plain, Script.{Entry, last_connection, Fits}, Step.State}
+use Rattle.nfs_serve.specs.{declared.form.Form.TheVariants.Plain, Script.{Entry, last_connection, Fits}, Step.ServerState}
 use Rattle.nfs_serve.specs.{Run.{Streams, all_closed, TakesAll, StreamEvent, Arrives, Overflows, Move, events, after, after_event, output_of}, Server.Stands}
 use Rattle.nfs_serve.specs.{Desk.{Act, Closed, Stepped, Goes}, Hub.{Desks, none_live, Round, Opens, Turns, OthersStay, Turning}, Promises.Laws.call_on}
 use Rattle.nfs_serve.specs.Promises.Account.{came, taken, part_of}
@@ -27,7 +27,7 @@ script rounds = flat_map entries_in rounds
 
 -- The rounds are the run of their script: for some choices, the state left is the run's, and what is held of each connection that is
 -- served stands for its stream.
-pub record RunsScript (old : State) (rounds : List Round) (new : State) (desks : Desks) : Type 0 where
+pub record RunsScript (old : ServerState) (rounds : List Round) (new : ServerState) (desks : Desks) : Type 0 where
   pub moves : List Move
   pub streams : Streams
   pub fits : All Fits (script rounds)
@@ -37,7 +37,7 @@ pub record RunsScript (old : State) (rounds : List Round) (new : State) (desks :
 
 -- every run of many connections is the run of its script
 abbrev pub HubRunsScript : Type 0
-HubRunsScript = (old new : State) (rounds : List Round) (desks : Desks) → Turning old none_live rounds new desks → RunsScript old rounds new desks
+HubRunsScript = (old new : ServerState) (rounds : List Round) (desks : Desks) → Turning old none_live rounds new desks → RunsScript old rounds new desks
 
 -- the acts on one port
 abbrev pub acts_in : ℕ → Round → List Act
@@ -52,7 +52,7 @@ port_of (Arrives conn moment call) = conn
 port_of (Overflows conn) = conn
 
 -- what the moves put out on one port, in their order, each in the state that all those before it left, whatever their port
-abbrev pub output_on : ℕ → State → List Move → List ℕ
+abbrev pub output_on : ℕ → ServerState → List Move → List ℕ
 output_on port s [] = []
 output_on port s (m ∷ moves) =
     (if nat_eq (port_of m.event) port then output_of Plain s m.event m.choice else []) ++ output_on port (after_event s m.event m.choice) moves
@@ -60,7 +60,7 @@ output_on port s (m ∷ moves) =
 -- A port on which a connection is served at the end of a run, since that connection began: what came on it is what was stepped of it
 -- and what waits; the records that arrive on it are those of the stream of what was stepped; and what they put out, each in the state that
 -- the whole run has then, is what its peer took and what is owed.
-pub record LosesNothing (old : State) (rounds : List Round) (new : State) (desks : Desks) (run : RunsScript old rounds new desks) (port : ℕ) : Type 0 where
+pub record LosesNothing (old : ServerState) (rounds : List Round) (new : ServerState) (desks : Desks) (run : RunsScript old rounds new desks) (port : ℕ) : Type 0 where
   pub before : List Round
   pub since : List Round
   pub split : rounds ≡ before ++ Opens port ∷ since
@@ -77,16 +77,16 @@ pub record LosesNothing (old : State) (rounds : List Round) (new : State) (desks
 
 -- of one and the same run this holds on every port
 abbrev pub NothingIsLostInARun : Type 0
-NothingIsLostInARun = (old new : State) (rounds : List Round) (desks : Desks) → Turning old none_live rounds new desks
+NothingIsLostInARun = (old new : ServerState) (rounds : List Round) (desks : Desks) → Turning old none_live rounds new desks
     → (run : RunsScript old rounds new desks) × ((port : ℕ) → (desks port).live ≡ true → LosesNothing old rounds new desks run port)
 
 -- rounds, and behind them some acts of a turn that has not ended yet
-abbrev pub TurningInto : State → Desks → List Round → ℕ → List Act → State → Desks → Type 0
-TurningInto s old rounds port acts t new = (u : State) × (between : Desks) × Turning s old rounds u between × (port ≤ last_connection)
+abbrev pub TurningInto : ServerState → Desks → List Round → ℕ → List Act → ServerState → Desks → Type 0
+TurningInto s old rounds port acts t new = (u : ServerState) × (between : Desks) × Turning s old rounds u between × (port ≤ last_connection)
     × Goes port u (between port) acts t (new port) × OthersStay between new port
 
 -- and so it does behind each act of a turn: of each connection, up to its end
 abbrev pub NothingIsLostInATurn : Type 0
-NothingIsLostInATurn = (old new : State) (rounds : List Round) (port : ℕ) (acts : List Act) (desks : Desks)
+NothingIsLostInATurn = (old new : ServerState) (rounds : List Round) (port : ℕ) (acts : List Act) (desks : Desks)
     → TurningInto old none_live rounds port acts new desks → (run : RunsScript old (rounds ++ Turns port acts ∷ []) new desks)
     × ((c : ℕ) → (desks c).live ≡ true → LosesNothing old (rounds ++ Turns port acts ∷ []) new desks run c)

@@ -2,11 +2,11 @@
 use Rattle.std.specs.Prelude.{◌≡◌, ℕ, List, [], ◌∷◌, ◌++◌}
 use Rattle.nfs_files.specs.Written.{Byte}
 use Rattle.nfs_exec.specs.{Runs.Ops.RanOp, Runs.WrittenRun.{WritesIt, AreSpared, StandsWhile}}
-use Rattle.nfs_serve.specs.{Step.State, Promises.Endpoint.Arrival, Promises.Points.{state_after, reached, ops_of}}
+use Rattle.nfs_serve.specs.{Step.ServerState, Promises.Endpoint.Arrival, Promises.Points.{state_after, reached, ops_of}}
 
 -- Through these records the byte stands before each operation, and each READ of it that answers NFS4_OK is given it, as long as all operations before spared
 -- it, whoever asked for them.
-abbrev pub StaysWritten : Byte → State → List Arrival → Type 0
+abbrev pub StaysWritten : Byte → ServerState → List Arrival → Type 0
 StaysWritten b s [] = Unit {0}
 StaysWritten b s (c ∷ more) = StandsWhile b (ops_of s c) × (AreSpared b (ops_of s c) → StaysWritten b (state_after s c) more)
 

@@ -5,7 +5,7 @@ use Rattle.nfs_compound.specs.declared.op_num.OpNum.TheVariants as Num
 use Rattle.nfs_results.specs.Results.{done_head}
 use Rattle.nfs_files.specs.Written.{Byte, Reads, bytes_in}
 use Rattle.nfs_exec.specs.{Runs.Ops.RanOp, Runs.WrittenRun.{WritesIt, AreSpared, StandsBefore}}
-use Rattle.nfs_serve.specs.{Step.State, Promises.Endpoint.Arrival, Promises.Points.{state_after, ops_of}, Promises.Exchanges.words}
+use Rattle.nfs_serve.specs.{Step.ServerState, Promises.Endpoint.Arrival, Promises.Points.{state_after, ops_of}, Promises.Exchanges.words}
 use Rattle.nfs_serve.specs.Promises.HeldLock.{came, in_session, start, last_of}
 use Rattle.nfs_serve.specs.Promises.SeenWrite as seen
 
@@ -28,16 +28,16 @@ closes = came 105 6 (in_session 1 4 3 (words (22 ∷ 16 ∷ 7 ∷ 0 ∷ 0 ∷ 2 
 abbrev pub reads : Arrival
 reads = came 106 7 (in_session 1 5 4 seen.reads)
 
-abbrev pub made : State
+abbrev pub made : ServerState
 made = state_after start makes
 
-abbrev pub written : State
+abbrev pub written : ServerState
 written = state_after made writes
 
-abbrev pub grown : State
+abbrev pub grown : ServerState
 grown = state_after written goes_on
 
-abbrev pub closed : State
+abbrev pub closed : ServerState
 closed = state_after grown closes
 
 -- the first `e` of `seen`

@@ -11,17 +11,17 @@ use Rattle.nfs_opens.specs.Closing.{without_open}
 use Rattle.nfs_names.specs.Ending.{with_opens}
 use Rattle.nfs_exec.specs.{Step.Machine.Machine, Step.CreateSession.without_any_opens, Step.Laws.{MachineEvent, Asks}, Step.Delayed.IsDelayed}
 use Rattle.nfs_exec.specs.{Runs.Ended.HasNothing, Runs.Ops.RanOp, Runs.LockHeld.{StandsBefore, StandsWhile}}
-use Rattle.nfs_serve.specs.{Step.{State, new_state}, Promises.Points.{state_after, reached, before, asked_by, ops_of}}
+use Rattle.nfs_serve.specs.{Step.{ServerState, new_state}, Promises.Points.{state_after, reached, before, asked_by, ops_of}}
 use Rattle.nfs_serve.specs.{Promises.LockKept.{replaces_by, StaysHeld}, Promises.Outlived.{last_renewal, IsInTime}, Promises.Exchanges.words}
 use Rattle.nfs_serve.specs.{Promises.Endpoint.Arrival, Promises.LostReply.create_session}
 use Rattle.nfs_serve.specs.Promises.HeldLock.{came, earlier, locks, renewal, clashes, locked, asked, told, stateid_of_lock, last_of}
 
 -- a server whose leases last one second, whatever the client was told
-abbrev pub short_leases : State
+abbrev pub short_leases : ServerState
 short_leases = state_after (reached 511 7 1 earlier) locks
 
 -- a LOCK that sets the lease of its client back
-abbrev pub set_back : State
+abbrev pub set_back : ServerState
 set_back = record locked { machine = record locked.machine { leases = with_renewal locked.machine.leases told.client 0 } }
 
 -- a LOCK that answers NFS4_OK and a stateid, of lock state 4, and does nothing
@@ -48,7 +48,7 @@ abbrev pub confirms : Arrival
 confirms = came 104 10 (create_session 2)
 
 -- an EXCHANGE_ID that ends what A has open and locked
-abbrev pub ended : State
+abbrev pub ended : ServerState
 ended = record locked { machine = record locked.machine { store = without_any_opens locked.machine.store (Some told.client) } }
 
 -- The answer to what a record asks for is none where the operation at a place of it is delayed.
@@ -73,7 +73,7 @@ pub record AreRefused : Type 0 where
   pub last : last_renewal told.client None (new_state 511 7 90) (earlier ++ locks ∷ []) ≡ Some 102
   pub held : locked.machine.store.opens.held 2 2 0 ≡ Some Write
   -- and so does all that its client had, whose lease has run out by then
-  pub run_out : has_run_out locked.machine.leases 193 told.client ≡ true
+  pub run_out : has_run_out locked.machine.store.lease locked.machine.leases 193 told.client ≡ true
   pub kept_all : HasNothing told.client locked.machine → ⊥
   -- and where it lives on a CREATE_SESSION that is repeated, which renews nothing
   pub repeat : last_renewal told.client None (new_state 511 7 90) (earlier ++ locks ∷ repeats ∷ []) ≡ Some 102

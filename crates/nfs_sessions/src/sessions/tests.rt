@@ -1,17 +1,19 @@
 //! The last counter of a session.
 
 use super::*;
-use crate::channel::Channel;
+use nfs_compound::ChannelAttrs;
 use std::test::Fail;
 
 #[test]
 fn the_last_counter_is_given_once(rt: HostRuntime) -> Result<(), Fail> {
-    let fore = Channel {
-        request: 2_048,
-        response: 2_048,
-        cached: 0,
-        operations: 1,
-        slots: 1,
+    let fore = ChannelAttrs {
+        headerpadsize: 0,
+        maxrequestsize: 2_048,
+        maxresponsesize: 2_048,
+        maxresponsesize_cached: 0,
+        maxoperations: 1,
+        maxrequests: 1,
+        rdma_ird: None,
     };
     let wish = Wish {
         fore,

@@ -1,7 +1,7 @@
 //! A slot whose contract binds the number alone: a call that is sent again runs again (RFC 8881 section 2.10.6.1).
 
 ghost use Rattle.std.specs.Prelude.{◌≡◌, ◌==◌, ◌||◌, ◌&&◌, true, false, MatchBool};
-ghost use Rattle.nfs_slots.specs.Slot.{next_number};
+ghost use Rattle.nfs_xdr.specs.Numbers.{next_number};
 
 use super::callers::{Caller, call, create_session, done, play};
 use super::{EXCHANGE_ID, SETTINGS};

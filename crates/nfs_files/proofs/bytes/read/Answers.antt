@@ -2,12 +2,8 @@ use Rattle.std.proofs.Common.{refl, sym, ◌∙◌}
 use Rattle.nfs_compound.specs.declared.op_num.OpNum.TheVariants as Num
 use Rattle.nfs_names.specs.State.{state_of}
 use Rattle.nfs_files.specs.Read.{read}
-use Rattle.nfs_files.proofs.{InSteps.{read_is, where_found, where_refused}, ReadBytes.readable_is}
+use Rattle.nfs_files.proofs.InSteps.{read_is, where_found, where_refused}
 use Rattle.nfs_files.proofs.bytes.read.Goals as goal
-
-pub put_read-requires-clause-there : goal.put_read-requires-clause-there
-put_read-requires-clause-there c =
-    readable_is (state_of c.args.store.now) c.args.context.now c.args.asked.now c.in-Ok.node (sym c.to_read.ensures ∙ c.in-Ok.is)
 
 pub returns-in-Ok : goal.returns-in-Ok
 returns-in-Ok c =

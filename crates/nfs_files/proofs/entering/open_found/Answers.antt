@@ -2,7 +2,7 @@ use Rattle.std.proofs.Common.{◌≡◌, true, Some, None, inl, inr, refl, sym, 
 use Rattle.nfs_tree.specs.{declared.fault.TreeFault.TheVariants.Memory, Files.Files}
 use Rattle.nfs_opens.specs.{Table.{Kept, table}, Calls.open_fault}
 use Rattle.nfs_opens.specs.Calls as of_opens
-use Rattle.nfs_names.specs.{State.{State, state_of}, Faults.status_of}
+use Rattle.nfs_names.specs.{State.{State, state_of}, Faults.tree_fault_status}
 use Rattle.nfs_names.proofs.{Found.checked_ok, Faulted.{done_by_tree, refused_tree}}
 use Rattle.nfs_files.specs.{Open.{asking, last_checks, file_of, tree_of}, OpenParts.tree_fault, OpenParts.asked_for}
 use Rattle.nfs_files.proofs.{Granted.{may_change, tree_free}, Opened.shared_free}
@@ -23,8 +23,8 @@ returns-in-Err c =
       | inl w ↦ w.0
       | inr other ↦ absurd (let bad : None ≡ Some f = sym (tree_free s x o found granted.0 granted.1) ∙ other.0 in cc)
     ] in
-    let with_parts : Files → Kept → State = λ t k. record { tree = t; opens = table k; instance = s.instance; lease = s.lease } in
-    (c.status_of.ensures ∙ ap status_of memory, ap (λ t. with_parts t c.reserve.new.self) did.0 ∙ ap (with_parts t) c.in-Ok.ensures.ok, refl)
+    let with_parts : Files → Kept → State = λ t k. record { tree = t; opens = table k; lease = s.lease } in
+    (c.status_of.ensures ∙ ap tree_fault_status memory, ap (λ t. with_parts t c.reserve.new.self) did.0 ∙ ap (with_parts t) c.in-Ok.ensures.ok, refl)
 
 pub info_of-cinfo-requires : goal.info_of-cinfo-requires
 info_of-cinfo-requires c =

@@ -4,7 +4,7 @@ use Rattle.nfs_results.specs.{declared.res.Res.Res, Results.refusal}
 use Rattle.nfs_xdr.specs.declared.status.Status.TheVariants.{Nfs4Ok}
 use Rattle.nfs_tree.specs.Files.{Files}
 use Rattle.nfs_attrs.specs.Mask.{mask_of, trimmed_words}
-use Rattle.nfs_names.specs.{State.{state_of, with_tree}, Faults.status_of, Outcome.Outcome}
+use Rattle.nfs_names.specs.{State.{state_of, with_tree}, Faults.tree_fault_status, Outcome.Outcome}
 use Rattle.nfs_names.proofs.Faulted.{did_ok, does_err, by_error}
 use Rattle.nfs_files.specs.{SetAttr.with_set, SetAttrParts.{tree_fault, asked_for, last_checks, was_set}}
 use Rattle.nfs_files.proofs.SetRows.{set_goes, set_stops}
@@ -38,7 +38,7 @@ returns-in-Err-change c =
     let did = does_err s.tree (tree_fault s.tree m.node.number m.wanted m.wanted.size) tt after c.change.new.tree f
     c.in-Err-change.ensures.answer c.in-Err-change.ensures.after in
     ap (λ r. leaves r c.change.new.tree) (c.refuse.ensures ∙ ap (refusal 34) c.status_of.ensures)
-    ∙ ap (leaves (refusal 34 (status_of f))) did.1
+    ∙ ap (leaves (refusal 34 (tree_fault_status f))) did.1
     ∙ sym (set_stops s x c.args.now a m f (sym c.judge.ensures ∙ c.in-Ok.is) did.0)
 
 pub returns-in-Err : goal.returns-in-Err

@@ -9,7 +9,9 @@ pub returns : goal.returns
 returns c =
     let told = about (state_of c.args.store.now) c.args.node.now in
     let object = c.args.node.now.object in
-    elim c.if-has.branch [
+    ap (λ (i : ℕ). values c.args.asked (record told { size = c.args.size; links = c.if-has.links; instance = i }) object) c.instance.ensures
+    ∙ ap (λ (k : ℕ). values c.args.asked (record told { size = k; links = c.if-has.links }) object) c.requires
+    ∙ elim c.if-has.branch [
       | then-has w ↦ ap (λ (n : ℕ). values c.args.asked (record told { links = n }) object) (w.links-is ∙ w.links_of-links.ensures)
       | else-has w ↦ values_without_links c.args.asked told object c.if-has.links (sym c.has.ensures ∙ w.if-has.false)
     ]

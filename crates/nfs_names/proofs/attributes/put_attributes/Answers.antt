@@ -14,7 +14,7 @@ use Rattle.nfs_names.proofs.Masks.{room_then, at_most_three_words, attributes_sp
 use Rattle.nfs_names.proofs.attributes.put_attributes.Goals as goal
 
 pub write_done_head-requires : goal.write_done_head-requires
-write_done_head-requires c = record { room = omega (arith, length_head (op_number Num.GetAttr) Nfs4Ok) }
+write_done_head-requires c = record { room = omega (arith, c.requires.room, length_head (op_number Num.GetAttr) Nfs4Ok) }
 
 pub write_attrs-requires : goal.write_attrs-requires
 write_attrs-requires c =
@@ -27,7 +27,7 @@ write_attrs-requires c =
     (behind_within 0 (Res.GetAttr (record { attrmask = _; attr_vals = _ })) tt (at_most_three_words asked table.readable, omega arith)) in
     record {
       room = room_then c.args.out.now _ (head (op_number Num.GetAttr) Nfs4Ok)
-          (spell_attrs asked a o) 640 c.write_done_head.ensures (omega (arith, length_head (op_number Num.GetAttr) Nfs4Ok)) c.requires;
+          (spell_attrs asked a o) 640 c.write_done_head.ensures (omega (arith, length_head (op_number Num.GetAttr) Nfs4Ok)) c.requires.room;
     }
 
 pub returns : goal.returns

@@ -1,9 +1,8 @@
-use Rattle.std.proofs.Common.{◌-◌, List, sym, subst, ap, refl, arith, inl, ◌∙◌}
-use Rattle.std.specs.Prelude.{option_map}
-use Rattle.nfs_tree.specs.{Files.stored_in, Listing.listed_of, declared.stored.Stored.Stored}
+use Rattle.std.proofs.Common.{◌-◌, sym, subst, refl, arith, inl, ◌∙◌}
+use Rattle.nfs_tree.specs.Listing.{listed_of}
 use Rattle.nfs_xdr.specs.Tables.{In}
 use Rattle.nfs_names.specs.{State.state_of, ReadDir.entry_of}
-use Rattle.nfs_names.proofs.Entering.{AllThere, going_starts, going_on, going_stops, going_ends, listed_there, found_there, ended_lists}
+use Rattle.nfs_names.proofs.Entering.{AllThere, going_starts, going_on, going_stops, going_ends, listed_there, found_there, found_measured, ended_lists}
 use Rattle.nfs_names.proofs.listing.put_entries.Goals as goal
 
 pub loop-entry-init : goal.loop-entry-init
@@ -16,19 +15,23 @@ loop-entry-init c =
 
 pub put_entry-requires-clause-there : goal.put_entry-requires-clause-there
 put_entry-requires-clause-there c =
-    c.in-Some-object.ensures.found ∙ ap (λ (xs : List Stored). option_map (λ (s : Stored). s.object) (stored_in xs c.in-Some.entry.number)) c.loop-entry.invariant.1
+    (found_measured c.args.store.now.tree c.loop-entry.objects c.in-Some.entry.number _ c.loop-entry.invariant.1 c.in-Some-object_and_size.ensures.found).0
 
-pub returns-in_default-object-clause-put : goal.returns-in_default-object-clause-put
-returns-in_default-object-clause-put c =
+pub put_entry-requires-clause-size : goal.put_entry-requires-clause-size
+put_entry-requires-clause-size c =
+    (found_measured c.args.store.now.tree c.loop-entry.objects c.in-Some.entry.number _ c.loop-entry.invariant.1 c.in-Some-object_and_size.ensures.found).1
+
+pub returns-in_default-object_and_size-clause-put : goal.returns-in_default-object_and_size-clause-put
+returns-in_default-object_and_size-clause-put c =
     let e = listed_of c.in-Some.entry in
     absurd (found_there c.args.store.now.tree c.loop-entry.objects e.number c.loop-entry.invariant.1
-    (c.loop-entry.invariant.0.there e (subst (In e) (sym c.in-Some.ensures.steps) (inl refl))) c.in_default-object.ensures.found)
+    (c.loop-entry.invariant.0.there e (subst (In e) (sym c.in-Some.ensures.steps) (inl refl))) c.in_default-object_and_size.ensures.found)
 
-pub returns-in_default-object-clause-all : goal.returns-in_default-object-clause-all
-returns-in_default-object-clause-all c =
+pub returns-in_default-object_and_size-clause-all : goal.returns-in_default-object_and_size-clause-all
+returns-in_default-object_and_size-clause-all c =
     let e = listed_of c.in-Some.entry in
     absurd (found_there c.args.store.now.tree c.loop-entry.objects e.number c.loop-entry.invariant.1
-    (c.loop-entry.invariant.0.there e (subst (In e) (sym c.in-Some.ensures.steps) (inl refl))) c.in_default-object.ensures.found)
+    (c.loop-entry.invariant.0.there e (subst (In e) (sym c.in-Some.ensures.steps) (inl refl))) c.in_default-object_and_size.ensures.found)
 
 pub returns-then-not-put_entry : goal.returns-then-not-put_entry
 returns-then-not-put_entry c =
@@ -48,7 +51,7 @@ loop-entry-preserved c = (
       (c.loop-entry.room - (c.len.result - c.len-before.result)) c.list-listing.result c.loop-entry.listing c.next.new.self
       (listed_of c.in-Some.entry) c.loop-entry.invariant.0 c.in-Some.ensures.steps c.if-not-put_entry.ensures
       (let now = c.len.ensures.value in let before = c.len-before.ensures.value in omega arith),
-  c.object.ensures.same ∙ c.loop-entry.invariant.1,
+  c.object_and_size.ensures.same ∙ c.loop-entry.invariant.1,
 )
 
 pub returns : goal.returns

@@ -1,10 +1,10 @@
 use Rattle.std.proofs.Common.{◌≡◌, not, sym, ap, ◌∙◌, false}
 use Rattle.std.specs.Prelude.{Ok, ◌==◌}
 use Rattle.nfs_results.specs.{declared.res.ChangeInfo.ChangeInfo, declared.res.Res.Res}
-use Rattle.nfs_tree.specs.{declared.row.Row.Row, declared.done.Removed.Removed, Files.{Files, is_entry, named, has_entries, raised}, Names.without_name}
+use Rattle.nfs_tree.specs.{declared.row.Row.Row, declared.done.Removed.Removed, Files.{Files, is_entry, number_named, has_entries, raised}, Names.without_name}
 use Rattle.nfs_tree.specs.Calls.{remove_fault}
 use Rattle.nfs_tree.proofs.Trees.{remove_granted}
-use Rattle.nfs_names.specs.{State.{State, state_of, with_tree, without_unused}, Outcome.Outcome, Create.change_info, Faults.status_of, Fronts.removing}
+use Rattle.nfs_names.specs.{State.{State, state_of, with_tree, without_unused}, Outcome.Outcome, Create.change_info, Faults.tree_fault_status, Fronts.removing}
 use Rattle.nfs_xdr.proofs.Lists.{none_left}
 use Rattle.nfs_names.proofs.{Changing.{remove_asks, goes, stops, errs}, Faulted.{did_ok, does_err}}
 use Rattle.nfs_names.proofs.making.remove.Goals as goal
@@ -14,7 +14,7 @@ drop_empty-requires c unused =
     let t = c.args.store.now.tree in
     let d = c.in-Ok.d.number in
     let name = c.args.name.now in
-    let n = named t d name in
+    let n = number_named t d name in
     let did = did_ok t (remove_fault t d name) (record { number = n; directory = raised t d }) c.in-Ok-remove.removed
     (without_name t d name c.args.now) c.remove.new.self c.in-Ok-remove.ensures.answer c.in-Ok-remove.ensures.after in
     let empty = (remove_granted t d name did.0).1 in
@@ -31,7 +31,7 @@ returns-in-Ok-remove c =
     let now = c.args.now in
     let d = c.in-Ok.d in
     let name = c.args.name.now in
-    let n = named t d.number name in
+    let n = number_named t d.number name in
     let v : removing s x name ≡ Ok d = sym c.judge_remove.ensures ∙ c.in-Ok.is in
     let did = did_ok t (remove_fault t d.number name) (record { number = n; directory = raised t d.number }) c.in-Ok-remove.removed
     (without_name t d.number name now) c.remove.new.self c.in-Ok-remove.ensures.answer c.in-Ok-remove.ensures.after in
@@ -53,10 +53,10 @@ returns-in-Err-remove c =
     let name = c.args.name.now in
     let f = c.in-Err-remove.fault in
     let v : removing s x name ≡ Ok d = sym c.judge_remove.ensures ∙ c.in-Ok.is in
-    let did = does_err t (remove_fault t d.number name) (record { number = named t d.number name; directory = raised t d.number })
+    let did = does_err t (remove_fault t d.number name) (record { number = number_named t d.number name; directory = raised t d.number })
     (without_name t d.number name now) c.remove.new.self f c.in-Err-remove.ensures.answer c.in-Err-remove.ensures.after in
     let outcome : Res → Files → Outcome = λ r t. record { result = r; state = with_tree s t; context = x } in
-    ap (λ r. outcome r c.remove.new.self) (c.refuse.ensures ∙ ap (Res.Refused 28) c.status_of.ensures) ∙ ap (outcome (Res.Refused 28 (status_of f))) did.1
+    ap (λ r. outcome r c.remove.new.self) (c.refuse.ensures ∙ ap (Res.Refused 28) c.status_of.ensures) ∙ ap (outcome (Res.Refused 28 (tree_fault_status f))) did.1
     ∙ sym (stops (remove_asks s x now name) d f v did.0)
 
 pub returns-in-Err : goal.returns-in-Err

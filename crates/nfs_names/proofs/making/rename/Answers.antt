@@ -3,9 +3,9 @@ use Rattle.std.specs.Prelude.{Ok, Err, ◌&&◌}
 use Rattle.nfs_compound.specs.declared.op_num.OpNum.TheVariants as Num
 use Rattle.nfs_results.specs.declared.res.RenameOk.{RenameOk}
 use Rattle.nfs_results.specs.declared.res.Res.TheVariants as Res
-use Rattle.nfs_tree.specs.{Files.{lookup, raised, stays}, declared.done.Renamed.Renamed, Names.{moves, with_moved}}
+use Rattle.nfs_tree.specs.{Files.{object_named, raised, unraised}, declared.done.Renamed.Renamed, Names.{moves, with_moved}}
 use Rattle.nfs_tree.specs.Calls as tree
-use Rattle.nfs_names.specs.{State.{State, state_of, with_tree}, Outcome.Outcome, Checks.both, Create.change_info, Faults.status_of, Operation.moves_in}
+use Rattle.nfs_names.specs.{State.{State, state_of, with_tree}, Outcome.Outcome, Checks.both, Create.change_info, Faults.tree_fault_status, Operation.moves_in}
 use Rattle.nfs_names.specs.{Rename.{move_of, without_replaced, renamed, rename}, Fronts.renaming}
 use Rattle.nfs_names.proofs.{Changing.{renaming_refuses, rename_asks, goes, errs}, Faulted.{told_refusal_by, told_stop, not_delayed}}
 use Rattle.nfs_names.proofs.Renaming.{as_named, went, went_empty, rename_refused}
@@ -37,16 +37,16 @@ returns-in-Ok-rename c =
     let whole : outcome (told_ok r) (without_replaced (with_tree s left) r.replaced) ≡ renamed s x now a p (moves t m) = elim (cases_Bool (moves t m)) [
       | inl go ↦ (let answer : Ok r ≡ (tree.moved t m now).answer = rw go at w.answer in
           let after : left ≡ with_moved t m now = rw go at w.after in
-          let same : r ≡ record { source = raised t m.source; target = raised t m.target; replaced = lookup t m.target m.name } = cc in
+          let same : r ≡ record { source = raised t m.source; target = raised t m.target; replaced = object_named t m.target m.name } = cc in
           ap (λ (k : Renamed). outcome (told_ok k) (without_replaced (with_tree s left) k.replaced)) same
           ∙ ap (λ u. outcome (told_ok (record { source = raised t m.source; target = raised t m.target; replaced = None }))
-          (without_replaced (with_tree s u) (lookup t m.target m.name))) after
+          (without_replaced (with_tree s u) (object_named t m.target m.name))) after
           ∙ sym (ap (renamed s x now a p) go))
       | inr stay ↦ (let answer : Ok r ≡ (tree.unmoved t m).answer = rw stay at w.answer in
           let after : left ≡ t = rw stay at w.after in
-          let same : r ≡ record { source = stays t m.source; target = stays t m.target; replaced = None } = cc in
+          let same : r ≡ record { source = unraised t m.source; target = unraised t m.target; replaced = None } = cc in
           ap (λ (k : Renamed). outcome (told_ok k) (without_replaced (with_tree s left) k.replaced)) same
-          ∙ ap (λ u. outcome (told_ok (record { source = stays t m.source; target = stays t m.target; replaced = None })) (with_tree s u)) after
+          ∙ ap (λ u. outcome (told_ok (record { source = unraised t m.source; target = unraised t m.target; replaced = None })) (with_tree s u)) after
           ∙ sym (ap (renamed s x now a p) stay))
     ] in
     by_code ∙ whole ∙ sym (not_delayed (moves_in s a (both s x) && false) s x Num.Rename (rename s x now a) (and_right (moves_in s a (both s x)) false refl)
@@ -63,7 +63,7 @@ returns-in-Err-rename c =
     let did = as_named s.tree c.rename.new.self c.args.now p a _ _ (Err f) c.bytes.ensures c.bytes-in-Ok.ensures c.in-Err-rename.ensures in
     let parts = rename_refused s x c.args.now a p f c.rename.new.self v did in
     told_refusal_by (moves_in s a (both s x)) s c.rename.new.self x Num.Rename (rename s x c.args.now a) _
-    (status_of f) (c.refuse.ensures ∙ ap (Res.Refused 29) c.status_of.ensures) parts.0 parts.1
+    (tree_fault_status f) (c.refuse.ensures ∙ ap (Res.Refused 29) c.status_of.ensures) parts.0 parts.1
 
 pub returns-in-Err : goal.returns-in-Err
 returns-in-Err c =

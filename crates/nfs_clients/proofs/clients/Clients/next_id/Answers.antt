@@ -1,6 +1,6 @@
 use Rattle.std.proofs.{Common.{inl, inr, ap, subst, arith}, lemmas.Bool.cases_lt}
 use Rattle.nfs_xdr.proofs.Tables.{at_above, at_below}
-use Rattle.nfs_clients.specs.Roster.{Roster, IsRoster, next_id, id_of}
+use Rattle.nfs_clients.specs.Roster.{Roster, IsRoster, first_id, next_id}
 use Rattle.nfs_clients.proofs.Members.{the_id}
 use Rattle.nfs_clients.proofs.clients.Clients.next_id.Goals as goal
 
@@ -9,10 +9,8 @@ returns-clause-fresh c =
     let t : Roster = c.args.self.now in
     let is : IsRoster t = subst IsRoster c.self.view_is c.self.invariant in
     let last = ap (λ (t : Roster). t.last) c.self.view_is in
-    let instance = ap (λ (t : Roster). t.instance) c.self.view_is in
-    let few = is.counter in
     let low = is.instance in
     elim (cases_lt (next_id t) 18446744073709551616) [
-      | inl within ↦ at_above the_id (id_of t.instance 1) (next_id t) _ t.records is.rising (omega arith)
-      | inr beyond ↦ at_below the_id (id_of t.instance 1) (next_id t) _ t.records is.rising (omega arith)
+      | inl within ↦ at_above the_id (first_id t) (next_id t) _ t.records is.rising (omega arith)
+      | inr beyond ↦ at_below the_id (first_id t) (next_id t) _ t.records is.rising (omega arith)
     ]

@@ -1,7 +1,12 @@
-use Rattle.std.proofs.Common.{◌≡◌, true, false, ap, sym, ◌∙◌, refl}
-use Rattle.nfs_clients.specs.Marks.{is_reclaimed, has_reclaimed}
+use Rattle.std.proofs.Common.{◌≡◌, Bool, true, false, Option, ap, sym, ◌∙◌, refl}
+use Rattle.std.specs.Option.{option_map_or}
+use Rattle.nfs_clients.specs.{Roster.ClientRecord, Marks.has_reclaimed}
 use Rattle.nfs_clients.proofs.{Members.mild_reclaims, Changes.{changed_view, changed_roster, unchanged_view, record_there, no_record}}
 use Rattle.nfs_clients.proofs.clients.Clients.reclaimed.Goals as goal
+
+-- of the record that was found, if one was
+abbrev is_reclaimed : Option ClientRecord → Bool
+is_reclaimed found = option_map_or (λ c. c.reclaimed) found false
 
 pub invariant_of-self : goal.invariant_of-self
 invariant_of-self c = changed_roster (λ x. record x { reclaimed = true }) _ _ c.args.client _ _ _

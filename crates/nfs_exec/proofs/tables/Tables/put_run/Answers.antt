@@ -5,10 +5,11 @@ use Rattle.nfs_xdr.specs.{SheetState.Puts, declared.status.Status.TheVariants.Nf
 use Rattle.nfs_names.specs.{declared.context.Context.Context, Context.begins}
 use Rattle.nfs_sessions.specs.{declared.id.SessionId.SessionId, Id.id_of}
 use Rattle.nfs_exec.specs.Step.Sequence as Sequence
-use Rattle.nfs_exec.specs.{Step.Run.{run, behind_here}, Step.Compound.{begun, run_in}, Step.View.RunsTo, Step.Machine.machine_of}
+use Rattle.nfs_exec.specs.{Step.Run.{run, behind_here}, Step.Compound.{begun}, Step.View.RunsTo, Step.Machine.machine_of}
 use Rattle.nfs_exec.proofs.Step.Running.{later, later_behind}
 use Rattle.nfs_exec.proofs.Step.RepliesKept.{accepted_long, head_fits, second_fits, run_fits, has_head, within_64, begun_is, put_closed, last_fits}
 use Rattle.nfs_exec.proofs.tables.Tables.put_run.Goals as goal
+use Rattle.nfs_exec.proofs.Step.Terms.{run_in}
 
 pub put-head-requires-clause-room : goal.put-head-requires-clause-room
 put-head-requires-clause-room c = head_fits c.args.out.now c.tag.result.now c.tag.ensures.bound c.requires.room
@@ -25,13 +26,13 @@ run-ran-requires-clause-fits c =
     let long = subst (λ (s : SequenceOk). length (spell_result (Res.Sequence s)) ≤ 44)
     (sym c.sequence_ok.ensures) (accepted_long c.args.asked.now c.args.channel.now c.requires.sessionid) in
     run_fits c.args.out.now c.put-head.new.out c.write.new.out c.tag.result.now (spell_result (Res.Sequence c.sequence_ok.result))
-    c.len-start.result c.args.channel.now.response c.tag.ensures.bound c.put-head.ensures.puts c.write.ensures long
+    c.len-start.result c.args.channel.now.maxresponsesize c.tag.ensures.bound c.put-head.ensures.puts c.write.ensures long
     c.len-start.ensures.value c.requires.granted.response.0
 
 pub overflow_add-ran : goal.overflow_add-ran
 overflow_add-ran c =
     let ran = c.run-ran.ensures.ran in
-    let few = within_64 c.run-ran.result.count c.args.channel.now.response _ c.args.now ran.0
+    let few = within_64 c.run-ran.result.count c.args.channel.now.maxresponsesize _ c.args.now ran.0
     (machine_of c.args.self.now) c.new-context.result c.args.args.now.left ran.1.count c.requires.few in
     omega (arith, few)
 
@@ -54,7 +55,7 @@ returns c =
     let heads = c.put-head.new.out in
     let first = c.write.new.out in
     let rest = c.run-ran.new.out in
-    let limit = c.args.channel.now.response in
+    let limit = c.args.channel.now.maxresponsesize in
     let text = spell_result (Res.Sequence (Sequence.sequence_ok s c.args.channel.now)) in
     let named : c.tag.result.now ≡ r.tag = c.tag.ensures.value in
     let same : spell_result (Res.Sequence c.sequence_ok.result) ≡ text = ap (λ (s : SequenceOk). spell_result (Res.Sequence s)) c.sequence_ok.ensures in

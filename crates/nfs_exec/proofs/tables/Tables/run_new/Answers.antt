@@ -31,7 +31,7 @@ keep-requires c =
     let did = c.put_run.ensures.answer.1 in
     let sessions : c.put_run.new.self.sessions ≡ m.sessions =
     ap (λ (k : Machine). k.sessions) did.machine
-    ∙ run_sessions channel.response (begun r s channel) c.args.now (behind_here choice) behind (begins (id_of s.sessionid).client who) r.left in
+    ∙ run_sessions channel.maxresponsesize (begun r s channel) c.args.now (behind_here choice) behind (begins (id_of s.sessionid).client who) r.left in
     let reply = ap (λ (xs : List ℕ). take (length xs - c.len-start.result) (drop c.len-start.result xs)) c.bytes.ensures
     ∙ text_of c.args.out.now c.put_run.new.out _ c.len-start.result did.put c.len-start.ensures.value in
     let args : c.ahead.result.now ++ c.behind.result.now ≡ compared r =

@@ -6,18 +6,18 @@ use Rattle.nfs_lease.proofs.leases.Leases.next_out.Goals as goal
 pub returns-in_err-client : goal.returns-in_err-client
 returns-in_err-client c =
     rw (← c.self.view_is, c.from_residual.ensures)
-    (none_out (record { renewals = c.self.inside.renewals.entries; duration = c.self.inside.lease }) c.args.now (sym c.in_err-client.ensures))
+    (none_out c.args.lease c.self.inside.renewals.entries c.args.now (sym c.in_err-client.ensures))
 
-pub returns-then-saturating_sub-self : goal.returns-then-saturating_sub-self
-returns-then-saturating_sub-self c =
+pub returns-then-saturating_sub-lease : goal.returns-then-saturating_sub-lease
+returns-then-saturating_sub-lease c =
     rw (← c.self.view_is)
-    (some_out (record { renewals = c.self.inside.renewals.entries; duration = c.self.inside.lease })
+    (some_out c.args.lease c.self.inside.renewals.entries
     c.args.now c.in_ok-client.client.now c.in_ok-client.moment.now c.self.invariant.0
-    (sym c.in_ok-client.ensures) (lt-ltb c.self.inside.lease (c.args.now - c.in_ok-client.moment.now) (omega arith)))
+    (sym c.in_ok-client.ensures) (lt-ltb c.args.lease (c.args.now - c.in_ok-client.moment.now) (omega arith)))
 
-pub returns-else-saturating_sub-self : goal.returns-else-saturating_sub-self
-returns-else-saturating_sub-self c =
+pub returns-else-saturating_sub-lease : goal.returns-else-saturating_sub-lease
+returns-else-saturating_sub-lease c =
     rw (← c.self.view_is)
-    (not_out (record { renewals = c.self.inside.renewals.entries; duration = c.self.inside.lease })
+    (not_out c.args.lease c.self.inside.renewals.entries
     c.args.now c.in_ok-client.client.now c.in_ok-client.moment.now c.self.invariant.0
     (sym c.in_ok-client.ensures) (omega arith))

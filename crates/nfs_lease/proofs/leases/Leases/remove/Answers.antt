@@ -8,7 +8,7 @@ invariant_of-self c = rw c.pop.ensures.entries (queue_removed c.args.client _ c.
 
 pub returns-clause-lease : goal.returns-clause-lease
 returns-clause-lease c = rw c.pop.ensures.entries
-    (maps_removed c.args.client (record { renewals = c.self.inside.renewals.entries; duration = c.self.inside.lease }) c.self.invariant.0
+    (maps_removed c.args.client c.self.inside.renewals.entries c.self.invariant.0
     ∙ ap (λ k. without_lease (leases_of k) c.args.client) c.self.view_is)
 
 pub returns-clause-standing : goal.returns-clause-standing

@@ -7,7 +7,7 @@ use Rattle.nfs_lease.proofs.leases.Leases.renew.Goals.{in-Some, in_default}
 pub invariant_of-self : goal.invariant_of-self
 invariant_of-self c = elim c.match-get_mut.branch [
   | in-Some w ↦ rw w.self-inside-is (
-    (renews c.args.client c.args.now (record { renewals = c.self.inside.renewals.entries; duration = c.self.inside.lease })
+    (renews c.args.client c.args.now c.self.inside.renewals.entries
         c.self.invariant.0 (subst (λ k. IsLatest (leases_of k) c.args.now) (sym c.self.view_is) c.requires)).queue,
     c.self.invariant.1,
   )
@@ -16,10 +16,10 @@ invariant_of-self c = elim c.match-get_mut.branch [
 
 pub returns : goal.returns
 returns c = elim c.match-get_mut.branch [
-  | in-Some w ↦ rw w.self-inside-is ((renews c.args.client c.args.now (record { renewals = c.self.inside.renewals.entries; duration = c.self.inside.lease })
+  | in-Some w ↦ rw w.self-inside-is ((renews c.args.client c.args.now c.self.inside.renewals.entries
       c.self.invariant.0 (subst (λ k. IsLatest (leases_of k) c.args.now) (sym c.self.view_is) c.requires)).map
       ∙ ap (λ k. with_renewal (leases_of k) c.args.client c.args.now) c.self.view_is)
   | in_default w ↦ rw w.self-inside-is
-      (rests c.args.client c.args.now (record { renewals = c.self.inside.renewals.entries; duration = c.self.inside.lease }) (sym w.in_default.ensures.value)
+      (rests c.args.client c.args.now c.self.inside.renewals.entries (sym w.in_default.ensures.value)
       ∙ ap (λ k. with_renewal (leases_of k) c.args.client c.args.now) c.self.view_is)
 ]

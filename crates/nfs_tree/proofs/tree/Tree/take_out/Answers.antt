@@ -1,5 +1,5 @@
 use Rattle.std.proofs.{Common.{◌≡◌, ◌≢◌, ◌+◌, ap, sym, arith, subst}, lemmas.Grind.common_steps}
-use Rattle.nfs_tree.specs.{Files.{Files, root, named}, Calls.CanChange, Names.without_name, TreeInvariants.IsTree}
+use Rattle.nfs_tree.specs.{Files.{Files, root, number_named}, Calls.CanChange, Names.without_name, TreeInvariants.IsTree}
 use Rattle.nfs_tree.proofs.{Objects.can_change_all, Trees.{remove_granted, has_one, apart, tree_removed, tree_of}}
 use Rattle.nfs_tree.proofs.tree.Tree.take_out.Goals as goal
 
@@ -7,7 +7,7 @@ pub change_entry-requires : goal.change_entry-requires
 change_entry-requires c =
     let t = c.args.self.now in
     let d = c.args.directory in
-    let n = named t d c.args.name.now in
+    let n = number_named t d c.args.name.now in
     let is : IsTree t = subst IsTree c.self.view_is c.self.invariant in
     let items : c.self.inside.objects ≡ t.objects = ap (λ (t : Files). t.objects) c.self.view_is in
     let granted = remove_granted t d c.args.name.now c.requires.granted in

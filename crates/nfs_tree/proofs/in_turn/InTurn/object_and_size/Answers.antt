@@ -3,7 +3,7 @@ use Rattle.nfs_xdr.specs.Tables.{In}
 use Rattle.nfs_xdr.proofs.Lists.{in_filter}
 use Rattle.nfs_tree.specs.Files.{root}
 use Rattle.nfs_tree.proofs.{Shelved.lookup_in, IndexedLemmas.object_led}
-use Rattle.nfs_tree.proofs.in_turn.InTurn.object.Goals as goal
+use Rattle.nfs_tree.proofs.in_turn.InTurn.object_and_size.Goals as goal
 
 pub invariant_of-self-in-Some : goal.invariant_of-self-in-Some
 invariant_of-self-in-Some c = (c.self.invariant.0, λ e there. c.self.invariant.1 e (c.hit.ensures.rest e there))
