@@ -1,12 +1,16 @@
 -- Objects through a change of one, a new one, and one that goes.
-use Rattle.std.proofs.Common.{◌≡◌, ◌≢◌, ℕ, ◌<◌, ◌≤◌, ltb, true, false, cond, not, List, [], ◌∷◌, ◌++◌, map, length, get_or}
+use Rattle.std.proofs.Common.{◌≡◌, ◌≢◌, ℕ, ◌<◌, ◌≤◌, ltb, Bool, true, false, cond, not, List, [], ◌∷◌, ◌++◌, map, length, get_or}
 use Rattle.std.proofs.{Common.{Option, Some, None, refl, sym, ◌∙◌, ap, subst, arith}, lemmas.Bool.{eqb-true, eq-eqb, ne_eqb, ltb-true}}
 use Rattle.std.proofs.{lemmas.List.Elements.All-from_recursion, lemmas.List.{get_or-map, length-map}}
 use Rattle.std.specs.{Prelude.{◌==◌, filter, option_map, is_some}, Option.option_map_or}
 use Rattle.nfs_xdr.specs.{declared.time.Time.Time, Tables.{IsRising, In}}
 use Rattle.nfs_xdr.proofs.{Lists.{find_map, find_in, find_past, find_push_some, find_push_none}, Tables.{all_one, at_above, in_bounds, none_below}}
 use Rattle.nfs_tree.specs.{declared.sets.Sets.Sets, declared.stored.Stored.Stored, Object.{is_directory, changed}}
-use Rattle.nfs_tree.specs.{Files.{last_count, most_of, stored_in, is_directory_in, change_at, with_changed}, Calls.CanChange}
+use Rattle.nfs_tree.specs.{Files.{last_count, most_of, stored_in, change_at, with_changed}, Calls.CanChange}
+
+-- the object of a number is a directory
+abbrev pub is_directory_in : List Stored → ℕ → Bool
+is_directory_in objects n = option_map_or (λ s. is_directory s.object.kind) (stored_in objects n) false
 
 -- an object has no more bytes than its type may have
 abbrev pub IsSized : Stored → Type 0

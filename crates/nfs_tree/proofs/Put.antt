@@ -1,19 +1,19 @@
 -- A tree with one row more, or one object more, keeps what every tree keeps.
-use Rattle.std.proofs.Common.{◌≡◌, ◌≢◌, ℕ, ◌+◌, ◌<◌, ◌≤◌, Bool, true, false, not, List, [], ◌∷◌, ◌++◌, length, Option}
+use Rattle.std.proofs.Common.{◌≡◌, ◌≢◌, ℕ, ◌+◌, ◌<◌, Bool, true, false, List, [], ◌∷◌, ◌++◌, length, Option}
 use Rattle.std.proofs.Common.{Some, None, refl, sym, ◌∙◌, ap, subst, arith, inl, inr, length-append}
-use Rattle.std.proofs.lemmas.Bool.{and_parts, ne_eqb, ltb-true, ltb-false, leb-true, leb-false, not-false, false≢true}
+use Rattle.std.proofs.lemmas.Bool.{and_parts, ne_eqb, ltb-true, ltb-false, leb-false, not-false, false≢true}
 use Rattle.std.proofs.lemmas.List.{length-map}
-use Rattle.std.specs.{Prelude.{nat_lt, nat_le, ◌==◌, ◌&&◌, is_some}, List.list_any, Option.option_map_or}
+use Rattle.std.specs.{Prelude.{nat_le, ◌==◌, is_some}, List.list_any, Option.option_map_or}
 use Rattle.nfs_xdr.proofs.{Checks.all_passed, Lists.in_push, Tables.IsRising-push}
 use Rattle.nfs_xdr.specs.{Tables.In, declared.time.Time.Time}
 use Rattle.nfs_tree.specs.{declared.row.Row.Row, declared.sets.Sets.Sets, declared.stored.Stored.Stored, Object.{is_directory, no_sets, modified}}
-use Rattle.nfs_tree.specs.Files.{Files, root, last_count, most_objects, most_links, is_name, stored_in, is_there, is_directory_in}
+use Rattle.nfs_tree.specs.Files.{Files, root, last_count, most_objects, most_links, is_name, stored_in, is_there}
 use Rattle.nfs_tree.specs.Files.{is_directory_at, can_change, entry, has_row, links_in, change_at, with_entries_changed, with_links_changed}
 use Rattle.nfs_tree.specs.Calls.{IsReached, create_fault, link_fault}
 use Rattle.nfs_tree.specs.Create.{New, new_object, is_bad_text, is_too_big, create_checks, with_new}
 use Rattle.nfs_tree.specs.{Names.{link_checks, with_link}, TreeInvariants.IsTree}
 use Rattle.nfs_tree.proofs.RowsKept.{rows_same, rows_put, CanPut, reached}
-use Rattle.nfs_tree.proofs.{Objects.{IsSized, keeps_changed, there_map, directory_map, stored_within, stored_push, new_there}, Trees.tree_changed}
+use Rattle.nfs_tree.proofs.{Objects.{IsSized, is_directory_in, keeps_changed, there_map, directory_map, stored_within, stored_push, new_there}, Trees.tree_changed}
 
 pub vacant_of : (o : Option Row) → is_some o ≡ false → o ≡ None
 vacant_of None e = refl

@@ -5,11 +5,11 @@ use Rattle.std.specs.{Prelude.{◌==◌, filter, option_map, is_some, unwrap_or}
 use Rattle.nfs_xdr.specs.{Tables.In, declared.time.Time.Time}
 use Rattle.nfs_xdr.proofs.{Lists.{in_filter, in_map, find_in, length_filter, any_in}, Tables.{IsRising-map, IsRising-filter}, Checks.all_passed}
 use Rattle.nfs_tree.specs.{declared.row.Row.Row, declared.sets.Sets.Sets, declared.stored.Stored.Stored, Object.{is_directory, no_sets, modified}}
-use Rattle.nfs_tree.specs.Files.{Files, root, stored_in, is_there, is_directory_in, is_directory_at, can_change, is_entry, with_links_changed, without_entry}
+use Rattle.nfs_tree.specs.Files.{Files, root, stored_in, is_there, is_directory_at, can_change, is_entry, with_links_changed, without_entry}
 use Rattle.nfs_tree.specs.Files.{entry, has_name, number_named, has_row, has_entries, change_at, with_changed, with_entries_changed}
 use Rattle.nfs_tree.specs.{Names.{forget, remove_checks, without_name}, Calls.{remove_fault, set_checks, set_fault}, TreeInvariants.IsTree}
 use Rattle.nfs_tree.proofs.RowsKept.{rows_same, rows_dropped, no_entries, no_row, only_entry, entry_parts}
-use Rattle.nfs_tree.proofs.Objects.{IsSized, Keeps, keeps_changed, there_map, directory_map, stored_dropped}
+use Rattle.nfs_tree.proofs.Objects.{IsSized, Keeps, is_directory_in, keeps_changed, there_map, directory_map, stored_dropped}
 
 -- the same of parts that are equal to those
 pub tree_of : (t : Files) → IsTree t → (objects : List Stored) (rows : List Row) (n k : ℕ)

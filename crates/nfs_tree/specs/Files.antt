@@ -60,11 +60,8 @@ data_at t n = option_map_or (λ s. s.bytes) (stored_in t.objects n) []
 abbrev pub is_there : Files → ℕ → Bool
 is_there t n = is_some (stored_in t.objects n)
 
-abbrev pub is_directory_in : List Stored → ℕ → Bool
-is_directory_in objects n = option_map_or (λ s. is_directory s.object.kind) (stored_in objects n) false
-
 abbrev pub is_directory_at : Files → ℕ → Bool
-is_directory_at t n = is_directory_in t.objects n
+is_directory_at t n = option_map_or (λ s. is_directory s.object.kind) (stored_in t.objects n) false
 
 -- the value of `change`, or 0 where there is no object
 abbrev pub change_of : Files → ℕ → ℕ

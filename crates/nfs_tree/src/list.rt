@@ -8,6 +8,7 @@ ghost use Rattle.nfs_tree.specs.Left.{ArePaired};
 
 use crate::by_cookie::ByCookie;
 use crate::rising::Rising;
+use crate::row::{Naming, Row};
 use crate::tree::Tree;
 use std::alloc::Global;
 use std::collections::BTreeMap;
@@ -29,7 +30,7 @@ pub struct Entry<'a> {
 /// The entries of a directory by rising cookie. Contracts see the list of those that are left.
 #[derive(Drop)]
 pub struct Listing<'a> {
-    rows: Rising<'a>,
+    rows: Rising<'a, Naming, Row>,
     directory: u64,
     /// That of the entry before.
     cookie: u64,
@@ -80,7 +81,7 @@ impl<'a> Listing<'a> {
         if pair.0 != self.directory {
             return None;
         }
-        let Some(row) = self.rows.row(pair.1) else {
+        let Some(row) = self.rows.get(pair.1) else {
             return None;
         };
         self.cookie = pair.1;

@@ -21,9 +21,9 @@ use std::collections::BTreeMap;
 use std::collections::btree_map::Entry;
 use std::marker::Model;
 
-/// The rows of all directories. Contracts see the list of them, in rising order of their cookies.
+/// What each row stands in once.
 #[derive(Drop)]
-pub(crate) struct Rows {
+struct Tables {
     /// Each under its cookie.
     rows: ByCookie,
     /// The cookie of each, under its directory and its name.
@@ -32,6 +32,12 @@ pub(crate) struct Rows {
     listed: BTreeMap<(u64, u64), (), Global>,
     /// The object and the cookie of each.
     owned: BTreeMap<(u64, u64), (), Global>,
+}
+
+/// The rows of all directories. Contracts see the list of them, in rising order of their cookies.
+#[derive(Drop)]
+pub(crate) struct Rows {
+    tables: Tables,
     /// How many name each object.
     counts: Counts,
 }
@@ -45,9 +51,9 @@ impl Model for Rows {
 
     ghost Value = { List Row };
 
-    ghost view = { λ t. t.rows };
+    ghost view = { λ t. t.tables.rows };
 
-    ghost invariant = { λ t. AreMapped t.rows (cookies t.names) t.listed.entries t.owned.entries (further t.counts) };
+    ghost invariant = { λ t. AreMapped t.tables.rows (cookies t.tables.names) t.tables.listed.entries t.tables.owned.entries (further t.counts) };
 }
 
 impl Rows {
@@ -55,11 +61,14 @@ impl Rows {
     pub(crate) fn new(alloc: Global) -> Rows
         ensures { result ≡ [] }
     {
-        Rows {
+        let tables = Tables {
             rows: ByCookie::new(alloc),
             names: ByName::new(alloc),
             listed: BTreeMap::new(alloc),
             owned: BTreeMap::new(alloc),
+        };
+        Rows {
+            tables,
             counts: Counts::new(alloc),
         }
     }
@@ -67,20 +76,20 @@ impl Rows {
     pub(crate) fn len(&self) -> usize
         ensures { result ≡ length self.now }
     {
-        self.rows.len()
+        self.tables.rows.len()
     }
 
     /// The entry of a name in a directory.
     pub(crate) fn find(&self, directory: u64, name: &[u8]) -> Option<Found>
         ensures { result ≡ found_at self.now directory name.now }
     {
-        let names = &self.names;
+        let names = &self.tables.names;
         if name.len() > Tree::MAX_NAME {
             return None;
         }
         match names.get(directory, name) {
             None => None,
-            Some(cookie) => match self.rows.row(cookie) {
+            Some(cookie) => match self.tables.rows.row(cookie) {
                 None => None,
                 Some(row) => Some(Found {
                     object: row.object,
@@ -94,14 +103,14 @@ impl Rows {
     pub(crate) fn list(&self, directory: u64, cookie: u64) -> Listing<'_>
         ensures { result ≡ listing self.now directory cookie }
     {
-        Listing::new(&self.rows, &self.listed, directory, cookie)
+        Listing::new(&self.tables.rows, &self.tables.listed, directory, cookie)
     }
 
     /// Whether a row stands in the directory.
     pub(crate) fn has_entries(&self, directory: u64) -> bool
         ensures { result ≡ has_entries self.now directory }
     {
-        match first_from(&self.listed, directory, 0) {
+        match first_from(&self.tables.listed, directory, 0) {
             None => false,
             Some(_) => true,
         }
@@ -111,9 +120,9 @@ impl Rows {
     pub(crate) fn first_of(&self, object: u64) -> Option<(u32, &Naming)>
         ensures { option_map (λ r. r.1.now.directory) result ≡ parent_in self.now object }
     {
-        match first_from(&self.owned, object, 0) {
+        match first_from(&self.tables.owned, object, 0) {
             None => None,
-            Some(first) => self.rows.row_at(first),
+            Some(first) => self.tables.rows.row_at(first),
         }
     }
 
@@ -132,13 +141,13 @@ impl Rows {
         requires { HasOneRow self.now row.now.directory }
         ensures { option_map (λ r. r.1.now.directory) result ≡ parent_in self.now row.now.directory }
     {
-        if let Some((at, above)) = self.rows.seen_above(key, row) {
+        if let Some((at, above)) = self.tables.rows.seen_above(key, row) {
             return Some((at, above));
         }
         match self.first_of(row.directory) {
             None => None,
             Some((at, above)) => {
-                self.rows.note_above(key, at);
+                self.tables.rows.note_above(key, at);
                 Some((at, above))
             }
         }
@@ -159,7 +168,7 @@ impl Rows {
     pub(crate) fn has_row(&self, object: u64) -> bool
         ensures { result ≡ has_row self.now object }
     {
-        match first_from(&self.owned, object, 0) {
+        match first_from(&self.tables.owned, object, 0) {
             None => false,
             Some(_) => true,
         }
@@ -187,22 +196,19 @@ impl Rows {
             cookie: to.cookie,
         };
         self.counts.add(to.object, to.named)?;
-        let added = add(
-            &mut self.rows,
-            &mut self.names,
-            &mut self.listed,
-            &mut self.owned,
-            alloc,
-            to.name,
-            row,
-        );
+        let added = self.tables.add(alloc, to.name, row);
         if let Err(fault) = added {
             self.counts.take(to.object);
             return Err(fault);
         }
         if let Some(loser) = replaced {
-            take(&mut self.rows, &mut self.listed, to.directory, loser.cookie);
-            take_pair(&mut self.owned, loser.object, loser.cookie);
+            take(
+                &mut self.tables.rows,
+                &mut self.tables.listed,
+                to.directory,
+                loser.cookie,
+            );
+            take_pair(&mut self.tables.owned, loser.object, loser.cookie);
             self.counts.take(loser.object);
         }
         Ok(())
@@ -225,9 +231,14 @@ impl Rows {
         requires { Some gone ≡ found_at self.old directory name.now }
         ensures { self.new ≡ without_entry directory name.now self.old }
     {
-        self.names.remove(directory, name);
-        take(&mut self.rows, &mut self.listed, directory, gone.cookie);
-        take_pair(&mut self.owned, gone.object, gone.cookie);
+        self.tables.names.remove(directory, name);
+        take(
+            &mut self.tables.rows,
+            &mut self.tables.listed,
+            directory,
+            gone.cookie,
+        );
+        take_pair(&mut self.tables.owned, gone.object, gone.cookie);
         self.counts.take(gone.object);
     }
 }
@@ -271,39 +282,39 @@ fn put_named(
     Ok(())
 }
 
-/// Puts a row into the maps, or into none.
-fn add(
-    rows: &mut ByCookie,
-    names: &mut ByName,
-    listed: &mut BTreeMap<(u64, u64), (), Global>,
-    owned: &mut BTreeMap<(u64, u64), (), Global>,
-    alloc: Global,
-    name: &[u8],
-    row: Row,
-) -> Result<(), AllocError>
-    requires rising { IsRising (λ r. r.cookie) 3 rows.old row.cookie }
-    requires short { length name.now ≤ most_name }
-    requires new_pair { get pair_cmp listed.old (row.directory, row.cookie) ≡ None }
-    requires new_owner { get pair_cmp owned.old (row.object, row.cookie) ≡ None }
-    ensures rows { OnOk result (rows.new ≡ rows.old ++ row ∷ []) }
-    ensures names { OnOk result (NamesAnew (cookies names.old) (cookies names.new) row.directory name.now (Some row.cookie)) }
-    ensures listed { OnOk result (listed.new.entries ≡ insert_entry pair_cmp listed.old.entries (row.directory, row.cookie) tt) }
-    ensures owned { OnOk result (owned.new.entries ≡ insert_entry pair_cmp owned.old.entries (row.object, row.cookie) tt) }
-    ensures err_rows { OnErr result (rows.new ≡ rows.old) }
-    ensures err_names { OnErr result (cookies names.new ≡ cookies names.old) }
-    ensures err_listed { OnErr result (listed.new.entries ≡ listed.old.entries) }
-    ensures err_owned { OnErr result (owned.new.entries ≡ owned.old.entries) }
-{
-    let Entry::Vacant(listing) = listed.entry((row.directory, row.cookie))? else {
-        return Ok(());
-    };
-    let Entry::Vacant(owning) = owned.entry((row.object, row.cookie))? else {
-        return Ok(());
-    };
-    put_named(rows, names, alloc, name, row)?;
-    listing.insert(());
-    owning.insert(());
-    Ok(())
+impl Tables {
+    /// Puts a row into each, or into none.
+    fn add(&mut self, alloc: Global, name: &[u8], row: Row) -> Result<(), AllocError>
+        requires rising { IsRising (λ r. r.cookie) 3 self.old.rows row.cookie }
+        requires short { length name.now ≤ most_name }
+        requires new_pair { get pair_cmp self.old.listed (row.directory, row.cookie) ≡ None }
+        requires new_owner { get pair_cmp self.old.owned (row.object, row.cookie) ≡ None }
+        ensures rows { OnOk result (self.new.rows ≡ self.old.rows ++ row ∷ []) }
+        ensures names { OnOk result (NamesAnew (cookies self.old.names) (cookies self.new.names) row.directory name.now (Some row.cookie)) }
+        ensures listed { OnOk result (self.new.listed.entries ≡ insert_entry pair_cmp self.old.listed.entries (row.directory, row.cookie) tt) }
+        ensures owned { OnOk result (self.new.owned.entries ≡ insert_entry pair_cmp self.old.owned.entries (row.object, row.cookie) tt) }
+        ensures err_rows { OnErr result (self.new.rows ≡ self.old.rows) }
+        ensures err_names { OnErr result (cookies self.new.names ≡ cookies self.old.names) }
+        ensures err_listed { OnErr result (self.new.listed.entries ≡ self.old.listed.entries) }
+        ensures err_owned { OnErr result (self.new.owned.entries ≡ self.old.owned.entries) }
+    {
+        let Tables {
+            rows,
+            names,
+            listed,
+            owned,
+        } = self;
+        let Entry::Vacant(listing) = listed.entry((row.directory, row.cookie))? else {
+            return Ok(());
+        };
+        let Entry::Vacant(owning) = owned.entry((row.object, row.cookie))? else {
+            return Ok(());
+        };
+        put_named(rows, names, alloc, name, row)?;
+        listing.insert(());
+        owning.insert(());
+        Ok(())
+    }
 }
 
 fn take_pair(pairs: &mut BTreeMap<(u64, u64), (), Global>, number: u64, cookie: u64)

@@ -27,25 +27,25 @@ returns-then-pair-self-clause-none c =
     c.if-pair-self.true in
     (sym c.self.view_is ∙ none, none)
 
-pub invariant_of-self-in_default-row : goal.invariant_of-self-in_default-row
-invariant_of-self-in_default-row c =
+pub invariant_of-self-in_default-get : goal.invariant_of-self-in_default-get
+invariant_of-self-in_default-get c =
     let rows = c.self.inside.rows in
     let d = c.self.inside.directory in
     let n = c.self.inside.cookie in
     let left = of_directory rows d n _ c.next.new.self (subst (AreLeft rows d n) c.in-Some.ensures.steps c.self.invariant) c.if-pair-self.false in
     let r = first_left rows d n c.in-Some.pair.now.1 c.next.new.self left in
     let found = at_of_in cookie 3 left.named.high rows r.0 left.named.rising r.1 in
-    absurd (let bad : None ≡ Some r.0 = c.in_default-row.ensures.found ∙ ap (record_at cookie rows) (sym r.3) ∙ found in cc)
+    absurd (let bad : None ≡ Some r.0 = c.in_default-get.ensures.found ∙ ap (record_at cookie rows) (sym r.3) ∙ found in cc)
 
-pub returns-in_default-row-clause-none : goal.returns-in_default-row-clause-none
-returns-in_default-row-clause-none c =
+pub returns-in_default-get-clause-none : goal.returns-in_default-get-clause-none
+returns-in_default-get-clause-none c =
     let rows = c.self.inside.rows in
     let d = c.self.inside.directory in
     let n = c.self.inside.cookie in
     let left = of_directory rows d n _ c.next.new.self (subst (AreLeft rows d n) c.in-Some.ensures.steps c.self.invariant) c.if-pair-self.false in
     let r = first_left rows d n c.in-Some.pair.now.1 c.next.new.self left in
     let found = at_of_in cookie 3 left.named.high rows r.0 left.named.rising r.1 in
-    absurd (let bad : None ≡ Some r.0 = c.in_default-row.ensures.found ∙ ap (record_at cookie rows) (sym r.3) ∙ found in cc)
+    absurd (let bad : None ≡ Some r.0 = c.in_default-get.ensures.found ∙ ap (record_at cookie rows) (sym r.3) ∙ found in cc)
 
 pub invariant_of-self-2 : goal.invariant_of-self-2
 invariant_of-self-2 c =
@@ -53,7 +53,7 @@ invariant_of-self-2 c =
     let d = c.self.inside.directory in
     let n = c.self.inside.cookie in
     let left = of_directory rows d n _ c.next.new.self (subst (AreLeft rows d n) c.in-Some.ensures.steps c.self.invariant) c.if-pair-self.false in
-    subst (λ (xs : List Row). AreLeft xs d c.in-Some.pair.now.1 c.next.new.self) (sym c.row.ensures.same)
+    subst (λ (xs : List Row). AreLeft xs d c.in-Some.pair.now.1 c.next.new.self) (sym c.get.ensures.same)
     (behind_next rows d n c.in-Some.pair.now.1 c.next.new.self left)
 
 pub returns-clause-some : goal.returns-clause-some
@@ -62,14 +62,14 @@ returns-clause-some c =
     let d = c.self.inside.directory in
     let n = c.self.inside.cookie in
     let k = c.in-Some.pair.now.1 in
-    let row = c.in-Some-row.row.now in
+    let row = c.in-Some-get.row.now in
     let left = of_directory rows d n _ c.next.new.self (subst (AreLeft rows d n) c.in-Some.ensures.steps c.self.invariant) c.if-pair-self.false in
     let r = first_left rows d n k c.next.new.self left in
     let found = at_of_in cookie 3 left.named.high rows r.0 left.named.rising r.1 in
-    let both : Some (placed k row) ≡ Some r.0 = c.in-Some-row.ensures.found ∙ ap (record_at cookie rows) (sym r.3) ∙ found in
+    let both : Some (placed k row) ≡ Some r.0 = c.in-Some-get.ensures.found ∙ ap (record_at cookie rows) (sym r.3) ∙ found in
     let is : placed k row ≡ r.0 = cc in
     let made : List ℕ → ℕ → ℕ → Listed = λ name number at. record { cookie = at; name = name; number = number } in
     sym c.self.view_is ∙ next_left rows d n k c.next.new.self r.0 left r.1 r.2 r.3
     ∙ ap (λ (r : Row). made r.name r.object r.cookie ∷ listing rows d k) (sym is)
     ∙ ap (λ (name : List ℕ). made name row.object k ∷ listing rows d k) (sym c.as_slice.ensures)
-    ∙ ap (λ (xs : List Row). made c.as_slice.result.now row.object k ∷ listing xs d k) (sym c.row.ensures.same)
+    ∙ ap (λ (xs : List Row). made c.as_slice.result.now row.object k ∷ listing xs d k) (sym c.get.ensures.same)

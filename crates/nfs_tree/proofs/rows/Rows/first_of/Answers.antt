@@ -18,11 +18,11 @@ returns-in-None c = rw (← c.self.view_is) (sym (ap (option_map (λ (r : Row). 
 
 pub returns-in-Some : goal.returns-in-Some
 returns-in-Some c =
-    let rows = c.self.inside.rows in
+    let rows = c.self.inside.tables.rows in
     let r = pair_row (λ (r : Row). r.object) rows _ c.args.object c.in-Some.first c.self.invariant.owned (is_there _ c.in-Some.ensures.there) in
     let found = at_of_in cookie 3 c.self.invariant.named.high rows r.0 c.self.invariant.named.rising r.1 in
     let at : c.in-Some.first ≡ r.0.cookie = sym r.3 in
-    let least : (k : ℕ) → 0 ≤ k → has_pair c.self.inside.owned.entries (c.args.object, k) ≡ true → r.0.cookie ≤ k =
+    let least : (k : ℕ) → 0 ≤ k → has_pair c.self.inside.tables.owned.entries (c.args.object, k) ≡ true → r.0.cookie ≤ k =
     λ k up there. rw (← at) (c.in-Some.ensures.least k up (there_is _ there)) in
     let first = find_first (λ (r : Row). r.object) rows _ _ c.args.object r.0 c.self.invariant.named c.self.invariant.owned r.1 r.2 least in
     rw (← c.self.view_is) (directory_of c.in-Some.first c.row_at.result r.0 (c.row_at.ensures ∙ ap (record_at cookie rows) (sym r.3) ∙ found)

@@ -1,34 +1,21 @@
-use Rattle.std.proofs.Common.{◌≡◌, ◌∙◌, Some, ap, sym, refl}
-use Rattle.slab.specs.Slab.{with_value}
-use Rattle.nfs_tree.specs.{declared.stored.Stored.Stored, Object.changed, Files.stored_in, Indexed.numbered}
-use Rattle.nfs_tree.proofs.IndexedLemmas.{found_body, objects_put, put_none, never_vacant, can_of, Put}
+use Rattle.std.proofs.Common.{◌∙◌, ap, sym}
+use Rattle.nfs_xdr.proofs.Tables.{with_none}
+use Rattle.nfs_tree.specs.{declared.stored.Objects.TheInside.Inside, declared.stored.Stored.Stored, Object.changed, Files.stored_in, Indexed.numbered}
+use Rattle.nfs_tree.proofs.IndexedLemmas.{can_of, written_as}
+use Rattle.nfs_tree.proofs.stored.Objects.change_in.Goals.{in-Some, in_default}
 use Rattle.nfs_tree.proofs.stored.Objects.change_in.Goals as goal
 
 pub note-requires : goal.note-requires
-note-requires c =
-    let o = c.in-Some-get_mut.stored.now in
-    let found : stored_in c.args.self.now c.args.number ≡ Some (numbered c.args.number o) =
-    ap (λ xs. stored_in xs c.args.number) (sym c.self.view_is)
-    ∙ found_body c.self.inside.slab c.self.inside.keys.entries c.args.number c.in-Some.key.now o c.self.invariant
-    (sym c.in-Some.ensures.value) (sym c.in-Some-get_mut.ensures.value) in
-    can_of c.args.self.now c.args.number (numbered c.args.number o) found c.requires
+note-requires c = can_of c.args.self.now c.args.number (numbered c.args.number c.in-Some.stored.now)
+    (ap (λ xs. stored_in xs c.args.number) (sym c.self.view_is) ∙ sym c.in-Some.ensures.value) c.requires
 
-put : (c : goal.After-self-in-Some-get_mut-1) → Put (λ (s : Stored). record s { object = changed c.args.now c.args.sets.now s.object }) c.self.inside.slab
-    (with_value c.self.inside.slab c.in-Some.key.now (record c.in-Some-get_mut.stored.now { object = c.note.new.self })) c.self.inside.keys.entries c.args.number
-put c = objects_put (λ (s : Stored). record s { object = changed c.args.now c.args.sets.now s.object }) (λ _. refl) c.self.inside.slab c.self.inside.keys.entries
-    c.args.number c.in-Some.key.now c.in-Some-get_mut.stored.now (record c.in-Some-get_mut.stored.now { object = c.note.new.self }) c.self.invariant
-    (sym c.in-Some.ensures.value) (sym c.in-Some-get_mut.ensures.value) (ap (λ o. numbered c.args.number (record c.in-Some-get_mut.stored.now { object = o })) c.note.ensures)
-
-pub invariant_of-self : goal.invariant_of-self
-invariant_of-self c = (put c).is
-
-pub returns-in-Some-get_mut : goal.returns-in-Some-get_mut
-returns-in-Some-get_mut c = rw (← c.self.view_is) (put c).view
-
-pub returns-in_default-get_mut : goal.returns-in_default-get_mut
-returns-in_default-get_mut c = absurd (never_vacant c.self.inside.slab c.self.inside.keys.entries c.args.number c.in-Some.key.now
-    c.self.invariant (sym c.in-Some.ensures.value) (sym c.in_default-get_mut.ensures.value))
-
-pub returns-in_default : goal.returns-in_default
-returns-in_default c = rw (← c.self.view_is) (sym (put_none (λ (s : Stored). record s { object = changed c.args.now c.args.sets.now s.object })
-    c.self.inside.slab c.self.inside.keys.entries c.args.number c.self.invariant (sym c.in_default.ensures.value)))
+pub returns : goal.returns
+returns c =
+    let n = c.args.number in
+    let f = λ (s : Stored). record s { object = changed c.args.now c.args.sets.now s.object } in
+    rw (← c.self.view_is) (elim c.match-get_mut.branch [
+      | in-Some w ↦ ap (λ (o : Inside). o.shelf.items) w.self-inside-is
+          ∙ written_as f c.self.inside.shelf.items n w.in-Some.stored.now (record w.in-Some.stored.now { object = w.note.new.self }) w.in-Some.ensures.one (ap (λ o. numbered n (record w.in-Some.stored.now { object = o })) w.note.ensures)
+      | in_default w ↦ ap (λ (o : Inside). o.shelf.items) w.self-inside-is
+          ∙ sym (with_none (λ (s : Stored). s.number) f n c.self.inside.shelf.items (sym w.in_default.ensures.value))
+    ])
