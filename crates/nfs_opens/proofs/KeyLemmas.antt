@@ -147,6 +147,39 @@ files_of_one c f d g same =
       ]
     ]
 
+pub in_order : (o p q : Ordering) → ordering_then (ordering_then o p) q ≡ ordering_then o (ordering_then p q)
+in_order Less p q = refl
+in_order Equal p q = refl
+in_order Greater p q = refl
+
+-- the length of an owner, and of one length its bytes
+owners_ordered : (xs ys : List ℕ) → IsBytes xs → IsBytes ys
+    → ordering_then (nat_cmp (length xs) (length ys)) (slice_cmp nat_cmp xs ys) ≡ nat_cmp (spelled xs) (spelled ys)
+owners_ordered xs ys small_x small_y =
+    elim (cases_lt (length xs) (length ys)) [
+      | inl low ↦ (let is = cmp_less (length xs) (length ys) low in
+          ap (λ o. ordering_then o (slice_cmp nat_cmp xs ys)) is ∙ sym (by_length xs ys small_x small_y (λ e. omega arith) ∙ is))
+      | inr not_low ↦ elim (cases_lt (length ys) (length xs)) [
+        | inl high ↦ (let is = cmp_greater (length xs) (length ys) high in
+            ap (λ o. ordering_then o (slice_cmp nat_cmp xs ys)) is ∙ sym (by_length xs ys small_x small_y (λ e. omega arith) ∙ is))
+        | inr not_high ↦ ap (λ o. ordering_then o (slice_cmp nat_cmp xs ys)) (cmp_equal (length xs) (length ys) (omega arith))
+            ∙ spelled_alike xs ys small_x small_y (omega arith)
+      ]
+    ]
+
+-- the client, and of one client the file
+files_ordered : (c f d g : ℕ) → f < 2 ^ 64 → g < 2 ^ 64 → ordering_then (nat_cmp c d) (nat_cmp f g) ≡ nat_cmp (on_file_of c f) (on_file_of d g)
+files_ordered c f d g small_f small_g =
+    elim (cases_lt c d) [
+      | inl low ↦ (let is = cmp_less c d low in
+          ap (λ o. ordering_then o (nat_cmp f g)) is ∙ sym (files_of_two c f d g small_f small_g (λ e. omega arith) ∙ is))
+      | inr not_low ↦ elim (cases_lt d c) [
+        | inl high ↦ (let is = cmp_greater c d high in
+            ap (λ o. ordering_then o (nat_cmp f g)) is ∙ sym (files_of_two c f d g small_f small_g (λ e. omega arith) ∙ is))
+        | inr not_high ↦ ap (λ o. ordering_then o (nat_cmp f g)) (cmp_equal c d (omega arith)) ∙ sym (files_of_one c f d g (omega arith))
+      ]
+    ]
+
 -- Owners on files.
 
 cmp_says_less : (x y : ℕ) → nat_cmp x y ≡ Less → x < y
@@ -178,6 +211,21 @@ module _ (f c : ℕ) (xs : List ℕ) (g d : ℕ) (ys : List ℕ) (small_f : f < 
           | inr not_high ↦ cmp_equal (on_file_of c f) (on_file_of d g) (omega arith) ∙ sym (cmp_equal (spelled xs * 2 ^ 128 + on_file_of c f) (spelled ys * 2 ^ 128 + on_file_of d g) (omega arith))
         ]
       ]
+
+  -- the parts of a key in their order
+  pub key_ordered : IsBytes xs → IsBytes ys
+      → ordering_then (ordering_then (ordering_then (nat_cmp (length xs) (length ys)) (slice_cmp nat_cmp xs ys)) (nat_cmp c d)) (nat_cmp f g)
+      ≡ nat_cmp (owner_key f c xs) (owner_key g d ys)
+  key_ordered small_x small_y =
+      in_order (ordering_then (nat_cmp (length xs) (length ys)) (slice_cmp nat_cmp xs ys)) (nat_cmp c d) (nat_cmp f g)
+      ∙ ap (λ o. ordering_then o (ordering_then (nat_cmp c d) (nat_cmp f g))) (owners_ordered xs ys small_x small_y)
+      ∙ by_owners (nat_cmp (spelled xs) (spelled ys)) refl
+    where
+      by_owners : (o : Ordering) → nat_cmp (spelled xs) (spelled ys) ≡ o
+          → ordering_then o (ordering_then (nat_cmp c d) (nat_cmp f g)) ≡ nat_cmp (owner_key f c xs) (owner_key g d ys)
+      by_owners Less e = sym (key_less e)
+      by_owners Equal e = files_ordered c f d g small_f small_g ∙ key_equal e
+      by_owners Greater e = sym (key_greater e)
 
   -- no two have one number
   pub key_same : IsBytes xs → IsBytes ys → owner_key f c xs ≡ owner_key g d ys → (f ≡ g) × (c ≡ d) × (xs ≡ ys)
