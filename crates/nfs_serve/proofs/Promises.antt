@@ -11,6 +11,7 @@ pub mod PerfectWire
 pub mod RealTime
 pub mod WrongServers
 pub mod Settled
+pub mod ThereAnswers
 pub mod Ticking
 pub mod SlotsLeft
 pub mod Reader

@@ -651,7 +651,8 @@ pub fn wrong_names_are_refused()
 {}
 
 /// A file that is open stays when its names go: from an OPEN on that told an open, while no CLOSE of it is answered NFS4_OK and its client renews in time, no PUTFH of
-/// the file's filehandle is answered NFS4ERR_STALE, and no READ, WRITE, GETATTR or SETATTR of the file.
+/// the file's filehandle is answered NFS4ERR_STALE, and no operation that looks at the file: as the object of the current filehandle, or of the saved one, where the
+/// object of the other one is there too if the operation looks at both.
 pub fn open_files_stay()
     ensures { FilesStay }
 {}

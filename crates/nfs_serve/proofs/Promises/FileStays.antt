@@ -1,30 +1,22 @@
 -- A file that is open stays, whatever becomes of its names; and an object that no name leads to is not named again.
-use Rattle.std.proofs.Common.{◌≡◌, ◌≢◌, ℕ, ◌<◌, ◌^◌, Bool, true, false, cond, List, [], ◌∷◌, Option, Some, None, refl, sym, ◌∙◌, ap, subst, inl, inr}
-use Rattle.std.proofs.lemmas.Bool.{eq-eqb, false≢true}
-use Rattle.std.specs.{Prelude.{◌==◌, ◌&&◌, ◌||◌, is_some, option_map, Ok}, Option.option_map_or}
-use Rattle.nfs_xdr.specs.{Tables.In, declared.status.Status.Status, declared.status.Status.TheVariants.{RepTooBig, Stale}}
+use Rattle.std.proofs.Common.{◌≡◌, ℕ, ◌<◌, ◌^◌, Bool, true, false, cond, List, [], ◌∷◌, Option, Some, None, refl, sym, ◌∙◌, ap, subst, inl, inr}
+use Rattle.std.proofs.lemmas.Bool.{eq-eqb}
+use Rattle.std.specs.{Prelude.{◌==◌, ◌||◌}, Option.option_map_or}
+use Rattle.nfs_xdr.specs.Tables.{In}
 use Rattle.nfs_xdr.proofs.Lists.{any_in}
-use Rattle.nfs_compound.specs.{Request.item_number, declared.op.Item.Item, declared.op.Item.TheVariants.Operation}
-use Rattle.nfs_compound.specs.declared.op.Op.TheVariants as Op
-use Rattle.nfs_compound.specs.declared.op_num.OpNum.TheVariants as Num
-use Rattle.nfs_results.specs.declared.res.Res.TheVariants as Res
-use Rattle.nfs_results.specs.Results.{status_of_result}
 use Rattle.nfs_attrs.specs.Handle.{handle_of}
-use Rattle.nfs_tree.specs.{declared.stored.Stored.Stored, Files.{Files, root, stored_in, object_at, is_there, has_row}, Bytes.has_bytes}
-use Rattle.nfs_names.specs.{declared.context.Context.Context, Checks.{node_as, node_at, current}, Context.at_object, PutFh.put_fh}
-use Rattle.nfs_names.specs.State.{is_used, is_open, moment}
-use Rattle.nfs_names.specs.Outcome as outcome
+use Rattle.nfs_tree.specs.Files.{root, is_there, has_row}
+use Rattle.nfs_names.specs.State.{is_used, is_open}
 use Rattle.nfs_names.specs.State as store
-use Rattle.nfs_names.proofs.Ones.{by_delay}
-use Rattle.nfs_files.specs.{OpenTold.{OpenTold, Bits, bits_behind, IsOpenWith}, Write.write}
-use Rattle.nfs_exec.specs.{Step.Machine.Machine, Step.Behind.refused_step, Step.Laws.MachineEvent, Runs.Kept.While, Runs.OpenHeld.{the_open, bits_left}}
+use Rattle.nfs_files.specs.OpenTold.{OpenTold, Bits, bits_behind, IsOpenWith}
+use Rattle.nfs_exec.specs.{Step.Machine.Machine, Step.Laws.MachineEvent, Runs.Kept.While, Runs.OpenHeld.{the_open, bits_left}}
 use Rattle.nfs_exec.specs.Runs.Ops.{RanOp, ops_by}
-use Rattle.nfs_exec.proofs.{Step.Instances.instance_kept, Step.RefusalsFit.refused_status, Runs.Handles.{handle_in, handle_read}, Runs.KeptByRuns.Is}
-use Rattle.nfs_exec.proofs.{Runs.OneRun.{IsRun, by_item}, Runs.OneWalk.{throughout, in_back}, Runs.WhatWasDone.event_run, Runs.WrittenRun.used_there}
-use Rattle.nfs_serve.specs.{Step.{ServerState, new_state}, Promises.Endpoint.Arrival, Promises.FileStays.{uses, IsThere, the_file, FilesStay}}
+use Rattle.nfs_exec.proofs.{Step.Instances.instance_kept, Runs.Handles.{handle_in, handle_read}, Runs.KeptByRuns.Is}
+use Rattle.nfs_exec.proofs.{Runs.OneRun.IsRun, Runs.OneWalk.{throughout, in_back}, Runs.WhatWasDone.event_run, Runs.WrittenRun.used_there}
+use Rattle.nfs_serve.specs.{Step.{ServerState, new_state}, Promises.Endpoint.Arrival, Promises.FileStays.{IsThere, the_file, FilesStay}}
 use Rattle.nfs_serve.specs.{Promises.LockKept.{renews_by, StaysFor}, Promises.Points.{state_after, reached, taken, before, asked_by, ops_of}}
-use Rattle.nfs_serve.proofs.{Promises.Handles.{Has, has_next, has_all, given_at}, Promises.Without.{Answers, ok_without}}
-use Rattle.nfs_serve.proofs.{Promises.NeverStale.{is_stale, IsFresh, read_answers, write_answers, set_answers, get_answers}, Promises.OpenKept.open_kept}
+use Rattle.nfs_serve.proofs.{Promises.Handles.{Has, has_next, has_all, given_at}, Promises.OpenKept.open_kept}
+use Rattle.nfs_serve.proofs.{Promises.StaleTruly.{current_other, saved_other}, Promises.ThereAnswers.{not_stale, put_other}}
 use Rattle.nfs_serve.proofs.Promises.Points.{IsSound, whole_before, sound_next, sound_all, sound_new}
 
 -- The file of an open is there.
@@ -38,67 +30,6 @@ open_used k b s is =
     go true r o e = refl
     go false true o e = refl
     go false false o e = e
-
-there_some : (t : Files) (n : ℕ) → is_there t n ≡ true → (k : Stored) × (stored_in t.objects n ≡ Some k)
-there_some t n there = go (stored_in t.objects n) refl there
-  where
-    go : (o : Option Stored) → stored_in t.objects n ≡ o → is_some o ≡ true → (k : Stored) × (stored_in t.objects n ≡ Some k)
-    go None e some = absurd (false≢true some)
-    go (Some k) e some = (k, e)
-
-pub node_fresh : (s : store.State) (n : ℕ) → is_there s.tree n ≡ true → IsFresh (node_at s (Some n))
-node_fresh s n there =
-    let k = there_some s.tree n there in
-    let is : node_at s (Some n) ≡ Ok (record { number = n; object = k.0.object }) = ap (λ (o : Option Stored). node_as n (option_map (λ (s : Stored). s.object) o)) k.1 in
-    subst IsFresh (sym is) (ok_without is_stale (record { number = n; object = k.0.object }))
-
-current_fresh : (s : store.State) (x : Context) (n : ℕ) → is_there s.tree n ≡ true → x.current ≡ Some n → IsFresh (current s x)
-unfolding current
-current_fresh s x n there at = subst (λ (o : Option ℕ). IsFresh (node_at s o)) (sym at) (node_fresh s n there)
-
--- What is answered of it.
-
-pub not_stale : (f : Status) → is_stale f ≡ false → f ≢ Stale
-not_stale f other is = absurd (false≢true (sym other ∙ ap is_stale is))
-
-abbrev pub Other : Status → List ℕ → store.State → Type 0
-Other status text s = is_stale status ≡ false
-
-pub big_other : (d : RanOp) (i : Item) → is_stale (refused_step d.before d.context i RepTooBig).outcome.status ≡ false
-big_other d i = ap is_stale (refused_status (item_number i) RepTooBig)
-
--- an operation that uses it
-pub used_other : (d : RanOp) → IsRun d → (n : ℕ) → is_there d.before.store.tree n ≡ true → d.context.current ≡ Some n → (i : Item) → d.item ≡ i → uses i ≡ true
-    → is_stale d.status ≡ false
-used_other d r n there at (Operation (Op.Read a)) is u =
-    by_item Other d r (Operation (Op.Read a)) is (big_other d (Operation (Op.Read a)))
-    (read_answers d.before.store d.context a (current_fresh d.before.store d.context n there at))
-used_other d r n there at (Operation (Op.Write a)) is u =
-    by_item Other d r (Operation (Op.Write a)) is (big_other d (Operation (Op.Write a)))
-    (by_delay (Answers is_stale) (has_bytes a.bytes && r.refused) d.before.store d.context Num.Write (write d.before.store d.context (moment r.now) a) refl
-    (write_answers d.before.store d.context (moment r.now) a (current_fresh d.before.store d.context n there at)))
-used_other d r n there at (Operation (Op.GetAttr words)) is u =
-    by_item Other d r (Operation (Op.GetAttr words)) is (big_other d (Operation (Op.GetAttr words)))
-    (get_answers d.before.store d.context words (current_fresh d.before.store d.context n there at))
-used_other d r n there at (Operation (Op.SetAttr a)) is u =
-    by_item Other d r (Operation (Op.SetAttr a)) is (big_other d (Operation (Op.SetAttr a)))
-    (set_answers d.before.store d.context (moment r.now) a (current_fresh d.before.store d.context n there at))
-used_other d r n there at i is u = absurd (false≢true u)
-
--- a PUTFH of its filehandle
-put_answers : (s : store.State) (x : Context) (h : List ℕ) (n : ℕ) → handle_of h ≡ Some (record { instance = s.opens.instance; number = n }) → is_there s.tree n ≡ true
-    → Answers is_stale (put_fh s x h)
-unfolding put_fh
-put_answers s x h n is there =
-    let k = there_some s.tree n there in
-    let held : is_some (object_at s.tree n) ≡ true = ap (λ (o : Option Stored). is_some (option_map (λ (s : Stored). s.object) o)) k.1 in
-    let passes : put_fh s x h ≡ outcome.done s (at_object x n) Res.PutFh = rw (is, eq-eqb s.opens.instance s.opens.instance refl, held) refl in
-    ap (λ (o : outcome.Outcome). is_stale (status_of_result o.result)) passes
-
-pub put_other : (d : RanOp) → IsRun d → (n : ℕ) (h : List ℕ) → is_there d.before.store.tree n ≡ true → handle_of h ≡ Some (record { instance = d.before.store.opens.instance; number = n })
-    → d.item ≡ Operation (Op.PutFh h) → is_stale d.status ≡ false
-put_other d r n h there read is =
-    by_item Other d r (Operation (Op.PutFh h)) is (big_other d (Operation (Op.PutFh h))) (put_answers d.before.store d.context h n read there)
 
 -- Through the operations before which the open stands.
 
@@ -119,7 +50,8 @@ there_before k b h instance d of r own stands =
     record {
       there = there;
       found = λ is. not_stale d.status (put_other d r k.file h there (handle_here instance k.file h of d.before.store.opens.instance own) is);
-      used = λ u at. not_stale d.status (used_other d r k.file there at d.item refl u);
+      at_current = λ on off at. not_stale d.status (current_other d r k.file there at on off);
+      at_saved = λ on saved at same others. not_stale d.status (saved_other d r k.file there saved at same others on);
     }
 
 file_while : (k : OpenTold) (h : List ℕ) (instance : ℕ) (b : Bits) (ds : List RanOp) → IsOfHandle instance k.file h → EachRuns instance ds → While (the_open k) b ds

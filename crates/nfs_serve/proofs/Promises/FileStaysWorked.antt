@@ -124,7 +124,11 @@ stale_handle d is = is.found refl refl
 
 unread : (d : RanOp) → IsThere 2 given (with_status Stale (last_of d (ops_of worked.removed worked.reads))) → ⊥
 unfolding computing get_fh remove
-unread d is = is.used refl refl refl
+unread d is = is.at_current refl refl refl refl
+
+unclosed : (d : RanOp) → IsThere 2 given (with_status Stale (last_of d (ops_of worked.missed worked.closes))) → ⊥
+unfolding computing get_fh remove
+unclosed d is = is.at_current refl refl refl refl
 
 not_answered : (is_ok NoEnt ≡ true) ⊎ (◌≡◌ {A = Status} NoEnt RepTooBig) → ⊥
 not_answered (inl ok) = false≢true ok
@@ -153,4 +157,4 @@ unfolding computing get_fh remove
 shown d is = is.unsaid f refl (Finds refl refl ([], refl) (_, refl, refl))
 
 pub losses_are_refused : LossesAreRefused
-losses_are_refused = record { stale = stale_handle; unread = unread; failed = failed; dropped = dropped; emptied = emptied; named = named; shown = shown }
+losses_are_refused = record { stale = stale_handle; unread = unread; unclosed = unclosed; failed = failed; dropped = dropped; emptied = emptied; named = named; shown = shown }

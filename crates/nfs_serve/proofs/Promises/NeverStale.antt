@@ -1,16 +1,15 @@
 -- What uses an object that is there is refused for other reasons than NFS4ERR_STALE.
 use Rattle.std.proofs.Common.{◌≡◌, ℕ, Bool, true, false, not, List, Option, Some, None, refl}
-use Rattle.std.specs.Prelude.{◌==◌, Result, Ok, Err}
+use Rattle.std.specs.Prelude.{◌==◌, Result, Ok}
 use Rattle.nfs_xdr.specs.{Status.status_number, declared.time.Time.Time, declared.status.Status.Status}
 use Rattle.nfs_xdr.specs.declared.status.Status.TheVariants as S
 use Rattle.nfs_compound.specs.{declared.attributes.Attributes.Attributes, declared.file_args.Read.Read, declared.file_args.SetAttr.SetAttr}
 use Rattle.nfs_compound.specs.{declared.file_args.Write.Write, declared.stateid.Stateid.Stateid}
 use Rattle.nfs_compound.specs.declared.op_num.OpNum.TheVariants as Num
-use Rattle.nfs_attrs.specs.{declared.wanted.AttrFault.AttrFault, Mask.{mask_of, asks_set_only}, Reading.attr_fault_status}
-use Rattle.nfs_attrs.specs.declared.wanted.AttrFault.TheVariants as F
+use Rattle.nfs_attrs.specs.Mask.{mask_of, asks_set_only}
 use Rattle.nfs_opens.specs.{declared.judging.Seat.Seat, declared.judging.Seat.TheVariants.{Anonymous, ReadBypass, Open, Lock}, declared.share.Share.Share}
-use Rattle.nfs_opens.specs.Steps.{map_err}
-use Rattle.nfs_names.specs.{declared.context.Context.Context, declared.node.Node.Node, Checks.current, Create.{wanted_of, attributes_in}, GetAttr.get_attr}
+use Rattle.nfs_attrs.proofs.Answered.{by_read}
+use Rattle.nfs_names.specs.{declared.context.Context.Context, declared.node.Node.Node, Checks.current, Create.attributes_in, GetAttr.get_attr}
 use Rattle.nfs_names.specs.{Outcome.checked, State.State}
 use Rattle.nfs_files.specs.{Bytes.{file_checks, seat, reading, writing, seat_checks, may_use}, Read.read, SetAttr.set_attr, Parts.{readable, writable}}
 use Rattle.nfs_files.specs.Write.{last_checks, write}
@@ -58,18 +57,11 @@ writable_fresh s x given v is = if_passed_without is_stale (checked v file_check
 
 -- Attributes that are set.
 
-fault_fresh : (f : AttrFault) → is_stale (attr_fault_status f) ≡ false
-fault_fresh F.AttrNotSupp = refl
-fault_fresh F.Inval = refl
-fault_fresh F.BadXdr = refl
-fault_fresh F.BadOwner = refl
-
-pub read_fresh : {A : Type 0} (v : Result A AttrFault) → IsFresh (map_err attr_fault_status v)
-read_fresh (Err f) = err_without is_stale (attr_fault_status f) (fault_fresh f)
-read_fresh (Ok a) = ok_without is_stale a
-
 pub wanted_fresh : (a : Attributes) → IsFresh (attributes_in a)
-wanted_fresh a = read_fresh (wanted_of a)
+unfolding attributes_in
+wanted_fresh a =
+    by_read IsFresh (err_without is_stale _ refl) (err_without is_stale _ refl) (err_without is_stale _ refl) (err_without is_stale _ refl) (ok_without is_stale)
+    (mask_of a.attrmask) a.attr_vals
 
 sized_fresh : (s : State) (x : Context) (given : Stateid) (d : Node) (o : Option ℕ) → IsFresh (set_parts.sized_by s x given d o)
 sized_fresh s x given d None = ok_without is_stale d

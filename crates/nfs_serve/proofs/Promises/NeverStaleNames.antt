@@ -7,18 +7,20 @@ use Rattle.nfs_compound.specs.{declared.attributes.Attributes.Attributes, declar
 use Rattle.nfs_compound.specs.declared.name_args.SecinfoStyle.{SecinfoStyle}
 use Rattle.nfs_compound.specs.declared.name_args.SecinfoStyle.TheVariants.{CurrentFh, Parent}
 use Rattle.nfs_compound.specs.declared.op_num.OpNum.TheVariants as Num
-use Rattle.nfs_tree.specs.{Files.{object_named as found, parent_in}, Object.{is_directory, is_link}, Create.create_checks}
-use Rattle.nfs_tree.specs.Names.{link_checks, moves, remove_checks, rename_checks}
-use Rattle.nfs_attrs.specs.{Setting.make_checks, Permissions.{change_entries, execute}}
+use Rattle.nfs_tree.specs.{Files.{has_name, object_named as found, parent_in}, Names.moves, Object.{is_directory, is_link}}
+use Rattle.nfs_attrs.specs.{Mask.mask_of, Setting.make_checks, Permissions.{change_entries, execute}}
+use Rattle.nfs_attrs.proofs.Answered.{by_compared}
 use Rattle.nfs_names.specs.{declared.context.Context.Context, declared.node.Node.Node}
 use Rattle.nfs_names.specs.Checks.{node_at, saved_object, current, both, no_directory, no_access, name_checks}
-use Rattle.nfs_names.specs.{State.State, Faults.by_tree, Access.access, Create.{create, place_checks, new_of, attributes_in}, GetFh.get_fh, Link.link}
+use Rattle.nfs_names.specs.{State.State, Access.access, Create.{create, place_checks, room_checks, attributes_in}, GetFh.get_fh, Link.link}
 use Rattle.nfs_names.specs.{Lookup.lookup, LookupP.lookup_p, NVerify.nverify, ReadDir.{listing_checks, fits_none, read_dir}}
 use Rattle.nfs_names.specs.{ReadLink.read_link, Remove.remove, Rename.{move_of, rename}, SaveFh.save_fh, SecinfoNoName.{style_checks, secinfo_no_name}}
-use Rattle.nfs_names.specs.Verify.{same_at, compared, verify}
+use Rattle.nfs_names.specs.{Attributes.about, Verify.{compared, verify}}
+use Rattle.nfs_names.specs.Link as of_link
+use Rattle.nfs_names.specs.Remove as of_remove
 use Rattle.nfs_names.specs.Rename as of_rename
-use Rattle.nfs_serve.proofs.Promises.Without.{AreGood, Answers, ok_without, then_without, steps_answer, ends_then, ends_held, ends_there, ends_passed}
-use Rattle.nfs_serve.proofs.Promises.NeverStale.{is_stale, IsFresh, good, read_fresh, wanted_fresh}
+use Rattle.nfs_serve.proofs.Promises.Without.{AreGood, Answers, err_without, ok_without, then_without, steps_answer, ends_then, ends_held, ends_there, ends_passed}
+use Rattle.nfs_serve.proofs.Promises.NeverStale.{is_stale, IsFresh, good, wanted_fresh}
 
 both_fresh : (s : State) (x : Context) → IsFresh (current s x) → IsFresh (node_at s (saved_object x.saved)) → IsFresh (both s x)
 unfolding both
@@ -30,7 +32,8 @@ style_good s CurrentFh d = good [] refl
 style_good s Parent d = good (style_checks s Parent d) refl
 
 compared_fresh : (s : State) (x : Context) (a : Attributes) → IsFresh (current s x) → IsFresh (compared s x a)
-compared_fresh s x a is = then_without is_stale (current s x) _ is (λ d e. read_fresh (same_at s a d))
+compared_fresh s x a is = then_without is_stale (current s x) _ is (λ d e.
+    by_compared IsFresh (err_without is_stale _ refl) (err_without is_stale _ refl) (ok_without is_stale) (mask_of a.attrmask) a.attr_vals (about s d) d.object)
 
 -- Of the current filehandle's object.
 module _ (s : State) (x : Context) (is : IsFresh (current s x)) where
@@ -44,8 +47,7 @@ module _ (s : State) (x : Context) (is : IsFresh (current s x)) where
       steps_answer is_stale s x Num.Create _ (ends_then is_stale (current s x) _ is (λ d e.
       ends_passed is_stale (place_checks x c d) _ (good (place_checks x c d) refl) (ends_then is_stale (attributes_in c.createattrs) _ (wanted_fresh c.createattrs) (λ w e.
       ends_passed is_stale (make_checks w x.who) _ (good (make_checks w x.who) refl) (ends_held is_stale (not (is_some w.size)) S.Inval _ refl
-      (ends_passed is_stale (by_tree (create_checks s.tree d.number c.objname (new_of c.objtype))) _
-      (good (by_tree (create_checks s.tree d.number c.objname (new_of c.objtype))) refl) refl))))))
+      (let last = (has_name s.tree d.number c.objname, S.Exist) ∷ room_checks s.tree d.number in ends_passed is_stale last _ (good last refl) refl))))))
 
   pub fh_answers : Answers is_stale (get_fh s x)
   unfolding get_fh
@@ -92,7 +94,7 @@ module _ (s : State) (x : Context) (is : IsFresh (current s x)) where
       steps_answer is_stale s x Num.Remove _ (ends_then is_stale (current s x) _ is (λ d e.
       (let checks = no_directory d ∷ no_access x d change_entries ∷ name_checks name in
       ends_passed is_stale checks _ (good checks refl)
-      (ends_passed is_stale (by_tree (remove_checks s.tree d.number name)) _ (good (by_tree (remove_checks s.tree d.number name)) refl) refl))))
+      (ends_passed is_stale (of_remove.last_checks s.tree d.number name) _ (good (of_remove.last_checks s.tree d.number name) refl) refl))))
 
   pub save_answers : Answers is_stale (save_fh s x)
   unfolding save_fh
@@ -112,13 +114,13 @@ module _ (s : State) (x : Context) (is : IsFresh (current s x)) (saved : IsFresh
       steps_answer is_stale s x Num.Link _ (ends_then is_stale (both s x) _ (both_fresh s x is saved) (λ p e.
       (let checks = no_directory p.current ∷ (is_directory p.saved.object.kind, S.IsDir) ∷ no_access x p.current change_entries ∷ name_checks name in
       ends_passed is_stale checks _ (good checks refl)
-      (ends_passed is_stale (by_tree (link_checks s.tree p.saved.number p.current.number name)) _
-      (good (by_tree (link_checks s.tree p.saved.number p.current.number name)) refl) refl))))
+      (ends_passed is_stale (of_link.last_checks s.tree p.saved.number p.current.number name) _
+      (good (of_link.last_checks s.tree p.saved.number p.current.number name) refl) refl))))
 
   pub rename_answers : (now : Time) (a : Rename) → Answers is_stale (rename s x now a)
   unfolding rename
   rename_answers now a =
       steps_answer is_stale s x Num.Rename _ (ends_then is_stale (both s x) _ (both_fresh s x is saved) (λ p e.
       ends_passed is_stale (of_rename.place_checks x a p) _ (good (of_rename.place_checks x a p) refl)
-      (ends_passed is_stale (by_tree (rename_checks s.tree (move_of a p))) _ (good (by_tree (rename_checks s.tree (move_of a p))) refl)
+      (ends_passed is_stale (of_rename.last_checks s.tree (move_of a p)) _ (good (of_rename.last_checks s.tree (move_of a p)) refl)
       (elim (moves s.tree (move_of a p)) as (λ b. Answers is_stale (of_rename.renamed s x now a p b)) [ true ↦ refl | false ↦ refl ]))))

@@ -19,23 +19,23 @@ use Rattle.nfs_opens.specs.declared.locking.OpenFault.TheVariants as F
 use Rattle.nfs_opens.specs.Closing as closing
 use Rattle.nfs_opens.specs.Locking as locking
 use Rattle.nfs_opens.specs.Opening as opening
-use Rattle.nfs_tree.specs.{declared.fault.TreeFault.TreeFault, Files.object_named}
-use Rattle.nfs_tree.specs.declared.fault.TreeFault.TheVariants as T
+use Rattle.nfs_opens.proofs.Terms.{lock_by_owner, unless_told}
+use Rattle.nfs_tree.specs.Files.{object_named}
 use Rattle.nfs_names.specs.{declared.context.Context.Context, declared.making.Making.Making, declared.node.Node.Node, Checks.{node_at, current}, Create.attributes_in}
-use Rattle.nfs_names.specs.{Faults.{by_tree, tree_fault_status as tree_status}, State.State, Outcome.checked}
+use Rattle.nfs_names.specs.{State.State, Outcome.checked}
 use Rattle.nfs_names.proofs.Faulted.{status_of_refusal}
 use Rattle.nfs_files.specs.{Bytes.file_checks, Close.close, Commit.commit}
 use Rattle.nfs_files.specs.{Denied.open_fault_status, FreeStateid.free_stateid, LockT.{tested, lock_t}, LockU.lock_u, OpenDowngrade.{bits, open_downgrade}}
-use Rattle.nfs_files.specs.{Open.{makes, argument_checks, place_checks, absent_checks, there_checks, last_checks, open_file, tree_checks}, OpenParts.{found_by, by_name, by_handle, by_claim, asked_for}}
+use Rattle.nfs_files.specs.{Open.{makes, argument_checks, place_checks, absent_checks, there_checks, last_checks, open_file}, OpenParts.{found_by, by_name, by_handle, by_claim, asked_for}}
 use Rattle.nfs_files.specs.{Parts.{target, closes, bit_checks, narrowing, narrows, frees, wish, wished_by, reclaim_checks, unlocking, unlocks}, Ranges.{range, wished}}
 use Rattle.nfs_files.specs.{StateIds.meant, Target.the_file}
 use Rattle.nfs_files.specs.Lock as of_lock
 use Rattle.nfs_files.specs.Parts as parts
 use Rattle.nfs_files.proofs.InSteps as in_steps
-use Rattle.nfs_serve.proofs.Promises.Without.{AreGood, Answers, append_good, by_tree_good, err_without, ok_without, by_bool, then_without, passed_without, checked_without, mapped_without}
+use Rattle.nfs_serve.proofs.Promises.Without.{Answers, err_without, ok_without, by_bool, then_without, passed_without, checked_without, mapped_without}
 use Rattle.nfs_serve.proofs.Promises.Without.{if_passed_without, answers_without, meant_without, judge_without}
 use Rattle.nfs_serve.proofs.Promises.NeverStale.{is_stale, IsFresh, good, file_fresh, wanted_fresh}
-use Rattle.nfs_files.proofs.Terms.{range_checks, last_of}
+use Rattle.nfs_files.proofs.{OpenAnswers.last_pass, Terms.{range_checks, last_of}}
 
 -- What is looked at first.
 
@@ -64,12 +64,12 @@ fault_fresh : (v : Result Seat Status) → IsFresh v → IsFresh (map_err open_f
 fault_fresh (Err f) is = err_without is_stale f (is f refl)
 fault_fresh (Ok seat) is = ok_without is_stale seat
 
-told_fresh : (o : Option Held) → IsFresh (map_err open_fault_status (locking.unless_told o))
+told_fresh : (o : Option Held) → IsFresh (map_err open_fault_status (unless_told o))
 told_fresh None = ok_without is_stale tt
 told_fresh (Some h) = err_without is_stale (open_fault_status (F.Denied h)) refl
 
 judged_fresh : (t : Table) (n : ℕ) (access : Share) (w : Wish) → IsFresh (map_err open_fault_status (locking.lock_judged t n access w))
-judged_fresh t n access w = elim (locking.permits access w.kind) as (λ b. IsFresh (map_err open_fault_status (cond b (locking.unless_told (locking.clash t n w)) (Err (F.Refused S.OpenMode))))) [
+judged_fresh t n access w = elim (locking.permits access w.kind) as (λ b. IsFresh (map_err open_fault_status (cond b (unless_told (locking.clash t n w)) (Err (F.Refused S.OpenMode))))) [
   | true ↦ told_fresh (locking.clash t n w)
   | false ↦ err_without is_stale S.OpenMode refl
 ]
@@ -88,7 +88,7 @@ as_fresh t w n access =
     next_fresh open_fault_status (ok_or (lock_at t n) (F.Refused S.BadStateId)) _ (state_fresh (lock_at t n)) (λ l. ok_without is_stale _))
 
 owner_fresh : (t : Table) (w : Wish) (opened : ℕ) (owner : List ℕ) (access : Share) (o : Option LockState)
-    → IsFresh (map_err open_fault_status (locking.lock_by_owner t w opened owner access o))
+    → IsFresh (map_err open_fault_status (lock_by_owner t w opened owner access o))
 owner_fresh t w opened owner access (Some l) = as_fresh t w l.number access
 owner_fresh t w opened owner access None =
     next_fresh open_fault_status (locking.lock_judged t 0 access w) _ (judged_fresh t 0 access w) (λ u.
@@ -112,24 +112,10 @@ tested_answers : (s : State) (x : Context) (o : Option Held) → Answers is_stal
 tested_answers s x None = refl
 tested_answers s x (Some h) = refl
 
-unlock_fresh : (t : Table) (id : StateId) (client file first last : ℕ) → IsFresh (map_err open_fault_status (locking.unlock t id client file first last))
+unlock_fresh : (t : Table) (id : StateId) (client file first last : ℕ) → IsFresh (locking.unlock t id client file first last)
 unlock_fresh t id client file first last =
-    next_fresh open_fault_status (map_err F.Refused (judge t id client (Some file) LockOnly)) _ (fault_fresh _ (judge_fresh t id client (Some file) LockOnly)) (λ seat.
-    next_fresh open_fault_status (ok_or (lock_at t id.number) (F.Refused S.BadStateId)) _ (state_fresh (lock_at t id.number)) (λ l. ok_without is_stale _))
-
--- The tree's own checks.
-tree_other : (f : TreeFault) → is_stale (tree_status f) ≡ false
-tree_other T.NoEnt = refl
-tree_other T.Exist = refl
-tree_other T.NotDir = refl
-tree_other T.IsDir = refl
-tree_other T.NotEmpty = refl
-tree_other T.Inval = refl
-tree_other T.Fbig = refl
-tree_other T.NoSpc = refl
-tree_other T.Mlink = refl
-tree_other T.Counter = refl
-tree_other T.Memory = refl
+    then_without is_stale (judge t id client (Some file) LockOnly) _ (judge_fresh t id client (Some file) LockOnly) (λ seat e.
+    then_without is_stale (ok_or (lock_at t id.number) S.BadStateId) _ (there_fresh (lock_at t id.number) S.BadStateId refl) (λ l e. ok_without is_stale _))
 
 -- FREE_STATEID looks at no object.
 
@@ -220,7 +206,7 @@ module _ (s : State) (x : Context) (is : IsFresh (current s x)) where
       rw (in_steps.unlock_is s x a)
       (answers_without is_stale s x Num.LockU (unlocking s x a) (unlocks s x)
       (wished_by_fresh a.lock_stateid (wished s x a.locktype a.offset a.length) (wished_fresh a.locktype a.offset a.length)) (λ k e.
-      answers_without is_stale s x Num.LockU (map_err open_fault_status (locking.unlock s.opens k.id k.wish.client k.wish.file k.wish.first k.wish.last)) _
+      answers_without is_stale s x Num.LockU (locking.unlock s.opens k.id k.wish.client k.wish.file k.wish.first k.wish.last) _
       (unlock_fresh s.opens k.id k.wish.client k.wish.file k.wish.first k.wish.last) (λ did e. refl)))
 
   -- OPEN looks at what the name leads to, too.
@@ -258,14 +244,9 @@ module _ (s : State) (x : Context) (is : IsFresh (current s x)) where
         then_without is_stale (checked (current s x) (argument_checks o)) (by_claim s x o o.claim)
         (checked_without is_stale (current s x) (argument_checks o) is (λ d e. good (argument_checks o d) refl)) (λ d e. claim_fresh o o.claim d)
 
-    last_good : (o : Open) (found : _) → AreGood is_stale (last_checks s x o found)
-    last_good o found =
-        append_good is_stale (_ ∷ by_tree (tree_checks s.tree o found)) (_ ∷ [])
-        (append_good is_stale (_ ∷ []) (by_tree (tree_checks s.tree o found)) (good (_ ∷ []) refl) (by_tree_good is_stale tree_other (tree_checks s.tree o found)))
-        (good (_ ∷ []) refl)
-
     pub open_answers : (now : Time) (o : Open) → Answers is_stale (open_file s x now o)
     open_answers now o =
         rw (in_steps.open_is s x now o)
         (answers_without is_stale s x Num.Open (checked (asked_for s x o) (last_checks s x o)) _
-        (checked_without is_stale (asked_for s x o) (last_checks s x o) (asked_fresh o) (λ found e. last_good o found)) (λ found e. refl))
+        (checked_without is_stale (asked_for s x o) (last_checks s x o) (asked_fresh o)
+        (λ found e. good (last_checks s x o found) (last_pass (λ f. not (is_stale f)) s x o found refl refl refl refl))) (λ found e. refl))

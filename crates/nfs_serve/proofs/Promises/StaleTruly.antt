@@ -20,12 +20,13 @@ use Rattle.nfs_names.specs.{Create.create, Outcome.{Outcome, done}, State.{State
 use Rattle.nfs_names.proofs.Ones.{by_delay}
 use Rattle.nfs_files.proofs.TreeFiles.{IsWhole}
 use Rattle.nfs_files.specs.{Lock.lock, LockU.{lock_u, wants_memory}, Open.open_file, TestStateid.test_stateid, Write.write}
-use Rattle.nfs_exec.specs.{Step.Behind.step, Step.Machine.{Machine, with_refusal, with_result}, Step.ReclaimComplete.{of_one, of_all}, Runs.Ops.RanOp}
-use Rattle.nfs_exec.proofs.{Step.RefusalsFit.refused_status, Runs.OneRun.{IsRun, by_item}, Runs.WrittenRun.used_there}
+use Rattle.nfs_exec.specs.{Step.{Behind.step, Machine.{Machine, with_refusal, with_result}}, Runs.Ops.RanOp}
+use Rattle.nfs_exec.proofs.{Step.{RefusalsFit.refused_status, Terms.{of_one, of_all}}, Runs.{OneRun.{IsRun, by_item}, WrittenRun.used_there}}
 use Rattle.nfs_compound.specs.OpNum.{op_number}
 use Rattle.nfs_serve.specs.{Step.new_state, Promises.FileStaysWorked.{first_of, reads, removed, with_status}, Promises.HeldLock.last_of, Promises.Points.{ops_of, reached}}
-use Rattle.nfs_serve.specs.Promises.StaleTruly.{is_on_current, is_on_saved, IsStaleFor, OfCurrent, OfSaved, OfGiven, StaleIsTrue, IsGone}
-use Rattle.nfs_serve.proofs.{Promises.Computing.computing, Promises.FileStays.{Other, big_other, node_fresh, not_stale, put_other}, Promises.LaterRecords.op_done}
+use Rattle.nfs_serve.specs.Promises.FileStays.{is_on_current, is_on_saved}
+use Rattle.nfs_serve.specs.Promises.StaleTruly.{IsStaleFor, OfCurrent, OfSaved, OfGiven, StaleIsTrue, IsGone}
+use Rattle.nfs_serve.proofs.{Promises.Computing.computing, Promises.LaterRecords.op_done, Promises.ThereAnswers.{Other, big_other, node_fresh, not_stale, put_other}}
 use Rattle.nfs_serve.proofs.{Promises.NeverStale.{is_stale, IsFresh, read_answers, write_answers, set_answers, get_answers}, Promises.Points.{IsSound, sound_all, sound_new}}
 use Rattle.nfs_serve.proofs.Promises.Without.{Answers, Ends, err_without, steps_answer}
 use Rattle.nfs_serve.proofs.Promises.NeverStaleNames as names
@@ -156,6 +157,33 @@ restore_answers s x fresh = steps_answer is_stale s x Num.RestoreFh _ (by x.save
 unread_answers : (s : State) (x : Context) (h : _) → handle_of h ≡ None → Answers is_stale (put_fh s x h)
 unfolding put_fh
 unread_answers s x h none = rw none refl
+
+-- An object that is there, at its place.
+
+at_place : (s : State) (o : Option ℕ) → ((n : ℕ) → o ≡ Some n → is_there s.tree n ≡ true) → IsFresh (node_at s o)
+at_place s None there = err_without is_stale S.NoFileHandle refl
+at_place s (Some n) there = node_fresh s n (there n refl)
+
+pub current_other : (d : RanOp) → IsRun d → (n : ℕ) → is_there d.before.store.tree n ≡ true → d.context.current ≡ Some n → is_on_current d.item ≡ true
+    → is_on_saved d.item ≡ false → is_stale d.status ≡ false
+current_other d r n there at on off =
+    let here = at_place d.before.store d.context.current (λ k e. subst (λ k. is_there d.before.store.tree k ≡ true) (same_Some n k (sym at ∙ e)) there) in
+    by_current d r (current_is d.before.store d.context here) d.item refl on off
+
+by_saved : (d : RanOp) (r : IsRun d) → IsFresh (node_at d.before.store (saved_object d.context.saved))
+    → (is_on_current d.item ≡ true → IsFresh (current d.before.store d.context)) → (i : Item) → d.item ≡ i → is_on_saved i ≡ true → is_stale d.status ≡ false
+by_saved d r saved here (Operation (Op.Link name)) is on = by_both d r (here (ap is_on_current is)) saved (Operation (Op.Link name)) is refl refl
+by_saved d r saved here (Operation (Op.Rename a)) is on = by_both d r (here (ap is_on_current is)) saved (Operation (Op.Rename a)) is refl refl
+by_saved d r saved here (Operation Op.RestoreFh) is on = answers_other d r (Operation Op.RestoreFh) is (restore_answers d.before.store d.context saved)
+by_saved d r saved here i is on = absurd (false≢true on)
+
+pub saved_other : (d : RanOp) → IsRun d → (n : ℕ) → is_there d.before.store.tree n ≡ true → (saved : Saved) → d.context.saved ≡ Some saved → saved.object ≡ n
+    → (is_on_current d.item ≡ true → (k : ℕ) → d.context.current ≡ Some k → is_there d.before.store.tree k ≡ true) → is_on_saved d.item ≡ true
+    → is_stale d.status ≡ false
+saved_other d r n there saved at same others on =
+    let fresh = node_fresh d.before.store saved.object (subst (λ k. is_there d.before.store.tree k ≡ true) (sym same) there) in
+    by_saved d r (subst (λ (o : Option Saved). IsFresh (node_at d.before.store (saved_object o))) (sym at) fresh)
+    (λ on. current_is d.before.store d.context (at_place d.before.store d.context.current (others on))) d.item refl on
 
 saved_at : (o : Option Saved) (n : ℕ) → saved_object o ≡ Some n → (saved : Saved) × (o ≡ Some saved) × (saved.object ≡ n)
 saved_at None n e = absurd cc

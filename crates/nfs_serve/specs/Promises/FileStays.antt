@@ -5,7 +5,7 @@ use Rattle.nfs_xdr.specs.{Tables.In, declared.status.Status.TheVariants.Stale}
 use Rattle.nfs_compound.specs.{declared.op.Item.Item, declared.op.Item.TheVariants.Operation}
 use Rattle.nfs_compound.specs.declared.op.Op.TheVariants as Op
 use Rattle.nfs_tree.specs.Files.{is_there, has_row}
-use Rattle.nfs_names.specs.declared.context.Context.{Context}
+use Rattle.nfs_names.specs.{declared.context.Context.Context, declared.context.Saved.Saved}
 use Rattle.nfs_files.specs.OpenTold.{OpenTold, Bits, bits_behind, IsOpenWith}
 use Rattle.nfs_exec.specs.{Runs.Handles.Gives, Runs.Kept.{Kept, While, AreSpared}, Runs.LockHeld.ClosesOf, Runs.OpenHeld.{bits_left, TellsOpen}, Runs.Ops.RanOp}
 use Rattle.nfs_serve.specs.{Promises.Endpoint.Arrival, Promises.LockKept.StaysFor, Promises.NameStays.{Name, Says, HoldsFrom}}
@@ -19,19 +19,51 @@ pub record IsHandleOf (mode instance lease n : ℕ) (h : List ℕ) : Type 0 wher
   pub ran : In get (ops_of (reached mode instance lease records) record_of)
   pub gives : Gives n h get
 
--- the operations that read or change bytes or attributes of the current filehandle's object
-abbrev pub uses : Item → Bool
-uses (Operation (Op.Read a)) = true
-uses (Operation (Op.Write a)) = true
-uses (Operation (Op.GetAttr words)) = true
-uses (Operation (Op.SetAttr a)) = true
-uses item = false
+-- the operations that look at the object of the current filehandle
+abbrev pub is_on_current : Item → Bool
+is_on_current (Operation (Op.Access asked)) = true
+is_on_current (Operation (Op.Close a)) = true
+is_on_current (Operation (Op.Commit a)) = true
+is_on_current (Operation (Op.Create a)) = true
+is_on_current (Operation (Op.GetAttr words)) = true
+is_on_current (Operation Op.GetFh) = true
+is_on_current (Operation (Op.Link name)) = true
+is_on_current (Operation (Op.Lock a)) = true
+is_on_current (Operation (Op.LockT a)) = true
+is_on_current (Operation (Op.LockU a)) = true
+is_on_current (Operation (Op.Lookup name)) = true
+is_on_current (Operation Op.LookupP) = true
+is_on_current (Operation (Op.NVerify a)) = true
+is_on_current (Operation (Op.Open a)) = true
+is_on_current (Operation (Op.OpenDowngrade a)) = true
+is_on_current (Operation (Op.Read a)) = true
+is_on_current (Operation (Op.ReadDir a)) = true
+is_on_current (Operation Op.ReadLink) = true
+is_on_current (Operation (Op.ReclaimComplete one)) = one
+is_on_current (Operation (Op.Remove name)) = true
+is_on_current (Operation (Op.Rename a)) = true
+is_on_current (Operation Op.SaveFh) = true
+is_on_current (Operation (Op.SecinfoNoName style)) = true
+is_on_current (Operation (Op.SetAttr a)) = true
+is_on_current (Operation (Op.Verify a)) = true
+is_on_current (Operation (Op.Write a)) = true
+is_on_current item = false
 
--- The object is there: a PUTFH of its filehandle is not answered NFS4ERR_STALE, and neither is an operation that uses it.
+-- and of the saved one
+abbrev pub is_on_saved : Item → Bool
+is_on_saved (Operation (Op.Link name)) = true
+is_on_saved (Operation (Op.Rename a)) = true
+is_on_saved (Operation Op.RestoreFh) = true
+is_on_saved item = false
+
+-- The object is there: a PUTFH of its filehandle is not answered NFS4ERR_STALE. Neither is an operation that looks at the object as the current filehandle's, nor one that
+-- looks at it as the saved one's, if the current one's is there too where it looks at that.
 pub record IsThere (n : ℕ) (h : List ℕ) (d : RanOp) : Type 0 where
   pub there : is_there d.before.store.tree n ≡ true
   pub found : d.item ≡ Operation (Op.PutFh h) → d.status ≢ Stale
-  pub used : uses d.item ≡ true → d.context.current ≡ Some n → d.status ≢ Stale
+  pub at_current : is_on_current d.item ≡ true → is_on_saved d.item ≡ false → d.context.current ≡ Some n → d.status ≢ Stale
+  pub at_saved : is_on_saved d.item ≡ true → (saved : Saved) → d.context.saved ≡ Some saved → saved.object ≡ n
+      → (is_on_current d.item ≡ true → (k : ℕ) → d.context.current ≡ Some k → is_there d.before.store.tree k ≡ true) → d.status ≢ Stale
 
 -- the file of an open, with this filehandle, as long as no CLOSE of the open is answered NFS4_OK
 abbrev pub the_file : OpenTold → List ℕ → Kept

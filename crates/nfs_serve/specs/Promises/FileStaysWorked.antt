@@ -104,6 +104,8 @@ pub record LossesAreRefused : Type 0 where
   pub stale : (d : RanOp) → IsThere 2 given (with_status Stale (first_of d (ops_of removed reads))) → ⊥
   -- a READ is answered NFS4ERR_STALE
   pub unread : (d : RanOp) → IsThere 2 given (with_status Stale (last_of d (ops_of removed reads))) → ⊥
+  -- the CLOSE is
+  pub unclosed : (d : RanOp) → IsThere 2 given (with_status Stale (last_of d (ops_of missed closes))) → ⊥
   -- a READ by the open is answered NFS4ERR_NOENT
   pub failed : (d : RanOp) → CanBeHad its_open its_bits (with_status NoEnt (last_of d (ops_of removed reads))) → ⊥
   -- the file is dropped with its name

@@ -1,52 +1,16 @@
 -- A no is true of filehandles too: an operation is answered NFS4ERR_STALE only where the object of a filehandle that it looks at, the current one or the saved one, has
 -- neither a name nor an open; and a PUTFH also where the filehandle is of another start of the server (RFC 8881 sections 4.2.2 and 15.1.2.7). A run is worked by hand behind
 -- that of `FileStaysWorked`, in words of four bytes.
-use Rattle.std.specs.Prelude.{◌≡◌, ◌≢◌, ◌⊎◌, ℕ, Bool, true, false, List, [], ◌∷◌, Some}
+use Rattle.std.specs.Prelude.{◌≡◌, ◌≢◌, ◌⊎◌, ℕ, true, false, List, [], ◌∷◌, Some}
 use Rattle.nfs_xdr.specs.{Tables.In, declared.status.Status.TheVariants.{Nfs4Ok, Stale}}
-use Rattle.nfs_compound.specs.{declared.op.Item.Item, declared.op.Item.TheVariants.Operation, declared.op.Op.Op}
+use Rattle.nfs_compound.specs.{declared.op.Item.TheVariants.Operation, declared.op.Op.Op}
 use Rattle.nfs_compound.specs.declared.op.Op.TheVariants as Op
 use Rattle.nfs_attrs.specs.{declared.handle.Handle.Handle, Handle.handle_of}
 use Rattle.nfs_names.specs.{declared.context.Saved.Saved, State.is_used}
 use Rattle.nfs_exec.specs.Runs.Ops.{RanOp}
-use Rattle.nfs_serve.specs.{Promises.Endpoint.Arrival, Promises.Exchanges.words, Promises.FileStaysWorked.{with_status, removed, first_of, reads, missed, closed, returns}}
+use Rattle.nfs_serve.specs.{Promises.Endpoint.Arrival, Promises.Exchanges.words, Promises.FileStays.{is_on_current, is_on_saved}}
+use Rattle.nfs_serve.specs.Promises.FileStaysWorked.{with_status, removed, first_of, reads, missed, closed, returns}
 use Rattle.nfs_serve.specs.{Promises.HeldLock.{came, in_session, last_of, statuses}, Promises.Points.{reached, ops_of}}
-
--- the operations that look at the object of the current filehandle
-abbrev pub is_on_current : Item → Bool
-is_on_current (Operation (Op.Access asked)) = true
-is_on_current (Operation (Op.Close a)) = true
-is_on_current (Operation (Op.Commit a)) = true
-is_on_current (Operation (Op.Create a)) = true
-is_on_current (Operation (Op.GetAttr words)) = true
-is_on_current (Operation Op.GetFh) = true
-is_on_current (Operation (Op.Link name)) = true
-is_on_current (Operation (Op.Lock a)) = true
-is_on_current (Operation (Op.LockT a)) = true
-is_on_current (Operation (Op.LockU a)) = true
-is_on_current (Operation (Op.Lookup name)) = true
-is_on_current (Operation Op.LookupP) = true
-is_on_current (Operation (Op.NVerify a)) = true
-is_on_current (Operation (Op.Open a)) = true
-is_on_current (Operation (Op.OpenDowngrade a)) = true
-is_on_current (Operation (Op.Read a)) = true
-is_on_current (Operation (Op.ReadDir a)) = true
-is_on_current (Operation Op.ReadLink) = true
-is_on_current (Operation (Op.ReclaimComplete one)) = one
-is_on_current (Operation (Op.Remove name)) = true
-is_on_current (Operation (Op.Rename a)) = true
-is_on_current (Operation Op.SaveFh) = true
-is_on_current (Operation (Op.SecinfoNoName style)) = true
-is_on_current (Operation (Op.SetAttr a)) = true
-is_on_current (Operation (Op.Verify a)) = true
-is_on_current (Operation (Op.Write a)) = true
-is_on_current item = false
-
--- and of the saved one
-abbrev pub is_on_saved : Item → Bool
-is_on_saved (Operation (Op.Link name)) = true
-is_on_saved (Operation (Op.Rename a)) = true
-is_on_saved (Operation Op.RestoreFh) = true
-is_on_saved item = false
 
 -- Which object is gone. The filehandle of a PUTFH may also have been given by another start of the server.
 pub data IsStaleFor (d : RanOp) : Type 0 where
