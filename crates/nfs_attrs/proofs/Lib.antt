@@ -12,3 +12,4 @@ pub mod Counted
 pub mod Bounds
 pub mod SetTimes
 pub mod Texts
+pub mod Answered

@@ -1,10 +1,8 @@
 -- Reading attributes that are to be set (fattr4 in SETATTR, CREATE and OPEN; RFC 8881 sections 5.5, 5.6 and 18.30).
 use Rattle.std.specs.Prelude.{ℕ, ◌||◌, List, Bool, false, not, Option, Some, None, Result, Ok, Err, is_some, nat_lt, if◌then◌else◌}
-use Rattle.nfs_xdr.specs.declared.status.Status.{Status}
-use Rattle.nfs_xdr.specs.declared.status.Status.TheVariants as S
+use Rattle.nfs_xdr.specs.{declared.status.Status.Status, declared.status.Status.TheVariants.{AttrNotSupp, Inval, BadXdr, BadOwner}}
 use Rattle.nfs_attrs.specs.{Mask.within, Owner.owner_of, Attributes.{Settings, supported, settable}, SettingsCodec.settings_of, declared.mask.Mask.Mask}
 use Rattle.nfs_attrs.specs.{declared.set_time.SetTime.SetTime, declared.set_time.SetTime.TheVariants.{Now, Given}, declared.wanted.Wanted.Wanted}
-use Rattle.nfs_attrs.specs.{declared.wanted.AttrFault.AttrFault, declared.wanted.AttrFault.TheVariants.{AttrNotSupp, Inval, BadXdr, BadOwner}}
 
 -- the number that a text names, where there is a text
 abbrev pub owner_in : Option (List ℕ) → Option ℕ
@@ -26,7 +24,7 @@ abbrev pub exceeds : Option ℕ → Bool
 exceeds None = false
 exceeds (Some mode) = nat_lt 4095 mode
 
-abbrev pub judged_settings : Mask → Option Settings → Result Wanted AttrFault
+abbrev pub judged_settings : Mask → Option Settings → Result Wanted Status
 judged_settings given None = Err BadXdr
 judged_settings given (Some s) =
     if names_nobody s.owner || names_nobody s.group then Err BadOwner
@@ -35,14 +33,8 @@ judged_settings given (Some s) =
 
 -- The checks in their order: an attribute that the server does not have, one that cannot be set, values that are cut,
 -- malformed or followed by others, an owner or group that is no number, a number that is too large.
-abbrev pub read_attrs : Mask → List ℕ → Result Wanted AttrFault
+abbrev pub read_attrs : Mask → List ℕ → Result Wanted Status
 read_attrs given values =
     if not (within given supported) then Err AttrNotSupp
     else if not (within given settable) then Err Inval
     else judged_settings given (settings_of given values)
-
-abbrev pub attr_fault_status : AttrFault → Status
-attr_fault_status AttrNotSupp = S.AttrNotSupp
-attr_fault_status Inval = S.Inval
-attr_fault_status BadXdr = S.BadXdr
-attr_fault_status BadOwner = S.BadOwner

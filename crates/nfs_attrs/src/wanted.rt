@@ -50,7 +50,7 @@ pub enum AttrFault {
 impl AttrFault {
     /// The status that the operation answers.
     pub fn status(self) -> Status
-        ensures { result ≡ reading.attr_fault_status self }
+        ensures { result ≡ view.attr_fault_status self }
     {
         match self {
             AttrFault::AttrNotSupp => Status::AttrNotSupp,
@@ -194,7 +194,7 @@ fn exceeds(mode: Option<u32>) -> bool
 /// 4,294,967,295 without leading zeros, and [`AttrFault::Inval`] again where a time has more than 999,999,999 nanoseconds
 /// or the mode is above 4,095.
 pub fn read_attrs(given: Mask, values: &[u8]) -> Result<Wanted, AttrFault>
-    ensures { result ≡ reading.read_attrs given values.now }
+    ensures { view.with_status result ≡ reading.read_attrs given values.now }
 {
     if !given.within(&SUPPORTED) {
         return Err(AttrFault::AttrNotSupp);

@@ -4,6 +4,7 @@ ghost use Rattle.std.specs.Prelude.{◌≡◌, ◌≤◌, ℕ, length, bytes_eq}
 ghost use Rattle.nfs_xdr.specs.SheetState.{HasRoom, Puts};
 ghost use Rattle.nfs_attrs.specs.Attributes as table;
 ghost use Rattle.nfs_attrs.specs.Comparing as comparing;
+ghost use Rattle.nfs_attrs.specs.View as view;
 
 use crate::about::About;
 use crate::asked::Asked;
@@ -62,7 +63,7 @@ fn are_values(asked: &Mask, object: &Object, about: &About, bytes: &[u8]) -> boo
 /// [`AttrFault::AttrNotSupp`] where the mask has an attribute that the server does not have, else [`AttrFault::Inval`]
 /// where it has `rdattr_error` or one that can only be set. Values that are malformed are other values.
 pub fn same(object: &Object, about: &About, asked: Mask, values: &[u8]) -> Result<bool, AttrFault>
-    ensures { result ≡ comparing.same asked values.now about.now object.now }
+    ensures { view.with_status result ≡ comparing.same asked values.now about.now object.now }
 {
     if !asked.within(&SUPPORTED) {
         return Err(AttrFault::AttrNotSupp);

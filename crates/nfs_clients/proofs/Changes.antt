@@ -5,8 +5,9 @@ use Rattle.std.specs.{Prelude.{◌==◌, if◌then◌else◌, find, filter, posi
 use Rattle.std.specs.List.Sorted.{IsSearchInRange, IsBinarySearchResult}
 use Rattle.nfs_xdr.proofs.{Lists.{position_finds, position_nowhere}, Tables.{searched, written, unwritten, removed, position_is, without_none}}
 use Rattle.nfs_clients.specs.Roster.{ClientRecord, Roster, IsRoster, first_id, next_id, client_at, is_unconfirmed_of, with_changed, without}
-use Rattle.nfs_clients.specs.{ExchangeId.{Ask, has_room, with_new, new_client}, CreateSession.{with_confirmed, confirms, leaving, without_any}}
-use Rattle.nfs_clients.proofs.Members.{the_id, IsMild, roster_changed, roster_without, roster_confirmed, roster_new, without_unconfirmed}
+use Rattle.nfs_clients.specs.{ExchangeId.{Ask, has_room, with_new}, CreateSession.{with_confirmed, leaving}}
+use Rattle.nfs_clients.proofs.{Members.{the_id, IsMild, roster_changed, roster_without, roster_confirmed, roster_new, without_unconfirmed}, Terms.new_client}
+use Rattle.nfs_clients.proofs.Terms.{confirms, without_any}
 
 -- where the record of an id stands
 abbrev pub place_in : Roster → ℕ → Option ℕ

@@ -1,3 +1,4 @@
+pub mod Terms
 pub mod Members
 pub mod Changes
 pub mod Rows

@@ -10,9 +10,10 @@ use Rattle.nfs_xdr.proofs.Tables.{IsRising-push, IsRising-map, IsRising-filter, 
 use Rattle.nfs_xdr.specs.Numbers.{next_number}
 use Rattle.nfs_clients.specs.declared.created.CreateResult.{CreateResult}
 use Rattle.nfs_clients.specs.Roster.{ClientRecord, Roster, IsRoster, first_id, next_id, client_at, is_unconfirmed_of, unconfirmed_of, with_changed, without}
-use Rattle.nfs_clients.specs.{Roster.{most_records, counter_of, last_counter}, ExchangeId.{Ask, has_room, with_new, new_client}}
-use Rattle.nfs_clients.specs.CreateSession.{uses_up, keeps, with_kept, is_other_confirmed_of, leaving, without_any, confirms}
+use Rattle.nfs_clients.specs.{Roster.{most_records, last_counter}, ExchangeId.{Ask, has_room, with_new}}
+use Rattle.nfs_clients.specs.CreateSession.{uses_up, keeps, with_kept, is_other_confirmed_of, leaving}
 use Rattle.nfs_clients.specs.CreateSession.{with_confirmed}
+use Rattle.nfs_clients.proofs.Terms.{counter_of, new_client, without_any, confirms}
 
 -- the record that a client's confirmation removes
 abbrev pub leaving_by : Roster → Option ClientRecord → Option ℕ

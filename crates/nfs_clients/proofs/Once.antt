@@ -3,13 +3,13 @@ use Rattle.std.proofs.{Common.{◌≡◌, ℕ, ◌<◌, Bool, true, false, not, 
 use Rattle.std.specs.Prelude.{filter}
 use Rattle.nfs_xdr.proofs.Tables.{gone_filter, gone_map, gone_push}
 use Rattle.nfs_clients.specs.Roster.{ClientRecord, Roster, IsRoster, no_clients, next_id, client_at, is_unconfirmed_of, with_changed, confirmed_of}
-use Rattle.nfs_clients.specs.ExchangeId.{Ask, Case, Refuses, Stays, Adds, has_room, if_room, case_by, case_of, does, with_new, new_client}
-use Rattle.nfs_clients.specs.{CreateSession.{keeps, leaving, without_any, confirms}, DestroyClientId.destroy_fault, Calls.without_unless}
+use Rattle.nfs_clients.specs.ExchangeId.{Ask, Case, Refuses, Stays, Adds, has_room, if_room, case_by, case_of, does, with_new}
+use Rattle.nfs_clients.specs.{CreateSession.{keeps, leaving}, DestroyClientId.destroy_fault, Calls.without_unless}
 use Rattle.nfs_clients.specs.declared.destroy.DestroyFault.{DestroyFault}
 use Rattle.nfs_clients.specs.Laws.{Change, Exchanges, Confirms, Keeps, Reclaims, Destroys, Removes, changed, after_all, IdsAreGivenOnce}
 use Rattle.nfs_clients.specs.Laws.{TablesAreInOrder}
-use Rattle.nfs_clients.proofs.Members.{the_id, change_at, IsMild, mild_keeps, mild_reclaims, confirmed_id, mild_at, roster_changed}
-use Rattle.nfs_clients.proofs.Members.{roster_confirmed, roster_without, roster_new}
+use Rattle.nfs_clients.proofs.{Members.{the_id, change_at, IsMild, mild_keeps, mild_reclaims, confirmed_id, mild_at, roster_changed}, Terms.new_client}
+use Rattle.nfs_clients.proofs.{Members.{roster_confirmed, roster_without, roster_new}, Terms.{without_any, confirms}}
 
 -- the id stays given, and names none
 record StaysGone (t : Roster) (id : ℕ) : Type 0 where

@@ -52,13 +52,6 @@ is_other_confirmed_of c d = is_confirmed_of c.owner d && not (d.id == c.id)
 abbrev pub leaving : Roster → ℕ → Option ℕ
 leaving t id = option_and_then (λ c. option_map (λ d. d.id) (find (is_other_confirmed_of c) t.records)) (client_at t id)
 
-abbrev pub without_any : Roster → Option ℕ → Roster
-without_any t None = t
-without_any t (Some id) = without t id
-
-abbrev pub confirms : ClientRecord → ClientRecord
-confirms c = record c { confirmed = true }
-
 -- the table behind a confirmation
 abbrev pub with_confirmed : Roster → ℕ → Roster
-with_confirmed t id = with_changed (without_any t (leaving t id)) id confirms
+with_confirmed t id = with_changed (option_map_or (without t) (leaving t id) t) id (λ c. record c { confirmed = true })

@@ -1,10 +1,10 @@
 -- EXCHANGE_ID: the cases in the order in which they are judged, the answer, and the table behind it (RFC 8881 section 18.35;
 -- the cases are this server's profile).
-use Rattle.std.specs.Prelude.{ℕ, ◌==◌, ◌&&◌, ◌||◌, not, nat_lt, Bool, true, false, List, [], ◌∷◌, ◌++◌, length, Option, Some, None, Result, Ok, Err}
+use Rattle.std.specs.Prelude.{ℕ, ◌==◌, ◌%◌, ◌^◌, ◌&&◌, ◌||◌, not, nat_lt, Bool, true, false, List, [], ◌∷◌, ◌++◌, length, Option, Some, None, Result, Ok, Err}
 use Rattle.std.specs.Prelude.{filter, option_map, is_some, unwrap_or, bytes_eq, bit_and}
 use Rattle.nfs_xdr.specs.{declared.status.Status.Status, Checks.first_fault}
 use Rattle.nfs_xdr.specs.declared.status.Status.TheVariants as status
-use Rattle.nfs_clients.specs.Roster.{ClientRecord, Roster, most_records, counter_of, last_counter, next_id, is_unconfirmed_of, confirmed_of, unconfirmed_of}
+use Rattle.nfs_clients.specs.Roster.{ClientRecord, Roster, most_records, last_counter, next_id, is_unconfirmed_of, confirmed_of, unconfirmed_of}
 use Rattle.nfs_clients.specs.declared.exchange_id.ClientFault.{ClientFault}
 use Rattle.nfs_clients.specs.declared.exchange_id.ClientFault.TheVariants.{Inval, NoEnt, NotSame, Perm, ClidInUse, ServerFault, Memory}
 use Rattle.nfs_clients.specs.declared.exchange_id.Exchanged.{Exchanged}
@@ -66,9 +66,9 @@ case_by a (Some c) =
     ∷ (a.has_open, Refuses ClidInUse)
     ∷ [])) Adds
 
--- a record can be added: ids are left, and it takes the place of the owner's unconfirmed one or finds one free
+-- a record can be added: ids are left (the counter is an id's last four bytes), and it takes the place of the owner's unconfirmed one or finds one free
 abbrev pub has_room : Roster → List ℕ → Bool
-has_room t owner = nat_lt (counter_of t.last) last_counter && (is_some (unconfirmed_of t owner) || nat_lt (length t.records) most_records)
+has_room t owner = nat_lt (t.last % 2 ^ 32) last_counter && (is_some (unconfirmed_of t owner) || nat_lt (length t.records) most_records)
 
 -- where there is no room, a new record is refused and nothing else
 abbrev pub if_room : Bool → Case → Case
@@ -79,23 +79,19 @@ if_room room case = case
 abbrev pub case_of : Roster → Ask → Case
 case_of t a = if_room (has_room t a.owner) (case_by a (confirmed_of t a.owner))
 
--- the record that is added
-abbrev pub new_client : Roster → (owner verifier : List ℕ) → (uid : ℕ) → ClientRecord
-new_client t owner verifier uid = record {
-  id = next_id t;
-  owner = owner;
-  verifier = verifier;
-  uid = uid;
-  confirmed = false;
-  number = 1;
-  kept = None;
-  reclaimed = false;
-}
-
--- the table with it, in place of the owner's unconfirmed record if there is one
+-- the table with a new record, in place of the owner's unconfirmed one if there is one
 abbrev pub with_new : Roster → (owner verifier : List ℕ) → (uid : ℕ) → Roster
 with_new t owner verifier uid = record t {
-  records = filter (λ c. not (is_unconfirmed_of owner c)) t.records ++ new_client t owner verifier uid ∷ [];
+  records = filter (λ c. not (is_unconfirmed_of owner c)) t.records ++ record {
+    id = next_id t;
+    owner = owner;
+    verifier = verifier;
+    uid = uid;
+    confirmed = false;
+    number = 1;
+    kept = None;
+    reclaimed = false;
+  } ∷ [];
   last = next_id t;
 }
 

@@ -1,5 +1,5 @@
 -- The client records, and the ids that they get (RFC 8881 section 2.4; ids and limits are this server's profile).
-use Rattle.std.specs.Prelude.{◌≡◌, ℕ, ◌+◌, ◌*◌, ◌/◌, ◌%◌, ◌^◌, ◌<◌, ◌≤◌, ◌&&◌, not, Bool, List, [], length, Option, find, bytes_eq}
+use Rattle.std.specs.Prelude.{◌≡◌, ℕ, ◌+◌, ◌*◌, ◌/◌, ◌^◌, ◌<◌, ◌≤◌, ◌&&◌, not, Bool, List, [], length, Option, find, bytes_eq}
 use Rattle.nfs_xdr.specs.Tables.{IsRising, record_at, without_record, with_record, In}
 use Rattle.nfs_clients.specs.declared.created.CreateResult.{CreateResult}
 
@@ -31,10 +31,6 @@ last_counter = 0xffff_ffff
 -- an id is the server's instance, and behind it the counter
 abbrev pub id_of : ℕ → ℕ → ℕ
 id_of instance counter = instance * 2 ^ 32 + counter
-
--- the counter of an id is its last four bytes
-abbrev pub counter_of : ℕ → ℕ
-counter_of id = id % 2 ^ 32
 
 -- the first id that is given in the instance of the last one
 abbrev pub first_id : Roster → ℕ

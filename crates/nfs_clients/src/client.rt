@@ -3,7 +3,6 @@
 ghost use Rattle.std.specs.Prelude.{◌≡◌, false, true, None, Some};
 ghost use Rattle.nfs_xdr.specs.Numbers.{next_number};
 ghost use Rattle.nfs_clients.specs.Roster.{is_confirmed_of, is_unconfirmed_of};
-ghost use Rattle.nfs_clients.specs.CreateSession.{confirms};
 ghost use Rattle.nfs_clients.specs.ExchangeId.{answer_standing};
 
 use crate::created::CreateResult;
@@ -93,7 +92,7 @@ impl Client {
 
     /// A CREATE_SESSION has confirmed the record.
     pub(crate) fn confirm(&mut self)
-        ensures { self.new ≡ confirms self.old }
+        ensures { self.new ≡ record self.old { confirmed = true } }
     {
         self.confirmed = true;
     }

@@ -1,8 +1,8 @@
 //! The table of client records, and the ids that they get (RFC 8881 section 2.4).
 
-ghost use Rattle.std.specs.Prelude.{◌≡◌, ◌<◌, ◌==◌, length, position, None};
+ghost use Rattle.std.specs.Prelude.{◌≡◌, ◌<◌, ◌%◌, ◌^◌, ◌==◌, length, position, None};
 ghost use Rattle.std.specs.Option.{option_copied};
-ghost use Rattle.nfs_clients.specs.Roster.{next_id, no_clients, client_at, without, counter_of, last_counter};
+ghost use Rattle.nfs_clients.specs.Roster.{next_id, no_clients, client_at, without, last_counter};
 ghost use Rattle.nfs_clients.specs.Marks.{has_client};
 
 use crate::client::Client;
@@ -49,7 +49,7 @@ impl Clients {
     /// The id of the record that `exchange` would add: the instance, and behind it the counter.
     /// No record has it. Where each counter was given none is added, and the number says nothing.
     pub fn next_id(&self) -> u64
-        ensures value { counter_of self.now.last < last_counter → result ≡ next_id self.now }
+        ensures value { self.now.last % 2 ^ 32 < last_counter → result ≡ next_id self.now }
         ensures fresh { client_at self.now result ≡ None }
     {
         self.last.wrapping_add(1)

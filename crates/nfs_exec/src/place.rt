@@ -26,7 +26,7 @@ pub(crate) fn sequence_in<'i>(item: &'i Item<'_>) -> Option<&'i Sequence>
 /// Why an operation cannot stand in the first place, of so many declared: four operations stand alone outside a session,
 /// and SEQUENCE begins a compound in one.
 pub(crate) fn place_fault(op: &Op<'_>, declared: u32) -> Option<Status>
-    ensures { result ≡ place_fault declared op.now }
+    ensures { result ≡ place_fault declared (Operation op.now) }
 {
     match op {
         Op::ExchangeId(_) => crowded(declared),

@@ -3,21 +3,21 @@ use Rattle.std.proofs.Common.{◌≡◌, ℕ, Bool, true, false, cond, not, List
 use Rattle.std.proofs.lemmas.Bool.{and_parts, not-false, false≢true}
 use Rattle.std.proofs.lemmas.List.{length-replicate}
 use Rattle.std.specs.{Prelude.{Ok, Err, ◌==◌, ◌&&◌, is_some, option_map, unwrap_or}, Option.option_map_or}
-use Rattle.nfs_xdr.specs.{Checks.first_fault, declared.status.Status.Status, declared.status.Status.TheVariants.{Inval, ShareDenied, ServerFault}}
+use Rattle.nfs_xdr.specs.{Checks.first_fault, declared.status.Status.Status, declared.status.Status.TheVariants.Inval}
 use Rattle.nfs_xdr.proofs.Checks.{all_passed}
 use Rattle.nfs_compound.specs.{declared.open_args.Open.Open, declared.open_args.OpenClaim.OpenClaim}
 use Rattle.nfs_compound.specs.declared.open_args.OpenClaim.TheVariants.{Null, Previous, DelegateCur, DelegatePrev, Fh, DelegCurFh, DelegPrevFh}
 use Rattle.nfs_tree.specs.{declared.object.FileType.FileType, declared.row.Row.Row, declared.stored.Stored.Stored, Object.{is_directory, is_regular}}
 use Rattle.nfs_tree.specs.{Files.{Files, is_name, stored_in, is_there, is_directory_at, can_change, entry, has_name, object_named}, Calls.is_regular_at}
-use Rattle.nfs_tree.specs.{TreeInvariants.IsTree, declared.fault.TreeFault.TreeFault}
+use Rattle.nfs_tree.specs.{TreeInvariants.IsTree, Create.create_checks}
 use Rattle.nfs_tree.specs.declared.object.FileType.TheVariants as Kind
 use Rattle.nfs_names.specs.{declared.context.Context.Context, declared.node.Node.Node, declared.making.Making.Making, State.State, Outcome.{mapped, checked}}
-use Rattle.nfs_names.specs.{Checks.{node_at, current}, Create.attributes_in, Faults.{tree_fault_status, by_tree}, StoreInvariants.IsStore}
-use Rattle.nfs_names.proofs.{Rows.fault_map, Found.{IsHeld, current_is, checked_ok, came, ok_is, short_name, or_fault, first_append}}
+use Rattle.nfs_names.specs.{Checks.{node_at, current}, Create.attributes_in, Faults.by_tree, StoreInvariants.IsStore}
+use Rattle.nfs_names.proofs.{Rows.tree_passes, Found.{IsHeld, current_is, checked_ok, came, ok_is, short_name}}
 use Rattle.nfs_opens.specs.StateId.{last_number}
 use Rattle.nfs_files.specs.{declared.opening.Found.Found, declared.opening.Found.TheVariants.{There, Absent}}
 use Rattle.nfs_files.specs.{Open.{makes, name_of, argument_checks, place_checks, absent_checks, there_checks, cuts}, OpenParts.found_by}
-use Rattle.nfs_files.specs.{Open.{tree_checks, last_checks}, OpenParts.{tree_fault, room_checks, can_enter}}
+use Rattle.nfs_files.specs.{Open.{last_checks, new_of, room_checks}, OpenParts.{tree_fault, can_enter}}
 use Rattle.nfs_files.specs.OpenParts.{by_name, by_handle, by_claim, asked_for}
 use Rattle.nfs_files.specs.OpenParts as part
 use Rattle.nfs_files.proofs.{Opened.{shared_same, rooms_free}, Passing.mapped_came, OpenAnswers.asked_regular}
@@ -34,7 +34,7 @@ file_there (Some s) e = (refl, by_kind s.object.kind e)
     by_kind Kind.Link e = absurd (false≢true e)
 
 cut_free : (t : Files) (o : Open) (place : ℕ) (f : Node) (cut : Bool) → is_regular_at t f.number ≡ true
-    → first_fault (by_tree (tree_checks t o (There place f cut))) ≡ None → tree_fault t o (There place f cut) ≡ None
+    → first_fault (room_checks t (There place f cut)) ≡ None → tree_fault t o (There place f cut) ≡ None
 cut_free t o place f false file can = refl
 cut_free t o place f true file can =
     let n = f.number in
@@ -42,7 +42,7 @@ cut_free t o place f true file can =
     let there : not (is_there t n) ≡ false = ap not parts.0 in
     let directory : is_directory_at t n ≡ false = parts.1 in
     let regular : not (is_regular_at t n) ≡ false = ap not file in
-    let counted : not (can_change t n) ≡ false = (all_passed (by_tree (tree_checks t o (There place f true))) can).0 in
+    let counted : not (can_change t n) ≡ false = (all_passed (room_checks t (There place f true)) can).0 in
     rw (there, directory, regular, counted) refl
 
 -- what is to be made stands in a directory that is there, under a name that is free
@@ -111,9 +111,9 @@ no_entry : (k : Option Row) → option_map (λ (r : Row). r.object) k ≡ None �
 no_entry None e = refl
 no_entry (Some r) e = absurd cc
 
--- of a file that is made its size, and want of room or of a count
+-- of a file that is made the tree looks at its size, and at want of room or of a count
 made_rooms : (s : State) (x : Context) (o : Open) (m : Making) → IsFree s x o m
-    → first_fault (by_tree (tree_checks s.tree o (Absent m))) ≡ first_fault (room_checks s.tree (Absent m))
+    → first_fault (by_tree (create_checks s.tree m.place.number (name_of o.claim) (new_of o m.wanted))) ≡ first_fault (room_checks s.tree (Absent m))
 made_rooms s x o m is =
     let t = s.tree in
     let d = m.place.number in
@@ -126,41 +126,23 @@ made_rooms s x o m is =
     let long = length-replicate {A = ℕ} (unwrap_or m.wanted.size 0) 0 in
     rw (there, directory, short, free, long) refl
 
-rooms_same : (s : State) (x : Context) (o : Open) (found : Found) → asked_for s x o ≡ Ok found
-    → first_fault (by_tree (tree_checks s.tree o found)) ≡ first_fault (room_checks s.tree found)
-rooms_same s x o (There place f cut) v = refl
-rooms_same s x o (Absent m) v = made_rooms s x o m (asked_absent s x o m v)
-
-ends_same : (k l u w : Bool) (xs ys : List (Bool × Status)) → k ≡ l → u ≡ w → first_fault xs ≡ first_fault ys
-    → first_fault ((k, ShareDenied) ∷ xs ++ (u, ServerFault) ∷ []) ≡ first_fault ((l, ShareDenied) ∷ ys ++ (w, ServerFault) ∷ [])
-ends_same k l u w xs ys first last rooms =
-    let more : first_fault (xs ++ (u, ServerFault) ∷ []) ≡ first_fault (ys ++ (w, ServerFault) ∷ []) =
-    first_append xs ((u, ServerFault) ∷ []) ∙ ap (λ b. or_fault (first_fault xs) (first_fault ((b, ServerFault) ∷ []))) last
-    ∙ ap (λ o. or_fault o (first_fault ((w, ServerFault) ∷ []))) rooms ∙ sym (first_append ys ((w, ServerFault) ∷ [])) in
-    ap (λ b. cond b (Some ShareDenied) (first_fault (xs ++ (u, ServerFault) ∷ []))) first ∙ ap (cond l (Some ShareDenied)) more
-
 -- what the code looks at last decides like what is to be looked at
-pub last_same : (s : State) (x : Context) (o : Open) (found : Found) → IsTree s.tree → IsStore s → asked_for s x o ≡ Ok found
+pub last_same : (s : State) (x : Context) (o : Open) (found : Found) → IsTree s.tree → IsStore s
     → first_fault (last_checks s x o found) ≡ first_fault (part.last_checks s x o found)
-last_same s x o found tree is v =
+last_same s x o found tree is =
     let shared = shared_same s x o found tree is in
-    ends_same _ _ _ _ (by_tree (tree_checks s.tree o found)) (room_checks s.tree found) shared.0
-    (ap (λ b. b && (s.opens.last == last_number)) shared.1) (rooms_same s x o found v)
-
-no_fault : (f : Option TreeFault) → option_map tree_fault_status f ≡ None → f ≡ None
-no_fault None e = refl
-no_fault (Some f) e = absurd cc
+    rw (shared.0, shared.1) refl
 
 pub tree_free : (s : State) (x : Context) (o : Open) (found : Found) → asked_for s x o ≡ Ok found
     → first_fault (last_checks s x o found) ≡ None → tree_fault s.tree o found ≡ None
 tree_free s x o (There place f cut) v e = cut_free s.tree o place f cut (asked_regular s x o place f cut v) (rooms_free s x o (There place f cut) e)
 tree_free s x o (Absent m) v e =
-    let checks = tree_checks s.tree o (Absent m) in
-    no_fault (first_fault checks) (fault_map tree_fault_status checks ∙ rooms_free s x o (Absent m) e)
+    tree_passes (create_checks s.tree m.place.number (name_of o.claim) (new_of o m.wanted))
+    (made_rooms s x o m (asked_absent s x o m v) ∙ rooms_free s x o (Absent m) e)
 
 -- a directory in which a file may be made can change once more
 pub may_change : (s : State) (x : Context) (o : Open) (found : Found) → first_fault (last_checks s x o found) ≡ None → can_enter s.tree found ≡ true
 may_change s x o (There place f cut) e = refl
 may_change s x o (Absent m) e =
-    let checks = all_passed (by_tree (tree_checks s.tree o (Absent m))) (rooms_free s x o (Absent m) e) in
-    (and_parts _ _ (not-false _ checks.1.1.1.1.1.1.1.0)).0
+    let checks = all_passed (room_checks s.tree (Absent m)) (rooms_free s x o (Absent m) e) in
+    (and_parts _ _ (not-false _ checks.1.1.0)).0

@@ -13,7 +13,7 @@ use Rattle.nfs_compound.specs.declared.op_num.OpNum.TheVariants as Num
 use Rattle.nfs_results.specs.declared.res.Res.TheVariants as Res
 use Rattle.nfs_opens.specs.{declared.share.Share.Share, declared.stateid.StateId.StateId, declared.stateid.CurrentSeqid.TheVariants.{Any, Own}}
 use Rattle.nfs_opens.specs.{declared.judging.Seat.Seat, declared.judging.Sort.TheVariants.OpenOnly, declared.locking.Wish.Wish, Judging.judge}
-use Rattle.nfs_opens.specs.{Table.Table, Locking.{unlock, test_lock}, Steps.{require, in_order, map_err, ◌>>=◌, ◌>>◌}}
+use Rattle.nfs_opens.specs.{Table.Table, Locking.{unlock, test_lock}, Steps.{require, in_order, ◌>>=◌, ◌>>◌}}
 use Rattle.nfs_opens.specs.Closing as closing
 use Rattle.nfs_opens.specs.Opening as opening
 use Rattle.nfs_tree.specs.Files.{object_named}
@@ -22,7 +22,7 @@ use Rattle.nfs_names.specs.{declared.context.Context.Context, declared.node.Node
 use Rattle.nfs_names.specs.{Outcome.{Outcome, done, passed, checked, mapped, or_refusal, refuses, answers}, Checks.{node_at, current}, Create.attributes_in}
 use Rattle.nfs_files.specs.{declared.target.Target.Target, declared.ranges.Wished.Wished, declared.setting.Setting.Setting}
 use Rattle.nfs_files.specs.{Bytes.{file_checks, seat, reading, writing, seat_checks, may_use}, Close.close, Commit.{write_verifier, commit}}
-use Rattle.nfs_files.specs.{Denied.open_fault_status, FreeStateid.free_stateid, Lock.{stateid_in, locks_as, locked, lock}, LockT.{tested, lock_t}, LockU.lock_u}
+use Rattle.nfs_files.specs.{FreeStateid.free_stateid, Lock.{stateid_in, locks_as, locked, lock}, LockT.{tested, lock_t}, LockU.lock_u}
 use Rattle.nfs_files.specs.{OpenDowngrade.{bits, open_downgrade}, Ranges.{range, wished}, Read.{was_read, read}, SetAttr.{may_resize, set_attr}}
 use Rattle.nfs_files.specs.{StateIds.meant, Target.the_file, Write.{last_checks, write}}
 use Rattle.nfs_files.specs.Parts.{if_passed, readable, writable, was_written, target, closed, closes, bit_checks, narrowing, narrowed, narrows, frees, wish, locking, locks, unlocking, unlocked, unlocks}
@@ -238,7 +238,7 @@ lock_is s x a = by_wish (wished s x a.locktype a.offset a.length)
 pub unlock_is : (s : State) (x : Context) (a : LockU) → lock_u s x a ≡ answers s x Num.LockU (unlocking s x a) (unlocks s x)
 unfolding lock_u
 unlock_is s x a =
-    let given_up : Wish → StateId → Result (StateId × Table) Status = λ w id. map_err open_fault_status (unlock s.opens id w.client w.file w.first w.last) in
+    let given_up : Wish → StateId → Result (StateId × Table) Status = λ w id. unlock s.opens id w.client w.file w.first w.last in
     both_then s x Num.LockU (wished s x a.locktype a.offset a.length) (meant x Any a.lock_stateid) (λ w id. record { wish = w; id = id })
     (λ w id. given_up w id >>= λ did. Ok (unlocked s x did.0 did.1)) (unlocks s x)
     (λ w id. then_done s x Num.LockU (given_up w id) (λ did. unlocked s x did.0 did.1))

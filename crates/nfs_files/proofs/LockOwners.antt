@@ -6,9 +6,9 @@ use Rattle.nfs_xdr.specs.{Tables.In, declared.status.Status.TheVariants.{BadStat
 use Rattle.nfs_xdr.proofs.{Lists.{find_in, in_push, in_map}, Tables.{in_bounds, in_once}}
 use Rattle.nfs_opens.specs.{declared.judging.Sort.TheVariants.OpenOnly, declared.locking.OpenFault.TheVariants.Refused, declared.locking.Wish.Wish}
 use Rattle.nfs_opens.specs.{declared.records.LockState.LockState, declared.share.Share.Share, declared.stateid.StateId.StateId, Judging.judge}
-use Rattle.nfs_opens.specs.{Locking.{is_locker, state_of, raised, access_in, lock_judged, lock_as, lock_first, lock_by_owner, lock_under}, StateId.last_number}
+use Rattle.nfs_opens.specs.{Locking.{is_locker, state_of, raised, access_in, lock_judged, lock_as, lock_first, lock_under}, StateId.last_number}
 use Rattle.nfs_opens.specs.{Steps.{require, map_err}, Table.{Table, lock_at}, TableInvariants.IsTable}
-use Rattle.nfs_opens.proofs.CallLaws.{came, ok_is}
+use Rattle.nfs_opens.proofs.{CallLaws.{came, ok_is}, Terms.lock_by_owner}
 
 raised_same : (b : Bool) (l : LockState) → ((cond b (raised l) l).owner ≡ l.owner) × ((cond b (raised l) l).number ≡ l.number)
 raised_same true l = (refl, refl)

@@ -22,9 +22,9 @@ use Rattle.nfs_names.proofs.Refusing.{Refuses, refusal_by, all_refuse, refuses_c
 use Rattle.nfs_names.proofs.Masks.{few_words}
 use Rattle.nfs_files.specs.{declared.opening.Found.Found, declared.opening.Found.TheVariants.{There, Absent}, StateIds.wire_id, Bytes.file_checks}
 use Rattle.nfs_files.specs.{Open.{makes, argument_checks, place_checks, absent_checks, there_checks, cuts}, OpenParts.found_by}
-use Rattle.nfs_files.specs.Open.{file_of, asking, last_checks, new_of, sets_of, tree_of, set_of, open_file}
+use Rattle.nfs_files.specs.Open.{file_of, asking, room_checks, last_checks, new_of, sets_of, tree_of, set_of, open_file}
 use Rattle.nfs_files.specs.OpenParts.{by_name, by_handle, by_claim, asked_for}
-use Rattle.nfs_files.proofs.{Passing.mapped_came, Seats.by_bool, SetRows.file_regular, Keeping.kind_bytes}
+use Rattle.nfs_files.proofs.{Passing.mapped_came, Prompt.all_pass, Seats.by_bool, SetRows.file_regular, Keeping.kind_bytes}
 use Rattle.nfs_files.proofs.InSteps as in_steps
 
 -- refusals
@@ -65,6 +65,17 @@ asked_refuses s x o =
 last_refuse : (s : State) (x : Context) (o : Open) (found : Found) → all_refuse (last_checks s x o found) ≡ true
 last_refuse s x o (There place f cut) = refl
 last_refuse s x o (Absent m) = refl
+
+-- what is checked last answers one of four, and behind the share reservations one of three
+pub rest_pass : (test : Status → Bool) (t : Files) (found : Found) (spent : Bool) → test S.ServerFault ≡ true → test S.FBig ≡ true → test S.NoSpc ≡ true
+    → all_pass test (room_checks t found ++ (spent, S.ServerFault) ∷ []) ≡ true
+rest_pass test t (There place f cut) spent fault big room = rw fault refl
+rest_pass test t (Absent m) spent fault big room = rw (fault, big, room) refl
+
+pub last_pass : (test : Status → Bool) (s : State) (x : Context) (o : Open) (found : Found)
+    → test S.ShareDenied ≡ true → test S.ServerFault ≡ true → test S.FBig ≡ true → test S.NoSpc ≡ true → all_pass test (last_checks s x o found) ≡ true
+last_pass test s x o (There place f cut) denied fault big room = rw (denied, fault) refl
+last_pass test s x o (Absent m) denied fault big room = rw (denied, fault, big, room) refl
 
 pub open_refuses : (s : State) (x : Context) (o : Open) → Refuses (checked (asked_for s x o) (last_checks s x o))
 open_refuses s x o = refuses_checked (asked_for s x o) (last_checks s x o) (asked_refuses s x o) (last_refuse s x o)

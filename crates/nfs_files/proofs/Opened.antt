@@ -7,10 +7,10 @@ use Rattle.nfs_compound.specs.declared.open_args.Open.{Open}
 use Rattle.nfs_tree.specs.{declared.stored.Stored.Stored, Object.is_regular, Files.{Files, root, stored_in, is_there}, TreeInvariants.IsTree}
 use Rattle.nfs_tree.proofs.Objects.{stored_within}
 use Rattle.nfs_opens.specs.{declared.records.OpenState.OpenState, StateId.last_number, Table.{Asked, is_own, clashes_with}, Opening.own_open, Calls.open_fault}
-use Rattle.nfs_names.specs.{declared.context.Context.Context, State.{State, is_open}, StoreInvariants.IsStore, Faults.by_tree}
+use Rattle.nfs_names.specs.{declared.context.Context.Context, State.{State, is_open}, StoreInvariants.IsStore}
 use Rattle.nfs_names.proofs.Found.{or_fault, first_append}
-use Rattle.nfs_files.specs.{declared.opening.Found.Found, declared.opening.Found.TheVariants.{There, Absent}, Open.{asking, file_of, tree_checks, last_checks}}
-use Rattle.nfs_files.specs.OpenParts.{room_checks, number_of}
+use Rattle.nfs_files.specs.{declared.opening.Found.Found, declared.opening.Found.TheVariants.{There, Absent}, Open.{asking, file_of, room_checks, last_checks}}
+use Rattle.nfs_files.specs.OpenParts.{number_of}
 use Rattle.nfs_files.specs.OpenParts as part
 
 regular_there : (o : Option Stored) → option_map_or (λ (s : Stored). is_regular s.object.kind) o false ≡ true → is_some o ≡ true
@@ -148,12 +148,11 @@ pub shared_free : (s : State) (x : Context) (o : Open) (found : Found)
 shared_free s x o found e =
     let a = asking x o (file_of s.tree found) in
     let free = ends_free (list_any (clashes_with a) s.opens.opens) (is_none (own_open s.opens a) && (s.opens.last == last_number))
-    (by_tree (tree_checks s.tree o found)) e in
+    (room_checks s.tree found) e in
     rw (free.0, free.2) refl
 
 pub rooms_free : (s : State) (x : Context) (o : Open) (found : Found)
-    → first_fault (last_checks s x o found) ≡ None → first_fault (by_tree (tree_checks s.tree o found)) ≡ None
+    → first_fault (last_checks s x o found) ≡ None → first_fault (room_checks s.tree found) ≡ None
 rooms_free s x o found e =
     let a = asking x o (file_of s.tree found) in
-    (ends_free (list_any (clashes_with a) s.opens.opens) (is_none (own_open s.opens a) && (s.opens.last == last_number))
-    (by_tree (tree_checks s.tree o found)) e).1
+    (ends_free (list_any (clashes_with a) s.opens.opens) (is_none (own_open s.opens a) && (s.opens.last == last_number)) (room_checks s.tree found) e).1

@@ -1,7 +1,7 @@
 -- What CLOSE, FREE_STATEID, OPEN_DOWNGRADE, LOCK and LOCKU come to: a refusal, or what was granted, with what is known of it.
 use Rattle.std.proofs.Common.{◌≡◌, refl, sym, subst}
 use Rattle.std.specs.Prelude.{Result, Ok, Err}
-use Rattle.nfs_xdr.specs.declared.status.Status.{Status}
+use Rattle.nfs_xdr.specs.{declared.status.Status.Status, declared.status.Status.TheVariants.Delay}
 use Rattle.nfs_compound.specs.{declared.lock_args.Lock.Lock, declared.lock_args.Locker.TheVariants.{LockOwner, OpenOwner}, declared.lock_args.Locker.Locker}
 use Rattle.nfs_compound.specs.{declared.op_num.OpNum.OpNum, declared.stateid.Stateid.Stateid, declared.lock_args.LockU.LockU, declared.open_args.Close.Close}
 use Rattle.nfs_compound.specs.declared.open_args.OpenDowngrade.{OpenDowngrade}
@@ -9,13 +9,13 @@ use Rattle.nfs_compound.specs.declared.op_num.OpNum.TheVariants as Num
 use Rattle.nfs_results.specs.declared.res.Res.TheVariants as Res
 use Rattle.nfs_ranges.specs.declared.Held.{Held}
 use Rattle.nfs_opens.specs.{declared.stateid.StateId.StateId, declared.stateid.CurrentSeqid.TheVariants.{Any, Own}, declared.locking.Wish.Wish}
-use Rattle.nfs_opens.specs.{declared.locking.OpenFault.OpenFault, Table.{Table, with_open}, Locking.unlock, Steps.map_err}
+use Rattle.nfs_opens.specs.{declared.locking.OpenFault.OpenFault, Table.{Table, with_open}, Locking.unlock}
 use Rattle.nfs_opens.specs.declared.locking.OpenFault.TheVariants as F
 use Rattle.nfs_opens.specs.Closing as closing
 use Rattle.nfs_opens.specs.Opening as opening
-use Rattle.nfs_opens.proofs.CallLaws.{IsClosed, closed_is, IsFreed, freed_is, IsNarrowed, narrowed_is, IsLocked, under_is, known_is, IsUnlocked, unlocked_is, unmapped}
+use Rattle.nfs_opens.proofs.CallLaws.{IsClosed, closed_is, IsFreed, freed_is, IsNarrowed, narrowed_is, IsLocked, under_is, known_is, IsUnlocked, unlocked_is}
 use Rattle.nfs_names.specs.{declared.context.Context.Context, State.State, Ending.with_opens, Outcome.{Outcome, done, refuses, answers}}
-use Rattle.nfs_files.specs.{declared.ranges.Wished.Wished, declared.target.Target.Target, StateIds.meant, Denied.{lock_denied, open_fault_status}, Parts.target}
+use Rattle.nfs_files.specs.{declared.ranges.Wished.Wished, declared.target.Target.Target, StateIds.meant, Denied.lock_denied, Parts.target}
 use Rattle.nfs_files.specs.{Close.close, FreeStateid.free_stateid, Lock.{locks_as, locked, lock}, Parts.{closed, closes, frees, locking, locks}}
 use Rattle.nfs_files.specs.{LockU.lock_u, OpenDowngrade.{bits, open_downgrade}, Parts.{unlocking, unlocked, unlocks, narrowing, narrowed, narrows}}
 use Rattle.nfs_files.proofs.InSteps.{close_is, free_is, downgrade_is, unlock_is}
@@ -69,7 +69,7 @@ by_locked : (P : Outcome → Type 0) (s : State) (x : Context) (v : Result (Stat
 by_locked P s x (Ok did) refused held each = each did refl
 by_locked P s x (Err (F.Refused status)) refused held each = refused status
 by_locked P s x (Err (F.Denied h)) refused held each = held h
-by_locked P s x (Err F.Memory) refused held each = refused (open_fault_status F.Memory)
+by_locked P s x (Err F.Memory) refused held each = refused Delay
 
 pub by_lock : (P : Outcome → Type 0) (s : State) (x : Context) (a : Lock) → ((status : Status) → P (refuses s x Num.Lock status))
     → ((h : Held) → P (done s x (Res.LockDenied (lock_denied s.opens h))))
@@ -89,6 +89,6 @@ pub by_unlock : (P : Outcome → Type 0) (s : State) (x : Context) (a : LockU) �
 by_unlock P s x a refused each =
     rw (unlock_is s x a)
     (answered P s x Num.LockU (unlocking s x a) (unlocks s x) refused (λ m judged.
-    (let w = m.wish in let did = unlock s.opens m.id w.client w.file w.first w.last in
-    answered P s x Num.LockU (map_err open_fault_status did) _ refused (λ d granted.
-    (let done = unmapped open_fault_status did d granted in each m d judged done (unlocked_is s.opens m.id w.client w.file w.first w.last d done))))))
+    (let w = m.wish in
+    answered P s x Num.LockU (unlock s.opens m.id w.client w.file w.first w.last) _ refused (λ d granted.
+    each m d judged granted (unlocked_is s.opens m.id w.client w.file w.first w.last d granted)))))

@@ -17,6 +17,7 @@ use Rattle.nfs_opens.specs.declared.locking.OpenFault.TheVariants as F
 use Rattle.nfs_opens.specs.Closing as closing
 use Rattle.nfs_opens.specs.Opening as opening
 use Rattle.nfs_opens.specs.Locking as locking
+use Rattle.nfs_opens.proofs.Terms.{lock_by_owner, unless_told}
 use Rattle.nfs_names.specs.{declared.context.Context.Context, State.State, Outcome.{checked, is_delay}, Checks.current}
 use Rattle.nfs_names.proofs.{Faulted.status_of_refusal, NameLaws.current_refuses, Refusing.refuses_checked}
 use Rattle.nfs_files.specs.{Bytes.{seat, file_checks}, StateIds.meant, Ranges.wished, Denied.open_fault_status, Close.close, Parts.{writable, target, closes}}
@@ -55,14 +56,14 @@ fault_prompt : (v : Result Seat Status) → IsPrompt v → IsPrompt (map_err ope
 fault_prompt (Err status) is = err_prompt status (is status refl)
 fault_prompt (Ok seat) is = ok_prompt seat
 
-told_prompt : (o : Option Held) → IsPrompt (map_err open_fault_status (locking.unless_told o))
+told_prompt : (o : Option Held) → IsPrompt (map_err open_fault_status (unless_told o))
 told_prompt None = ok_prompt tt
 told_prompt (Some h) = err_prompt (open_fault_status (F.Denied h)) refl
 
 judged_prompt : (t : Table) (n : ℕ) (access : Share) (w : Wish) → IsPrompt (map_err open_fault_status (locking.lock_judged t n access w))
 judged_prompt t n access w = go (locking.permits access w.kind)
   where
-    go : (b : Bool) → IsPrompt (map_err open_fault_status (cond b (locking.unless_told (locking.clash t n w)) (Err (F.Refused OpenMode))))
+    go : (b : Bool) → IsPrompt (map_err open_fault_status (cond b (unless_told (locking.clash t n w)) (Err (F.Refused OpenMode))))
     go true = told_prompt (locking.clash t n w)
     go false = err_prompt OpenMode refl
 
@@ -72,7 +73,7 @@ as_prompt t w n access =
     next_prompt open_fault_status (ok_or (lock_at t n) (F.Refused BadStateId)) _ (there_prompt open_fault_status (lock_at t n) (F.Refused BadStateId) refl) (λ l. ok_prompt _))
 
 owner_prompt : (t : Table) (w : Wish) (opened : ℕ) (owner : List ℕ) (access : Share) (o : Option LockState)
-    → IsPrompt (map_err open_fault_status (locking.lock_by_owner t w opened owner access o))
+    → IsPrompt (map_err open_fault_status (lock_by_owner t w opened owner access o))
 owner_prompt t w opened owner access (Some l) = as_prompt t w l.number access
 owner_prompt t w opened owner access None =
     next_prompt open_fault_status (locking.lock_judged t 0 access w) _ (judged_prompt t 0 access w) (λ u.
@@ -127,7 +128,7 @@ lock_u_prompt s x a =
     answered_prompt s x Num.LockU (unlocking s x a) (unlocks s x)
     (own_prompt _ (wished_by_refuses x a.lock_stateid wish (wished_refuses s x a.locktype a.offset a.length))) (λ k.
     (let w = k.wish in
-    answered_prompt s x Num.LockU (map_err open_fault_status (locking.unlock s.opens k.id w.client w.file w.first w.last)) _
+    answered_prompt s x Num.LockU (locking.unlock s.opens k.id w.client w.file w.first w.last) _
     (own_prompt _ (unlock_refuses s.opens k.id w.client w.file w.first w.last)) (λ did. refl))))
 
 narrows_prompt : (s : State) (x : Context) (a : OpenDowngrade) → is_delay (status_of_result (open_downgrade s x a).result) ≡ false

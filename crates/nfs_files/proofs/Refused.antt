@@ -101,6 +101,11 @@ refused_outcome s x op grows did outcome fault r new goes stops is (inr told) =
 abbrev pub unlocked_by : State → Context → Result (StateId × Table) OpenFault → Outcome
 unlocked_by s x v = answers s x Num.LockU (map_err open_fault_status v) (λ did. unlocked s x did.0 did.1)
 
+pub unlocked_is : (s : State) (x : Context) (did : Result (StateId × Table) Status)
+    → unlocked_by s x (map_err F.Refused did) ≡ answers s x Num.LockU did (λ did. unlocked s x did.0 did.1)
+unlocked_is s x (Err status) = refl
+unlocked_is s x (Ok did) = refl
+
 pub ok_unlocked : (s : State) (x : Context) (v : Result (StateId × Table) OpenFault) → IsOk v → is_ok (status_of_result (unlocked_by s x v).result) ≡ true
 ok_unlocked s x (Ok did) h = refl
 ok_unlocked s x (Err fault) h = absurd cc

@@ -12,7 +12,7 @@ use Rattle.nfs_tree.specs.declared.fault.TreeFault.TheVariants as F
 use Rattle.nfs_tree.specs.declared.object.FileType.TheVariants as Kind
 use Rattle.nfs_attrs.specs.declared.wanted.Wanted.{Wanted}
 use Rattle.nfs_names.specs.{declared.context.Context.Context, declared.node.Node.Node, State.State, Faults.tree_fault_status, Outcome.{refuses, checked}}
-use Rattle.nfs_names.specs.{Checks.current, Create.{wanted_of, attributes_in}}
+use Rattle.nfs_names.specs.{Checks.current, Create.attributes_in}
 use Rattle.nfs_names.proofs.{Found.{IsHeld, current_is, checked_ok, came, ok_is}, Rows.fault_map, Faulted.{by_last, by_refusal}}
 use Rattle.nfs_files.specs.{declared.setting.Setting.Setting, Bytes.{file_checks, writing, may_use}, Parts.writable}
 use Rattle.nfs_files.specs.{SetAttr.{gives_some, set_attr}}
@@ -95,7 +95,7 @@ setting_is s x a m e =
     let same = ok_is refl (checked_ok (Ok k) (owner_checks x) m w.then).0 in
     subst (IsSet s x a) same (record { held = d.is; read = w.is })
 
-pub set_by : (s : State) (x : Context) (a : SetAttr) (d : Node) (w : Wanted) → current s x ≡ Ok d → wanted_of a.obj_attributes ≡ Ok w
+pub set_by : (s : State) (x : Context) (a : SetAttr) (d : Node) (w : Wanted) → current s x ≡ Ok d → attributes_in a.obj_attributes ≡ Ok w
     → setting s x a ≡ checked (Ok (record { node = d; wanted = w })) (owner_checks x)
 set_by s x a d w held read = rw (held, read) refl
 

@@ -12,11 +12,10 @@ use Rattle.nfs_results.specs.declared.res.Res.TheVariants as Res
 use Rattle.nfs_ranges.specs.Holders.{holds_any}
 use Rattle.nfs_opens.specs.{declared.share.Share.Share, declared.stateid.StateId.StateId, declared.stateid.CurrentSeqid.CurrentSeqid}
 use Rattle.nfs_opens.specs.{declared.stateid.CurrentSeqid.TheVariants.{Own, Any}, declared.judging.Seat.Seat}
-use Rattle.nfs_opens.specs.{declared.judging.Sort.TheVariants.{OpenOnly, LockOnly, Either}, declared.locking.Wish.Wish, Steps.{◌>>=◌, require, map_err}}
+use Rattle.nfs_opens.specs.{declared.judging.Sort.TheVariants.{OpenOnly, LockOnly, Either}, declared.locking.Wish.Wish, Steps.{◌>>=◌, require}}
 use Rattle.nfs_opens.specs.{Table.{Table, open_at, lock_at}, Judging.judge}
 use Rattle.nfs_opens.specs.declared.judging.Seat.TheVariants as Seats
-use Rattle.nfs_opens.specs.declared.locking.OpenFault.TheVariants as F
-use Rattle.nfs_files.specs.{declared.ranges.Wished.Wished, Denied.open_fault_status, declared.target.Target.Target, StateIds.{meant, wire_id}}
+use Rattle.nfs_files.specs.{declared.ranges.Wished.Wished, declared.target.Target.Target, StateIds.{meant, wire_id}}
 use Rattle.nfs_files.specs.Bytes.{file_checks}
 use Rattle.nfs_files.specs.{Target.the_file, Ranges.{range, wished}, Close.close, Parts.{target, wish, wished_by, closed, closes}}
 use Rattle.nfs_files.specs.{FreeStateid.free_stateid, LockU.lock_u, Parts.{frees, unlocking, unlocked, unlocks}}
@@ -140,29 +139,15 @@ pub wished_by_refuses : (x : Context) (given : Stateid) (v : Result Wish Status)
 wished_by_refuses x given v h = refuses_then v _ h (λ w.
     refuses_mapped (λ id. record { wish = w; id = id }) (meant x Any given) (meant_refuses x Any given))
 
-pub then_refuses : {A B F : Type 0} (g : F → Status) (v : Result A F) (next : A → Result B F) → Refuses (map_err g v) → ((a : A) → Refuses (map_err g (next a)))
-    → Refuses (map_err g (v >>= next))
-then_refuses g (Err f) next h each = err_refuses (g f) (h.each (g f) refl)
-then_refuses g (Ok a) next h each = each a
-
-pub judged_refuses : (v : Result Seat Status) → Refuses v → Refuses (map_err open_fault_status (map_err F.Refused v))
-judged_refuses (Err status) h = err_refuses status (h.each status refl)
-judged_refuses (Ok seat) h = ok_refuses seat
-
-state_refuses : {A : Type 0} (o : Option A) → Refuses (map_err open_fault_status (ok_or o (F.Refused S.BadStateId)))
-state_refuses None = bad
-state_refuses (Some a) = ok_refuses a
-
-pub unlock_refuses : (t : Table) (id : StateId) (client file first last : ℕ) → Refuses (map_err open_fault_status (locking.unlock t id client file first last))
+pub unlock_refuses : (t : Table) (id : StateId) (client file first last : ℕ) → Refuses (locking.unlock t id client file first last)
 unlock_refuses t id client file first last =
-    then_refuses open_fault_status (map_err F.Refused (judge t id client (Some file) LockOnly)) _
-    (judged_refuses (judge t id client (Some file) LockOnly) (judge_refuses t id client (Some file) LockOnly)) (λ seat.
-    then_refuses open_fault_status (ok_or (lock_at t id.number) (F.Refused S.BadStateId)) _ (state_refuses (lock_at t id.number)) (λ l. ok_refuses _))
+    refuses_then (judge t id client (Some file) LockOnly) _ (judge_refuses t id client (Some file) LockOnly) (λ seat.
+    refuses_then (ok_or (lock_at t id.number) S.BadStateId) _ (there_refuses (lock_at t id.number) S.BadStateId refl) (λ l. ok_refuses _))
 
 unlocks_may : (s : State) (x : Context) (a : LockU) (k : Wished) → IsAnswer (Operation (Op.LockU a)) (unlocks s x k).result
 unlocks_may s x a k =
     let w = k.wish in
-    answers_with (IsAnswer (Operation (Op.LockU a))) s x Num.LockU (map_err open_fault_status (locking.unlock s.opens k.id w.client w.file w.first w.last))
+    answers_with (IsAnswer (Operation (Op.LockU a))) s x Num.LockU (locking.unlock s.opens k.id w.client w.file w.first w.last)
     (λ did. unlocked s x did.0 did.1)
     (unlock_refuses s.opens k.id w.client w.file w.first w.last)
     (λ status h. record { may = (refl, rw (h.done, h.legal) refl, tt); arrays = tt })

@@ -20,12 +20,12 @@ use Rattle.nfs_opens.specs.declared.locking.OpenFault.TheVariants as F
 use Rattle.nfs_opens.specs.Closing as closing
 use Rattle.nfs_opens.specs.Locking as locking
 use Rattle.nfs_opens.proofs.CallLaws.{first_state, IsLocked, IsUnlocked, unlocked_is}
-use Rattle.nfs_files.proofs.{OpensMoved.lock_is, Refused.unlocked_by, Wishes.{wish_is, lock_wish, unlock_wish}, Outcomes.{one, one_or_delay}}
+use Rattle.nfs_files.proofs.{OpensMoved.lock_is, Wishes.{wish_is, lock_wish, unlock_wish}, Outcomes.{one, one_or_delay}}
 use Rattle.nfs_files.proofs.{Inside.{Locks, Unlocks, Closes}, KeptOps.{lock_ok, clashing}, ToldLocks.{granted_held, left_by}, Steady.Few}
 use Rattle.nfs_names.specs.{declared.context.Context.Context, State.State, Outcome.{Outcome, answers, mapped, is_ok, or_delay}}
 use Rattle.nfs_names.proofs.Found.{came, ok_is}
 use Rattle.nfs_files.specs.{declared.ranges.Wished.Wished, declared.target.Target.Target, StateIds.{wire_id, meant}, Target.the_file, Parts.target}
-use Rattle.nfs_files.specs.{Ranges.wished, Operation.grows, Close.{spent, close}, Parts.{wish, closes, closed, unlocking, unlocks}}
+use Rattle.nfs_files.specs.{Ranges.wished, Operation.grows, Close.{spent, close}, Parts.{wish, closes, closed, unlocking, unlocked, unlocks}}
 use Rattle.nfs_files.specs.{LockTold.{Names, LockTold}, Laws.{ClashesAreRefused, ToldLocksAreHeld}}
 use Rattle.nfs_files.specs.Parts as parts
 use Rattle.nfs_files.specs.Lock as of_lock
@@ -227,7 +227,7 @@ unlock_result : (s : State) (x : Context) (now : Time) (a : LockU) (m : Wished) 
 unlock_result s x now a m did judged granted =
     rw (in_steps.unlock_is s x a)
     (ap (λ v. (answers s x Num.LockU v (unlocks s x)).result) judged
-    ∙ ap (λ v. (unlocked_by s x v).result) granted)
+    ∙ ap (λ v. (answers s x Num.LockU v (λ did. unlocked s x did.0 did.1)).result) granted)
 
 pub unlock_tells : (s : State) (x : Context) (now : Time) (refused : Bool) (a : LockU) (n : ℕ) (w : Wish) → IsTable s.opens → Few s.opens
     → Unlocks s x (Op.LockU a) n w → is_ok (status_of_result (one_or_delay refused s x now (Op.LockU a)).result) ≡ true

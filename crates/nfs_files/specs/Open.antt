@@ -1,8 +1,8 @@
 -- OPEN (RFC 8881 section 18.16): a file is opened, and is made where that is asked for and the name is free.
 use Rattle.std.specs.Prelude.{ℕ, ◌+◌, ◌==◌, ◌%◌, ◌&&◌, Bool, true, false, not, List, [], ◌∷◌, ◌++◌, bytes_eq, Option, Some, None, is_none}
-use Rattle.std.specs.{Prelude.{unwrap_or, Result, Ok, Err, if◌then◌else◌}, List.list_any, Option.option_map_or}
+use Rattle.std.specs.{Prelude.{nat_lt, unwrap_or, Result, Ok, Err, if◌then◌else◌}, List.list_any, Option.option_map_or}
 use Rattle.nfs_xdr.specs.{declared.time.Time.Time, declared.status.Status.Status}
-use Rattle.nfs_xdr.specs.declared.status.Status.TheVariants.{Inval, NoGrace, NotSupp, NoEnt, Exist, ShareDenied, ServerFault}
+use Rattle.nfs_xdr.specs.declared.status.Status.TheVariants.{Inval, NoGrace, NotSupp, NoEnt, Exist, FBig, ShareDenied, ServerFault}
 use Rattle.nfs_compound.specs.declared.op_num.OpNum.TheVariants as Num
 use Rattle.nfs_compound.specs.{declared.attributes.Attributes.Attributes, declared.open_args.Open.Open, declared.open_args.OpenHow.OpenHow}
 use Rattle.nfs_compound.specs.declared.open_args.OpenHow.TheVariants.{NoCreate, Create}
@@ -10,14 +10,14 @@ use Rattle.nfs_compound.specs.{declared.open_args.CreateHow.TheVariants.{Uncheck
 use Rattle.nfs_compound.specs.declared.open_args.OpenClaim.TheVariants.{Null, Previous, Fh}
 use Rattle.nfs_results.specs.declared.res.ChangeInfo.{ChangeInfo}
 use Rattle.nfs_results.specs.declared.res.Res.TheVariants as Res
-use Rattle.nfs_tree.specs.{declared.sets.Sets.Sets, Object.no_sets, declared.fault.TreeFault.TreeFault, declared.fault.TreeFault.TheVariants.Counter}
-use Rattle.nfs_tree.specs.{Files.{Files, object_named, can_change, raised, unraised}, Create.{New, new_file, create_checks, with_new}, Bytes.with_resized}
+use Rattle.nfs_tree.specs.{declared.sets.Sets.Sets, Object.no_sets}
+use Rattle.nfs_tree.specs.{Files.{Files, most_bytes, object_named, can_change, raised, unraised}, Create.{New, new_file, with_new}, Bytes.with_resized}
 use Rattle.nfs_attrs.specs.{declared.wanted.Wanted.Wanted, Mask.{mask_of, trimmed_words}, Setting.make_checks, Permissions.{execute, write}}
 use Rattle.nfs_opens.specs.{declared.share.Share.Share, Share.{neither, share_of}, StateId.last_number, Table.{Asked, clashes_with}, Opening.{own_open, opens}}
 use Rattle.nfs_opens.specs.Steps.{require, in_order, ◌>>=◌, ◌>>◌}
 use Rattle.nfs_names.specs.{declared.context.Context.Context, declared.node.Node.Node, declared.making.Making.Making, State.State}
 use Rattle.nfs_names.specs.{Outcome.{Outcome, or_refusal}, Checks.{node_at, current, no_directory, no_access, name_checks}}
-use Rattle.nfs_names.specs.{Create.{attributes_in, change_info}, Faults.by_tree}
+use Rattle.nfs_names.specs.Create.{attributes_in, change_info}
 use Rattle.nfs_names.specs.Create as create
 use Rattle.nfs_files.specs.{declared.opening.Found.Found, declared.opening.Found.TheVariants.{There, Absent}, StateIds.wire_id, Bytes.{file_checks, want_of}}
 
@@ -124,15 +124,15 @@ new_of o wanted = new_file (unwrap_or wanted.size 0) (makes o.openhow).verifier
 abbrev pub sets_of : Context → Time → Open → Wanted → Sets
 sets_of x now o wanted = record (create.sets_of x now (new_of o wanted) wanted) { mode = Some (unwrap_or wanted.mode 420) }
 
--- last the share reservations, what the tree looks at where it changes, and whether a number is left for a new open
-abbrev pub tree_checks : Files → Open → Found → List (Bool × TreeFault)
-tree_checks t o (There place f cut) = (cut && not (can_change t f.number), Counter) ∷ []
-tree_checks t o (Absent m) = create_checks t m.place.number (name_of o.claim) (new_of o m.wanted)
+-- last the share reservations, whether there is room and what changes can be counted, and whether a number is left for a new open
+abbrev pub room_checks : Files → Found → List (Bool × Status)
+room_checks t (There place f cut) = (cut && not (can_change t f.number), ServerFault) ∷ []
+room_checks t (Absent m) = (nat_lt most_bytes (unwrap_or m.wanted.size 0), FBig) ∷ create.room_checks t m.place.number
 
 abbrev pub last_checks : State → Context → Open → Found → List (Bool × Status)
 last_checks s x o found =
     (list_any (clashes_with (asking x o (file_of s.tree found))) s.opens.opens, ShareDenied)
-    ∷ by_tree (tree_checks s.tree o found)
+    ∷ room_checks s.tree found
     ++ (is_none (own_open s.opens (asking x o (file_of s.tree found))) && (s.opens.last == last_number), ServerFault)
     ∷ []
 

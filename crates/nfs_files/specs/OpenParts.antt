@@ -1,19 +1,19 @@
 -- OPEN in the parts that its code takes, which only contracts inside the crate cite: what is looked at first, the tree's part of it, and
 -- what is left where memory is refused.
-use Rattle.std.specs.Prelude.{◌≡◌, ◌==◌, ◌&&◌, ℕ, Bool, true, false, not, List, [], ◌∷◌, ◌++◌, Option, Some, None, is_none, unwrap_or, length, nat_lt, nat_le, Result, Ok, Err, if◌then◌else◌}
+use Rattle.std.specs.Prelude.{◌≡◌, ◌==◌, ◌&&◌, ℕ, Bool, true, false, List, [], ◌∷◌, ◌++◌, Option, Some, None, is_none, Result, Ok, Err, if◌then◌else◌}
 use Rattle.std.specs.List.{list_any}
 use Rattle.nfs_xdr.specs.{declared.time.Time.Time, declared.status.Status.Status}
-use Rattle.nfs_xdr.specs.declared.status.Status.TheVariants.{Delay, FBig, Inval, NoGrace, NoSpc, NotSupp, ShareDenied, ServerFault}
+use Rattle.nfs_xdr.specs.declared.status.Status.TheVariants.{Delay, Inval, NoGrace, NotSupp, ShareDenied, ServerFault}
 use Rattle.nfs_compound.specs.{declared.open_args.Open.Open, declared.open_args.OpenClaim.OpenClaim, declared.open_args.OpenClaim.TheVariants.{Null, Previous, Fh}}
 use Rattle.nfs_results.specs.declared.res.OpenOk.{OpenOk}
 use Rattle.nfs_results.specs.declared.res.Res.TheVariants as Res
-use Rattle.nfs_tree.specs.{Files.{Files, most_bytes, most_objects, last_count, can_change, object_named}, declared.fault.TreeFault.TreeFault}
+use Rattle.nfs_tree.specs.{Files.{Files, can_change, object_named}, declared.fault.TreeFault.TreeFault}
 use Rattle.nfs_tree.specs.Calls.{resize_fault, create_fault, Did, does_unless}
 use Rattle.nfs_opens.specs.{StateId.last_number, Table.clashes_with, Opening.own_open, Steps.◌>>=◌}
 use Rattle.nfs_names.specs.{declared.context.Context.Context, declared.node.Node.Node, declared.making.Making.Making, State.State}
 use Rattle.nfs_names.specs.{Outcome.{Outcome, checked, mapped}, Checks.{node_at, current}, Create.attributes_in}
 use Rattle.nfs_files.specs.{declared.opening.Found.Found, declared.opening.Found.TheVariants.{There, Absent}, Open.{asking, file_of, tree_of, name_of, new_of}}
-use Rattle.nfs_files.specs.Open.{makes, argument_checks, place_checks, absent_checks, there_checks, cuts}
+use Rattle.nfs_files.specs.Open.{makes, argument_checks, place_checks, absent_checks, there_checks, cuts, room_checks}
 
 -- what is to be opened
 abbrev pub found_by : State → Context → Open → Making → Option ℕ → Result Found Status
@@ -42,17 +42,6 @@ asked_for s x o = checked (current s x) (argument_checks o) >>= by_claim s x o o
 abbrev pub tree_fault : Files → Open → Found → Option TreeFault
 tree_fault t o (There place f cut) = if cut then resize_fault t f.number 0 else None
 tree_fault t o (Absent m) = create_fault t m.place.number (name_of o.claim) (new_of o m.wanted)
-
-abbrev pub new_checks : Files → ℕ → List (Bool × Status)
-new_checks t d =
-    (nat_le most_objects (length t.objects), NoSpc)
-    ∷ (not (can_change t d && (nat_lt t.last_object last_count && nat_lt t.last_cookie last_count)), ServerFault)
-    ∷ []
-
--- What it can still refuse where the name and the object were looked at before: a size, and want of room or of a count.
-abbrev pub room_checks : Files → Found → List (Bool × Status)
-room_checks t (There place f cut) = (cut && not (can_change t f.number), ServerFault) ∷ []
-room_checks t (Absent m) = (nat_lt most_bytes (unwrap_or m.wanted.size 0), FBig) ∷ new_checks t m.place.number
 
 -- a directory that gets a new file can change once more
 abbrev pub can_enter : Files → Found → Bool

@@ -7,13 +7,13 @@ use Rattle.nfs_compound.specs.declared.op_num.OpNum.TheVariants as Num
 use Rattle.nfs_results.specs.declared.res.Res.TheVariants as Res
 use Rattle.nfs_opens.specs.{declared.locking.Wish.Wish, declared.stateid.CurrentSeqid.CurrentSeqid, declared.stateid.CurrentSeqid.TheVariants.{Any, Own}}
 use Rattle.nfs_opens.specs.{declared.stateid.StateId.StateId, declared.judging.Seat.Seat, declared.judging.Sort.TheVariants.OpenOnly, Judging.judge}
-use Rattle.nfs_opens.specs.{Table.Table, Share.share_of, Locking.unlock, Steps.{map_err, ◌>>=◌}}
+use Rattle.nfs_opens.specs.{Table.Table, Share.share_of, Locking.unlock, Steps.{◌>>=◌}}
 use Rattle.nfs_opens.specs.Closing as closing
 use Rattle.nfs_opens.specs.Opening as opening
 use Rattle.nfs_names.specs.{declared.context.Context.Context, declared.node.Node.Node, State.{State, with_tree, without_unused}, Ending.with_opens}
 use Rattle.nfs_names.specs.Outcome.{Outcome, done, checked, mapped, answers}
 use Rattle.nfs_files.specs.{declared.target.Target.Target, declared.ranges.Wished.Wished, Bytes.{file_checks, reading, writing, may_use}, Close.spent}
-use Rattle.nfs_files.specs.{StateIds.{meant, wire_id}, Target.{the_file, with_stateid}, Ranges.{kind_of, wished}, Denied.open_fault_status}
+use Rattle.nfs_files.specs.{StateIds.{meant, wire_id}, Target.{the_file, with_stateid}, Ranges.{kind_of, wished}}
 use Rattle.nfs_files.specs.Lock.{stateid_in, locks_as, locked}
 use Rattle.nfs_files.specs.{OpenDowngrade.bits, Write.{write_ok, with_bytes}}
 
@@ -93,4 +93,4 @@ unlocked s x id after = record { result = Res.LockU (wire_id id); state = with_o
 abbrev pub unlocks : State → Context → Wished → Outcome
 unlocks s x k =
     let w = k.wish in
-    answers s x Num.LockU (map_err open_fault_status (unlock s.opens k.id w.client w.file w.first w.last)) (λ did. unlocked s x did.0 did.1)
+    answers s x Num.LockU (unlock s.opens k.id w.client w.file w.first w.last) (λ did. unlocked s x did.0 did.1)

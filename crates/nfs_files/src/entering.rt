@@ -10,6 +10,7 @@ ghost use Rattle.nfs_names.specs.State.{state_of};
 ghost use Rattle.nfs_names.specs.StoreInvariants.{IsStore, IsRooted};
 ghost use Rattle.nfs_names.specs.Outcome.{checked, mapped};
 ghost use Rattle.nfs_names.specs.View.{MayWant};
+ghost use Rattle.nfs_names.specs.Create as of_create;
 ghost use Rattle.nfs_files.specs.Open as of_open;
 ghost use Rattle.nfs_files.specs.OpenParts as part;
 
@@ -39,7 +40,7 @@ fn can_change(tree: &Tree, number: u64) -> bool
 
 /// Whether a directory can get one more file.
 fn judge_new(tree: &Tree, directory: u64) -> Result<(), Status>
-    ensures { result ≡ judged (first_fault (part.new_checks tree.now directory)) }
+    ensures { result ≡ judged (first_fault (of_create.room_checks tree.now directory)) }
 {
     match tree.judge_create(directory) {
         Ok(()) => Ok(()),
@@ -49,7 +50,7 @@ fn judge_new(tree: &Tree, directory: u64) -> Result<(), Status>
 
 /// Whether there is a place for what is new, and a count for what changes.
 fn judge_room(tree: &Tree, found: &Found) -> Result<(), Status>
-    ensures { result ≡ judged (first_fault (part.room_checks tree.now found.now)) }
+    ensures { result ≡ judged (first_fault (of_open.room_checks tree.now found.now)) }
 {
     match found {
         Found::There { file, cut, .. } => {

@@ -239,10 +239,7 @@ fn by_name(
     ensures { result ≡ part.by_name (state_of store.now) context.now asked.now name.now node }
 {
     let place = judge_place(context, name, node)?;
-    let wanted = match wanted_of(&attributes_in(&asked.openhow)) {
-        Ok(wanted) => wanted,
-        Err(fault) => return Err(fault.status()),
-    };
+    let wanted = wanted_of(&attributes_in(&asked.openhow))?;
     let number = store.tree.lookup(place.number, name);
     found_by(store, context, asked, Making { place, wanted }, number)
 }

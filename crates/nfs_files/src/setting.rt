@@ -32,10 +32,7 @@ fn judge_setting(
     ensures { result ≡ part.setting (state_of store.now) context.now asked.now }
 {
     let node = current(store, context)?;
-    let wanted = match wanted_of(&asked.obj_attributes) {
-        Ok(wanted) => wanted,
-        Err(fault) => return Err(fault.status()),
-    };
+    let wanted = wanted_of(&asked.obj_attributes)?;
     may_set(&node.object, &wanted, context.who.who())?;
     Ok(Setting { node, wanted })
 }

@@ -6,8 +6,8 @@ use Rattle.nfs_xdr.specs.{Checks.{first_fault, judged}, declared.status.Status.S
 use Rattle.nfs_tree.specs.{declared.object.Object.Object, declared.stored.Stored.Stored, Object.is_directory}
 use Rattle.nfs_tree.specs.Files.{Files, most_name, is_name, stored_in, data_at, object_at, is_there, is_directory_at}
 pub use Rattle.nfs_opens.proofs.CallLaws.{came, ok_is}
-use Rattle.nfs_names.specs.{declared.context.Context.Context, declared.node.Node.Node, State.State, Outcome.{passed, checked}}
-use Rattle.nfs_names.specs.{Checks.{node_as, node_at, current}, Fronts.sized}
+use Rattle.nfs_names.specs.{declared.context.Context.Context, declared.node.Node.Node, declared.node.Pair.Pair, State.State, Outcome.{passed, checked}}
+use Rattle.nfs_names.specs.{Checks.{node_as, node_at, saved_object, current, both}, Fronts.sized}
 
 passed_ok : {A : Type 0} (b a : A) (o : Option Status) → passed b o ≡ Ok a → (b ≡ a) × (o ≡ None)
 passed_ok b a None e = (cc, refl)
@@ -54,6 +54,16 @@ node_is s (Some n) d e = node_by s.tree n (object_at s.tree n) d refl e
 pub current_is : (s : State) (x : Context) (d : Node) → current s x ≡ Ok d → IsHeld s.tree d
 unfolding current
 current_is s x d e = node_is s x.current d e
+
+pub both_is : (s : State) (x : Context) (p : Pair) → both s x ≡ Ok p → IsHeld s.tree p.current × IsHeld s.tree p.saved
+unfolding both
+both_is s x p e =
+    let d = came (current s x) _ p e in
+    let o = came (node_at s (saved_object x.saved)) _ p d.then in
+    let same : record { current = d.found; saved = o.found } ≡ p = ok_is refl o.then in (
+      subst (λ (p : Pair). IsHeld s.tree p.current) same (current_is s x d.found d.is),
+      subst (λ (p : Pair). IsHeld s.tree p.saved) same (node_is s (saved_object x.saved) o.found o.is),
+    )
 
 -- an object that was found with its size, and why it was not
 pub sized_ok : (s : State) (v : Result Node Status) (p : Node × ℕ) → sized s v ≡ Ok p → (v ≡ Ok p.0) × (p.1 ≡ length (data_at s.tree p.0.number))

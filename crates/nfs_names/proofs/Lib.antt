@@ -1,9 +1,10 @@
 pub mod Refusing
 pub mod Steps
 pub mod Rows
+pub mod Found
+pub mod LastChecks
 pub mod NameLaws
 pub mod Faulted
-pub mod Found
 pub mod Masks
 pub mod Fronted
 pub mod Changing

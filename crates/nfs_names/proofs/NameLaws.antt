@@ -1,31 +1,35 @@
 -- What an operation on names found if it was done, and what it came to: a law for each. If it was refused, it was for a reason of its own.
-use Rattle.std.proofs.Common.{◌≡◌, ℕ, ◌+◌, Bool, true, List, [], ◌∷◌, Option, Some, None, refl}
+use Rattle.std.proofs.Common.{◌≡◌, ℕ, ◌+◌, Bool, true, List, [], ◌∷◌, Option, Some, None, refl, ◌∙◌}
 use Rattle.std.specs.Prelude.{◌==◌, Result, Ok, Err, not, is_some}
 use Rattle.nfs_xdr.specs.{Checks.first_fault, declared.time.Time.Time, declared.status.Status.Status}
-use Rattle.nfs_xdr.specs.declared.status.Status.TheVariants.{IsDir, Symlink, Inval, Stale, NoEnt, BadHandle, NoFileHandle, WrongType, NotSame, Same, TooSmall}
+use Rattle.nfs_xdr.specs.declared.status.Status.TheVariants.{Exist, IsDir, Symlink, Inval, Stale, NoEnt, BadHandle, NoFileHandle, WrongType}
+use Rattle.nfs_xdr.specs.declared.status.Status.TheVariants.{NotSame, Same, TooSmall}
 use Rattle.nfs_compound.specs.{declared.op_num.OpNum.OpNum, declared.attributes.Attributes.Attributes, declared.name_args.Create.Create}
 use Rattle.nfs_compound.specs.{declared.name_args.ReadDir.ReadDir, declared.name_args.Rename.Rename, declared.name_args.SecinfoStyle.SecinfoStyle}
 use Rattle.nfs_compound.specs.declared.name_args.SecinfoStyle.TheVariants.{CurrentFh, Parent}
 use Rattle.nfs_compound.specs.declared.op_num.OpNum.TheVariants as Num
 use Rattle.nfs_results.specs.declared.res.Res.TheVariants as Res
-use Rattle.nfs_tree.specs.{declared.object.Object.Object, Bytes.part, Files.{most_text, raised, number_named, object_at, parent_in, object_named as found}}
+use Rattle.nfs_tree.specs.{declared.object.Object.Object, Bytes.part}
+use Rattle.nfs_tree.specs.Files.{most_text, has_name, raised, number_named, object_at, parent_in, object_named as found}
 use Rattle.nfs_tree.specs.{Create.{create_checks, with_new}, Names.{link_checks, with_link, moves, remove_checks, rename_checks, without_name}}
 use Rattle.nfs_tree.specs.Object.{is_directory, is_link}
-use Rattle.nfs_attrs.specs.{declared.handle.Handle.Handle, declared.wanted.AttrFault.AttrFault, declared.wanted.Wanted.Wanted, Handle.handle_of}
-use Rattle.nfs_attrs.specs.{Mask.{mask_of, asks_set_only, trimmed_words}, Permissions.{change_entries, execute, judge_access}, Reading.attr_fault_status}
+use Rattle.nfs_attrs.specs.{declared.handle.Handle.Handle, declared.wanted.Wanted.Wanted, Handle.handle_of}
+use Rattle.nfs_attrs.specs.{Mask.{mask_of, asks_set_only, trimmed_words}, Permissions.{change_entries, execute, judge_access}}
 use Rattle.nfs_attrs.specs.{Setting.make_checks, Wire.nfs_fh4}
-use Rattle.nfs_attrs.specs.declared.wanted.AttrFault.TheVariants as F
-use Rattle.nfs_opens.specs.Steps.{map_err}
+use Rattle.nfs_attrs.proofs.Answered.{by_read, by_compared}
 use Rattle.nfs_names.specs.{declared.context.Context.Context, declared.context.Saved.Saved, declared.node.Node.Node, declared.node.Pair.Pair}
 use Rattle.nfs_names.specs.{State.{State, with_tree, without_unused}, Context.at_object, Outcome.{Outcome, done, refuses}}
-use Rattle.nfs_names.specs.{Checks.{node_as, node_at, saved_object, current, both, no_directory, no_access, name_checks}, Faults.by_tree}
-use Rattle.nfs_names.specs.Attributes.{attributes_of}
-use Rattle.nfs_names.specs.{Access.{access}, Create.{attributes_in, change_info, create, new_of, place_checks, sets_of, wanted_of}}
+use Rattle.nfs_names.specs.{Checks.{node_as, node_at, saved_object, current, both, no_directory, no_access, name_checks}}
+use Rattle.nfs_names.specs.Attributes.{about, attributes_of}
+use Rattle.nfs_names.specs.{Access.{access}, Create.{attributes_in, change_info, create, new_of, place_checks, room_checks, sets_of}}
 use Rattle.nfs_names.specs.{GetAttr.get_attr, GetFh.get_fh, Link.link, Lookup.lookup, LookupP.lookup_p, NVerify.nverify, PutFh.put_fh}
 use Rattle.nfs_names.specs.{ReadDir.{listing_checks, fits_none, listed, read_dir}, ReadLink.read_link, Remove.remove, Rename.{move_of, renamed, rename}}
-use Rattle.nfs_names.specs.{RestoreFh.restore_fh, SaveFh.save_fh, SecinfoNoName.{style_checks, secinfo_no_name}, Verify.{same_at, compared, verify}}
+use Rattle.nfs_names.specs.{RestoreFh.restore_fh, SaveFh.save_fh, SecinfoNoName.{style_checks, secinfo_no_name}, Verify.{compared, verify}}
+use Rattle.nfs_names.specs.Link as of_link
+use Rattle.nfs_names.specs.Remove as of_remove
 use Rattle.nfs_names.specs.Rename as of_rename
-use Rattle.nfs_names.proofs.{Rows.tree_passes, Refusing.{IsRefusal, refusal_by, Refuses, all_refuse, err_refuses, ok_refuses, refuses_then}}
+use Rattle.nfs_names.proofs.{Rows.tree_passes, LastChecks.{create_last, link_last, remove_last, rename_last}}
+use Rattle.nfs_names.proofs.Refusing.{IsRefusal, is_refusal, refusal_by, Refuses, all_refuse, err_refuses, ok_refuses, refuses_then}
 use Rattle.nfs_names.proofs.Steps.{ends_found, ends_there, ends_held, ends_passed, by_steps}
 use Rattle.nfs_names.proofs.Terms.{told_access}
 
@@ -48,21 +52,17 @@ unfolding both
 both_refuses s x = refuses_then (current s x) _ (current_refuses s x) (λ d.
     refuses_then (node_at s (saved_object x.saved)) _ (node_refuses s (saved_object x.saved)) (λ e. ok_refuses _))
 
-attribute_refusal : (f : AttrFault) → IsRefusal (attr_fault_status f)
-attribute_refusal F.AttrNotSupp = refusal_by _ refl
-attribute_refusal F.Inval = refusal_by _ refl
-attribute_refusal F.BadXdr = refusal_by _ refl
-attribute_refusal F.BadOwner = refusal_by _ refl
-
-read_refuses : {A : Type 0} (v : Result A AttrFault) → Refuses (map_err attr_fault_status v)
-read_refuses (Err f) = err_refuses (attr_fault_status f) (attribute_refusal f)
-read_refuses (Ok a) = ok_refuses a
+refused_with : {A : Type 0} (f : Status) → is_refusal f ≡ true → Refuses {A = A} (Err f)
+refused_with f is = err_refuses f (refusal_by f is)
 
 pub wanted_refuses : (a : Attributes) → Refuses (attributes_in a)
-wanted_refuses a = read_refuses (wanted_of a)
+unfolding attributes_in
+wanted_refuses a =
+    by_read Refuses (refused_with _ refl) (refused_with _ refl) (refused_with _ refl) (refused_with _ refl) ok_refuses (mask_of a.attrmask) a.attr_vals
 
 compared_refuses : (s : State) (x : Context) (a : Attributes) → Refuses (compared s x a)
-compared_refuses s x a = refuses_then (current s x) _ (current_refuses s x) (λ d. read_refuses (same_at s a d))
+compared_refuses s x a = refuses_then (current s x) _ (current_refuses s x) (λ d.
+    by_compared Refuses (refused_with _ refl) (refused_with _ refl) ok_refuses (mask_of a.attrmask) a.attr_vals (about s d) d.object)
 
 style_refuse : (s : State) (style : SecinfoStyle) (d : Node) → all_refuse (style_checks s style d) ≡ true
 style_refuse s CurrentFh d = refl
@@ -128,8 +128,9 @@ module _ (P : Outcome → Type 0) (s : State) (x : Context) where
   by_create now c refused then = by_steps P s x Num.Create _ refused (ends_found P (current s x) _ (current_refuses s x) (λ d there.
       ends_passed P (place_checks x c d) _ refl (λ placed. ends_found P (attributes_in c.createattrs) _ (wanted_refuses c.createattrs) (λ wanted read.
       ends_passed P (make_checks wanted x.who) _ refl (λ may. ends_held P (not (is_some wanted.size)) Inval _ refl (λ unsized.
-      (let row = create_checks s.tree d.number c.objname (new_of c.objtype) in
-      ends_passed P (by_tree row) _ refl (λ none. then d wanted there placed read (tree_passes row none)))))))))
+      ends_passed P ((has_name s.tree d.number c.objname, Exist) ∷ room_checks s.tree d.number) _ refl (λ none.
+      then d wanted there placed read
+      (tree_passes (create_checks s.tree d.number c.objname (new_of c.objtype)) (create_last s x c d there placed ∙ none)))))))))
 
   pub by_get_attr : (words : List ℕ) → Refused P s x Num.GetAttr
       → ((d : Node) → current s x ≡ Ok d → not (asks_set_only (mask_of words)) ≡ true → P (done s x (Res.GetAttr (attributes_of s (mask_of words) d))))
@@ -151,7 +152,8 @@ module _ (P : Outcome → Type 0) (s : State) (x : Context) where
   unfolding link
   by_link now name refused then = by_steps P s x Num.Link _ refused (ends_found P (both s x) _ (both_refuses s x) (λ p there.
       ends_passed P (link_places x name p) _ refl (λ placed.
-      (let row = link_checks s.tree p.saved.number p.current.number name in ends_passed P (by_tree row) _ refl (λ none. then p there placed (tree_passes row none))))))
+      ends_passed P (of_link.last_checks s.tree p.saved.number p.current.number name) _ refl (λ none.
+      then p there placed (tree_passes (link_checks s.tree p.saved.number p.current.number name) (link_last s x name p there placed ∙ none))))))
 
   pub by_lookup : (name : List ℕ) → Refused P s x Num.Lookup
       → ((d : Node) (n : ℕ) → current s x ≡ Ok d
@@ -207,7 +209,8 @@ module _ (P : Outcome → Type 0) (s : State) (x : Context) where
   unfolding remove
   by_remove now name refused then = by_steps P s x Num.Remove _ refused (ends_found P (current s x) _ (current_refuses s x) (λ d there.
       ends_passed P (remove_places x name d) _ refl (λ placed.
-      (let row = remove_checks s.tree d.number name in ends_passed P (by_tree row) _ refl (λ none. then d there placed (tree_passes row none))))))
+      ends_passed P (of_remove.last_checks s.tree d.number name) _ refl (λ none.
+      then d there placed (tree_passes (remove_checks s.tree d.number name) (remove_last s x name d there placed ∙ none))))))
 
   pub by_rename : (now : Time) (a : Rename) → Refused P s x Num.Rename
       → ((p : Pair) → both s x ≡ Ok p → first_fault (rename_checks s.tree (move_of a p)) ≡ None → P (renamed s x now a p (moves s.tree (move_of a p))))
@@ -215,7 +218,8 @@ module _ (P : Outcome → Type 0) (s : State) (x : Context) where
   unfolding rename
   by_rename now a refused then = by_steps P s x Num.Rename _ refused (ends_found P (both s x) _ (both_refuses s x) (λ p there.
       ends_passed P (of_rename.place_checks x a p) _ refl (λ placed.
-      (let row = rename_checks s.tree (move_of a p) in ends_passed P (by_tree row) _ refl (λ none. then p there (tree_passes row none))))))
+      ends_passed P (of_rename.last_checks s.tree (move_of a p)) _ refl (λ none.
+      then p there (tree_passes (rename_checks s.tree (move_of a p)) (rename_last s x a p there placed ∙ none))))))
 
   pub by_restore_fh : Refused P s x Num.RestoreFh
       → ((saved : Saved) → x.saved ≡ Some saved → is_some (object_at s.tree saved.object) ≡ true

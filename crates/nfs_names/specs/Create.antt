@@ -1,19 +1,21 @@
 -- CREATE (RFC 8881 section 18.4): a directory or a symbolic link is made, and becomes the current filehandle's object.
-use Rattle.std.specs.Prelude.{ℕ, ◌+◌, ◌==◌, Bool, true, false, not, List, ◌∷◌, length, nat_lt, Some, Result, Ok, is_some, unwrap_or, option_map, if◌then◌else◌}
-use Rattle.nfs_xdr.specs.{declared.time.Time.Time, declared.status.Status.Status, declared.status.Status.TheVariants.{Inval, NameTooLong, BadType}}
+use Rattle.std.specs.Prelude.{ℕ, ◌+◌, ◌==◌, nat_lt, nat_le, Bool, true, false, not, ◌&&◌, if◌then◌else◌, List, [], ◌∷◌, length}
+use Rattle.std.specs.Prelude.{Some, Result, Ok, is_some, unwrap_or, option_map}
+use Rattle.nfs_xdr.specs.{declared.time.Time.Time, declared.status.Status.Status}
+use Rattle.nfs_xdr.specs.declared.status.Status.TheVariants.{Inval, NameTooLong, BadType, Exist, NoSpc, ServerFault}
 use Rattle.nfs_compound.specs.declared.op_num.OpNum.TheVariants as Num
 use Rattle.nfs_compound.specs.{declared.attributes.Attributes.Attributes, declared.name_args.Create.Create, declared.name_args.CreateType.CreateType}
 use Rattle.nfs_compound.specs.declared.name_args.CreateType.TheVariants.{Symlink, Other}
 use Rattle.nfs_results.specs.declared.res.ChangeInfo.{ChangeInfo}
 use Rattle.nfs_results.specs.declared.res.Res.TheVariants as Res
-use Rattle.nfs_tree.specs.{declared.done.Change.Change, declared.sets.Sets.Sets, Object.is_link, Files.{most_text, raised}}
-use Rattle.nfs_tree.specs.Create.{New, new_directory, new_link, create_checks, with_new}
+use Rattle.nfs_tree.specs.{declared.done.Change.Change, declared.sets.Sets.Sets, Object.is_link}
+use Rattle.nfs_tree.specs.Files.{Files, last_count, most_objects, most_text, can_change, has_name, raised}
+use Rattle.nfs_tree.specs.Create.{New, new_directory, new_link, with_new}
 use Rattle.nfs_attrs.specs.{declared.set_time.SetTime.SetTime, declared.set_time.SetTime.TheVariants.{Now, Given}, declared.wanted.Wanted.Wanted}
-use Rattle.nfs_attrs.specs.{declared.wanted.AttrFault.AttrFault, Mask.{mask_of, trimmed_words}, Reading.{read_attrs, attr_fault_status}, Setting.make_checks}
-use Rattle.nfs_attrs.specs.Permissions.{change_entries}
-use Rattle.nfs_opens.specs.Steps.{◌>>=◌, map_err, in_order, require, ◌>>◌}
+use Rattle.nfs_attrs.specs.{Mask.{mask_of, trimmed_words}, Permissions.change_entries, Reading.read_attrs, Setting.make_checks}
+use Rattle.nfs_opens.specs.Steps.{◌>>=◌, in_order, require, ◌>>◌}
 use Rattle.nfs_names.specs.{declared.context.Context.Context, declared.node.Node.Node, State.{State, with_tree}, Context.at_object}
-use Rattle.nfs_names.specs.{Outcome.{Outcome, or_refusal}, Checks.{current, no_directory, no_access, name_checks}, Faults.by_tree}
+use Rattle.nfs_names.specs.{Outcome.{Outcome, or_refusal}, Checks.{current, no_directory, no_access, name_checks}}
 
 -- Directories and links are made; a number that is no type's is read like one that has nothing behind it.
 abbrev pub is_made : CreateType → Bool
@@ -43,12 +45,16 @@ place_checks x c d =
     ∷ (text_is (nat_lt most_text) c.objtype, NameTooLong)
     ∷ name_checks c.objname
 
--- the attributes that are given, or why they cannot be read
-unfoldable pub wanted_of : Attributes → Result Wanted AttrFault
-wanted_of a = read_attrs (mask_of a.attrmask) a.attr_vals
+-- whether a directory can get one more object: there is room for it, and neither a counter nor `change` has its last value
+abbrev pub room_checks : Files → ℕ → List (Bool × Status)
+room_checks t d =
+    (nat_le most_objects (length t.objects), NoSpc)
+    ∷ (not (can_change t d && (nat_lt t.last_object last_count && nat_lt t.last_cookie last_count)), ServerFault)
+    ∷ []
 
-abbrev pub attributes_in : Attributes → Result Wanted Status
-attributes_in a = map_err attr_fault_status (wanted_of a)
+-- the attributes that are given, or why they cannot be read
+unfoldable pub attributes_in : Attributes → Result Wanted Status
+attributes_in a = read_attrs (mask_of a.attrmask) a.attr_vals
 
 -- what is set: what is given, else the plain mode, and the caller's user and group
 abbrev pub time_of : Time → SetTime → Time
@@ -75,7 +81,7 @@ create s x now c = or_refusal s x Num.Create (do
   wanted ← attributes_in c.createattrs
   in_order (make_checks wanted x.who)
   require (not (is_some wanted.size)) Inval
-  in_order (by_tree (create_checks s.tree d.number c.objname (new_of c.objtype)))
+  in_order ((has_name s.tree d.number c.objname, Exist) ∷ room_checks s.tree d.number)
   Ok (record {
     result = Res.Create (record { cinfo = change_info (raised s.tree d.number); attrset = trimmed_words (mask_of c.createattrs.attrmask) });
     state = with_tree s (with_new s.tree d.number c.objname (new_of c.objtype) (sets_of x now (new_of c.objtype) wanted) now);

@@ -1,4 +1,4 @@
--- The status of what the tree refuses (RFC 8881 section 15.1).
+-- The status of what the tree refuses (RFC 8881 section 15.1), which contracts of the code cite: each operation says its own statuses.
 use Rattle.std.specs.Prelude.{Bool, List, map}
 use Rattle.nfs_xdr.specs.declared.status.Status.{Status}
 use Rattle.nfs_xdr.specs.declared.status.Status.TheVariants as S

@@ -1,13 +1,15 @@
 -- RENAME (RFC 8881 section 18.26): an entry moves from the saved filehandle's directory to the current one's.
-use Rattle.std.specs.Prelude.{ℕ, Bool, ◌∷◌, ◌++◌, Option, Some, None, Ok, false, true, List}
+use Rattle.std.specs.Prelude.{ℕ, ◌&&◌, Bool, not, [], ◌∷◌, ◌++◌, Option, Some, None, Ok, false, true, List}
 use Rattle.nfs_xdr.specs.{declared.time.Time.Time, declared.status.Status.Status}
+use Rattle.nfs_xdr.specs.declared.status.Status.TheVariants.{NoEnt, Inval, Exist, ServerFault}
 use Rattle.nfs_compound.specs.declared.op_num.OpNum.TheVariants as Num
 use Rattle.nfs_compound.specs.declared.name_args.Rename as args
 use Rattle.nfs_results.specs.declared.res.Res.TheVariants as Res
-use Rattle.nfs_tree.specs.{Files.{object_named, raised, unraised}, Names.{Move, move, moves, rename_checks, with_moved}}
+use Rattle.nfs_tree.specs.Files.{Files, has_name, object_named, raised, unraised}
+use Rattle.nfs_tree.specs.Names.{Move, move, moves, is_below_itself, is_in_the_way, can_move, with_moved}
 use Rattle.nfs_attrs.specs.Permissions.{change_entries}
 use Rattle.nfs_names.specs.{declared.context.Context.Context, declared.node.Pair.Pair, State.{State, with_tree, without_unused}}
-use Rattle.nfs_names.specs.{Outcome.{Outcome, done, or_refusal}, Checks.{both, no_directory, no_access, name_checks}, Create.change_info, Faults.by_tree}
+use Rattle.nfs_names.specs.{Outcome.{Outcome, done, or_refusal}, Checks.{both, no_directory, no_access, name_checks}, Create.change_info}
 use Rattle.nfs_opens.specs.Steps.{in_order, ◌>>=◌, ◌>>◌}
 
 abbrev pub move_of : args.Rename → Pair → Move
@@ -43,9 +45,18 @@ place_checks x a p =
     ∷ name_checks a.oldname
     ++ name_checks a.newname
 
+-- .. and last: the old name is there, and where something moves, no directory comes to lie below itself and the new name can be had
+abbrev pub last_checks : Files → Move → List (Bool × Status)
+last_checks t m =
+    (not (has_name t m.source m.old), NoEnt)
+    ∷ (moves t m && is_below_itself t m, Inval)
+    ∷ (moves t m && is_in_the_way t m, Exist)
+    ∷ (moves t m && not (can_move t m), ServerFault)
+    ∷ []
+
 unfoldable pub rename : State → Context → Time → args.Rename → Outcome
 rename s x now a = or_refusal s x Num.Rename (do
   p ← both s x
   in_order (place_checks x a p)
-  in_order (by_tree (rename_checks s.tree (move_of a p)))
+  in_order (last_checks s.tree (move_of a p))
   Ok (renamed s x now a p (moves s.tree (move_of a p))))

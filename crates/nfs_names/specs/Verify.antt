@@ -4,19 +4,16 @@ use Rattle.nfs_xdr.specs.{declared.status.Status.Status, declared.status.Status.
 use Rattle.nfs_compound.specs.declared.op_num.OpNum.TheVariants as Num
 use Rattle.nfs_compound.specs.declared.attributes.Attributes.{Attributes}
 use Rattle.nfs_results.specs.declared.res.Res.TheVariants as Res
-use Rattle.nfs_attrs.specs.{declared.wanted.AttrFault.AttrFault, Mask.mask_of, Comparing.same, Reading.attr_fault_status}
-use Rattle.nfs_opens.specs.Steps.{◌>>=◌, map_err, require, ◌>>◌}
+use Rattle.nfs_attrs.specs.{Mask.mask_of, Comparing.same}
+use Rattle.nfs_opens.specs.Steps.{◌>>=◌, require, ◌>>◌}
 use Rattle.nfs_names.specs.{declared.context.Context.Context, declared.node.Node.Node, State.State, Outcome.{Outcome, done, or_refusal}, Checks.current}
 use Rattle.nfs_names.specs.Attributes.{about}
 
 -- whether they are the same, or why that cannot be said
-unfoldable pub same_at : State → Attributes → Node → Result Bool AttrFault
-same_at s a d = same (mask_of a.attrmask) a.attr_vals (about s d) d.object
-
 abbrev pub compared : State → Context → Attributes → Result Bool Status
 compared s x a = do
   d ← current s x
-  map_err attr_fault_status (same_at s a d)
+  same (mask_of a.attrmask) a.attr_vals (about s d) d.object
 
 unfoldable pub verify : State → Context → Attributes → Outcome
 verify s x a = or_refusal s x Num.Verify (do

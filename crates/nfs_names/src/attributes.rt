@@ -6,6 +6,7 @@ ghost use Rattle.nfs_xdr.specs.SheetState.{Puts};
 ghost use Rattle.nfs_results.specs.Results.{spell_result};
 ghost use Rattle.nfs_results.specs.declared.res.Res.TheVariants as Res;
 ghost use Rattle.nfs_attrs.specs.Attributes.{values};
+ghost use Rattle.nfs_attrs.specs.Comparing as comparing;
 ghost use Rattle.nfs_attrs.specs.Mask.{mask_of};
 ghost use Rattle.nfs_attrs.specs.Wire.{nfs_fh4};
 ghost use Rattle.nfs_names.specs.State.{state_of};
@@ -23,7 +24,7 @@ use crate::checks::{current, current_and_size, put_refusal, refuse};
 use crate::context::Context;
 use crate::node::Node;
 use crate::store::Store;
-use nfs_attrs::{About, AttrFault, Handle, Mask, attribute, judge_access, same, write_attrs};
+use nfs_attrs::{About, Handle, Mask, attribute, judge_access, same, write_attrs};
 use nfs_compound::{Attributes, Bitmap, OpNum};
 use nfs_results::{AccessOk, Res, write_done_head};
 use nfs_xdr::{Sheet, Status};
@@ -103,24 +104,23 @@ fn compare(store: &Store, context: &Context<'_>, given: &Attributes<'_>) -> Resu
     ensures { result ≡ of_verify.compared (state_of store.now) context.now given.now }
 {
     let (d, size) = current_and_size(store, context)?;
-    match same_at(store, &d, size, given) {
-        Ok(equal) => Ok(equal),
-        Err(fault) => Err(fault.status()),
-    }
+    same_at(store, &d, size, given)
 }
 
-#[tactic(auto, unfolding(crate::specs::Verify::same_at))]
-fn same_at(store: &Store, node: &Node, size: u64, given: &Attributes<'_>) -> Result<bool, AttrFault>
+fn same_at(store: &Store, node: &Node, size: u64, given: &Attributes<'_>) -> Result<bool, Status>
     requires { size ≡ length (data_at store.now.tree node.now.number) }
-    ensures { result ≡ of_verify.same_at (state_of store.now) given.now node.now }
+    ensures { result ≡ comparing.same (mask_of given.now.attrmask) given.now.attr_vals (attributes.about (state_of store.now) node.now) node.now.object }
 {
     let asked = mask_in(&given.attrmask);
-    same(
+    match same(
         &node.object,
         &about(store, node, size, asked),
         asked,
         given.attr_vals.bytes(),
-    )
+    ) {
+        Ok(equal) => Ok(equal),
+        Err(fault) => Err(fault.status()),
+    }
 }
 
 /// VERIFY.

@@ -22,7 +22,7 @@ use crate::checks::{both, current, judge_name, permits, refuse};
 use crate::context::Context;
 use crate::node::{Node, Pair};
 use crate::store::Store;
-use nfs_attrs::{AttrFault, Mask, SetTime, Want, Wanted, may_make, read_attrs};
+use nfs_attrs::{Mask, SetTime, Want, Wanted, may_make, read_attrs};
 use nfs_compound::{Attributes, Create, CreateType, OpNum, Rename};
 use nfs_results::{AttrSet, ChangeInfo, CreateOk, RenameOk, Res};
 use nfs_tree::{Change, Created, New, Renamed, Sets, Tree, TreeFault};
@@ -116,12 +116,15 @@ fn judge_place(store: &Store, context: &Context<'_>, asked: &Create<'_>) -> Resu
     Ok(d)
 }
 
-/// The attributes that are given.
-#[tactic(auto, unfolding(crate::specs::Create::wanted_of))]
-pub fn wanted_of(given: &Attributes<'_>) -> Result<Wanted, AttrFault>
-    ensures { result ≡ of_create.wanted_of given.now }
+/// The attributes that are given, or the status of the fault for which they cannot be read.
+#[tactic(auto, unfolding(crate::specs::Create::attributes_in))]
+pub fn wanted_of(given: &Attributes<'_>) -> Result<Wanted, Status>
+    ensures { result ≡ of_create.attributes_in given.now }
 {
-    read_attrs(mask_in(&given.attrmask), given.attr_vals.bytes())
+    match read_attrs(mask_in(&given.attrmask), given.attr_vals.bytes()) {
+        Ok(wanted) => Ok(wanted),
+        Err(fault) => Err(fault.status()),
+    }
 }
 
 /// The time that a request sets, where it sets one at this moment.
@@ -165,10 +168,7 @@ fn judge_making(store: &Store, context: &Context<'_>, asked: &Create<'_>) -> Res
     ensures { result ≡ front.creating (state_of store.now) context.now asked.now }
 {
     let place = judge_place(store, context, asked)?;
-    let wanted = match wanted_of(&asked.createattrs) {
-        Ok(wanted) => wanted,
-        Err(fault) => return Err(fault.status()),
-    };
+    let wanted = wanted_of(&asked.createattrs)?;
     may_make(&wanted, context.who.who())?;
     if wanted.size.is_some() {
         return Err(Status::Inval);

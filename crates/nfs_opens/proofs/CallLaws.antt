@@ -10,8 +10,8 @@ use Rattle.nfs_opens.specs.{declared.records.LockState.LockState, declared.judgi
 use Rattle.nfs_opens.specs.{declared.locking.OpenFault.TheVariants.Refused, Holding.on_file, StateId.{next_seqid, last_number}, Steps.{◌>>=◌, require, map_err}}
 use Rattle.nfs_opens.specs.{Table.{Table, answer_of, table_after, open_at, lock_at, with_open, with_lock}, TableInvariants.IsTable, Judging.judge}
 use Rattle.nfs_opens.specs.{Opening.{is_narrower, narrows, downgrade}, Closing.{without_open, close, lock_in, without_lock, free}}
-use Rattle.nfs_opens.specs.Locking.{raised, lock_judged, access_in, is_locker, state_of, lock_as, lock_first, lock_by_owner, lock_under, lock_known, unlock}
-use Rattle.nfs_opens.proofs.LockLemmas.{judged_open, judged_lock, judged_freed}
+use Rattle.nfs_opens.specs.Locking.{raised, lock_judged, access_in, is_locker, state_of, lock_as, lock_first, lock_under, lock_known, unlock}
+use Rattle.nfs_opens.proofs.{LockLemmas.{judged_open, judged_lock, judged_freed}, Terms.lock_by_owner}
 
 -- Steps.
 
@@ -266,9 +266,9 @@ pub record IsUnlocked (t : Table) (id : StateId) (client file first last : ℕ) 
 pub unlocked_is : (t : Table) (id : StateId) (client file first last : ℕ) (did : StateId × Table)
     → unlock t id client file first last ≡ Ok did → IsUnlocked t id client file first last did
 unlocked_is t id client file first last did e =
-    let seat = came (map_err Refused (judge t id client (Some file) LockOnly)) _ did e in
-    let l = came (ok_or (lock_at t id.number) (Refused BadStateId)) _ did seat.then in
-    let (k, found, mine, there) = judged_lock t id client file seat.found (unmapped _ _ seat.found seat.is) in
+    let seat = came (judge t id client (Some file) LockOnly) _ did e in
+    let l = came (ok_or (lock_at t id.number) BadStateId) _ did seat.then in
+    let (k, found, mine, there) = judged_lock t id client file seat.found seat.is in
     let at = is_there _ _ l.found l.is in
     let here : Some k ≡ Some l.found = sym found ∙ at in
     let same : k ≡ l.found = cc in

@@ -8,13 +8,13 @@ use Rattle.nfs_opens.specs.{declared.share.Share.Share, declared.records.OpenSta
 use Rattle.nfs_opens.specs.{declared.locking.OpenFault.TheVariants.Refused, Holding.{FileHolders, on_file}}
 use Rattle.nfs_opens.specs.{TableInvariants.{HasNoByteBehind, IsTable, IsHolder}, StateId.{next_seqid, last_number}}
 use Rattle.nfs_opens.specs.{Table.{Table, open_at, lock_at, with_open, with_lock, Asked, is_own, clashes_with}, Closing.without_lock}
-use Rattle.nfs_opens.specs.{Locking.{permits, clash, unless_told, lock_judged, lock_as, lock_first, raised}, Steps.require}
+use Rattle.nfs_opens.specs.{Locking.{permits, clash, lock_judged, lock_as, lock_first, raised}, Steps.require}
 use Rattle.nfs_opens.specs.Opening.{narrows, is_narrower, joins, own_open}
 use Rattle.nfs_xdr.specs.{declared.status.Status.TheVariants.{BadStateId, OpenMode, ShareDenied, ServerFault}, declared.status.Status.Status}
 use Rattle.nfs_xdr.proofs.{Lists.{find_in, in_push, push_in, last_in}, Tables.{IsRising-push, in_once, IsRising-upto, in_bounds}}
 use Rattle.nfs_opens.proofs.CallLaws.{first_state, goes_on}
 use Rattle.nfs_opens.proofs.TableLemmas.{KeepsBytes, table_raised, clears_bytes, table_freed, table_narrowed, table_joined, on_each}
-use Rattle.nfs_opens.proofs.{FileLemmas.{file_here, file_other}, ShareLemmas.own_is, LockLemmas.{sets_bytes, clash_tells, holds_none, some_or_none}}
+use Rattle.nfs_opens.proofs.{FileLemmas.{file_here, file_other}, ShareLemmas.own_is, LockLemmas.{sets_bytes, clash_tells, holds_none, some_or_none}, Terms.unless_told}
 
 pub if_some : {X : Type 0} (o : Option X) (x : X) (P : X → Type 0) → o ≡ Some x → IfSome o P → P x
 if_some {X} o x P e is = let at : IfSome (Some x) P = subst (λ (o : Option X). IfSome o P) e is in at

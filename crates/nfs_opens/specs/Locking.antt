@@ -1,6 +1,7 @@
 -- LOCK, LOCKT and LOCKU (RFC 8881 sections 18.10 to 18.12).
-use Rattle.std.specs.Prelude.{ℕ, ◌+◌, ◌==◌, suc, Bool, not, ◌&&◌, List, [], ◌∷◌, ◌++◌, Option, Some, None, ok_or, Result, Ok, Err, find, bytes_eq, if◌then◌else◌}
-use Rattle.nfs_xdr.specs.declared.status.Status.TheVariants.{BadStateId, OpenMode, ServerFault}
+use Rattle.std.specs.Prelude.{ℕ, ◌+◌, ◌==◌, suc, Bool, not, ◌&&◌, List, [], ◌∷◌, ◌++◌, Option, Some, None, ok_or, option_map, Result, Ok, Err, find, bytes_eq}
+use Rattle.std.specs.{Prelude.if◌then◌else◌, Option.option_map_or}
+use Rattle.nfs_xdr.specs.{Checks.judged, declared.status.Status.Status, declared.status.Status.TheVariants.{BadStateId, OpenMode, ServerFault}}
 use Rattle.nfs_ranges.specs.{declared.Kind.Kind, declared.Kind.TheVariants.{Read, Write}, declared.Held.Held, Holders.{holding, cleared}, Told.told}
 use Rattle.nfs_opens.specs.{declared.share.Share.Share, declared.stateid.StateId.StateId, declared.records.LockState.LockState, declared.judging.Seat.Seat}
 use Rattle.nfs_opens.specs.{declared.judging.Seat.TheVariants.{Open, Lock}, declared.judging.Sort.TheVariants.{OpenOnly, LockOnly}, declared.locking.Wish.Wish}
@@ -41,13 +42,9 @@ access_in seat = neither
 abbrev pub raised : LockState → LockState
 raised l = record l { seqid = next_seqid l.seqid }
 
-abbrev pub unless_told : Option Held → Result (Unit {0}) OpenFault
-unless_told (Some h) = Err (Denied h)
-unless_told None = Ok tt
-
 -- the kind against the open's access, then the clash
 abbrev pub lock_judged : Table → ℕ → Share → Wish → Result (Unit {0}) OpenFault
-lock_judged t state access w = if permits access w.kind then unless_told (clash t state w) else Err (Refused OpenMode)
+lock_judged t state access w = if permits access w.kind then judged (option_map Denied (clash t state w)) else Err (Refused OpenMode)
 
 -- by a lock state that stands, with the access of an open: it holds the bytes in this way, and its seqid rises
 abbrev pub lock_as : Table → Wish → ℕ → Share → Result (StateId × Table) OpenFault
@@ -73,15 +70,11 @@ lock_first t w opened owner access = do
     },
   )
 
-abbrev pub lock_by_owner : Table → Wish → ℕ → List ℕ → Share → Option LockState → Result (StateId × Table) OpenFault
-lock_by_owner t w opened owner access (Some l) = lock_as t w l.number access
-lock_by_owner t w opened owner access None = lock_first t w opened owner access
-
 -- LOCK by a new lock owner, under an open: it uses the state that it has on the file, if it has one
 abbrev pub lock_under : Table → StateId → List ℕ → Wish → Result (StateId × Table) OpenFault
 lock_under t id owner w = do
   seat ← map_err Refused (judge t id w.client (Some w.file) OpenOnly)
-  lock_by_owner t w id.number owner (access_in seat) (state_of t w.client owner w.file)
+  option_map_or (λ l. lock_as t w l.number (access_in seat)) (state_of t w.client owner w.file) (lock_first t w id.number owner (access_in seat))
 
 -- LOCK by a lock owner that names its state
 abbrev pub lock_known : Table → StateId → Wish → Result (StateId × Table) OpenFault
@@ -90,10 +83,10 @@ lock_known t id w = do
   lock_as t w id.number (access_in seat)
 
 -- LOCKU: the lock state holds none of the bytes, and its seqid rises
-abbrev pub unlock : Table → StateId → ℕ → ℕ → ℕ → ℕ → Result (StateId × Table) OpenFault
+abbrev pub unlock : Table → StateId → ℕ → ℕ → ℕ → ℕ → Result (StateId × Table) Status
 unlock t id client file first last = do
-  seat ← map_err Refused (judge t id client (Some file) LockOnly)
-  l ← ok_or (lock_at t id.number) (Refused BadStateId)
+  seat ← judge t id client (Some file) LockOnly
+  l ← ok_or (lock_at t id.number) BadStateId
   Ok (
     record { seqid = next_seqid l.seqid; instance = t.instance; number = id.number },
     record (with_lock t id.number raised) { held = on_file t.held file (λ h. cleared h id.number first last) },

@@ -8,6 +8,7 @@ ghost use Rattle.nfs_opens.specs.Holding.{held_by, on_file, ListsNoMore};
 ghost use Rattle.nfs_opens.specs.TableInvariants.{HasNoByteBehind, IsTable};
 ghost use Rattle.nfs_opens.specs.Table.{table, open_at, lock_at};
 ghost use Rattle.nfs_opens.specs.Locking.{lock_as, lock_first, lock_judged, unlock, test_lock, clash, permits, access_in, state_of};
+ghost use Rattle.nfs_opens.specs.Steps.{map_err};
 ghost use Rattle.nfs_opens.specs.Calls.{LocksOrWants, UnlocksOrWants, lock, is_whole};
 
 use crate::judging::{Seat, Sort};
@@ -291,7 +292,7 @@ impl Opens {
         last: u64,
     ) -> Result<StateId, OpenFault>
         requires { first ≤ last }
-        ensures unlocks { UnlocksOrWants (table self.old) (is_whole first last) (unlock (table self.old) id client file first last) result (table self.new) }
+        ensures unlocks { UnlocksOrWants (table self.old) (is_whole first last) (map_err Refused (unlock (table self.old) id client file first last)) result (table self.new) }
         ensures room { self.new.ready ≡ self.old.ready }
     {
         self.judge(id, client, Some(file), Sort::LockOnly)?;

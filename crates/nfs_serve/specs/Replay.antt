@@ -14,16 +14,12 @@ AllStand streams held = (conn : ℕ) → Stands (streams conn) (held_on held con
 abbrev pub RunsOn : ServerState → ServerState → List Gathered → List Entry → List ℕ → Type 0
 RunsOn old new held entries written = (streams : Streams) × Runs Tagged old new entries streams written × AllStand streams held
 
--- the writer failed in the output of the last entry, whose connection was closed
-abbrev pub BreaksOn : ServerState → ServerState → List Gathered → List Entry → Entry → List ℕ → Type 0
-BreaksOn old new held entries last written =
-    (streams : Streams) × RunsInto Tagged old new entries last streams written × AllStand (with_stream streams last.conn (Open [])) held
-
--- what was read and run before a fault, which bears the entry that was being read or run
+-- What was read and run before a fault, which bears the entry that was being read or run. Where the writer failed, it was in the output of the last entry,
+-- whose connection was closed.
 abbrev pub ReplaysFault : Stop → ℕ → ServerState → ServerState → List Gathered → List ℕ → List ℕ → Type 0
 ReplaysFault WriteFailed entry old new held read written =
-    (entries : List Entry) × (last : Entry) × IsStopped read WriteFailed (entries ++ last ∷ []) []
-    × (entry ≡ suc (length entries)) × BreaksOn old new held entries last written
+    (entries : List Entry) × (last : Entry) × IsStopped read WriteFailed (entries ++ last ∷ []) [] × (entry ≡ suc (length entries))
+    × ((streams : Streams) × RunsInto Tagged old new entries last streams written × AllStand (with_stream streams last.conn (Open [])) held)
 ReplaysFault stop entry old new held read written =
     (entries : List Entry) × (rest : List ℕ) × IsStopped read stop entries rest × (entry ≡ suc (length entries)) × RunsOn old new held entries written
 

@@ -4,10 +4,10 @@ use Rattle.std.proofs.lemmas.Bool.{cases_Bool, eqb-true, eq-eqb, and_parts, cond
 use Rattle.std.specs.{Prelude.{◌==◌, if◌then◌else◌, find, option_map, option_to_list}, Result.result_ok}
 use Rattle.nfs_xdr.specs.Tables.{IsRising}
 use Rattle.nfs_xdr.proofs.{Tables.{IsRising-from, in_bounds}, Lists.{find_none, find_out, find_past, find_map_as, find_push, find_push_other}}
-use Rattle.nfs_sessions.specs.{declared.channel.Wish.Wish, declared.id.SessionId.SessionId, declared.sessions.SessionFault.SessionFault, Channel.granted}
+use Rattle.nfs_sessions.specs.{declared.{channel.Wish.Wish, id.SessionId.SessionId, sessions.SessionFault.SessionFault}, Channel.granted, Laws.with_slots}
 use Rattle.nfs_slots.specs.Slot.{SlotState}
 use Rattle.nfs_sessions.specs.Sessions.{Session, SessionTable, new_session, is_session, session_at, create_fault, create_unless, with_session, destroyed}
-use Rattle.nfs_sessions.specs.{SessionTables.IsSessions, Sessions.{without_client, with_slots}}
+use Rattle.nfs_sessions.specs.{SessionTables.IsSessions, Sessions.without_client}
 use Rattle.nfs_sessions.specs.Laws.{is_id, SessionsAreAMap, Call, Create, Destroy, DropClient, Change, all_after, all_given, IdsRise}
 
 -- no number of a table is its bound
@@ -107,7 +107,7 @@ changed_at t at id change =
     ]
 
 created : (t : SessionTable) → IsSessions t → (client : ℕ) (wish : Wish) (id : SessionId)
-    → session_at (with_session t client wish) id ≡ (if is_id id (record { client = client; counter = t.last + 1 })
+    → session_at (with_session t client wish.fore) id ≡ (if is_id id (record { client = client; counter = t.last + 1 })
     then Some (new_session (t.last + 1) client (granted wish.fore)) else session_at t id)
 created t is client wish id =
     let p = is_session id in
@@ -147,7 +147,7 @@ created_rise : (t : SessionTable) (client : ℕ) (wish : Wish) (calls : List Cal
     (suc (all_after (create_unless t client wish fault).after calls).last)
 created_rise t client wish calls (Some fault) rest = rest t
 created_rise t client wish calls None rest =
-    let new = with_session t client wish in (
+    let new = with_session t client wish.fore in (
       omega arith,
       IsRising-from (λ (id : SessionId). id.counter) (suc (t.last + 1))
           (new.last + 1) (suc (all_after new calls).last) (all_given new calls) (omega arith) (rest new),

@@ -3,14 +3,14 @@ use Rattle.std.proofs.Common.{◌≡◌, ℕ, ◌+◌, suc, Bool, true, false, L
 use Rattle.std.proofs.{lemmas.Bool.{eqb-true, and_parts}, lemmas.Option.slice_get-get_or, lemmas.List.Quantifiers.position-Some}
 use Rattle.std.specs.Prelude.{◌==◌, if◌then◌else◌, filter, position, slice_get}
 use Rattle.nfs_xdr.proofs.Tables.{IsRising-push, IsRising-map, IsRising-filter, one_changed}
-use Rattle.nfs_sessions.specs.{declared.channel.Wish.Wish, declared.id.SessionId.SessionId, Channel.granted}
+use Rattle.nfs_sessions.specs.{declared.{channel.Wish.Wish, id.SessionId.SessionId}, Channel.granted, Laws.with_slots}
 use Rattle.nfs_slots.specs.Slot.{SlotState}
-use Rattle.nfs_sessions.specs.{Sessions.{Session, SessionTable, new_session, is_session, with_session, with_slots}, SessionTables.IsSessions}
+use Rattle.nfs_sessions.specs.{Sessions.{Session, SessionTable, new_session, is_session, with_session}, SessionTables.IsSessions}
 
 pub sessions_filtered : (t : SessionTable) (p : Session → Bool) → IsSessions t → IsSessions (record t { sessions = filter p t.sessions })
 sessions_filtered t p is = record { rising = IsRising-filter (λ (s : Session). s.counter) p 1 (suc t.last) t.sessions is.rising }
 
-pub sessions_with : (t : SessionTable) (client : ℕ) (wish : Wish) → IsSessions t → IsSessions (with_session t client wish)
+pub sessions_with : (t : SessionTable) (client : ℕ) (wish : Wish) → IsSessions t → IsSessions (with_session t client wish.fore)
 sessions_with t client wish is =
     let new = new_session (t.last + 1) client (granted wish.fore) in
     record { rising = IsRising-push (λ (s : Session). s.counter) 1 (suc t.last) (suc (t.last + 1)) t.sessions new (omega arith) (omega arith) is.rising }

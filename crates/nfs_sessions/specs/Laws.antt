@@ -1,11 +1,15 @@
 -- What holds of every table of sessions, and of every list of calls on it.
-use Rattle.std.specs.Prelude.{◌≡◌, ℕ, ◌+◌, ◌==◌, suc, Bool, ◌&&◌, if◌then◌else◌, List, [], ◌∷◌, ◌++◌, Option, Some, None, option_map, option_to_list}
+use Rattle.std.specs.Prelude.{◌≡◌, ℕ, ◌+◌, ◌==◌, suc, Bool, ◌&&◌, if◌then◌else◌, List, [], ◌∷◌, ◌++◌, Option, Some, None, option_map, option_to_list, map}
 use Rattle.std.specs.Result.{result_ok}
 use Rattle.nfs_xdr.specs.Tables.{IsRising}
 use Rattle.nfs_slots.specs.Slot.{SlotState}
 use Rattle.nfs_sessions.specs.{declared.channel.Wish.Wish, declared.id.SessionId.SessionId, Channel.granted}
-use Rattle.nfs_sessions.specs.Sessions.{Session, SessionTable, new_session, session_at, create, with_session, destroyed, without_client, with_slots}
+use Rattle.nfs_sessions.specs.Sessions.{Session, SessionTable, new_session, session_at, is_session, create, with_session, destroyed, without_client}
 use Rattle.nfs_sessions.specs.SessionTables.{IsSessions}
+
+-- the table with other slots of one session, and all else as it was
+abbrev pub with_slots : SessionTable → SessionId → (List SlotState → List SlotState) → SessionTable
+with_slots t id change = record t { sessions = map (λ s. if is_session id s then record s { slots = change s.slots } else s) t.sessions }
 
 abbrev pub is_id : SessionId → SessionId → Bool
 is_id id other = (id.counter == other.counter) && (id.client == other.client)
@@ -13,7 +17,7 @@ is_id id other = (id.counter == other.counter) && (id.client == other.client)
 -- the table is a map from id to session: each change is at the ids that it names, and at no other
 pub record IsMap (t : SessionTable) : Type 0 where
   pub created : (client : ℕ) (wish : Wish) (id : SessionId) →
-      session_at (with_session t client wish) id
+      session_at (with_session t client wish.fore) id
       ≡ (if is_id id (record { client = client; counter = t.last + 1 })
       then Some (new_session (t.last + 1) client (granted wish.fore)) else session_at t id)
   pub destroyed_at : (gone id : SessionId) → session_at (destroyed t gone) id ≡ (if is_id id gone then None else session_at t id)

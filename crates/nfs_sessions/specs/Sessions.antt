@@ -66,9 +66,9 @@ abbrev pub create_fault : SessionTable → Wish → Option SessionFault
 create_fault t wish = first_fault (create_checks t wish)
 
 -- the table with a session of what is granted, under the next counter
-abbrev pub with_session : SessionTable → ℕ → Wish → SessionTable
-with_session t client wish = record {
-  sessions = t.sessions ++ new_session (t.last + 1) client (granted wish.fore) ∷ [];
+abbrev pub with_session : SessionTable → ℕ → (fore : ChannelAttrs) → SessionTable
+with_session t client fore = record {
+  sessions = t.sessions ++ new_session (t.last + 1) client (granted fore) ∷ [];
   last = t.last + 1;
 }
 
@@ -79,7 +79,7 @@ pub record Created : Type 0 where
 
 -- a refusal leaves the table
 abbrev pub create_unless : SessionTable → ℕ → Wish → Option SessionFault → Created
-create_unless t client wish None = record { answer = Ok (record { client = client; counter = t.last + 1 }); after = with_session t client wish }
+create_unless t client wish None = record { answer = Ok (record { client = client; counter = t.last + 1 }); after = with_session t client wish.fore }
 create_unless t client wish (Some fault) = record { answer = Err fault; after = t }
 
 abbrev pub create : SessionTable → ℕ → Wish → Created
@@ -91,10 +91,7 @@ destroyed t id = record t { sessions = filter (λ s. not (is_session id s)) t.se
 abbrev pub without_client : SessionTable → ℕ → SessionTable
 without_client t client = record t { sessions = filter (λ s. not (s.client == client)) t.sessions }
 
--- the table with other slots of one session, and all else as it was
-abbrev pub with_slots : SessionTable → SessionId → (List SlotState → List SlotState) → SessionTable
-with_slots t id change = record t { sessions = map (λ s. if is_session id s then record s { slots = change s.slots } else s) t.sessions }
-
 -- a session's slot keeps a reply, without its RPC head
 abbrev pub keep : SessionTable → SessionId → ℕ → ℕ → ℕ → List ℕ → List ℕ → SessionTable
-keep t id slot number uid args reply = with_slots t id (λ was. slots.keep was slot number uid args reply)
+keep t id slot number uid args reply =
+    record t { sessions = map (λ s. if is_session id s then record s { slots = slots.keep s.slots slot number uid args reply } else s) t.sessions }

@@ -118,7 +118,7 @@ impl Sessions {
 
     fn insert(&mut self, alloc: Global, client: u64, wish: &Wish) -> Result<SessionId, AllocError>
         requires { create_fault self.old wish.now ≡ None }
-        ensures ok { OnOk result (self.new ≡ with_session self.old client wish.now) }
+        ensures ok { OnOk result (self.new ≡ with_session self.old client wish.now.fore) }
         ensures id { IfOk result (λ id. id ≡ record { client = client; counter = self.old.last + 1 }) }
         ensures err { OnErr result (self.new ≡ self.old) }
     {

@@ -12,13 +12,12 @@ use Rattle.nfs_clients.specs.declared.created.CreateResult.TheVariants as result
 use Rattle.nfs_results.specs.declared.res.Res.TheVariants as Res
 use Rattle.nfs_sessions.specs.{Id.id_of, Sessions.{session_at, create, destroyed}}
 use Rattle.nfs_names.specs.Outcome.{is_ok}
-use Rattle.nfs_exec.specs.{Step.Machine.{by_fault, Machine, MachineOutcome, with_refusal, with_result}, Step.Place.item_fault, Step.ExchangeId.exchange_id}
-use Rattle.nfs_exec.specs.Step.CreateSession.{wish_of}
+use Rattle.nfs_exec.specs.Step.{Machine.{Machine, MachineOutcome, with_refusal, with_result}, ExchangeId.exchange_id, Place.place_fault, Parts.wish_of}
 use Rattle.nfs_exec.specs.{Step.Destroy.{destroy_session, client_fault}, Step.Run.{is_here, only}, Step.Sequence.{Sequenced, sequenced}}
 use Rattle.nfs_exec.specs.Step.Compound.{Answered, answers, bare, carried_out, first_item, in_session, by_first, compound}
 use Rattle.nfs_exec.specs.{Step.Laws.{Asks, ran, first_runs, if_runs}, Runs.Ops.{RanOp, ops_in, ops_of, ops_by}}
 use Rattle.nfs_exec.specs.Step.Sequence as sequence
-use Rattle.nfs_exec.proofs.Step.InSteps.{exchange_id_is, create_session_is}
+use Rattle.nfs_exec.proofs.Step.{InSteps.{exchange_id_is, create_session_is}, Terms.by_fault}
 use Rattle.nfs_exec.specs.Step.Parts.{by_number, creates, exchanged_by}
 use Rattle.nfs_exec.proofs.Step.Terms.{client_ended}
 
@@ -68,7 +67,7 @@ pub by_alone : (P : MachineOutcome → Type 0) (m : Machine) (declared : ℕ) (w
     → P (with_result (record m { sessions = destroyed m.sessions (id_of sessionid) }) Res.DestroySession))
     → ((client : ℕ) → i ≡ Operation (Op.DestroyClientId client) → client_fault m client ≡ None → P (by_fault m 57 None (client_ended m client)))
     → P (first_item m declared who now refused i)
-by_alone P m declared who now refused i same exchanges creates_it ends goes = by_place (item_fault declared i)
+by_alone P m declared who now refused i same exchanges creates_it ends goes = by_place (place_fault declared i)
   where
     by_delay : (b : Bool) (n : ℕ) (o : MachineOutcome) → P o → P (cond b (with_refusal m n Delay) o)
     by_delay true n o is = same _ _

@@ -18,11 +18,11 @@ use Rattle.nfs_files.proofs.Outcomes as files
 use Rattle.nfs_files.proofs.{Outcomes.for_each, TreeFiles.{IsWhole, tree_ended, tree_new}, TableSteps.{table_item, table_staying_is}, Steady.{Few, few_files}}
 use Rattle.nfs_names.proofs.Sound as of_names
 use Rattle.nfs_files.proofs.Sound as of_files
-use Rattle.nfs_exec.specs.{Step.Machine.{Machine, starts, HasNoClashes}, Step.Behind.{Step, step, on_store, otherwise}}
-use Rattle.nfs_exec.specs.{Step.Run.{run, in_room, reserve, is_here, behind_here}, Step.ReclaimComplete.{reclaim_complete, of_one, of_all}}
-use Rattle.nfs_exec.specs.{Step.CreateSession.without_any_opens, Step.Compound.{renewed, begun}, Step.Laws.{MachineEvent, Expires, Asks, stepped, all_stepped}}
+use Rattle.nfs_exec.specs.Step.{Machine.{Machine, starts, HasNoClashes}, Behind.{Step, step, on_store, otherwise}, Parts.without_any_opens}
+use Rattle.nfs_exec.specs.Step.{Run.{run, in_room, reserve, is_here, behind_here}, ReclaimComplete.reclaim_complete}
+use Rattle.nfs_exec.specs.Step.{Compound.{renewed, begun}, Laws.{MachineEvent, Expires, Asks, stepped, all_stepped}}
 use Rattle.nfs_exec.specs.{Runs.Ops.{RanOp, ops, ops_by}, Runs.NoClashes.NoneInRuns}
-use Rattle.nfs_exec.proofs.{Step.Behind.{by_step, follow_kept}, Runs.ByEvent.by_compound, Step.AloneKeeps.holds_whoever}
+use Rattle.nfs_exec.proofs.{Step.{Behind.{by_step, follow_kept}, AloneKeeps.holds_whoever, Terms.{of_one, of_all}}, Runs.ByEvent.by_compound}
 
 abbrev pub Is : Machine → Type 0
 Is m = IsWhole m.store

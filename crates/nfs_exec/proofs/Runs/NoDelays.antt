@@ -13,7 +13,7 @@ use Rattle.nfs_compound.specs.{Request.{Request, item_number}, declared.session_
 use Rattle.nfs_results.specs.{Largest.largest, Results.{status_of_result, refusal}}
 use Rattle.nfs_clients.specs.Roster.{ClientRecord, Roster, client_at, with_changed, is_unconfirmed_of, confirmed_of}
 use Rattle.nfs_clients.specs.ExchangeId.{carries_confirmed, updates, same_verifier, same_user}
-use Rattle.nfs_clients.specs.ExchangeId.{Ask, Case, Refuses, Stays, Adds, has_room, case_by, if_room, case_of, new_client, does, client_fault_status}
+use Rattle.nfs_clients.specs.ExchangeId.{Ask, Case, Refuses, Stays, Adds, has_room, case_by, if_room, case_of, does, client_fault_status}
 use Rattle.nfs_clients.specs.{Marks.has_reclaimed, declared.created.CreateResult.CreateResult, DestroyClientId.destroy_fault}
 use Rattle.nfs_clients.specs.declared.exchange_id.ClientFault.TheVariants as Faults
 use Rattle.nfs_clients.specs.CreateSession as clients
@@ -32,20 +32,21 @@ use Rattle.nfs_names.proofs.{Faulted.status_of_refusal, Ones.each_of}
 use Rattle.nfs_files.proofs.Outcomes as files
 use Rattle.nfs_files.proofs.{Outcomes.for_each, Prompt.{IsPrompt, all_pass, first_passes, not_true, first_prompt, current_prompt, names_prompt}}
 use Rattle.nfs_files.proofs.PromptFiles.{files_prompt}
-use Rattle.nfs_exec.specs.Step.Machine.{by_fault, Machine, MachineOutcome, is_client, or_with_delay, with_refusal as exec_refuses, starts}
+use Rattle.nfs_exec.specs.Step.{Machine.{Machine, MachineOutcome, or_with_delay, with_refusal as exec_refuses, starts}, Parts.wish_of}
 use Rattle.nfs_exec.specs.Step.Behind.{step, on_store, otherwise}
-use Rattle.nfs_exec.specs.Step.CreateSession.{made_body, wish_of}
+use Rattle.nfs_exec.specs.Step.CreateSession.{made_body}
 use Rattle.nfs_exec.specs.{Step.Destroy.{destroy_session, client_fault}, Step.ExchangeId.exchange_id}
-use Rattle.nfs_exec.specs.{Step.ReclaimComplete.{reclaim_complete, of_one, of_all}, Step.Run.{in_room, reserve, is_here, behind_here}}
-use Rattle.nfs_exec.specs.{Step.Place.{stands_alone, is_sequence, place_fault, item_fault, status_behind}, Step.Sequence.{compared, Sequenced, sequenced}}
+use Rattle.nfs_exec.specs.Step.{ReclaimComplete.reclaim_complete, Run.{in_room, reserve, is_here, behind_here}}
+use Rattle.nfs_exec.specs.Step.{Place.{stands_alone, is_sequence, place_fault, status_behind}, Sequence.{compared, Sequenced, sequenced}}
 use Rattle.nfs_exec.specs.{Step.Compound.{carried_out, first_item, bare, renewed, begun, in_session, by_first}, Step.Delayed.NothingDelays}
 use Rattle.nfs_exec.specs.{Step.Laws.{MachineEvent, Expires, Asks, stepped, all_stepped}, Runs.Ops.{RanOp, ops, ops_in, ops_of}}
 use Rattle.nfs_exec.specs.Step.Sequence as sequence
 use Rattle.nfs_exec.specs.Step.Parts as parts
-use Rattle.nfs_exec.proofs.Step.InSteps.{exchange_id_is, create_session_is}
+use Rattle.nfs_exec.proofs.Step.{InSteps.{exchange_id_is, create_session_is}, Terms.{by_fault, is_client, of_one, of_all, or_refuses}}
 use Rattle.nfs_exec.specs.Step.Parts.{by_number, creates, by_created, did_exchange, ask_of}
 use Rattle.nfs_exec.proofs.{Step.Behind.{IsKeptByEach, by_step, kept_run}, Runs.KeptByRuns.in_more}
 use Rattle.nfs_exec.proofs.Step.Terms.{has_session, client_ended}
+use Rattle.nfs_clients.proofs.Terms.{new_client, without_any, confirms}
 
 -- One operation behind SEQUENCE.
 
@@ -130,7 +131,7 @@ first_ops_prompt m r who size now (item ∷ more) d op there is = absurd there
 -- SEQUENCE.
 
 refuses_prompt : (o : Option Status) (v : Result Sequenced Status) (status : Status) → ((fault : Status) → o ≡ Some fault → is_delay fault ≡ false)
-    → (sequence.or_refuses v ≡ sequence.Refuses status → is_delay status ≡ false) → parts.past o v ≡ sequence.Refuses status → is_delay status ≡ false
+    → (or_refuses v ≡ sequence.Refuses status → is_delay status ≡ false) → parts.past o v ≡ sequence.Refuses status → is_delay status ≡ false
 refuses_prompt None v status fails more e = more e
 refuses_prompt (Some fault) v status fails more e = let same : fault ≡ status = cc in ap is_delay (sym same) ∙ fails fault refl
 
@@ -268,7 +269,7 @@ placed_prompt m n (Some fault) done fails is = refused_prompt n fault (fails fau
 alone_prompt : (m : Machine) (declared : ℕ) (who : Caller) (now : ℕ) (op : Op) → AreCalm m.clients
     → is_delay (first_item m declared who now false (Operation op)).status ≡ false
 alone_prompt m declared who now op calm =
-    placed_prompt m (item_number (Operation op)) (place_fault declared op) (carried_out m who now false (Operation op))
+    placed_prompt m (item_number (Operation op)) (place_fault declared (Operation op)) (carried_out m who now false (Operation op))
     (first_prompt ((stands_alone op && nat_lt 1 declared, NotOnlyOp) ∷ (not (stands_alone op || is_sequence op), OpNotInSession) ∷ []) refl)
     (carried_prompt m who now op calm)
 
@@ -315,7 +316,7 @@ calm_delayed m o refused n before after = go (refused && is_ok o.status)
     go true = before
     go false = after
 
-calm_without : (t : Roster) (o : Option ℕ) → AreCalm t → AreCalm (clients.without_any t o)
+calm_without : (t : Roster) (o : Option ℕ) → AreCalm t → AreCalm (without_any t o)
 calm_without t None calm = calm
 calm_without t (Some gone) calm = calm_filtered t (λ c. not (c.id == gone)) calm
 
@@ -323,7 +324,7 @@ calm_made : (m : Machine) (now : ℕ) (c : CreateSession) (t : SessionTable) (v 
     → AreCalm (by_created m now c t v).machine.clients
 calm_made m now c t (Ok id) calm =
     calm_changed (clients.with_confirmed m.clients c.clientid) c.clientid (clients.keeps (results.Done (made_body c id))) (calm_done (made_body c id))
-    (calm_changed (clients.without_any m.clients (clients.leaving m.clients c.clientid)) c.clientid clients.confirms (λ k is. is)
+    (calm_changed (without_any m.clients (clients.leaving m.clients c.clientid)) c.clientid confirms (λ k is. is)
     (calm_without m.clients (clients.leaving m.clients c.clientid) calm))
 calm_made m now c t (Err fault) calm =
     calm_changed m.clients c.clientid (clients.keeps (results.Refused (session_status fault))) (calm_refused fault) calm
@@ -358,7 +359,7 @@ calm_carried m who now refused (Operation (Op.DestroyClientId client)) calm = ca
 calm_carried m who now refused i calm = calm
 
 calm_first : (m : Machine) (declared : ℕ) (who : Caller) (now : ℕ) (refused : Bool) (i : Item) → AreCalm m.clients → AreCalm (first_item m declared who now refused i).machine.clients
-calm_first m declared who now refused i calm = go (item_fault declared i)
+calm_first m declared who now refused i calm = go (place_fault declared i)
   where
     go : (f : Option Status) → AreCalm (by_fault m (item_number i) f (carried_out m who now refused i)).machine.clients
     go None = calm_carried m who now refused i calm

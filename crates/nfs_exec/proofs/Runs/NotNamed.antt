@@ -8,24 +8,24 @@ use Rattle.nfs_compound.specs.{declared.op.Item.Item, declared.op.Item.TheVarian
 use Rattle.nfs_compound.specs.declared.session_args.CreateSession.{CreateSession}
 use Rattle.nfs_compound.specs.declared.op.Op.TheVariants as Op
 use Rattle.nfs_clients.specs.Roster.{ClientRecord, Roster, IsRoster, first_id, next_id, client_at, is_unconfirmed_of, unconfirmed_of}
-use Rattle.nfs_clients.specs.ExchangeId.{Ask, Case, Refuses, Stays, Adds, case_of, does, new_client}
-use Rattle.nfs_clients.specs.CreateSession.{leaving, without_any, confirms, keeps, with_confirmed, is_other_confirmed_of}
+use Rattle.nfs_clients.specs.ExchangeId.{Ask, Case, Refuses, Stays, Adds, case_of, does}
+use Rattle.nfs_clients.specs.CreateSession.{leaving, keeps, with_confirmed, is_other_confirmed_of}
 use Rattle.nfs_clients.specs.CreateSession as clients
 use Rattle.nfs_clients.specs.declared.created.CreateResult.TheVariants as results
-use Rattle.nfs_clients.proofs.Members.{mild_keeps, leaving_by}
+use Rattle.nfs_clients.proofs.{Members.{mild_keeps, leaving_by}, Terms.{new_client, without_any, confirms}}
 use Rattle.nfs_slots.specs.Slot.{SlotState}
-use Rattle.nfs_sessions.specs.{Id.id_of, declared.channel.Wish.Wish, declared.id.SessionId.SessionId, declared.sessions.SessionFault.SessionFault}
-use Rattle.nfs_sessions.specs.Sessions.{Session, SessionTable, is_session, session_at, create, create_unless, create_fault, with_slots}
+use Rattle.nfs_sessions.specs.{Id.id_of, declared.{channel.Wish.Wish, id.SessionId.SessionId, sessions.SessionFault.SessionFault}, Laws.with_slots}
+use Rattle.nfs_sessions.specs.Sessions.{Session, SessionTable, is_session, session_at, create, create_unless, create_fault}
 use Rattle.nfs_lease.specs.Renewals.{Book, has_run_out, with_lease, with_renewal, without_lease}
 use Rattle.nfs_names.specs.{Context.begins, Outcome.is_ok}
-use Rattle.nfs_exec.specs.{Step.Machine.{by_fault, Machine, IsMachine, MachineOutcome, or_with_delay, with_refusal}, Step.Place.item_fault}
-use Rattle.nfs_exec.specs.Step.ExchangeId.{exchange_id, without_any_lease}
-use Rattle.nfs_exec.specs.Step.CreateSession.{made_body, wish_of, without_any_sessions}
+use Rattle.nfs_exec.specs.Step.{Machine.{Machine, IsMachine, MachineOutcome, or_with_delay, with_refusal}, Place.place_fault, Parts.without_any_lease}
+use Rattle.nfs_exec.specs.Step.{ExchangeId.exchange_id, Parts.{wish_of, without_any_sessions}}
+use Rattle.nfs_exec.specs.Step.CreateSession.{made_body}
 use Rattle.nfs_exec.specs.{Step.Destroy.{destroy_session, client_fault}, Step.Run.{run, is_here, behind_here}}
 use Rattle.nfs_exec.specs.{Step.Compound.{carried_out, first_item, renewed, begun, compound}, Step.Expiry.expired}
 use Rattle.nfs_exec.specs.Runs.Own.{sessions_of, IsAsBefore, has_owner, is_named_in}
 use Rattle.nfs_exec.specs.Step.Sequence as sequence
-use Rattle.nfs_exec.proofs.Step.InSteps.{exchange_id_is, create_session_is}
+use Rattle.nfs_exec.proofs.Step.{InSteps.{exchange_id_is, create_session_is}, Terms.by_fault}
 use Rattle.nfs_exec.specs.Step.Parts.{did_exchange, ask_of, by_number, creates, by_created}
 use Rattle.nfs_exec.proofs.{Runs.ByEvent.by_answered, Step.Behind.{run_leases, run_sessions}, Runs.KeptByRuns.Is}
 use Rattle.nfs_exec.proofs.{Runs.OthersByOps.{known_apart_from, run_apart}, Runs.OthersByRuns.alone_apart}
@@ -245,7 +245,7 @@ carried_strange client m k who now refused i more is at none = as_it_was client 
 
 first_strange : (client : ℕ) (m : Machine) (k : ClientRecord) (declared : ℕ) (who : Caller) (now : ℕ) (refused : Bool) (i : Item) (more : List Item) → IsRoster m.clients
     → client_at m.clients client ≡ Some k → is_named_in client m.clients (i ∷ more) ≡ false → IsAsBefore client m (first_item m declared who now refused i).machine
-first_strange client m k declared who now refused i more is at none = go (item_fault declared i)
+first_strange client m k declared who now refused i more is at none = go (place_fault declared i)
   where
     go : (f : Option Status) → IsAsBefore client m (by_fault m (item_number i) f (carried_out m who now refused i)).machine
     go None = carried_strange client m k who now refused i more is at none

@@ -29,15 +29,15 @@ use Rattle.nfs_names.specs.{declared.context.Context.Context, declared.node.Node
 use Rattle.nfs_names.specs.Outcome.{is_ok}
 use Rattle.nfs_files.proofs.Outcomes as files
 use Rattle.nfs_files.proofs.Outcomes.{for_each}
-use Rattle.nfs_exec.specs.{Step.Machine.{by_fault, Machine, MachineOutcome, or_with_delay, with_refusal, starts}, Step.Behind.{step, on_store, otherwise}}
-use Rattle.nfs_exec.specs.{Step.Run.{run, in_room, is_here, behind_here}, Step.Place.item_fault, Step.ReclaimComplete.{reclaim_complete, of_one, of_all}}
+use Rattle.nfs_exec.specs.Step.{Machine.{Machine, MachineOutcome, or_with_delay, with_refusal, starts}, Behind.{step, on_store, otherwise}, Place.place_fault}
+use Rattle.nfs_exec.specs.Step.{Run.{run, in_room, is_here, behind_here}, ReclaimComplete.reclaim_complete, Parts.{wish_of, without_any_sessions}}
 use Rattle.nfs_exec.specs.Step.ExchangeId.{exchange_id}
-use Rattle.nfs_exec.specs.Step.CreateSession.{confirmed, made_body, wish_of, without_any_sessions}
+use Rattle.nfs_exec.specs.Step.CreateSession.{confirmed, made_body}
 use Rattle.nfs_exec.specs.{Step.Destroy.{destroy_session, client_fault}, Step.Sequence.{Sequenced, sequenced}}
 use Rattle.nfs_exec.specs.Step.Compound.{carried_out, first_item, renewed, begun, bare, Answered, in_session, by_first, compound}
 use Rattle.nfs_exec.specs.{Step.Laws.{MachineEvent, Expires, Asks, stepped, all_stepped}, Runs.OneSession.{asks_of, asks_session, Gives, MakesOne, GivesOne}}
 use Rattle.nfs_exec.specs.Step.Sequence as sequence
-use Rattle.nfs_exec.proofs.Step.InSteps.{exchange_id_is, create_session_is}
+use Rattle.nfs_exec.proofs.Step.{InSteps.{exchange_id_is, create_session_is}, Terms.{by_fault, of_one, of_all}}
 use Rattle.nfs_exec.specs.Step.Parts.{ask_of, by_number, creates, by_created}
 use Rattle.nfs_exec.proofs.{Step.Behind.{by_step, follow_kept}, Step.Creating.length_id, Runs.WhatWasDone.in_room_is, Runs.SlotNumbers.IsCounted}
 use Rattle.nfs_exec.proofs.{Runs.SlotNumbersAlong.counted_all, Runs.SessionNumbers.{After, IsAgain, IsNext, IsCarried, ToldBy, more, after_own, after_carried}}
@@ -132,7 +132,7 @@ module _ (n : ℕ) (P : Roster → Type 0) (held : IsCarried n P) where
 
   first_carried : (m : Machine) (declared : ℕ) (who : Caller) (now : ℕ) (refused : Bool) (i : Item) → asks_of n (i ∷ []) ≡ false → P m.clients
       → P (first_item m declared who now refused i).machine.clients
-  first_carried m declared who now refused i other a = go (item_fault declared i)
+  first_carried m declared who now refused i other a = go (place_fault declared i)
     where
       go : (f : Option Status) → P (by_fault m (item_number i) f (carried_out m who now refused i)).machine.clients
       go None = out_carried m who now refused i other a
@@ -188,7 +188,7 @@ verdict_runs m who now refused c clients.Runs e =
 
 item_runs : (m : Machine) (declared : ℕ) (who : Caller) (now : ℕ) (refused : Bool) (c : CreateSession)
     → (let o = first_item m declared who now refused (Operation (Op.CreateSession c)) in (o.machine ≡ m) ⊎ IsRun m now c o)
-item_runs m declared who now refused c = go (item_fault declared (Operation (Op.CreateSession c)))
+item_runs m declared who now refused c = go (place_fault declared (Operation (Op.CreateSession c)))
   where
     go : (f : Option Status) → (let o = by_fault m (op_number Num.CreateSession) f (carried_out m who now refused (Operation (Op.CreateSession c))) in
         (o.machine ≡ m) ⊎ IsRun m now c o)
@@ -336,7 +336,7 @@ verdict_either m who now refused c id behind clients.Runs long e =
 
 item_either : (m : Machine) (declared : ℕ) (who : Caller) (now : ℕ) (refused : Bool) (c : CreateSession) (id behind : List ℕ) → length id ≡ 16
     → (let o = first_item m declared who now refused (Operation (Op.CreateSession c)) in Tells (id ++ behind) o → IsEither m now c (id ++ behind) o.machine)
-item_either m declared who now refused c id behind long = go (item_fault declared (Operation (Op.CreateSession c)))
+item_either m declared who now refused c id behind long = go (place_fault declared (Operation (Op.CreateSession c)))
   where
     go : (f : Option Status) → (let o = by_fault m (op_number Num.CreateSession) f (carried_out m who now refused (Operation (Op.CreateSession c))) in
         Tells (id ++ behind) o → IsEither m now c (id ++ behind) o.machine)
@@ -415,7 +415,7 @@ unfolding item.create_session hyper
 made_id c id = (_, refl)
 
 created_is : (t : SessionTable) (client : ℕ) (wish : Wish) (id : SessionId) (o : Option SessionFault) → (create_unless t client wish o).answer ≡ Ok id
-    → (id ≡ record { client = client; counter = t.last + 1 }) × ((create_unless t client wish o).after ≡ with_session t client wish)
+    → (id ≡ record { client = client; counter = t.last + 1 }) × ((create_unless t client wish o).after ≡ with_session t client wish.fore)
 created_is t client wish id None e =
     (let given : record { client = client; counter = t.last + 1 } ≡ id = cc in (sym given, refl))
 created_is t client wish id (Some fault) e = absurd cc
@@ -449,14 +449,14 @@ new_is : (last client : ℕ) → eqb (last + 1) (last + 1) && eqb client client 
 new_is last client = rw (eq-eqb (last + 1) (last + 1) refl, eq-eqb client client refl) refl
 
 found_new : (t : SessionTable) (client : ℕ) (wish : Wish) → session_at t (record { client = client; counter = t.last + 1 }) ≡ None
-    → session_at (with_session t client wish) (record { client = client; counter = t.last + 1 }) ≡ Some (new_session (t.last + 1) client (granted wish.fore))
+    → session_at (with_session t client wish.fore) (record { client = client; counter = t.last + 1 }) ≡ Some (new_session (t.last + 1) client (granted wish.fore))
 found_new t client wish none = find_push_none (is_session (record { client = client; counter = t.last + 1 })) t.sessions _ none (new_is t.last client)
 
 new_there : (t : SessionTable) (client : ℕ) (wish : Wish) (o : Option ℕ) → o ≢ Some client → session_at t (record { client = client; counter = t.last + 1 }) ≡ None
-    → is_some (session_at (without_any_sessions (with_session t client wish) o) (record { client = client; counter = t.last + 1 })) ≡ true
+    → is_some (session_at (without_any_sessions (with_session t client wish.fore) o) (record { client = client; counter = t.last + 1 })) ≡ true
 new_there t client wish None other none = ap is_some (found_new t client wish none)
 new_there t client wish (Some gone) other none =
-    ap is_some (find_past (is_session (record { client = client; counter = t.last + 1 })) (λ (s : Session). not (s.client == gone)) (with_session t client wish).sessions
+    ap is_some (find_past (is_session (record { client = client; counter = t.last + 1 })) (λ (s : Session). not (s.client == gone)) (with_session t client wish.fore).sessions
     (λ s e. (let same = eqb-true s.client client (and_parts (s.counter == t.last + 1) (s.client == client) e).1 in
     ap not (ne_eqb s.client gone (λ here. other (ap (λ n. Some n) (sym here ∙ same)))))) ∙ found_new t client wish none)
 
@@ -476,7 +476,7 @@ made_one m now c id behind left counted long made =
     let told = made_id c made.id in
     let bytes : id ≡ id_bytes made.id = first_bytes id (id_bytes made.id) behind told.0 long (length_id made.id) (made.text ∙ told.1) in
     let absent = absent_next t c.clientid counted in
-    let sessions : left.sessions ≡ without_any_sessions (with_session t c.clientid wish) (leaving m.clients c.clientid) =
+    let sessions : left.sessions ≡ without_any_sessions (with_session t c.clientid wish.fore) (leaving m.clients c.clientid) =
     ap (λ (m : Machine). m.sessions) made.changed ∙ ap (λ (u : SessionTable). without_any_sessions u (leaving m.clients c.clientid)) is.1 in
     subst (λ (u : SessionTable). MakesOne c.clientid id t u) (sym sessions) (record {
       session = new;
@@ -484,11 +484,11 @@ made_one m now c id behind left counted long made =
       of = refl;
       absent = absent;
       there = new_there t c.clientid wish (leaving m.clients c.clientid) (stays_own m.clients c.clientid made.next.client made.next.found) absent;
-      alone = λ s there. elim (in_push t.sessions _ s (left_in (with_session t c.clientid wish) (leaving m.clients c.clientid) s there)) [
+      alone = λ s there. elim (in_push t.sessions _ s (left_in (with_session t c.clientid wish.fore) (leaving m.clients c.clientid) s there)) [
         | inl here ↦ inr (subst (λ (s : Session). is_session new s ≡ true) (sym here) (new_is t.last c.clientid))
         | inr old ↦ inl old
       ];
-      others = λ s there same. own_stays (leaving m.clients c.clientid) c.clientid (with_session t c.clientid wish) s
+      others = λ s there same. own_stays (leaving m.clients c.clientid) c.clientid (with_session t c.clientid wish.fore) s
           (stays_own m.clients c.clientid made.next.client made.next.found) (push_in t.sessions _ s there) same;
     })
 

@@ -5,7 +5,7 @@ use Rattle.nfs_compound.specs.declared.session_args.Sequence.{Sequence}
 use Rattle.nfs_sessions.specs.Id.{id_of}
 use Rattle.nfs_lease.specs.Renewals.{has_run_out}
 use Rattle.nfs_names.specs.{Context.begins, Ending.staying, State.State}
-use Rattle.nfs_exec.specs.{Step.CreateSession.without_any_opens, Step.Machine.Machine, Step.Run.{is_here, behind_here}, Step.Compound.{renewed, begun}}
+use Rattle.nfs_exec.specs.Step.{Machine.Machine, Run.{is_here, behind_here}, Compound.{renewed, begun}, Parts.without_any_opens}
 use Rattle.nfs_exec.specs.{Runs.Kept.{Kept, While, AreSpared, after_all}, Step.Laws.{MachineEvent, Expires, Asks, stepped, ran}, Runs.LockHeld.renews}
 use Rattle.nfs_exec.specs.Runs.Ops.{RanOp, ops_by, left_by, AreChained}
 use Rattle.nfs_exec.proofs.{Runs.WhatWasDone.{IsRun, event_run}, Runs.ByEvent.by_compound, Step.AloneKeeps.holds_whoever, Runs.OpsRun.are_run}

@@ -13,9 +13,9 @@ use Rattle.nfs_files.proofs.Outcomes as files
 use Rattle.nfs_files.proofs.{Outcomes.for_each, Effected.same_client, OthersTables.{same, both}, OthersOps.{is_other, item_apart}}
 use Rattle.nfs_results.specs.Largest.{largest}
 use Rattle.nfs_exec.specs.{Step.Machine.Machine, Step.Behind.{step, on_store, otherwise}}
-use Rattle.nfs_exec.specs.{Step.ReclaimComplete.{reclaim_complete, of_one, of_all}, Step.Run.{run, in_room, reserve, is_here, behind_here}}
+use Rattle.nfs_exec.specs.Step.{ReclaimComplete.reclaim_complete, Run.{run, in_room, reserve, is_here, behind_here}}
 use Rattle.nfs_files.specs.Own.{HasAsBefore}
-use Rattle.nfs_exec.proofs.{Step.Behind.{by_step, follow_kept, other_context}, Runs.KeptByRuns.{Is, whole_room, otherwise_store}}
+use Rattle.nfs_exec.proofs.{Step.{Behind.{by_step, follow_kept, other_context}, Terms.{of_one, of_all}}, Runs.KeptByRuns.{Is, whole_room, otherwise_store}}
 
 -- In a compound: the other has what it had, its record is as it was, and the client that asks is the same.
 

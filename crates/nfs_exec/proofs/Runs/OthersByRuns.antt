@@ -7,7 +7,7 @@ use Rattle.nfs_sessions.specs.Id.{id_of}
 use Rattle.nfs_lease.specs.Renewals.{has_run_out}
 use Rattle.nfs_opens.specs.Table.{Table}
 use Rattle.nfs_names.specs.Context.{begins}
-use Rattle.nfs_exec.specs.{Step.Machine.Machine, Step.CreateSession.without_any_opens, Step.Run.{is_here, behind_here}}
+use Rattle.nfs_exec.specs.Step.{Machine.Machine, Run.{is_here, behind_here}, Parts.without_any_opens}
 use Rattle.nfs_exec.specs.{Step.Compound.{renewed, begun, compound}, Step.Laws.{MachineEvent, Expires, Asks, stepped}, Runs.LockHeld.{is_of, replaces, renews}}
 use Rattle.nfs_files.specs.Own.{HasAsBefore}
 use Rattle.nfs_exec.proofs.{Runs.ByEvent.by_answered, Step.AloneKeeps.{HoldsForOthers, holds_alone}, Runs.OthersByOps.run_apart, Runs.KeptByRuns.Is}

@@ -1,7 +1,7 @@
 -- A compound that neither renews a client's lease nor begins it leaves it as it was, or ends it.
 use Rattle.std.proofs.Common.{◌≡◌, ◌⊎◌, ℕ, Bool, true, false, cond, eqb, List, [], ◌∷◌, Option, Some, None, Result, Ok, Err, refl, sym, ◌∙◌, subst, inl, inr}
 use Rattle.std.proofs.lemmas.Bool.{cases_Bool, eqb-false, ne_eqb, false≢true}
-use Rattle.std.specs.{Prelude.{◌&&◌, ◌||◌, ◌==◌, not, is_some, option_map, ok_or}, Option.option_map_or}
+use Rattle.std.specs.{Prelude.{◌&&◌, ◌||◌, ◌==◌, bit_and, not, is_some, option_map, ok_or}, Option.option_map_or}
 use Rattle.nfs_xdr.specs.{Caller.Caller, Checks.{first_fault, judged}, declared.status.Status.Status}
 use Rattle.nfs_xdr.specs.declared.status.Status.TheVariants.{Delay, Inval, StaleClientId, MinorVersMismatch}
 use Rattle.nfs_xdr.specs.Numbers.{next_number}
@@ -15,14 +15,14 @@ use Rattle.nfs_sessions.specs.{Id.id_of, Sessions.session_at}
 use Rattle.nfs_opens.specs.Steps.{require, ◌>>=◌, ◌>>◌}
 use Rattle.nfs_lease.specs.Renewals.{Book, with_lease, with_renewal, without_lease}
 use Rattle.nfs_names.specs.{Context.begins, Outcome.is_ok}
-use Rattle.nfs_exec.specs.{Step.Machine.{by_fault, Machine, MachineOutcome, or_with_delay, or_with_refusal, with_refusal}, Step.Place.item_fault}
-use Rattle.nfs_exec.specs.Step.ExchangeId.{exchange_id, exchanged, standing, carries_confirmed, without_any_lease}
-use Rattle.nfs_exec.specs.Step.CreateSession.{create_session, session_checks, kept_again, or_kept_refusal, made}
+use Rattle.nfs_exec.specs.Step.{Machine.{Machine, MachineOutcome, or_with_delay, with_refusal}, Place.place_fault, Parts.without_any_lease}
+use Rattle.nfs_exec.specs.Step.ExchangeId.{exchange_id, exchanged, standing}
+use Rattle.nfs_exec.specs.Step.CreateSession.{create_session, session_checks, kept_again, made}
 use Rattle.nfs_exec.specs.{Step.Destroy.{destroy_session, client_fault}, Step.Sequence.{Sequenced, sequenced}, Step.Run.{is_here, behind_here}}
 use Rattle.nfs_exec.specs.Step.Compound.{carried_out, first_item, renewed, begun, bare, in_session, by_first, compound}
 use Rattle.nfs_exec.specs.{Step.Laws.{Asks, first_runs, if_runs}, Runs.LockHeld.is_of, Runs.Renewing.{adds, is_for, renews_alone, renews_or_begins}}
 use Rattle.nfs_exec.specs.Step.Sequence as sequence
-use Rattle.nfs_exec.proofs.{Step.Behind.run_leases, Step.InSteps.for_client}
+use Rattle.nfs_exec.proofs.Step.{Behind.run_leases, InSteps.for_client, Terms.{by_fault, or_with_refusal, or_kept_refusal}}
 use Rattle.nfs_exec.proofs.Step.Terms.{client_ended}
 
 abbrev pub IsStill : ℕ → Book → Book → Type 0
@@ -61,22 +61,22 @@ added_still m now client o other =
 exchanged_still : (m : Machine) (who : Caller) (now client : ℕ) (e : ExchangeId)
     → is_ok (exchange_id m who now e).status && is_for client m who (Operation (Op.ExchangeId e)) ≡ false
     → IsStill client m.leases (exchange_id m who now e).machine.leases
-exchanged_still m who now client e = by_flag (carries_confirmed e) (standing m who e (confirmed_of m.clients e.ownerid))
+exchanged_still m who now client e = by_flag (bit_and e.flags 0x8000_0000 == 0) (standing m who e (confirmed_of m.clients e.ownerid))
   where
     steps : Bool → Result (Option ClientRecord) Status → MachineOutcome
-    steps carried found = or_with_refusal m 42 (require (not carried) Inval >> (found >>= exchanged m who now e))
+    steps free found = or_with_refusal m 42 (require free Inval >> (found >>= exchanged m who now e))
 
-    by_room : (room : Bool) → has_room m.clients e.ownerid ≡ room → is_ok (steps false (Ok None)).status && (next_id m.clients == client) ≡ false
-        → IsStill client m.leases (steps false (Ok None)).machine.leases
+    by_room : (room : Bool) → has_room m.clients e.ownerid ≡ room → is_ok (steps true (Ok None)).status && (next_id m.clients == client) ≡ false
+        → IsStill client m.leases (steps true (Ok None)).machine.leases
     by_room true room none = rw room (added_still m now client (option_map (λ (c : ClientRecord). c.id) (unconfirmed_of m.clients e.ownerid)) (rw room at none))
     by_room false full none = rw full (inr refl)
 
-    by_flag : (carried : Bool) (found : Result (Option ClientRecord) Status)
-        → is_ok (steps carried found).status && (adds found && (next_id m.clients == client)) ≡ false → IsStill client m.leases (steps carried found).machine.leases
-    by_flag true found none = inr refl
-    by_flag false (Err status) none = inr refl
-    by_flag false (Ok (Some c)) none = inr refl
-    by_flag false (Ok None) none = by_room (has_room m.clients e.ownerid) refl none
+    by_flag : (free : Bool) (found : Result (Option ClientRecord) Status)
+        → is_ok (steps free found).status && (adds found && (next_id m.clients == client)) ≡ false → IsStill client m.leases (steps free found).machine.leases
+    by_flag false found none = inr refl
+    by_flag true (Err status) none = inr refl
+    by_flag true (Ok (Some c)) none = inr refl
+    by_flag true (Ok None) none = by_room (has_room m.clients e.ownerid) refl none
 
 delayed_still : (m : Machine) (client : ℕ) (o : MachineOutcome) (refused : Bool) (n : ℕ) (mine : Bool) → (is_ok o.status && mine ≡ false → IsStill client m.leases o.machine.leases)
     → is_ok (or_with_delay refused m n o).status && mine ≡ false → IsStill client m.leases (or_with_delay refused m n o).machine.leases
@@ -150,7 +150,7 @@ carried_still m who now client refused i none = inr refl
 first_still : (m : Machine) (declared : ℕ) (who : Caller) (now client : ℕ) (refused : Bool) (i : Item)
     → is_ok (first_item m declared who now refused i).status && is_for client m who i ≡ false
     → IsStill client m.leases (first_item m declared who now refused i).machine.leases
-first_still m declared who now client refused i = go (item_fault declared i)
+first_still m declared who now client refused i = go (place_fault declared i)
   where
     go : (f : Option Status) → is_ok (by_fault m (item_number i) f (carried_out m who now refused i)).status && is_for client m who i ≡ false
         → IsStill client m.leases (by_fault m (item_number i) f (carried_out m who now refused i)).machine.leases

@@ -10,10 +10,10 @@ use Rattle.nfs_compound.specs.declared.op.Op.TheVariants as Op
 use Rattle.nfs_clients.specs.CreateSession as clients
 use Rattle.nfs_slots.specs.Slot.{SlotState}
 use Rattle.nfs_slots.specs.Slot as slots
-use Rattle.nfs_sessions.specs.{Id.id_of, Laws.is_id, declared.channel.Wish.Wish, declared.id.SessionId.SessionId, declared.sessions.SessionFault.SessionFault}
-use Rattle.nfs_sessions.specs.Sessions.{Session, SessionTable, is_session, session_at, create_unless, create_fault, with_session, with_slots, keep}
+use Rattle.nfs_sessions.specs.{Id.id_of, Laws.{is_id, with_slots}, declared.{channel.Wish.Wish, id.SessionId.SessionId, sessions.SessionFault.SessionFault}}
+use Rattle.nfs_sessions.specs.Sessions.{Session, SessionTable, is_session, session_at, create_unless, create_fault, with_session, keep}
 use Rattle.nfs_names.specs.{Context.begins, Outcome.is_ok}
-use Rattle.nfs_exec.specs.{Step.Machine.{Machine, MachineOutcome}, Step.CreateSession.{wish_of, without_any_sessions}, Step.Run.{is_here, behind_here}}
+use Rattle.nfs_exec.specs.Step.{Machine.{Machine, MachineOutcome}, Run.{is_here, behind_here}, Parts.{wish_of, without_any_sessions}}
 use Rattle.nfs_exec.specs.{Step.Sequence.compared, Step.Compound.{first_item, renewed, begun, in_session, compound}, Step.Laws.Asks}
 use Rattle.nfs_exec.specs.{Runs.LockHeld.{takes_place, replaces}, Runs.SessionLasts.{is_end, ends_session}}
 use Rattle.nfs_exec.specs.Step.Sequence as sequence
@@ -44,7 +44,7 @@ moved_has id at t change is =
     let f : Session → Session = λ s. cond (is_session at s) (record s { slots = change s.slots }) s in
     ap is_some (find_map (is_session id) f t.sessions (λ s. moved_named id (is_session at s) change s)) ∙ (still_some f (session_at t id) ∙ is)
 
-made_has : (id : SessionId) (t : SessionTable) (client : ℕ) (wish : Wish) → Has id t → Has id (with_session t client wish)
+made_has : (id : SessionId) (t : SessionTable) (client : ℕ) (wish : Wish) → Has id t → Has id (with_session t client wish.fore)
 made_has id t client wish is = elim (some_or_none (session_at t id)) [
   | inl some ↦ ap is_some (find_push_some (is_session id) t.sessions _ some.0 some.1)
   | inr none ↦ absurd (false≢true (sym (ap is_some none) ∙ is))
@@ -70,7 +70,7 @@ module _ (id : SessionId) where
       is_ok (by_created m now c did.after did.answer).status && takes_place id.client m.clients (Operation (Op.CreateSession c)) ≡ false
       → Has id (by_created m now c did.after did.answer).machine.sessions)
   made m now c wish None is spares =
-      any_has id (with_session m.sessions c.clientid wish) (clients.leaving m.clients c.clientid) (not_leaving m.clients c.clientid id.client spares)
+      any_has id (with_session m.sessions c.clientid wish.fore) (clients.leaving m.clients c.clientid) (not_leaving m.clients c.clientid id.client spares)
       (made_has id m.sessions c.clientid wish is)
   made m now c wish (Some fault) is spares = is
 

@@ -7,9 +7,10 @@ use Rattle.nfs_xdr.proofs.{Lists.{in_filter, in_push, in_map, find_in}, Tables.{
 use Rattle.nfs_xdr.specs.Numbers.{next_number}
 use Rattle.nfs_clients.specs.declared.created.CreateResult.{CreateResult}
 use Rattle.nfs_clients.specs.Roster.{ClientRecord, Roster, IsRoster, first_id, next_id, client_at, is_unconfirmed_of, with_changed}
-use Rattle.nfs_clients.specs.ExchangeId.{Ask, Case, Refuses, Stays, Adds, does, new_client, with_new}
-use Rattle.nfs_clients.specs.CreateSession.{Again, Misordered, InUse, Runs, verdict_by, status_uses_up, uses_up, keeps, with_kept, without_any, leaving, confirms, with_confirmed}
+use Rattle.nfs_clients.specs.ExchangeId.{Ask, Case, Refuses, Stays, Adds, does, with_new}
+use Rattle.nfs_clients.specs.CreateSession.{Again, Misordered, InUse, Runs, verdict_by, status_uses_up, uses_up, keeps, with_kept, leaving, with_confirmed}
 use Rattle.nfs_clients.specs.declared.created.CreateResult.TheVariants as results
+use Rattle.nfs_clients.proofs.Terms.{new_client, without_any, confirms}
 
 -- Each record of the client's id has the number that is k behind the one that follows this one; and if that is none, the result of this one is kept.
 pub record IsAfter (n number k : ℕ) (body : List ℕ) (t : Roster) : Type 0 where

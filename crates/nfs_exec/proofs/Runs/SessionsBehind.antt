@@ -11,7 +11,7 @@ use Rattle.nfs_slots.specs.declared.slot.Verdict.TheVariants as slot
 use Rattle.nfs_sessions.specs.{declared.channel.Wish.Wish, declared.sessions.SessionFault.SessionFault, Id.id_of}
 use Rattle.nfs_sessions.specs.Sessions.{Session, SessionTable, is_session, session_at, create_unless, create_fault, with_session, keep}
 use Rattle.nfs_names.specs.Context.{begins}
-use Rattle.nfs_exec.specs.{Step.Machine.Machine, Step.CreateSession.{wish_of, without_any_sessions}}
+use Rattle.nfs_exec.specs.Step.{Machine.Machine, Parts.{wish_of, without_any_sessions}}
 use Rattle.nfs_exec.specs.{Step.Sequence.compared, Step.Run.{is_here, behind_here}}
 use Rattle.nfs_exec.specs.{Step.Compound.{Answered, first_item, renewed, begun, in_session, compound}, Step.Laws.first_runs}
 use Rattle.nfs_exec.specs.Step.Sequence as sequence
@@ -30,7 +30,7 @@ module _ (P : SessionTable → Type 0) (held : IsHeld P) where
   made : (m : Machine) (now : ℕ) (c : CreateSession) (wish : Wish) (fault : Option SessionFault) → P m.sessions
       → P (by_created m now c (create_unless m.sessions c.clientid wish fault).after (create_unless m.sessions c.clientid wish fault).answer).machine.sessions
   made m now c wish None is =
-      without_any (with_session m.sessions c.clientid wish) (clients.leaving m.clients c.clientid) (held.made m.sessions c.clientid wish is)
+      without_any (with_session m.sessions c.clientid wish.fore) (clients.leaving m.clients c.clientid) (held.made m.sessions c.clientid wish is)
   made m now c wish (Some fault) is = is
 
   first : (m : Machine) (declared : ℕ) (who : Caller) (now : ℕ) (refused : Bool) (i : Item) → P m.sessions

@@ -16,7 +16,7 @@ use Rattle.nfs_exec.specs.Step.Laws.{is_on}
 -- What holds of a table whatever session is made, and whatever sessions end.
 pub record IsHeld (P : SessionTable → Type 0) : Type 0 where
   pub fewer : (t : SessionTable) (p : Session → Bool) → P t → P (record t { sessions = filter p t.sessions })
-  pub made : (t : SessionTable) (client : ℕ) (wish : Wish) → P t → P (with_session t client wish)
+  pub made : (t : SessionTable) (client : ℕ) (wish : Wish) → P t → P (with_session t client wish.fore)
 
 -- A SEQUENCE was fresh on its slot, which has its number behind it.
 pub record KeepsReply (t after : SessionTable) (s : Sequence) : Type 0 where

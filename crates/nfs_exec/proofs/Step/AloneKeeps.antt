@@ -11,7 +11,7 @@ use Rattle.nfs_clients.specs.CreateSession as clients
 use Rattle.nfs_clients.specs.{CreateSession.{leaving, is_other_confirmed_of}, Roster.{ClientRecord, Roster, client_at}}
 use Rattle.nfs_sessions.specs.{Sessions.{SessionTable, create}, declared.id.SessionId.SessionId, declared.sessions.SessionFault.SessionFault}
 use Rattle.nfs_names.specs.{State.State, Outcome.is_ok}
-use Rattle.nfs_exec.specs.{Step.Machine.Machine, Step.CreateSession.{wish_of, without_any_opens}, Step.Compound.first_item}
+use Rattle.nfs_exec.specs.Step.{Machine.Machine, Compound.first_item, Parts.{wish_of, without_any_opens}}
 use Rattle.nfs_exec.specs.Runs.LockHeld.{is_of_owner, takes_place}
 use Rattle.nfs_exec.specs.Step.Parts.{by_created}
 use Rattle.nfs_exec.proofs.Runs.ByEvent.{by_alone}

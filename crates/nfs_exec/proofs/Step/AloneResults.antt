@@ -4,9 +4,10 @@ use Rattle.nfs_xdr.specs.{Caller.Caller, SheetState.{SheetState, HasRoom, Puts},
 use Rattle.nfs_compound.specs.{declared.op.Item.Item, declared.op.Item.TheVariants.Operation, Request.item_number, declared.op.Op.Op}
 use Rattle.nfs_results.specs.{declared.res.Res.Res, Results.{spell_result, status_of_result, refusal}, ResultCodec.HasArrays}
 use Rattle.nfs_names.specs.Outcome.{is_delay}
-use Rattle.nfs_exec.specs.{Step.Machine.{by_fault, Machine, MachineOutcome, with_result, with_refusal}, Step.Place.item_fault}
+use Rattle.nfs_exec.specs.Step.{Machine.{Machine, MachineOutcome, with_result, with_refusal}, Place.place_fault}
 use Rattle.nfs_exec.specs.Step.Compound.{carried_out, first_item}
 use Rattle.nfs_exec.specs.Step.View.{Does, IsSmall}
+use Rattle.nfs_exec.proofs.Step.Terms.{by_fault}
 
 pub small_fits : (sheet : SheetState) (r : Res) → length sheet.bytes + 92 ≤ sheet.room → IsSmall r → HasArrays r → HasRoom sheet (spell_result r)
 small_fits sheet r room small arrays = (let long = small.1 arrays in omega (arith, room, long))
@@ -20,7 +21,7 @@ put_does m left declared who now i r s old new is status put =
     (subst (λ (o : MachineOutcome). Does o (status_of_result r) left old new) is (record { status = refl; machine = refl; put = put }))
 
 -- an item that cannot stand in the first place
-pub misplaced : (m : Machine) (declared : ℕ) (who : Caller) (now : ℕ) (refused : Bool) (i : Item) (s : Status) → item_fault declared i ≡ Some s →
+pub misplaced : (m : Machine) (declared : ℕ) (who : Caller) (now : ℕ) (refused : Bool) (i : Item) (s : Status) → place_fault declared i ≡ Some s →
     with_result m (refusal (item_number i) s) ≡ first_item m declared who now refused i
 misplaced m declared who now refused i s fault = ap (λ (f : Option Status). by_fault m (item_number i) f (carried_out m who now refused i)) (sym fault)
 
@@ -35,7 +36,7 @@ not_carried m who now refused (Op.DestroyClientId x) e c s d = absurd (d x refl)
 not_carried m who now refused op e c s d = refl
 
 pub branch_done : (m left kept : Machine) (declared : ℕ) (who : Caller) (now : ℕ) (i j : Item) (r s : Res) → left ≡ kept →
-    r ≡ s → i ≡ j → item_fault declared i ≡ None → with_result kept s ≡ carried_out m who now (is_delay (status_of_result s)) j →
+    r ≡ s → i ≡ j → place_fault declared i ≡ None → with_result kept s ≡ carried_out m who now (is_delay (status_of_result s)) j →
     with_result left r ≡ first_item m declared who now (is_delay (status_of_result r)) i
 branch_done m left kept declared who now i j r s same told at none is =
     ap (λ (k : Machine). with_result k r) same ∙ ap (with_result kept) told ∙ is

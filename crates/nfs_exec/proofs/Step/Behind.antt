@@ -15,9 +15,10 @@ use Rattle.nfs_clients.specs.Marks.{has_reclaimed}
 use Rattle.nfs_lease.specs.Renewals.{Book}
 use Rattle.nfs_sessions.specs.Sessions.{SessionTable}
 use Rattle.nfs_exec.specs.{Step.Machine.{Machine, MachineOutcome, with_result}, Step.Place.status_behind}
-use Rattle.nfs_exec.specs.Step.ReclaimComplete.{reclaim_complete, of_one, of_all}
+use Rattle.nfs_exec.specs.Step.ReclaimComplete.{reclaim_complete}
 use Rattle.nfs_exec.specs.{Step.Behind.{Step, step, on_store, otherwise, refused_step}, Step.View.Steps}
 use Rattle.nfs_exec.specs.Step.Run.{Ran, run, in_room, follow, is_here, behind_here, reserve}
+use Rattle.nfs_exec.proofs.Step.Terms.{of_one, of_all}
 
 -- What it answers can be put, and is short.
 

@@ -20,16 +20,15 @@ use Rattle.nfs_names.specs.Outcome as of_store
 use Rattle.nfs_names.specs.Operation as names
 use Rattle.nfs_names.proofs.Faulted.{status_of_refusal}
 use Rattle.nfs_files.specs.Operation as files
-use Rattle.nfs_exec.specs.Step.Machine.{by_fault, Machine, MachineOutcome, or_with_delay, with_refusal, with_result}
-use Rattle.nfs_exec.specs.{Step.Place.{item_fault, place_fault, stands_alone, is_sequence}, Step.ExchangeId.exchange_id}
-use Rattle.nfs_exec.specs.Step.CreateSession.{wish_of}
-use Rattle.nfs_exec.specs.Step.Sequence.{compared, Sequenced, sequenced, or_refuses, sequence_ok}
+use Rattle.nfs_exec.specs.Step.{Machine.{Machine, MachineOutcome, or_with_delay, with_refusal, with_result}, Parts.wish_of}
+use Rattle.nfs_exec.specs.Step.{Place.{place_fault, stands_alone, is_sequence}, ExchangeId.exchange_id}
+use Rattle.nfs_exec.specs.Step.Sequence.{compared, Sequenced, sequenced, sequence_ok}
 use Rattle.nfs_exec.specs.{Step.Behind.{Step, refused_step, step, on_store, otherwise}, Step.Run.{Ran, run, in_room, reserve, follow, only}}
 use Rattle.nfs_exec.specs.Step.Compound.{Answered, answers, carried_out, first_item, renewed, begun, runs_behind, keeps, in_session, by_first, bare}
 use Rattle.nfs_exec.specs.{Step.Laws.{if_runs, first_runs}, Step.Delayed.{grows, kept_by, with_ok, DelayIsACut}}
 use Rattle.nfs_exec.specs.Step.Sequence as sequence
 use Rattle.nfs_exec.specs.Step.Parts.{past, by_session, slot_fault, by_number, creates}
-use Rattle.nfs_exec.proofs.Step.InSteps.{create_session_is}
+use Rattle.nfs_exec.proofs.Step.{InSteps.create_session_is, Terms.{by_fault, or_refuses}}
 use Rattle.nfs_exec.proofs.Step.RepliesKept.{runs_means}
 
 -- One operation: memory refused makes no difference, or it is refused and nothing changes.
@@ -358,7 +357,7 @@ carried_delays m who now (Operation (Op.CreateSession c)) =
 carried_delays m who now i = inl refl
 
 -- an operation that may stand where so many are declared may stand where fewer are
-place_fewer : (op : Op) (declared few : ℕ) → few ≤ declared → place_fault declared op ≡ None → place_fault few op ≡ None
+place_fewer : (op : Op) (declared few : ℕ) → few ≤ declared → place_fault declared (Operation op) ≡ None → place_fault few (Operation op) ≡ None
 place_fewer op declared few low = go (stands_alone op) (is_sequence op)
   where
     go : (alone sequence : Bool) → first_fault ((alone && nat_lt 1 declared, NotOnlyOp) ∷ (not (alone || sequence), OpNotInSession) ∷ []) ≡ None
@@ -369,7 +368,7 @@ place_fewer op declared few low = go (stands_alone op) (is_sequence op)
       | inr one ↦ (let most = ltb-false 1 declared one in rw (le-ltb 1 few (omega arith)) refl)
     ]
 
-item_fewer : (i : Item) (declared few : ℕ) → few ≤ declared → item_fault declared i ≡ None → item_fault few i ≡ None
+item_fewer : (i : Item) (declared few : ℕ) → few ≤ declared → place_fault declared i ≡ None → place_fault few i ≡ None
 item_fewer (Operation op) declared few low e = place_fewer op declared few low e
 item_fewer (Fault n status) declared few low e = e
 
@@ -381,14 +380,14 @@ record IsFirstRefused (m : Machine) (declared : ℕ) (who : Caller) (now : ℕ) 
 
 first_delays : (m : Machine) (declared : ℕ) (who : Caller) (now : ℕ) (i : Item)
     → (first_item m declared who now true i ≡ first_item m declared who now false i) ⊎ IsFirstRefused m declared who now i
-first_delays m declared who now i = go (item_fault declared i) refl
+first_delays m declared who now i = go (place_fault declared i) refl
   where
-    go : (f : Option Status) → item_fault declared i ≡ f
+    go : (f : Option Status) → place_fault declared i ≡ f
         → (first_item m declared who now true i ≡ first_item m declared who now false i) ⊎ IsFirstRefused m declared who now i
     go (Some status) e = inl (ap (λ f. by_fault m (item_number i) f (carried_out m who now true i)) e
         ∙ sym (ap (λ f. by_fault m (item_number i) f (carried_out m who now false i)) e))
     go None e = elim (carried_delays m who now i) [
-      | inl same ↦ inl (ap (λ o. by_fault m (item_number i) (item_fault declared i) o) same)
+      | inl same ↦ inl (ap (λ o. by_fault m (item_number i) (place_fault declared i) o) same)
       | inr delayed ↦ inr (record {
         is = ap (λ f. by_fault m (item_number i) f (carried_out m who now true i)) e ∙ delayed.is;
         wants = delayed.wants;

@@ -11,9 +11,9 @@ use Rattle.nfs_clients.specs.{declared.destroy.DestroyFault.DestroyFault, declar
 use Rattle.nfs_clients.specs.{DestroyClientId.{destroy_fault, destroy_status}, Calls.{destroyed, without_unless}}
 use Rattle.nfs_lease.specs.Renewals.{Book, without_lease}
 use Rattle.nfs_names.specs.Ending.{has_open}
-use Rattle.nfs_exec.specs.Step.Machine.{Machine, with_result, by_fault, is_client}
+use Rattle.nfs_exec.specs.Step.Machine.{Machine, with_result}
 use Rattle.nfs_exec.specs.Step.Destroy.{destroy_session, client_fault, destroy_client}
-use Rattle.nfs_exec.proofs.Step.LeaseTakenBack.{none_of}
+use Rattle.nfs_exec.proofs.Step.{LeaseTakenBack.none_of, Terms.{by_fault, is_client}}
 use Rattle.nfs_exec.proofs.Step.Terms.{has_session, client_ended}
 
 none_destroyed : (t : SessionTable) (id : SessionId) → session_at t id ≡ None → ended t id ≡ t

@@ -3,7 +3,7 @@ use Rattle.std.proofs.{Common.{◌≡◌, ℕ, ◌<◌, Bool, true, false, List,
 use Rattle.std.specs.{Prelude.{◌||◌, nat_lt, is_some, length, option_map}, Option.option_map_or}
 use Rattle.nfs_clients.specs.{declared.exchange_id.Exchanged.Exchanged, declared.exchange_id.ClientFault.ClientFault}
 use Rattle.nfs_clients.specs.declared.exchange_id.ClientFault.TheVariants.{Inval, NoEnt, NotSame, Perm, ClidInUse, ServerFault, Memory}
-use Rattle.nfs_clients.specs.Roster.{ClientRecord, Roster, client_at, confirmed_of, next_id, counter_of, last_counter, most_records, unconfirmed_of}
+use Rattle.nfs_clients.specs.Roster.{ClientRecord, Roster, client_at, confirmed_of, next_id, last_counter, most_records, unconfirmed_of}
 use Rattle.nfs_clients.specs.ExchangeId.{Ask, asks, Case, Refuses, Stays, Adds, has_room, if_room, case_by, case_of, does}
 use Rattle.nfs_clients.specs.{Calls.{exchange_fault, refusal_of, ExchangesOrWants}, ExchangeId.{client_fault_status, answer_standing, answer_added}}
 use Rattle.nfs_xdr.specs.{Checks.judged, Caller.Caller}
@@ -15,6 +15,7 @@ use Rattle.nfs_exec.specs.Step.Machine.{Machine, IsMachine, with_result, or_with
 use Rattle.nfs_exec.specs.Step.View.{settled}
 use Rattle.nfs_exec.specs.Step.Parts.{granted_of, ask_of, owner_has_open, did_exchange, exchanged_by}
 use Rattle.nfs_exec.proofs.Step.LeaseTakenBack.{unleased, taken_back}
+use Rattle.nfs_clients.proofs.Terms.{counter_of}
 
 -- what the code asks, for the owner's bytes as they were lent
 pub asked_as : (m : Machine) (who : Caller) (e : ExchangeId) (owner : List ℕ) (holds : Bool) → owner ≡ e.ownerid → holds ≡ owner_has_open m owner

@@ -16,10 +16,11 @@ use Rattle.nfs_sessions.specs.{declared.sessions.SessionFault.TheVariants.{TooSm
 use Rattle.nfs_sessions.specs.Sessions.{create, create_unless, most_sessions, last_counter, outlasts}
 use Rattle.nfs_opens.specs.Steps.{require, ◌>>=◌, ◌>>◌}
 use Rattle.nfs_names.specs.Ending.{has_open}
-use Rattle.nfs_exec.specs.Step.Machine.{Machine, MachineOutcome, with_result, or_with_refusal, or_with_delay}
-use Rattle.nfs_exec.specs.Step.ExchangeId.{exchange_id, carries_confirmed, standing, exchanged, granted}
-use Rattle.nfs_exec.specs.Step.CreateSession.{create_session, kept_again, session_checks, made, or_kept_refusal, wish_of}
+use Rattle.nfs_exec.specs.Step.{Machine.{Machine, MachineOutcome, with_result, or_with_delay}, Parts.wish_of}
+use Rattle.nfs_exec.specs.Step.ExchangeId.{exchange_id, standing, exchanged, granted}
+use Rattle.nfs_exec.specs.Step.CreateSession.{create_session, kept_again, session_checks, made}
 use Rattle.nfs_exec.specs.Step.Parts.{creates, by_number, created_by, did_exchange, exchanged_by}
+use Rattle.nfs_exec.proofs.Step.Terms.{or_with_refusal, or_kept_refusal}
 
 -- EXCHANGE_ID
 
@@ -41,7 +42,7 @@ module _ (m : Machine) (who : Caller) (now : ℕ) (e : ExchangeId) where
 
   -- the steps, and what the table decides, by the owner's confirmed record
   abbrev in_steps : Option ClientRecord → MachineOutcome
-  in_steps o = or_with_refusal m 42 (require (not (carries_confirmed e)) status.Inval >> (standing m who e o >>= exchanged m who now e))
+  in_steps o = or_with_refusal m 42 (require (bit_and e.flags 0x8000_0000 == 0) status.Inval >> (standing m who e o >>= exchanged m who now e))
 
   abbrev asked : Option ClientRecord → Ask
   asked o = asks e.ownerid e.verifier e.flags who.uid (option_map_or (λ (c : ClientRecord). has_open m.store c.id) o false)

@@ -8,30 +8,28 @@ use Rattle.nfs_compound.specs.{declared.channel_attrs.ChannelAttrs.ChannelAttrs,
 use Rattle.nfs_compound.specs.{declared.session_args.CreateSession.CreateSession, declared.session_args.Sequence.Sequence}
 use Rattle.nfs_compound.specs.declared.op.Op.TheVariants as Op
 use Rattle.nfs_clients.specs.Roster.{ClientRecord, Roster, IsRoster, first_id, client_at, without, is_unconfirmed_of, unconfirmed_of, confirmed_of}
-use Rattle.nfs_clients.specs.{Roster.next_id, ExchangeId.{Ask, Case, Refuses, Stays, Adds, has_room, case_by, case_of, does, new_client, with_new}}
-use Rattle.nfs_clients.specs.CreateSession.{leaving, without_any, with_confirmed, with_kept, confirms, keeps, verdict_by}
+use Rattle.nfs_clients.specs.{Roster.next_id, ExchangeId.{Ask, Case, Refuses, Stays, Adds, has_room, case_by, case_of, does, with_new}}
+use Rattle.nfs_clients.specs.CreateSession.{leaving, with_confirmed, with_kept, keeps, verdict_by}
 use Rattle.nfs_clients.specs.{Marks.{has_reclaimed, with_reclaimed}, declared.created.CreateResult.CreateResult}
 use Rattle.nfs_clients.specs.declared.created.CreateResult.TheVariants.{Done, Refused}
 use Rattle.nfs_clients.specs.CreateSession as clients
 use Rattle.nfs_clients.proofs.Members.{the_id, mild_keeps, mild_reclaims, fresh, roster_filter, roster_changed, roster_without, roster_confirmed}
-use Rattle.nfs_clients.proofs.Members.{roster_new, without_unconfirmed}
+use Rattle.nfs_clients.proofs.{Members.{roster_new, without_unconfirmed}, Terms.{new_client, without_any, confirms}}
 use Rattle.nfs_slots.specs.Slot.{SlotState}
-use Rattle.nfs_sessions.specs.{declared.id.SessionId.SessionId, declared.channel.Wish.Wish}
+use Rattle.nfs_sessions.specs.{declared.{id.SessionId.SessionId, channel.Wish.Wish}, Laws.with_slots}
 use Rattle.nfs_sessions.specs.{declared.sessions.SessionFault.SessionFault, Id.id_of}
 use Rattle.nfs_sessions.specs.Sessions.{Session, SessionTable, is_session, session_at, create_unless, create_fault, session_fault_status, with_session}
-use Rattle.nfs_sessions.specs.Sessions.{with_slots}
 use Rattle.nfs_sessions.specs.Sessions as sessions
 use Rattle.nfs_lease.specs.Renewals.{Book, has_run_out, with_lease, with_renewal, without_lease}
-use Rattle.nfs_exec.specs.Step.Machine.{Machine, IsMachine, starts, is_client, is_confirmed}
-use Rattle.nfs_exec.specs.Step.ExchangeId.{without_any_lease}
-use Rattle.nfs_exec.specs.{Step.CreateSession.{confirmed, wish_of, without_any_sessions, without_any_opens}}
+use Rattle.nfs_exec.specs.Step.{Machine.{Machine, IsMachine, starts, is_confirmed}, Parts.{without_any_lease, wish_of, without_any_sessions, without_any_opens}}
+use Rattle.nfs_exec.specs.Step.CreateSession.{confirmed}
 use Rattle.nfs_exec.specs.{Step.Sequence.sequenced, Step.Compound.{first_item, renewed, begun, compound}, Step.Expiry.expired}
-use Rattle.nfs_exec.specs.{Step.ReclaimComplete.{reclaim_complete, of_one, of_all}, Step.Behind.{Step, step, on_store, otherwise}}
+use Rattle.nfs_exec.specs.Step.{ReclaimComplete.reclaim_complete, Behind.{Step, step, on_store, otherwise}}
 use Rattle.nfs_exec.specs.Step.Run.{run, in_room, reserve, is_here, behind_here}
 use Rattle.nfs_exec.specs.Step.Sequence as sequence
 use Rattle.nfs_exec.specs.Step.Parts.{ask_of, leases_behind, by_created}
 use Rattle.nfs_exec.proofs.{Step.Exchanging.room_of, Step.Behind.{by_step, follow_kept}, Runs.ByEvent.{by_compound, by_alone}, Step.RepliesKept.runs_means}
-use Rattle.nfs_exec.proofs.Step.OpensStaying.{open_staying}
+use Rattle.nfs_exec.proofs.Step.{OpensStaying.open_staying, Terms.{is_client, of_one, of_all}}
 use Rattle.nfs_names.specs.{declared.context.Context.Context, Context.begins, Ending.has_open, declared.node.Node.Node, Checks.current}
 use Rattle.nfs_names.specs.{Outcome.{Outcome as OfStore}, State.{State, moment}}
 use Rattle.nfs_names.proofs.Untouched.{Leaves, leaves_each}
@@ -395,7 +393,7 @@ known_runs (Some c) number uid e = refl
 
 of_made : (m : Machine) (now : ℕ) (c : CreateSession) (wish : Wish) (o : Option SessionFault) → IsMachine m → is_client m.clients c.clientid ≡ true →
     IsMachine (by_created m now c (create_unless m.sessions c.clientid wish o).after (create_unless m.sessions c.clientid wish o).answer).machine
-of_made m now c wish None is known = of_confirmed m now c.clientid _ (with_session m.sessions c.clientid wish) is known
+of_made m now c wish None is known = of_confirmed m now c.clientid _ (with_session m.sessions c.clientid wish.fore) is known
     (λ s there. elim (in_push m.sessions.sessions _ s there) [ inl new ↦ inl (ap (λ (s : Session). s.client) new) | inr old ↦ inr old ])
 of_made m now c wish (Some fault) is known = of_kept_result m c.clientid (Refused (session_fault_status fault)) is
 

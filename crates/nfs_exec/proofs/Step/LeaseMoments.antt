@@ -11,8 +11,7 @@ use Rattle.nfs_clients.specs.CreateSession as clients
 use Rattle.nfs_sessions.specs.{declared.id.SessionId.SessionId, declared.sessions.SessionFault.SessionFault, Id.id_of, Sessions.{SessionTable, create}}
 use Rattle.nfs_lease.specs.{Renewals.{Book, is_out, has_run_out, with_lease, with_renewal, without_lease}, Queue.IsLatest}
 use Rattle.nfs_lease.proofs.Latest.{latest_lease, latest_renewal, latest_without}
-use Rattle.nfs_exec.specs.{Step.Machine.Machine, Step.Expiry.{expired}, Step.Laws.ExpiryFindsNothing}
-use Rattle.nfs_exec.specs.{Step.ExchangeId.without_any_lease, Step.CreateSession.{wish_of, without_any_opens}}
+use Rattle.nfs_exec.specs.Step.{Machine.Machine, Expiry.expired, Laws.ExpiryFindsNothing, Parts.{without_any_lease, wish_of, without_any_opens}}
 use Rattle.nfs_exec.specs.{Step.Behind.step, Step.Run.{run, in_room, reserve, is_here, behind_here}, Step.Compound.{first_item, renewed, begun, compound}}
 use Rattle.nfs_exec.specs.Step.Parts.{by_created, leases_behind, ask_of}
 use Rattle.nfs_names.specs.{declared.context.Context.Context, Context.begins, State.{State, moment}, StoreInvariants.IsStore}

@@ -18,7 +18,7 @@ use Rattle.nfs_results.proofs.Lengths.{length_result, length_head}
 use Rattle.nfs_xdr.proofs.Putting.{length_number}
 use Rattle.nfs_clients.specs.{declared.destroy.DestroyFault.DestroyFault, declared.destroy.DestroyFault.TheVariants.{Stale, Busy}}
 use Rattle.nfs_clients.specs.DestroyClientId.{destroy_status}
-use Rattle.nfs_exec.specs.{Step.Place.{stands_alone, is_sequence, item_fault, status_behind}, Step.View.{CanBear, IsSmall, IsOpened}}
+use Rattle.nfs_exec.specs.Step.{Place.{stands_alone, is_sequence, status_behind, place_fault}, View.{CanBear, IsSmall, IsOpened}}
 
 -- a status that every operation of the minor version can be refused with, with nothing behind it
 abbrev IsCommon : Status → Type 0
@@ -120,7 +120,7 @@ pub exchanged_small : (e : ExchangeArgs) (r : Res) → MayAnswer (Operation (Op.
 exchanged_small e r may = (may.1, λ arrays. length_result (Operation (Op.ExchangeId e)) r arrays may)
 
 -- the status that the first place refuses an item with is one that a reply can bear
-pub place_small : (i : Item) (declared : ℕ) (s : Status) → CanBear i → item_fault declared i ≡ Some s → IsSmall (refusal (item_number i) s)
+pub place_small : (i : Item) (declared : ℕ) (s : Status) → CanBear i → place_fault declared i ≡ Some s → IsSmall (refusal (item_number i) s)
 place_small (Fault n t) declared s bears e = let same : t ≡ s = cc in subst (λ u. IsSmall (refusal n u)) same (refusal_small n t bears)
 place_small (Operation op) declared s bears e = go (stands_alone op && ltb 1 declared) (not (stands_alone op || is_sequence op)) e
   where
@@ -130,7 +130,7 @@ place_small (Operation op) declared s bears e = go (stands_alone op && ltb 1 dec
     go false false here = absurd cc
 
 -- an item that is not refused in its place is no fault
-pub rest_small : (i : Item) (declared : ℕ) → item_fault declared i ≡ None → IsSmall (refusal (item_number i) NotSupp)
+pub rest_small : (i : Item) (declared : ℕ) → place_fault declared i ≡ None → IsSmall (refusal (item_number i) NotSupp)
 rest_small (Fault n t) declared e = absurd cc
 rest_small (Operation op) declared e = not_supp op
 

@@ -8,13 +8,13 @@ use Rattle.nfs_compound.specs.{declared.channel_attrs.ChannelAttrs.ChannelAttrs,
 use Rattle.nfs_compound.specs.declared.op.Op.TheVariants as Op
 use Rattle.nfs_slots.specs.{Slot.judge, declared.slot.Verdict.Verdict, declared.slot.Verdict.TheVariants.{Fresh, Again, FalseRetry, Misordered, NoSlot}}
 use Rattle.nfs_results.specs.{declared.res.Res.Res, Results.{spell_result, refusal, spell_compound_head}, OpenHead.{HeadsAt, HasHead, SetsHead}}
-use Rattle.nfs_exec.proofs.{Step.RefusalsFit.refusal_short, Step.Creating.the_rest}
+use Rattle.nfs_exec.proofs.Step.{RefusalsFit.refusal_short, Creating.the_rest, Terms.or_refuses}
 use Rattle.nfs_results.proofs.Lengths.{length_result, length_head_within}
 use Rattle.nfs_sessions.specs.{Sessions.{session_at, Session, SessionTable, keep}}
 use Rattle.nfs_sessions.specs.{declared.id.SessionId.SessionId, Id.id_of, SessionTables.MayKeep}
 use Rattle.nfs_names.specs.{Outcome.is_ok, declared.context.Context.Context}
 use Rattle.nfs_exec.specs.Step.Machine.{Machine, MachineOutcome}
-use Rattle.nfs_exec.specs.Step.Sequence.{highest_at, compared, Sequenced, Runs, or_refuses, by_slot, sequence_ok}
+use Rattle.nfs_exec.specs.Step.Sequence.{highest_at, compared, Sequenced, Runs, by_slot, sequence_ok}
 use Rattle.nfs_exec.specs.Step.Parts.{past, slot_says, by_session, slot_fault, fresh_fault}
 use Rattle.nfs_exec.specs.{Step.Run.{Ran, run, in_room, follow, is_here, behind_here}, Step.Compound.renewed, declared.run.Ran.{Ran as Told}}
 use Rattle.nfs_exec.specs.Step.View.{RunsTo, HasReplyRoom}

@@ -9,9 +9,10 @@ use Rattle.nfs_compound.specs.{declared.session_args.Sequence.Sequence, Request.
 use Rattle.nfs_slots.specs.{Slot.{SlotState, judge, judge_slot}, declared.slot.Verdict.Verdict}
 use Rattle.nfs_slots.specs.declared.slot.Verdict.TheVariants.{Fresh, Again, FalseRetry, Misordered, NoSlot}
 use Rattle.nfs_sessions.specs.{Id.id_of, Sessions.{Session, session_at}}
-use Rattle.nfs_exec.specs.{Step.Machine.Machine, Step.Sequence.{Sequenced, Refuses, Runs, compared, or_refuses, by_slot}}
+use Rattle.nfs_exec.specs.Step.{Machine.Machine, Sequence.{Sequenced, Refuses, Runs, compared, by_slot}}
 use Rattle.nfs_exec.specs.Step.Parts.{past, slot_says, by_session, slot_fault, fresh_fault}
 use Rattle.nfs_exec.specs.Step.Sequencing.{IsOn, TookAnother, NextNumberRuns, FalseRetriesAreTrue}
+use Rattle.nfs_exec.proofs.Step.Terms.{or_refuses}
 
 pub next_runs : NextNumberRuns
 next_runs = λ m r who size s session x on number none fresh.

@@ -1,5 +1,5 @@
 -- A compound (RFC 8881 sections 2.3, 2.10.6.4 and 16.2): what it answers, and the machine behind it.
-use Rattle.std.specs.Prelude.{◌+◌, ℕ, ◌==◌, Bool, List, [], ◌∷◌, ◌++◌, length, Option, Some, None, if◌then◌else◌}
+use Rattle.std.specs.{Prelude.{◌+◌, ℕ, ◌==◌, Bool, List, [], ◌∷◌, ◌++◌, length, Option, Some, None, if◌then◌else◌}, Option.option_map_or}
 use Rattle.nfs_xdr.specs.{declared.status.Status.Status, declared.status.Status.TheVariants.{Nfs4Ok, MinorVersMismatch, NotSupp}, Caller.Caller}
 use Rattle.nfs_compound.specs.{declared.channel_attrs.ChannelAttrs.ChannelAttrs, declared.op.Item.Item, declared.op.Item.TheVariants.Operation, declared.session_args.Sequence.Sequence}
 use Rattle.nfs_compound.specs.{OpNum.op_number, Request.{Request, item_number}}
@@ -10,7 +10,7 @@ use Rattle.nfs_results.specs.Results.{spell_result, spell_compound_head}
 use Rattle.nfs_names.specs.Context.{begins}
 use Rattle.nfs_lease.specs.Renewals.{with_renewal}
 use Rattle.nfs_sessions.specs.{Channel.rpc_head, Id.id_of, Sessions.keep}
-use Rattle.nfs_exec.specs.{Step.Machine.{Machine, MachineOutcome, with_result, with_refusal, by_fault, or_with_delay}, Step.Place.item_fault}
+use Rattle.nfs_exec.specs.{Step.Machine.{Machine, MachineOutcome, with_result, with_refusal, or_with_delay}, Step.Place.place_fault}
 use Rattle.nfs_exec.specs.{Step.ExchangeId.exchange_id, Step.CreateSession.create_session, Step.Destroy.{destroy_session, destroy_client}}
 use Rattle.nfs_exec.specs.Step.Sequence.{Sequenced, Refuses, Repeats, Runs, compared, sequenced, sequence_ok}
 use Rattle.nfs_exec.specs.Step.Run.{Ran, run, finished, only, follow, is_here, behind_here}
@@ -37,7 +37,8 @@ carried_out m who now refused item = with_refusal m (item_number item) NotSupp
 
 -- an item outside a session, of so many declared
 abbrev pub first_item : Machine → ℕ → Caller → ℕ → Bool → Item → MachineOutcome
-first_item m declared who now refused item = by_fault m (item_number item) (item_fault declared item) (carried_out m who now refused item)
+first_item m declared who now refused item =
+    option_map_or (with_refusal m (item_number item)) (place_fault declared item) (carried_out m who now refused item)
 
 -- the lease of the session's client is renewed
 abbrev pub renewed : Machine → ℕ → Sequence → Machine

@@ -1,6 +1,7 @@
 -- CREATE_SESSION (RFC 8881 section 18.36): a client makes a session, under a number. What the number came to is kept with the client, and answered again for
 -- that number.
 use Rattle.std.specs.Prelude.{ℕ, ◌+◌, ◌==◌, nat_le, not, Bool, List, [], ◌∷◌, ◌++◌, count_by, Option, Some, None, Result, Ok, Err, ok_or, if◌then◌else◌}
+use Rattle.std.specs.Option.{option_map_or}
 use Rattle.nfs_xdr.specs.{declared.status.Status.Status, Caller.Caller}
 use Rattle.nfs_xdr.specs.declared.status.Status.TheVariants.{Nfs4Ok, StaleClientId, SeqMisordered, ClidInUse, TooSmall, NoSpc, ServerFault}
 use Rattle.nfs_xdr.specs.Numbers.{next_number}
@@ -10,16 +11,12 @@ use Rattle.nfs_results.specs.{declared.res.CreateSessionOk.CreateSessionOk, Part
 use Rattle.nfs_results.specs.declared.res.Res.TheVariants as Res
 use Rattle.nfs_clients.specs.{declared.created.CreateResult.CreateResult, declared.created.CreateResult.TheVariants.{Done, Refused}}
 use Rattle.nfs_clients.specs.{Roster.{ClientRecord, client_at, with_changed}, CreateSession.{leaving, with_confirmed}}
-use Rattle.nfs_sessions.specs.{declared.channel.Wish.Wish, declared.id.SessionId.SessionId}
-use Rattle.nfs_sessions.specs.{Channel.{granted, is_too_small}, Id.id_bytes}
-use Rattle.nfs_sessions.specs.Sessions.{SessionTable, most_sessions, last_counter, outlasts, with_session, without_client}
+use Rattle.nfs_sessions.specs.{declared.id.SessionId.SessionId, Channel.{granted, is_too_small}, Id.id_bytes}
+use Rattle.nfs_sessions.specs.Sessions.{most_sessions, last_counter, outlasts, with_session, without_client}
 use Rattle.nfs_opens.specs.Steps.{require, in_order, ◌>>=◌, ◌>>◌}
-use Rattle.nfs_lease.specs.Renewals.{with_renewal}
-use Rattle.nfs_names.specs.{State.State, Ending.staying}
-use Rattle.nfs_exec.specs.{Step.Machine.{Machine, MachineOutcome, with_refusal, or_with_refusal, or_with_delay}, Step.ExchangeId.without_any_lease}
-
-abbrev pub wish_of : Machine → CreateSession → Wish
-wish_of m c = record { fore = c.fore_chan_attrs; back = c.back_chan_attrs; leaving = leaving m.clients c.clientid }
+use Rattle.nfs_lease.specs.Renewals.{with_renewal, without_lease}
+use Rattle.nfs_names.specs.Ending.{staying}
+use Rattle.nfs_exec.specs.Step.Machine.{Machine, MachineOutcome, with_refusal, or_refused, or_with_delay}
 
 -- the answer: no flag is granted, and the back channel's attributes are those asked for
 abbrev pub session_made : CreateSession → SessionId → CreateSessionOk
@@ -35,14 +32,6 @@ session_made c id = record {
 abbrev pub made_body : CreateSession → SessionId → List ℕ
 made_body c id = (parts (Res.CreateSession (session_made c id))).behind
 
-abbrev pub without_any_sessions : SessionTable → Option ℕ → SessionTable
-without_any_sessions t None = t
-without_any_sessions t (Some client) = without_client t client
-
-abbrev pub without_any_opens : State → Option ℕ → State
-without_any_opens s None = s
-without_any_opens s (Some client) = staying (λ c. not (c == client)) s
-
 -- the number is used up: what it came to is kept, and the next one is expected
 abbrev pub keeping : CreateResult → ClientRecord → ClientRecord
 keeping result client = record client { number = next_number client.number; kept = Some result }
@@ -50,12 +39,14 @@ keeping result client = record client { number = next_number client.number; kept
 -- The record is confirmed, with what its number came to, and its lease renewed; the owner's other confirmed record goes with
 -- its sessions, its lease, its opens and its locks.
 abbrev pub confirmed : Machine → (now client : ℕ) → (body : List ℕ) → Machine
-confirmed m now client body = record {
-  clients = with_changed (with_confirmed m.clients client) client (keeping (Done body));
-  sessions = without_any_sessions m.sessions (leaving m.clients client);
-  leases = with_renewal (without_any_lease m.leases (leaving m.clients client)) client now;
-  store = without_any_opens m.store (leaving m.clients client);
-}
+confirmed m now client body =
+    let gone = leaving m.clients client in
+    record {
+      clients = with_changed (with_confirmed m.clients client) client (keeping (Done body));
+      sessions = option_map_or (without_client m.sessions) gone m.sessions;
+      leases = with_renewal (option_map_or (without_lease m.leases) gone m.leases) client now;
+      store = option_map_or (λ other. staying (λ c. not (c == other)) m.store) gone m.store;
+    }
 
 -- a result that was kept is answered again
 abbrev pub kept_again : Machine → Option CreateResult → Result MachineOutcome Status
@@ -78,22 +69,21 @@ made m now c =
     record {
       status = Nfs4Ok;
       result = done_head Num.CreateSession ++ body;
-      machine = confirmed (record m { sessions = with_session m.sessions c.clientid (wish_of m c) }) now c.clientid body;
+      machine = confirmed (record m { sessions = with_session m.sessions c.clientid c.fore_chan_attrs }) now c.clientid body;
     }
 
 -- a refusal of what is asked for uses the number up too
-abbrev pub or_kept_refusal : Machine → CreateSession → Result MachineOutcome Status → MachineOutcome
-or_kept_refusal m c (Ok o) = o
-or_kept_refusal m c (Err status) =
+abbrev pub kept_refusal : Machine → CreateSession → Status → MachineOutcome
+kept_refusal m c status =
     with_refusal (record m { clients = with_changed m.clients c.clientid (keeping (Refused status)) }) (op_number Num.CreateSession) status
 
 -- A result that is answered again wants no memory.
 abbrev pub create_session : Machine → Caller → (now : ℕ) → (refused : Bool) → CreateSession → MachineOutcome
-create_session m who now refused c = or_with_refusal m (op_number Num.CreateSession) (do
+create_session m who now refused c = or_refused (with_refusal m (op_number Num.CreateSession)) (do
   client ← ok_or (client_at m.clients c.clientid) StaleClientId
   if next_number c.sequence == client.number then kept_again m client.kept else do
     require (c.sequence == client.number) SeqMisordered
     require (client.uid == who.uid) ClidInUse
-    Ok (or_with_delay refused m (op_number Num.CreateSession) (or_kept_refusal m c (do
+    Ok (or_with_delay refused m (op_number Num.CreateSession) (or_refused (kept_refusal m c) (do
       in_order (session_checks m c)
       Ok (made m now c)))))

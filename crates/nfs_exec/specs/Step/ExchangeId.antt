@@ -1,5 +1,6 @@
 -- EXCHANGE_ID (RFC 8881 section 18.35; which of its cases there are is this server's profile): a record that stands is answered, or a new one is added.
 use Rattle.std.specs.Prelude.{ℕ, ◌==◌, not, bit_and, bytes_eq, List, [], ◌∷◌, Bool, true, false, Option, Some, None, Result, Ok, option_map, if◌then◌else◌}
+use Rattle.std.specs.Option.{option_map_or}
 use Rattle.nfs_xdr.specs.{Caller.Caller, declared.status.Status.Status}
 use Rattle.nfs_xdr.specs.declared.status.Status.TheVariants.{Inval, NoEnt, NotSame, Perm, ClidInUse, ServerFault}
 use Rattle.nfs_compound.specs.declared.op_num.OpNum.TheVariants as Num
@@ -8,12 +9,8 @@ use Rattle.nfs_results.specs.{declared.res.ExchangeIdOk.ExchangeIdOk, declared.r
 use Rattle.nfs_clients.specs.{Roster.{ClientRecord, next_id, confirmed_of, unconfirmed_of}, ExchangeId.{has_room, with_new}}
 use Rattle.nfs_opens.specs.Steps.{require, ◌>>=◌, ◌>>◌}
 use Rattle.nfs_names.specs.Ending.{has_open}
-use Rattle.nfs_lease.specs.Renewals.{Book, with_lease, without_lease}
-use Rattle.nfs_exec.specs.Step.Machine.{Machine, MachineOutcome, with_result, or_with_refusal}
-
--- EXCHGID4_FLAG_CONFIRMED_R, which no call may carry
-abbrev pub carries_confirmed : ExchangeId → Bool
-carries_confirmed e = not (bit_and e.flags 0x8000_0000 == 0)
+use Rattle.nfs_lease.specs.Renewals.{with_lease, without_lease}
+use Rattle.nfs_exec.specs.Step.Machine.{Machine, MachineOutcome, with_result, with_refusal, or_refused}
 
 -- EXCHGID4_FLAG_UPD_CONFIRMED_REC_A
 abbrev pub is_update : ExchangeId → Bool
@@ -54,22 +51,19 @@ granted client number confirmed = record {
   server_scope = server_name;
 }
 
-abbrev pub without_any_lease : Book → Option ℕ → Book
-without_any_lease b None = b
-without_any_lease b (Some client) = without_lease b client
-
 -- A new record begins its lease. The owner's unconfirmed one, which it replaces, loses its own.
 abbrev pub exchanged : Machine → Caller → (now : ℕ) → ExchangeId → Option ClientRecord → Result MachineOutcome Status
 exchanged m who now e (Some c) = Ok (with_result m (Res.ExchangeId (granted c.id c.number true)))
 exchanged m who now e None = do
   require (has_room m.clients e.ownerid) ServerFault
-  Ok (with_result (record m {
+  let begun = with_lease m.leases (next_id m.clients) now in Ok (with_result (record m {
     clients = with_new m.clients e.ownerid e.verifier who.uid;
-    leases = without_any_lease (with_lease m.leases (next_id m.clients) now) (option_map (λ c. c.id) (unconfirmed_of m.clients e.ownerid));
+    leases = option_map_or (without_lease begun) (option_map (λ c. c.id) (unconfirmed_of m.clients e.ownerid)) begun;
   }) (Res.ExchangeId (granted (next_id m.clients) 1 false)))
 
+-- no call may carry EXCHGID4_FLAG_CONFIRMED_R
 abbrev pub exchange_id : Machine → Caller → (now : ℕ) → ExchangeId → MachineOutcome
-exchange_id m who now e = or_with_refusal m (op_number Num.ExchangeId) (do
-  require (not (carries_confirmed e)) Inval
+exchange_id m who now e = or_refused (with_refusal m (op_number Num.ExchangeId)) (do
+  require (bit_and e.flags 0x8000_0000 == 0) Inval
   found ← standing m who e (confirmed_of m.clients e.ownerid)
   exchanged m who now e found)

@@ -1,5 +1,5 @@
 -- What stands between two records: the meanings of the server's tables; and what one operation comes to.
-use Rattle.std.specs.{Prelude.{◌≡◌, ℕ, Bool, true, false, ◌&&◌, List, Option, Some, None, Result, Ok, Err, is_some, if◌then◌else◌}, Option.option_map_or}
+use Rattle.std.specs.{Prelude.{◌≡◌, ℕ, Bool, true, false, ◌&&◌, List, Result, Ok, Err, is_some, if◌then◌else◌}, Option.option_map_or}
 use Rattle.nfs_xdr.specs.{declared.status.Status.Status, declared.status.Status.TheVariants.Delay, Tables.In}
 use Rattle.nfs_results.specs.{declared.res.Res.Res, Results.{status_of_result, spell_result, refusal}}
 use Rattle.nfs_opens.specs.{declared.records.OpenState.OpenState, Table.{clashes_with, as_asked}, TableInvariants.IsTable}
@@ -39,23 +39,15 @@ with_result m r = record { status = status_of_result r; result = spell_result r;
 abbrev pub with_refusal : Machine → ℕ → Status → MachineOutcome
 with_refusal m operation status = with_result m (refusal operation status)
 
--- The steps of an operation: it is refused, or comes to an outcome.
-abbrev pub or_with_refusal : Machine → ℕ → Result MachineOutcome Status → MachineOutcome
-or_with_refusal m operation (Err status) = with_refusal m operation status
-or_with_refusal m operation (Ok o) = o
-
--- an operation is refused with its fault, if it has one, and else comes to an outcome
-abbrev pub by_fault : Machine → ℕ → Option Status → MachineOutcome → MachineOutcome
-by_fault m operation None o = o
-by_fault m operation (Some status) o = with_refusal m operation status
+-- what steps come to, or else what their refusal comes to
+abbrev pub or_refused : {A F : Type 0} → (F → A) → Result A F → A
+or_refused refuse (Err fault) = refuse fault
+or_refused refuse (Ok a) = a
 
 -- What an operation that may want memory comes to: where memory was refused it answers NFS4ERR_DELAY in place of
 -- NFS4_OK and changes nothing; a refusal of its own comes before that.
 abbrev pub or_with_delay : Bool → Machine → ℕ → MachineOutcome → MachineOutcome
 or_with_delay refused m operation o = if refused && is_ok o.status then with_refusal m operation Delay else o
-
-abbrev pub is_client : Roster → ℕ → Bool
-is_client t client = is_some (client_at t client)
 
 abbrev pub is_confirmed : Roster → ℕ → Bool
 is_confirmed t client = option_map_or (λ c. c.confirmed) (client_at t client) false
@@ -65,7 +57,7 @@ pub record IsMachine (m : Machine) : Type 0 where
   -- client ids rise, and no owner has two records of one kind
   pub clients : IsRoster m.clients
   -- a client record has a lease, and nothing else has one
-  pub leased : (client : ℕ) → is_some (m.leases client) ≡ is_client m.clients client
+  pub leased : (client : ℕ) → is_some (m.leases client) ≡ is_some (client_at m.clients client)
   -- the client of each session is there and confirmed
   pub confirmed : (s : Session) → In s m.sessions.sessions → is_confirmed m.clients s.client ≡ true
   -- who has an open is there and confirmed

@@ -1,6 +1,6 @@
 -- SEQUENCE, CREATE_SESSION and EXCHANGE_ID in the parts that their code takes, which only contracts inside the crate cite: the tables of clients and of
 -- sessions judge, and what they answer is told.
-use Rattle.std.specs.{Prelude.{ℕ, ◌++◌, Bool, false, List, Option, Result, Ok, Err, ok_or, if◌then◌else◌}, Option.option_map_or}
+use Rattle.std.specs.{Prelude.{ℕ, ◌==◌, ◌++◌, not, Bool, false, List, Option, Result, Ok, Err, ok_or, if◌then◌else◌}, Option.option_map_or}
 use Rattle.nfs_xdr.specs.{Checks.{first_fault, judged}, Caller.Caller, declared.status.Status.Status}
 use Rattle.nfs_xdr.specs.declared.status.Status.TheVariants.{Nfs4Ok, StaleClientId, SeqMisordered, ClidInUse, BadSession}
 use Rattle.nfs_compound.specs.{declared.channel_attrs.ChannelAttrs.ChannelAttrs, declared.session_args.Sequence.Sequence, declared.session_args.CreateSession.CreateSession, Request.Request}
@@ -10,17 +10,17 @@ use Rattle.nfs_results.specs.{declared.res.ExchangeIdOk.ExchangeIdOk, declared.r
 use Rattle.nfs_slots.specs.{Slot.judge, declared.slot.Verdict.Verdict}
 use Rattle.nfs_clients.specs.{declared.created.CreateResult.CreateResult, declared.created.CreateResult.TheVariants.{Done, Refused}}
 use Rattle.nfs_clients.specs.{declared.exchange_id.Exchanged.Exchanged, declared.exchange_id.ClientFault.ClientFault, Roster.confirmed_of}
-use Rattle.nfs_clients.specs.CreateSession.{Verdict as ByNumber, Stale, Again, Misordered, InUse, Runs, create_verdict, with_kept}
+use Rattle.nfs_clients.specs.CreateSession.{Verdict as ByNumber, Stale, Again, Misordered, InUse, Runs, create_verdict, with_kept, leaving}
 use Rattle.nfs_clients.specs.ExchangeId.{Ask, Did, asks, exchange, client_fault_status}
-use Rattle.nfs_sessions.specs.{declared.id.SessionId.SessionId, declared.sessions.SessionFault.SessionFault}
+use Rattle.nfs_sessions.specs.{declared.channel.Wish.Wish, declared.id.SessionId.SessionId, declared.sessions.SessionFault.SessionFault}
 use Rattle.nfs_sessions.specs.Sessions.{Session, SessionTable, Created, create}
 use Rattle.nfs_sessions.specs.Sessions as sessions
 use Rattle.nfs_opens.specs.Steps.{in_order, ◌>>=◌, ◌>>◌}
-use Rattle.nfs_names.specs.Ending.{has_open}
-use Rattle.nfs_lease.specs.Renewals.{Book, with_lease}
-use Rattle.nfs_exec.specs.{Step.Machine.{Machine, MachineOutcome, with_result, with_refusal, or_with_delay}, Step.ExchangeId.{granted, without_any_lease}}
-use Rattle.nfs_exec.specs.Step.CreateSession.{wish_of, made_body, confirmed}
-use Rattle.nfs_exec.specs.Step.Sequence.{Sequenced, compared, or_refuses, slot_checks, fresh_checks, by_slot}
+use Rattle.nfs_names.specs.{State.State, Ending.{has_open, staying}}
+use Rattle.nfs_lease.specs.Renewals.{Book, with_lease, without_lease}
+use Rattle.nfs_exec.specs.{Step.Machine.{Machine, MachineOutcome, with_result, with_refusal, or_refused, or_with_delay}, Step.ExchangeId.granted}
+use Rattle.nfs_exec.specs.Step.CreateSession.{made_body, confirmed}
+use Rattle.nfs_exec.specs.Step.Sequence.{Sequenced, Refuses, compared, slot_checks, fresh_checks, by_slot}
 
 -- SEQUENCE
 
@@ -32,20 +32,33 @@ fresh_fault r size c = first_fault (fresh_checks r size c)
 
 -- it is refused with a fault, if it has one, or goes on
 abbrev pub past : Option Status → Result Sequenced Status → Sequenced
-past fault next = or_refuses (judged fault >> next)
+past fault next = or_refused Refuses (judged fault >> next)
 
 -- where the slot has judged
 abbrev pub slot_says : Request → (size : ℕ) → Sequence → Session → Verdict → Sequenced
-slot_says r size s session v = or_refuses (by_slot r size s session v)
+slot_says r size s session v = or_refused Refuses (by_slot r size s session v)
 
 -- by the session that was found
 abbrev pub by_session : Request → Caller → (size : ℕ) → Sequence → Option Session → Sequenced
-by_session r who size s found = or_refuses (do
+by_session r who size s found = or_refused Refuses (do
   session ← ok_or found BadSession
   in_order (slot_checks s session.channel)
   by_slot r size s session (judge session.slots s.slotid s.sequenceid who.uid (compared r)))
 
 -- CREATE_SESSION
+
+abbrev pub wish_of : Machine → CreateSession → Wish
+wish_of m c = record { fore = c.fore_chan_attrs; back = c.back_chan_attrs; leaving = leaving m.clients c.clientid }
+
+-- the tables without what a client has whose record leaves, if one does
+abbrev pub without_any_sessions : SessionTable → Option ℕ → SessionTable
+without_any_sessions t gone = option_map_or (sessions.without_client t) gone t
+
+abbrev pub without_any_lease : Book → Option ℕ → Book
+without_any_lease b gone = option_map_or (without_lease b) gone b
+
+abbrev pub without_any_opens : State → Option ℕ → State
+without_any_opens s gone = option_map_or (λ other. staying (λ c. not (c == other)) s) gone s
 
 abbrev pub by_created : Machine → (now : ℕ) → CreateSession → SessionTable → Result SessionId SessionFault → MachineOutcome
 by_created m now c after (Ok id) = record {

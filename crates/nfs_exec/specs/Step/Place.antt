@@ -17,17 +17,13 @@ abbrev pub is_sequence : Op → Bool
 is_sequence (Op.Sequence s) = true
 is_sequence op = false
 
--- Why an operation cannot stand in the first place, of so many declared.
-abbrev pub place_fault : ℕ → Op → Option Status
-place_fault declared op =
+-- Why an item cannot stand in the first place, of so many declared. A fault answers its own status, whatever place it is.
+abbrev pub place_fault : ℕ → Item → Option Status
+place_fault declared (Fault number status) = Some status
+place_fault declared (Operation op) =
     first_fault ((stands_alone op && nat_lt 1 declared, NotOnlyOp)
     ∷ (not (stands_alone op || is_sequence op), OpNotInSession)
     ∷ [])
-
--- a fault answers its own status, whatever place it is
-abbrev pub item_fault : ℕ → Item → Option Status
-item_fault declared (Operation op) = place_fault declared op
-item_fault declared (Fault number status) = Some status
 
 -- What an item behind SEQUENCE is refused with, where nothing carries it out: the four operations that stand alone are not
 -- supported there (this server's profile).

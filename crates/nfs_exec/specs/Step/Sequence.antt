@@ -8,7 +8,7 @@ use Rattle.nfs_results.specs.declared.res.SequenceOk.{SequenceOk}
 use Rattle.nfs_slots.specs.{Slot.{judge, kept}, declared.slot.Verdict.Verdict, declared.slot.Verdict.TheVariants.{Fresh, Again, FalseRetry, Misordered, NoSlot}}
 use Rattle.nfs_sessions.specs.{Id.id_of, Sessions.{Session, session_at}}
 use Rattle.nfs_opens.specs.Steps.{in_order, ◌>>=◌, ◌>>◌}
-use Rattle.nfs_exec.specs.Step.Machine.{Machine}
+use Rattle.nfs_exec.specs.Step.Machine.{Machine, or_refused}
 
 -- Where sa_highest_slotid stands in the arguments of a compound that SEQUENCE begins: behind the tag, its padding and 40 bytes, which are the length of
 -- the tag (4), the minor version (4), the count (4), SEQUENCE's number (4), the session (16), the number (4) and the slot (4).
@@ -26,11 +26,6 @@ pub data Sequenced : Type 0 where
   Refuses : Status → Sequenced
   Repeats : (reply : List ℕ) → Sequenced
   Runs : ChannelAttrs → Sequenced
-
--- refused at a step, or what the steps come to
-abbrev pub or_refuses : Result Sequenced Status → Sequenced
-or_refuses (Err status) = Refuses status
-or_refuses (Ok verdict) = verdict
 
 -- the slot that is named, and the highest one that the client has in use
 abbrev pub slot_checks : Sequence → ChannelAttrs → List (Bool × Status)
@@ -52,7 +47,7 @@ by_slot r size s session Fresh = do
 
 -- what a SEQUENCE of a caller comes to, in a record of so many bytes
 abbrev pub sequenced : Machine → Request → Caller → (size : ℕ) → Sequence → Sequenced
-sequenced m r who size s = or_refuses (do
+sequenced m r who size s = or_refused Refuses (do
   session ← ok_or (session_at m.sessions (id_of s.sessionid)) BadSession
   in_order (slot_checks s session.channel)
   by_slot r size s session (judge session.slots s.slotid s.sequenceid who.uid (compared r)))

@@ -11,7 +11,7 @@ use Rattle.nfs_sessions.specs.{SessionTables.IsGranted, Channel.rpc_head}
 use Rattle.nfs_sessions.specs.Sessions as sessions
 use Rattle.nfs_exec.specs.{declared.tables.Tables.Tables, declared.sequence.Sequenced.{Sequenced as Code}}
 use Rattle.nfs_exec.specs.{Step.Machine.{Machine, IsMachine, MachineOutcome, machine_of}, Step.Behind.Step, Step.Compound.{answers, runs_behind, Answered}}
-use Rattle.nfs_exec.specs.{Step.Run.Ran, Step.ExchangeId.without_any_lease, Step.CreateSession.{without_any_sessions, without_any_opens}}
+use Rattle.nfs_exec.specs.{Step.Run.Ran, Step.Parts.{without_any_sessions, without_any_lease, without_any_opens}}
 use Rattle.nfs_exec.specs.Step.Sequence.{Sequenced, Refuses, Repeats, Runs}
 use Rattle.nfs_exec.specs.declared.sequence.Sequenced.TheVariants as code
 use Rattle.nfs_exec.specs.declared.run.Ran as code_run

@@ -19,7 +19,7 @@ use Rattle.nfs_opens.specs.{StateId.{last_number, is_anonymous, is_bypass, is_cu
 use Rattle.nfs_opens.specs.Table.{Table, lock_at}
 use Rattle.nfs_opens.specs.declared.locking.OpenFault.TheVariants as F
 use Rattle.nfs_opens.specs.Locking as locking
-use Rattle.nfs_opens.proofs.CallLaws.{came}
+use Rattle.nfs_opens.proofs.{CallLaws.came, Terms.{lock_by_owner, unless_told}}
 use Rattle.nfs_names.specs.{declared.context.Context.Context, Checks.{node_as, node_at, current}, Outcome.{Outcome, passed, checked, mapped, answers}}
 use Rattle.nfs_names.specs.State.{State}
 use Rattle.nfs_names.proofs.{Faulted.status_of_refusal, Ones.by_delay}
@@ -162,14 +162,14 @@ seat_fair : (t : Table) (w : Wish) (n : ℕ) (v : Result Seat Status) → IsClea
 seat_fair t w n (Err status) is = refused_fair t w n status (is status refl)
 seat_fair t w n (Ok seat) is = ok_fair t w n seat
 
-told_fair : (t : Table) (w : Wish) (n : ℕ) (o : Option Held) → locking.clash t n w ≡ o → IsFair t w n (locking.unless_told o)
+told_fair : (t : Table) (w : Wish) (n : ℕ) (o : Option Held) → locking.clash t n w ≡ o → IsFair t w n (unless_told o)
 told_fair t w n None e = ok_fair t w n tt
 told_fair t w n (Some h) e = λ fault same is. record { held = h; is = (let one : F.Denied h ≡ fault = cc in sym one); clash = e }
 
 judged_fair : (t : Table) (w : Wish) (n : ℕ) (access : Share) → IsFair t w n (locking.lock_judged t n access w)
 judged_fair t w n access = go (locking.permits access w.kind)
   where
-    go : (b : Bool) → IsFair t w n (cond b (locking.unless_told (locking.clash t n w)) (Err (F.Refused S.OpenMode)))
+    go : (b : Bool) → IsFair t w n (cond b (unless_told (locking.clash t n w)) (Err (F.Refused S.OpenMode)))
     go true = told_fair t w n (locking.clash t n w) refl
     go false = refused_fair t w n S.OpenMode refl
 
@@ -179,7 +179,7 @@ as_fair t w n access =
     next_fair t w n (ok_or (lock_at t n) (F.Refused S.BadStateId)) _ (there_fair t w n (lock_at t n)) (λ l. ok_fair t w n _))
 
 owner_fair : (t : Table) (w : Wish) (opened : ℕ) (owner : List ℕ) (access : Share) (o : Option LockState)
-    → IsFair t w (locking.number_of o) (locking.lock_by_owner t w opened owner access o)
+    → IsFair t w (locking.number_of o) (lock_by_owner t w opened owner access o)
 owner_fair t w opened owner access (Some l) = as_fair t w l.number access
 owner_fair t w opened owner access None =
     next_fair t w 0 (locking.lock_judged t 0 access w) _ (judged_fair t w 0 access) (λ u.

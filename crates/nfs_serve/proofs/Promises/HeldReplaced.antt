@@ -16,11 +16,11 @@ use Rattle.nfs_opens.specs.{declared.records.LockState.LockState, declared.recor
 use Rattle.nfs_names.specs.{Ending.{has_open, table_staying}, Outcome.is_ok}
 use Rattle.nfs_names.specs.State as of_store
 use Rattle.nfs_files.specs.LockTold.{LockTold}
-use Rattle.nfs_exec.specs.{Step.Machine.{by_fault, Machine, IsMachine, MachineOutcome, with_refusal}, Step.Place.item_fault}
-use Rattle.nfs_exec.specs.{Step.CreateSession.{without_any_opens, wish_of}, Step.Run.is_here}
+use Rattle.nfs_exec.specs.Step.{Machine.{Machine, IsMachine, MachineOutcome, with_refusal}, Place.place_fault, Parts.{without_any_opens, wish_of}}
+use Rattle.nfs_exec.specs.Step.Run.{is_here}
 use Rattle.nfs_exec.specs.{Step.Compound.{carried_out, first_item, bare, by_first, compound}, Step.Laws.Asks}
 use Rattle.nfs_exec.specs.Runs.LockHeld.{is_of_owner, takes_place, replaces_in, replaces}
-use Rattle.nfs_exec.proofs.Step.InSteps.{create_session_is}
+use Rattle.nfs_exec.proofs.Step.{InSteps.create_session_is, Terms.by_fault}
 use Rattle.nfs_exec.specs.Step.Parts.{by_created, creates, by_number}
 use Rattle.nfs_serve.proofs.{Promises.HeldBefore.Holds, Promises.HeldLock.not_so, Promises.HeldTraced.held_staying}
 use Rattle.nfs_clients.proofs.Members.{leaving_by}
@@ -128,7 +128,7 @@ module _ (client : ℕ) (P : Table → Type 0) (had : IsHad client P) (m : Machi
   first_same : (declared : ℕ) (who : Caller) (now : ℕ) (refused : Bool) (i : Item) → takes_place client m.clients i ≡ true
       → is_ok (first_item m declared who now refused i).status ≡ true → P (first_item m declared who now refused i).machine.store.opens
       → (first_item m declared who now refused i).machine ≡ m
-  first_same declared who now refused (Operation (Op.CreateSession c)) takes = go (item_fault declared (Operation (Op.CreateSession c)))
+  first_same declared who now refused (Operation (Op.CreateSession c)) takes = go (place_fault declared (Operation (Op.CreateSession c)))
     where
       go : (f : Option Status) → (let o = by_fault m (item_number (Operation (Op.CreateSession c))) f (carried_out m who now refused (Operation (Op.CreateSession c))) in
           is_ok o.status ≡ true → P o.machine.store.opens → o.machine ≡ m)

@@ -22,12 +22,12 @@ use Rattle.nfs_slots.specs.Slot as slots
 use Rattle.nfs_sessions.specs.{Id.id_of, Sessions.{Session, SessionTable, session_at, keep}, SessionTables.IsSessions}
 use Rattle.nfs_sessions.proofs.TableLemmas.{slots_changed, sessions_filtered}
 use Rattle.nfs_exec.specs.Step.Machine.{Machine}
-use Rattle.nfs_exec.specs.Step.Sequence.{compared, Sequenced, Refuses, Repeats, Runs as RunsIn, or_refuses, by_slot}
+use Rattle.nfs_exec.specs.Step.Sequence.{compared, Sequenced, Refuses, Repeats, Runs as RunsIn, by_slot}
 use Rattle.nfs_exec.specs.Step.Parts.{past, slot_says, slot_fault, fresh_fault, by_session}
 use Rattle.nfs_exec.specs.{Step.Compound.{in_session, by_first, compound}, Step.Laws.{if_runs, first_runs}}
 use Rattle.nfs_exec.specs.Step.Executing.{first_sequence, sequence_of, is_alone, executes}
 use Rattle.nfs_exec.specs.Step.Sequence as sequence
-use Rattle.nfs_exec.proofs.{Runs.SlotNumbers.IsHeld, Runs.SessionsBehind.{ran_in, quiet_compound, told_compound}}
+use Rattle.nfs_exec.proofs.{Runs.{SlotNumbers.IsHeld, SessionsBehind.{ran_in, quiet_compound, told_compound}}, Step.Terms.or_refuses}
 use Rattle.nfs_serve.specs.Promises.Endpoint.{Place, Heading, Answer}
 use Rattle.nfs_serve.specs.Step.{asked_of, ServerState, Stepped, refused, answered, with_arguments, by_procedure, reply_to, step}
 use Rattle.nfs_serve.specs.Promises.Seen.{ReplyReader, IsSequenced, Bears, slot_in, ticked, executes_by, heading_of, heading_in, heading_by, heading, seen, server}

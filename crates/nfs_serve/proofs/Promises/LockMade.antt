@@ -11,7 +11,7 @@ use Rattle.nfs_compound.specs.declared.op.Op.TheVariants as Op
 use Rattle.nfs_compound.specs.declared.op_num.OpNum.TheVariants as Num
 use Rattle.nfs_results.specs.{declared.res.Res.Res, Results.status_of_result}
 use Rattle.nfs_opens.specs.{Judging.judge}
-use Rattle.nfs_opens.specs.Locking.{lock_judged, lock_as, lock_first, lock_by_owner, lock_under, lock_known, access_in, state_of}
+use Rattle.nfs_opens.specs.Locking.{lock_judged, lock_as, lock_first, lock_under, lock_known, access_in, state_of}
 use Rattle.nfs_opens.specs.{Opening.{own_open, opens_by}, Steps.{◌>>=◌, map_err, require}, StateId.last_number, Table.{Table, Asked, lock_at}}
 use Rattle.nfs_opens.specs.{declared.judging.Sort.TheVariants.{OpenOnly, LockOnly}, declared.locking.OpenFault.OpenFault}
 use Rattle.nfs_opens.specs.{declared.locking.OpenFault.TheVariants.Refused, declared.locking.Wish.Wish, declared.records.LockState.LockState}
@@ -36,7 +36,7 @@ use Rattle.nfs_serve.specs.{Step.{ServerState, new_state}, Promises.ChangeTells.
 use Rattle.nfs_serve.specs.Promises.LockMade.{MakesUnder, EachLockWasMade}
 use Rattle.nfs_serve.specs.Promises.Points.{state_after, state_after_all, reached, taken, before, asked_by, ops_of}
 use Rattle.nfs_serve.proofs.{Promises.LockKept.each_is_told, Promises.Points.{left, next_is, IsSound, whole_before, sound_next, sound_all, sound_new}}
-use Rattle.nfs_opens.proofs.Terms.{not_under}
+use Rattle.nfs_opens.proofs.Terms.{lock_by_owner, not_under}
 
 -- it was there, with this number and under this open
 abbrev Was : Table → LockState → Type 0

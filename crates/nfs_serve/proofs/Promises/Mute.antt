@@ -18,13 +18,12 @@ use Rattle.nfs_clients.specs.CreateSession as clients
 use Rattle.nfs_sessions.specs.{declared.id.SessionId.SessionId, declared.sessions.SessionFault.SessionFault, Id.id_of}
 use Rattle.nfs_sessions.specs.Sessions.{SessionTable, create, session_at, session_fault_status}
 use Rattle.nfs_names.specs.Outcome.{is_ok}
-use Rattle.nfs_exec.specs.{Step.Machine.{by_fault, Machine, MachineOutcome, or_with_delay}, Step.Place.{stands_alone, is_sequence}}
+use Rattle.nfs_exec.specs.Step.{Machine.{Machine, MachineOutcome, or_with_delay}, Place.{stands_alone, is_sequence}, Parts.wish_of}
 use Rattle.nfs_exec.specs.Step.View.{CanBear, IsOpened}
 use Rattle.nfs_exec.specs.Step.ExchangeId.{exchange_id}
-use Rattle.nfs_exec.specs.Step.CreateSession.{wish_of}
 use Rattle.nfs_exec.specs.{Step.Destroy.{destroy_session, client_fault}, Step.Run.is_here}
 use Rattle.nfs_exec.specs.{Step.Compound.{carried_out, first_item, by_first, compound}, Step.Executing.{first_sequence, sequence_of}}
-use Rattle.nfs_exec.proofs.Step.InSteps.{exchange_id_is, create_session_is}
+use Rattle.nfs_exec.proofs.Step.{InSteps.{exchange_id_is, create_session_is}, Terms.by_fault}
 use Rattle.nfs_exec.specs.Step.Parts.{answered, ask_of, by_number, by_created}
 use Rattle.nfs_exec.proofs.Step.RefusalsFit.{opened_bears}
 use Rattle.nfs_serve.proofs.{Promises.Reader.sequenced, Promises.Spelled.{IsBad, IsMute, mute_spelled, bare_spelled}}

@@ -12,7 +12,7 @@ use Rattle.nfs_tree.proofs.RowsKept.{entry_parts}
 use Rattle.nfs_names.specs.{declared.context.Context.Context, Context.begins, Outcome.is_ok}
 use Rattle.nfs_names.specs.State as store
 use Rattle.nfs_files.specs.OpenTold.{names_open}
-use Rattle.nfs_exec.specs.{Step.Machine.Machine, Step.Behind.Step, Step.Run.{in_room, is_here, behind_here}, Step.CreateSession.without_any_opens}
+use Rattle.nfs_exec.specs.Step.{Machine.Machine, Behind.Step, Run.{in_room, is_here, behind_here}, Parts.without_any_opens}
 use Rattle.nfs_exec.specs.{Step.Sequence.{Sequenced, sequenced}, Step.Compound.{first_item, renewed, begun, bare, in_session, by_first}}
 use Rattle.nfs_exec.specs.Step.Laws.{MachineEvent, Expires, Asks, stepped}
 use Rattle.nfs_exec.specs.Runs.Ops.{RanOp, done, ops, ops_in, ops_of as ops_first, ops_by, left_by, AreChained}

@@ -14,8 +14,8 @@ use Rattle.nfs_clients.specs.Marks.{has_reclaimed, with_reclaimed}
 use Rattle.nfs_names.specs.{declared.context.Context.Context, declared.node.Node.Node, Checks.current, State.moment}
 use Rattle.nfs_files.proofs.Outcomes.{comes_to}
 use Rattle.nfs_exec.specs.{Runs.Ops.RanOp, Step.Behind.otherwise, Step.Machine.{Machine, with_refusal, with_result}, Step.Place.status_behind}
-use Rattle.nfs_exec.specs.Step.ReclaimComplete.{reclaim_complete, of_one, of_all}
-use Rattle.nfs_exec.proofs.Runs.OneRun.{IsRun, by_run}
+use Rattle.nfs_exec.specs.Step.ReclaimComplete.{reclaim_complete}
+use Rattle.nfs_exec.proofs.{Runs.OneRun.{IsRun, by_run}, Step.Terms.{of_one, of_all}}
 use Rattle.nfs_serve.specs.{Step.new_state, Promises.NeverExpired.{says, NoneIsExpired}, Promises.Points.reached}
 use Rattle.nfs_serve.proofs.{Promises.LaterRecords.op_done, Promises.Points.{IsSound, sound_all, sound_new}}
 

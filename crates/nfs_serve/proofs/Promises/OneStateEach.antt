@@ -10,7 +10,7 @@ use Rattle.nfs_results.specs.{declared.res.Res.Res, Results.status_of_result}
 use Rattle.nfs_opens.specs.{declared.judging.Sort.TheVariants.{LockOnly, OpenOnly}, declared.locking.OpenFault.TheVariants.Refused, declared.locking.Wish.Wish}
 use Rattle.nfs_opens.specs.{declared.records.LockState.LockState, declared.records.OpenState.OpenState, declared.share.Share.Share}
 use Rattle.nfs_opens.specs.{declared.stateid.StateId.StateId, Judging.judge}
-use Rattle.nfs_opens.specs.{Locking.{is_locker, state_of, raised, access_in, lock_judged, lock_as, lock_first, lock_by_owner}, StateId.last_number}
+use Rattle.nfs_opens.specs.{Locking.{is_locker, state_of, raised, access_in, lock_judged, lock_as, lock_first}, StateId.last_number}
 use Rattle.nfs_opens.specs.{Steps.{map_err, require}, Table.{Table, Asked, lock_at}}
 use Rattle.nfs_opens.specs.Opening as opening
 use Rattle.nfs_opens.proofs.CallLaws.{first_state, came, ok_is}
@@ -22,7 +22,7 @@ use Rattle.nfs_files.proofs.ToldLocks.{left_by}
 use Rattle.nfs_exec.specs.Runs.Ops.{RanOp}
 use Rattle.nfs_exec.proofs.{Runs.OneRun.{IsRun, by_ok, by_run}, Runs.OneWalk.IsKept}
 use Rattle.nfs_serve.proofs.Promises.HeldBefore.{IsGranting, Granting}
-use Rattle.nfs_opens.proofs.Terms.{not_under}
+use Rattle.nfs_opens.proofs.Terms.{lock_by_owner, not_under}
 
 -- Tables.
 

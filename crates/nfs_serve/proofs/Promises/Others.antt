@@ -8,9 +8,9 @@ use Rattle.nfs_compound.specs.Request.{Request}
 use Rattle.nfs_lease.specs.Renewals.{Book}
 use Rattle.nfs_sessions.specs.{Id.id_of, Sessions.{is_session, session_at}}
 use Rattle.nfs_names.specs.Context.{begins}
-use Rattle.nfs_exec.specs.{Step.Compound.{renewed, begun, compound}, Step.Run.behind_here, Step.Machine.{Machine, IsMachine, is_client, is_confirmed}}
+use Rattle.nfs_exec.specs.Step.{Compound.{renewed, begun, compound}, Run.behind_here, Machine.{Machine, IsMachine, is_confirmed}}
 use Rattle.nfs_exec.specs.{Step.Laws.Asks, Runs.LockHeld.{replaces, is_of, renews}, Runs.Own.{IsAsBefore, is_named_by}}
-use Rattle.nfs_exec.proofs.{Step.Behind.run_leases, Runs.ByEvent.by_compound, Step.RepliesKept.runs_means, Step.Invariant.of_start}
+use Rattle.nfs_exec.proofs.{Step.{Behind.run_leases, RepliesKept.runs_means, Invariant.of_start, Terms.is_client}, Runs.ByEvent.by_compound}
 use Rattle.nfs_exec.proofs.{Runs.NotNamed.{as_it_was, then_as, expired_strange, compound_strange}, Runs.OthersByRuns.event_apart}
 use Rattle.nfs_exec.proofs.Runs.Renewing.{AtLeast, in_time}
 use Rattle.nfs_opens.specs.Table.{Table}

@@ -9,8 +9,8 @@ use Rattle.nfs_lease.specs.{Renewals.{Book, is_out, has_run_out}, Queue.IsLatest
 use Rattle.nfs_clients.specs.Roster.{Roster, ClientRecord, client_at}
 use Rattle.nfs_opens.specs.declared.records.OpenState.{OpenState}
 use Rattle.nfs_names.specs.Ending.{has_open}
-use Rattle.nfs_exec.specs.{Step.Machine.{IsMachine, is_client, is_confirmed}, Step.Laws.Asks, Runs.Renewing.renews_or_begins}
-use Rattle.nfs_exec.proofs.{Step.Invariant.{of_start, of_expired, of_compound}, Step.LeaseMoments.{expired_all, latest_compound}}
+use Rattle.nfs_exec.specs.{Step.{Machine.{IsMachine, is_confirmed}, Laws.Asks}, Runs.Renewing.renews_or_begins}
+use Rattle.nfs_exec.proofs.Step.{Invariant.{of_start, of_expired, of_compound}, LeaseMoments.{expired_all, latest_compound}, Terms.is_client}
 use Rattle.nfs_exec.proofs.Runs.Outlasting.{IsStill, compound_still}
 use Rattle.nfs_serve.specs.{Step.{ServerState, new_state}, Promises.Endpoint.Arrival, Promises.Points.{state_after, state_after_all, reached, taken, before}}
 use Rattle.nfs_serve.specs.Promises.Outlived.{renewed_by, last_renewal, NoneOutlives}

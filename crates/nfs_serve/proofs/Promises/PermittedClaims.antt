@@ -6,45 +6,24 @@ use Rattle.nfs_xdr.specs.declared.status.Status.TheVariants as S
 use Rattle.nfs_compound.specs.{declared.op.Item.TheVariants.Operation, declared.open_args.Open.Open, declared.open_args.OpenClaim.TheVariants.{Null, Fh}}
 use Rattle.nfs_compound.specs.declared.op.Op.TheVariants as Op
 use Rattle.nfs_compound.specs.declared.op_num.OpNum.TheVariants as Num
-use Rattle.nfs_tree.specs.{declared.fault.TreeFault.TreeFault, declared.stored.Stored.Stored, Files.{stored_in, object_named}}
-use Rattle.nfs_tree.specs.declared.fault.TreeFault.TheVariants as F
+use Rattle.nfs_tree.specs.{declared.stored.Stored.Stored, Files.{stored_in, object_named}}
 use Rattle.nfs_attrs.specs.{Permissions.{write as to_write, execute as to_execute}, Setting.make_checks}
 use Rattle.nfs_names.specs.{declared.context.Context.Context, declared.making.Making.Making, declared.node.Node.Node}
-use Rattle.nfs_names.specs.{Checks.{node_as, node_at, no_directory, permits, name_checks, current}, Create.attributes_in, Faults.{tree_fault_status, by_tree}}
+use Rattle.nfs_names.specs.{Checks.{node_as, node_at, no_directory, permits, name_checks, current}, Create.attributes_in}
 use Rattle.nfs_names.specs.{Outcome.checked, State.{State, moment}}
 use Rattle.nfs_names.proofs.{Found.{ok_is, checked_ok}, Ones.by_delay}
 use Rattle.nfs_files.specs.Bytes.{file_checks, want_of}
-use Rattle.nfs_files.specs.Open.{access_of, makes, argument_checks, place_checks, absent_checks, there_checks, tree_checks, last_checks}
+use Rattle.nfs_files.specs.Open.{access_of, makes, argument_checks, place_checks, absent_checks, there_checks, last_checks}
 use Rattle.nfs_files.specs.OpenParts.{found_by, by_name, by_claim, asked_for}
 use Rattle.nfs_files.specs.Open.{opened, open_file}
-use Rattle.nfs_files.proofs.WrittenOps.{current_number}
+use Rattle.nfs_files.proofs.{OpenAnswers.last_pass, WrittenOps.current_number}
 use Rattle.nfs_exec.specs.Runs.Ops.{RanOp}
 use Rattle.nfs_exec.proofs.Runs.OneRun.{IsRun, by_item}
 use Rattle.nfs_serve.specs.Promises.Permitted.{Rights, Right, Writes, Executes, Grants, rights_of, rights_at, has_right, IsAt}
 use Rattle.nfs_serve.proofs.Promises.Granting.{may_write, may_execute, may_ask, rights_here, current_at}
 use Rattle.nfs_serve.proofs.Promises.PermittedNames.{gives, is_access, lets, at_without, current_without, wanted_without, big_other, not_access}
-use Rattle.nfs_serve.proofs.Promises.Without.{IsWithout, AreGood, append_good, are_good, by_tree_good, err_without, ok_without, by_bool, then_without, checked_without, mapped_without, Answers, answers_without}
+use Rattle.nfs_serve.proofs.Promises.Without.{IsWithout, AreGood, are_good, err_without, ok_without, by_bool, then_without, checked_without, mapped_without, Answers, answers_without}
 use Rattle.nfs_files.proofs.InSteps as in_steps
-
--- The checks of the tree answer otherwise.
-
-tree_good : (f : TreeFault) → is_access (tree_fault_status f) ≡ false
-tree_good F.NoEnt = refl
-tree_good F.Exist = refl
-tree_good F.NotDir = refl
-tree_good F.IsDir = refl
-tree_good F.NotEmpty = refl
-tree_good F.Inval = refl
-tree_good F.Fbig = refl
-tree_good F.NoSpc = refl
-tree_good F.Mlink = refl
-tree_good F.Counter = refl
-tree_good F.Memory = refl
-
-last_good : (s : State) (x : Context) (o : Open) (f : _) → AreGood is_access (last_checks s x o f)
-last_good s x o f g e = append_good is_access (_ ∷ by_tree (tree_checks s.tree o f)) (_ ∷ [])
-    (append_good is_access (_ ∷ []) (by_tree (tree_checks s.tree o f)) (are_good is_access (_ ∷ []) refl) (by_tree_good is_access tree_good (tree_checks s.tree o f)))
-    (are_good is_access (_ ∷ []) refl) g e
 
 -- What is found, where all is granted.
 
@@ -89,7 +68,8 @@ module _ (s : State) (x : Context) (o : Open) where
   open_let now is =
       rw (in_steps.open_is s x now o)
       (answers_without is_access s x Num.Open (checked (asked_for s x o) (last_checks s x o)) (opened s x now o)
-      (checked_without is_access (asked_for s x o) (last_checks s x o) is (λ f e. last_good s x o f)) (λ f e. refl))
+      (checked_without is_access (asked_for s x o) (last_checks s x o) is
+      (λ f e. are_good is_access (last_checks s x o f) (last_pass (λ f. not (is_access f)) s x o f refl refl refl refl))) (λ f e. refl))
 
 -- Of an OPEN that was run.
 

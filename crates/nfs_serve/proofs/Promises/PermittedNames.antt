@@ -1,7 +1,7 @@
 -- An operation on names that was answered NFS4_OK was granted what it wants of the directory, and one that was refused by NFS4ERR_ACCESS was not.
 use Rattle.std.proofs.Common.{◌≡◌, ◌≢◌, ℕ, Bool, true, false, not, List, [], ◌∷◌, ◌++◌, Option, Some, None, refl, sym, ◌∙◌, ap, subst, inl, inr}
 use Rattle.std.proofs.lemmas.Bool.{not-false, false≢true}
-use Rattle.std.specs.Prelude.{◌==◌, ◌||◌, nat_lt, bytes_eq, is_some, Result, Ok, Err}
+use Rattle.std.specs.Prelude.{◌==◌, ◌||◌, nat_lt, bytes_eq, is_some, Result, Ok}
 use Rattle.nfs_xdr.specs.{Status.status_number, Tables.In, declared.time.Time.Time, declared.status.Status.Status}
 use Rattle.nfs_xdr.specs.declared.status.Status.TheVariants.{Access, RepTooBig, Symlink, NoEnt, IsDir, Inval, TooSmall}
 use Rattle.nfs_xdr.specs.declared.status.Status.TheVariants as S
@@ -12,17 +12,17 @@ use Rattle.nfs_compound.specs.declared.op.Op.TheVariants as Op
 use Rattle.nfs_compound.specs.declared.op_num.OpNum.TheVariants as Num
 use Rattle.nfs_results.specs.declared.res.Res.TheVariants as Res
 use Rattle.nfs_results.specs.Results.{status_of_result}
-use Rattle.nfs_tree.specs.{declared.object.Object.Object, Create.create_checks, Files.{object_named as found, parent_in, object_at, most_text}}
-use Rattle.nfs_tree.specs.{Names.{link_checks, remove_checks}, Object.{is_directory, is_link}}
-use Rattle.nfs_attrs.specs.{declared.wanted.AttrFault.AttrFault, Mask.{mask_of, asks_set_only}}
-use Rattle.nfs_attrs.specs.{Permissions.{read as to_read, execute as to_execute, change_entries as to_change}, Reading.attr_fault_status, Setting.make_checks}
-use Rattle.nfs_attrs.specs.declared.wanted.AttrFault.TheVariants as F
-use Rattle.nfs_opens.specs.Steps.{map_err}
+use Rattle.nfs_tree.specs.{declared.object.Object.Object, Files.{has_name, object_named as found, parent_in, object_at, most_text}, Object.{is_directory, is_link}}
+use Rattle.nfs_attrs.specs.Mask.{mask_of, asks_set_only}
+use Rattle.nfs_attrs.specs.{Permissions.{read as to_read, execute as to_execute, change_entries as to_change}, Setting.make_checks}
+use Rattle.nfs_attrs.proofs.Answered.{by_read}
 use Rattle.nfs_names.specs.{declared.context.Context.Context, declared.node.Node.Node}
 use Rattle.nfs_names.specs.Checks.{node_as, node_at, saved_object, no_directory, no_access, permits, name_checks, current, both}
-use Rattle.nfs_names.specs.{Create.{is_made, text_is, new_of, place_checks, wanted_of, attributes_in, create}, Faults.by_tree, Link.link}
+use Rattle.nfs_names.specs.{Create.{is_made, text_is, place_checks, room_checks, attributes_in, create}, Link.link}
 use Rattle.nfs_names.specs.{Lookup.lookup, LookupP.lookup_p, Context.at_object, Outcome.{Outcome, done, is_ok}}
 use Rattle.nfs_names.specs.{ReadDir.{zeros, fits_none, listing_checks, read_dir}, Remove.remove, State.{State, moment}}
+use Rattle.nfs_names.specs.Link as of_link
+use Rattle.nfs_names.specs.Remove as of_remove
 use Rattle.nfs_names.proofs.{Found.{came, ok_is}, NameLaws.{by_lookup, by_lookup_p, by_read_dir, by_create, by_link, by_remove, link_places, remove_places}}
 use Rattle.nfs_names.proofs.Ones.{by_delay}
 use Rattle.nfs_exec.specs.{Step.Behind.refused_step, Runs.Ops.RanOp}
@@ -174,18 +174,11 @@ place_rest c =
     ∷ (text_is (nat_lt most_text) c.objtype, S.NameTooLong)
     ∷ name_checks c.objname
 
-fault_without : (f : AttrFault) → is_access (attr_fault_status f) ≡ false
-fault_without F.AttrNotSupp = refl
-fault_without F.Inval = refl
-fault_without F.BadXdr = refl
-fault_without F.BadOwner = refl
-
-read_without : {A : Type 0} (v : Result A AttrFault) → IsWithout is_access (map_err attr_fault_status v)
-read_without (Err f) = err_without is_access (attr_fault_status f) (fault_without f)
-read_without (Ok a) = ok_without is_access a
-
 pub wanted_without : (a : Attributes) → IsWithout is_access (attributes_in a)
-wanted_without a = read_without (wanted_of a)
+unfolding attributes_in
+wanted_without a =
+    by_read (IsWithout is_access) (err_without is_access _ refl) (err_without is_access _ refl) (err_without is_access _ refl) (err_without is_access _ refl)
+    (ok_without is_access) (mask_of a.attrmask) a.attr_vals
 
 module _ (s : State) (x : Context) (n : ℕ) (r : Rights) (at : x.current ≡ Some n) (is : rights_at s.tree n ≡ Some r) where
   lookup_let : (name : List ℕ) → Grants r x.who Executes → Answers is_access (lookup s x name)
@@ -217,7 +210,7 @@ module _ (s : State) (x : Context) (n : ℕ) (r : Rights) (at : x.current ≡ So
       (ends_then is_access (attributes_in c.createattrs) _ (wanted_without c.createattrs) (λ wanted f.
       ends_passed is_access (make_checks wanted x.who) _ (are_good is_access (make_checks wanted x.who) refl)
       (ends_held is_access (not (is_some wanted.size)) Inval _ refl
-      (ends_passed is_access (by_tree (create_checks s.tree d.number c.objname (new_of c.objtype))) _ (are_good is_access (by_tree (create_checks s.tree d.number c.objname (new_of c.objtype))) refl) refl))))))
+      (let last = (has_name s.tree d.number c.objname, S.Exist) ∷ room_checks s.tree d.number in ends_passed is_access last _ (are_good is_access last refl) refl))))))
 
   link_let : (now : Time) (name : List ℕ) → Grants r x.who Writes → Grants r x.who Executes → Answers is_access (link s x now name)
   unfolding link
@@ -225,14 +218,14 @@ module _ (s : State) (x : Context) (n : ℕ) (r : Rights) (at : x.current ≡ So
       ends_passed is_access (link_places x name p) _
       (lets (no_directory p.current ∷ (is_directory p.saved.object.kind, IsDir) ∷ []) (name_checks name) (permits x p.current to_change)
       (may_both p.current (both_current s x p e) write execute) refl)
-      (ends_passed is_access (by_tree (link_checks s.tree p.saved.number p.current.number name)) _
-      (are_good is_access (by_tree (link_checks s.tree p.saved.number p.current.number name)) refl) refl)))
+      (ends_passed is_access (of_link.last_checks s.tree p.saved.number p.current.number name) _
+      (are_good is_access (of_link.last_checks s.tree p.saved.number p.current.number name) refl) refl)))
 
   remove_let : (now : Time) (name : List ℕ) → Grants r x.who Writes → Grants r x.who Executes → Answers is_access (remove s x now name)
   unfolding remove
   remove_let now name write execute = steps_answer is_access s x Num.Remove _ (ends_then is_access (current s x) _ (current_without s x) (λ d e.
       ends_passed is_access (remove_places x name d) _ (lets (no_directory d ∷ []) (name_checks name) (permits x d to_change) (may_both d e write execute) refl)
-      (ends_passed is_access (by_tree (remove_checks s.tree d.number name)) _ (are_good is_access (by_tree (remove_checks s.tree d.number name)) refl) refl)))
+      (ends_passed is_access (of_remove.last_checks s.tree d.number name) _ (are_good is_access (of_remove.last_checks s.tree d.number name) refl) refl)))
 
 abbrev Other : Status → List ℕ → State → Type 0
 Other status text s = is_access status ≡ false

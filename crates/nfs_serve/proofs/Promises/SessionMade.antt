@@ -11,10 +11,10 @@ use Rattle.nfs_clients.specs.declared.created.CreateResult.TheVariants as result
 use Rattle.nfs_lease.specs.Renewals.{Book, with_renewal}
 use Rattle.nfs_names.specs.Outcome.{is_ok}
 use Rattle.nfs_sessions.specs.{declared.id.SessionId.SessionId, declared.sessions.SessionFault.SessionFault, Sessions.{SessionTable, session_at, create}}
-use Rattle.nfs_exec.specs.{Runs.OneSession.MakesOne, Step.Compound.{bare, by_first, carried_out, compound, first_item}, Step.ExchangeId.without_any_lease}
-use Rattle.nfs_exec.specs.{Step.CreateSession.wish_of, Step.Laws.{Asks}}
-use Rattle.nfs_exec.specs.{Step.Machine.{Machine, MachineOutcome, by_fault, with_refusal}, Step.Place.item_fault, Step.Run.is_here}
-use Rattle.nfs_exec.proofs.Step.InSteps.{create_session_is}
+use Rattle.nfs_exec.specs.{Runs.OneSession.MakesOne, Step.{Compound.{bare, by_first, carried_out, compound, first_item}, Parts.{without_any_lease, wish_of}}}
+use Rattle.nfs_exec.specs.Step.{Laws.Asks, Place.place_fault}
+use Rattle.nfs_exec.specs.Step.{Machine.{Machine, MachineOutcome, with_refusal}, Run.is_here}
+use Rattle.nfs_exec.proofs.Step.{InSteps.create_session_is, Terms.by_fault}
 use Rattle.nfs_exec.specs.Step.Parts.{by_created, by_number, creates}
 use Rattle.nfs_exec.proofs.Runs.Renewing.{AtLeast}
 use Rattle.nfs_serve.specs.{Step.{ServerState, new_state}, Promises.Endpoint.Arrival, Promises.Points.{state_after, reached, taken, before, asked_by}}
@@ -66,7 +66,7 @@ module _ (session : SessionId) (m : Machine) (absent : session_at m.sessions ses
   first_renews : (declared : ℕ) (who : Caller) (refused : Bool) (c : CreateSession) → c.clientid ≡ n
       → Renews (first_item m declared who now refused (Operation (Op.CreateSession c))).machine
   first_renews declared who refused c mine =
-      by_place (item_number (Operation (Op.CreateSession c))) (item_fault declared (Operation (Op.CreateSession c)))
+      by_place (item_number (Operation (Op.CreateSession c))) (place_fault declared (Operation (Op.CreateSession c)))
       (carried_out m who now refused (Operation (Op.CreateSession c)))
       (subst (λ (o : MachineOutcome). Renews o.machine) (sym (create_session_is m who now refused c))
       (by_answer refused c (create_verdict m.clients c.clientid c.sequence who.uid) mine))

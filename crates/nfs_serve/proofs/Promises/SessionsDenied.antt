@@ -16,10 +16,10 @@ use Rattle.nfs_slots.specs.declared.slot.Verdict.TheVariants as V
 use Rattle.nfs_sessions.specs.{declared.id.SessionId.SessionId, Id.id_of}
 use Rattle.nfs_sessions.specs.Sessions.{Session, is_session, session_at}
 use Rattle.nfs_exec.specs.{Step.Compound.{bare, by_first, compound, first_item, in_session}, Step.Destroy.destroy_session, Step.Laws.{first_runs, if_runs}}
-use Rattle.nfs_exec.specs.{Step.Machine.{Machine, MachineOutcome, by_fault}, Step.Place.item_fault, Step.Run.is_here}
-use Rattle.nfs_exec.specs.Step.Sequence.{Sequenced, Refuses, Repeats, Runs, or_refuses, by_slot, compared, sequenced}
+use Rattle.nfs_exec.specs.Step.{Machine.{Machine, MachineOutcome}, Run.is_here, Place.place_fault}
+use Rattle.nfs_exec.specs.Step.Sequence.{Sequenced, Refuses, Repeats, Runs, by_slot, compared, sequenced}
 use Rattle.nfs_exec.specs.Step.Parts.{past, slot_says, slot_fault, fresh_fault, by_session}
-use Rattle.nfs_exec.proofs.{Step.RefusalsFit.refused_status, Runs.SessionsBehind.ran_in}
+use Rattle.nfs_exec.proofs.{Step.{RefusalsFit.refused_status, Terms.{by_fault, or_refuses}}, Runs.SessionsBehind.ran_in}
 use Rattle.nfs_serve.specs.{Step.{ServerState, Stepped, asked_of}, Promises.Endpoint.{Arrival, Heading}, Promises.LockKept.{renews_by, replaces_by}}
 use Rattle.nfs_serve.specs.{Promises.Points.{state_after, state_after_all, reached, taken, before}, Promises.Seen.ticked, Promises.SessionStays.{HasSession, StaysThere, ends_by}}
 use Rattle.nfs_serve.specs.Promises.SessionsDenied.{SaysFirst, IsBadSession, BySequence, ByDestroy, HasEnded, Stands, Made, Ran, BadSessionIsTrue}
@@ -75,7 +75,7 @@ first_good : (m : Machine) (declared : ℕ) (who : Caller) (now : ℕ) (refused 
 unfolding is_bad
 first_good m declared who now refused sessionid some =
     let item = Operation (Op.DestroySession sessionid) in
-    faulted_good m (item_number item) (item_fault declared item) (destroy_session m sessionid)
+    faulted_good m (item_number item) (place_fault declared item) (destroy_session m sessionid)
     (are_good is_bad ((nat_lt 1 declared, S.NotOnlyOp) ∷ (false, S.OpNotInSession) ∷ []) refl) (destroy_good m sessionid some)
 
 -- What a reply says of it.
@@ -132,7 +132,7 @@ faulted_spells m (Some f) done is = refl
 first_spells : (m : Machine) (declared : ℕ) (who : Caller) (now : ℕ) (refused : Bool) (sessionid : List ℕ)
     → SpellsStatus (first_item m declared who now refused (Operation (Op.DestroySession sessionid)))
 first_spells m declared who now refused sessionid =
-    faulted_spells m (item_fault declared (Operation (Op.DestroySession sessionid))) (destroy_session m sessionid) (destroy_spells m sessionid)
+    faulted_spells m (place_fault declared (Operation (Op.DestroySession sessionid))) (destroy_session m sessionid) (destroy_spells m sessionid)
 
 abbrev destroyed : Machine → Request → Caller → ℕ → Option ℕ → List ℕ → MachineOutcome
 destroyed m r who now choice sessionid = first_item m r.declared who now (is_here choice) (Operation (Op.DestroySession sessionid))

@@ -1,6 +1,6 @@
 -- What is refused by NFS4ERR_SHARE_DENIED or by NFS4ERR_LOCKED is forbidden by an open that was granted and has not ended.
-use Rattle.std.proofs.Common.{◌≡◌, ◌⊎◌, ℕ, ◌+◌, Bool, true, false, cond, List, [], ◌∷◌, ◌++◌, Option, Some, None, refl, sym, ◌∙◌, ap, subst, inl, inr}
-use Rattle.std.proofs.lemmas.Bool.{cases_Bool, and_parts, eqb-true, eq-eqb, false≢true}
+use Rattle.std.proofs.Common.{◌≡◌, ◌⊎◌, ℕ, ◌+◌, Bool, true, false, cond, not, List, [], ◌∷◌, ◌++◌, Option, Some, None, refl, sym, ◌∙◌, ap, subst, inl, inr}
+use Rattle.std.proofs.lemmas.Bool.{and_parts, eqb-true, eq-eqb, false≢true}
 use Rattle.std.specs.{Prelude.{◌==◌, ◌&&◌, ◌||◌, is_none, is_some, Result, Ok, Err}, List.list_any}
 use Rattle.nfs_xdr.specs.{Checks.first_fault, Status.status_number, Tables.In, declared.time.Time.Time, declared.status.Status.Status}
 use Rattle.nfs_xdr.specs.declared.status.Status.TheVariants as S
@@ -12,29 +12,28 @@ use Rattle.nfs_compound.specs.declared.open_args.OpenClaim.TheVariants.{Null, Pr
 use Rattle.nfs_compound.specs.declared.op.Op.TheVariants as Op
 use Rattle.nfs_compound.specs.declared.op_num.OpNum.TheVariants as Num
 use Rattle.nfs_results.specs.Results.{status_of_result}
-use Rattle.nfs_tree.specs.{declared.fault.TreeFault.TreeFault, declared.object.Object.Object, Bytes.has_bytes, Files.{object_at, object_named}}
+use Rattle.nfs_tree.specs.{declared.object.Object.Object, Bytes.has_bytes, Files.{object_at, object_named}}
 use Rattle.nfs_tree.specs.TreeInvariants.{IsTree}
-use Rattle.nfs_tree.specs.declared.fault.TreeFault.TheVariants as T
-use Rattle.nfs_attrs.specs.{declared.wanted.AttrFault.AttrFault, declared.wanted.Wanted.Wanted, Reading.attr_fault_status}
-use Rattle.nfs_attrs.specs.declared.wanted.AttrFault.TheVariants as F
+use Rattle.nfs_attrs.specs.{declared.wanted.Wanted.Wanted, Mask.mask_of}
+use Rattle.nfs_attrs.proofs.Answered.{by_read}
 use Rattle.nfs_opens.specs.{declared.judging.Seat.Seat, declared.judging.Seat.TheVariants.{Anonymous, ReadBypass, Open as OpenSeat, Lock as LockSeat}}
 use Rattle.nfs_opens.specs.{declared.judging.Sort.TheVariants.Either, declared.records.OpenState.OpenState, declared.share.Share.Share, Share.meets}
 use Rattle.nfs_opens.specs.{declared.stateid.CurrentSeqid.TheVariants.Any, declared.stateid.StateId.StateId, Judging.{judge, judge_named, state_named, special}}
-use Rattle.nfs_opens.specs.{Opening.own_open, StateId.{last_number, is_anonymous, is_bypass}, Steps.map_err, Table.{Table, clashes_with}}
+use Rattle.nfs_opens.specs.{Opening.own_open, StateId.{last_number, is_anonymous, is_bypass}, Table.{Table, clashes_with}}
 use Rattle.nfs_names.specs.{declared.context.Context.Context, declared.making.Making.Making, declared.node.Node.Node}
 use Rattle.nfs_names.specs.Checks.{node_as, node_at, no_access, current}
-use Rattle.nfs_names.specs.{Create.{wanted_of, attributes_in}, Faults.{tree_fault_status, by_tree}, Outcome.{Outcome, passed, checked, answers}}
+use Rattle.nfs_names.specs.{Create.attributes_in, Outcome.{Outcome, passed, checked, answers}}
 use Rattle.nfs_names.specs.State.{State, moment}
 use Rattle.nfs_names.specs.StoreInvariants.{IsStore}
-use Rattle.nfs_names.proofs.{Faulted.status_of_refusal, Found.{came, ok_is, checked_ok, or_fault, first_append}, Ones.by_delay}
+use Rattle.nfs_names.proofs.{Faulted.status_of_refusal, Found.{came, ok_is, checked_ok}, Ones.by_delay}
 use Rattle.nfs_files.specs.{Bytes.{file_checks, seat, reading, writing, want_of, denials, seat_checks, may_use}, Parts.{if_passed, readable, writable}, StateIds.meant}
 use Rattle.nfs_files.specs.{Open.{makes, argument_checks, place_checks, absent_checks, there_checks, asking, file_of}, OpenParts.{found_by, by_name, by_handle, by_claim, asked_for}}
-use Rattle.nfs_files.specs.{Open.{tree_checks, last_checks, opened, open_file}, OpenTold.{OpenTold, Bits, IsOpenWith, named_in, claimed}}
+use Rattle.nfs_files.specs.{Open.{room_checks, last_checks, opened, open_file}, OpenTold.{OpenTold, Bits, IsOpenWith, named_in, claimed}}
 use Rattle.nfs_files.specs.Read as of_read
 use Rattle.nfs_files.specs.SetAttrParts as set_parts
 use Rattle.nfs_files.specs.SetAttr as of_set
 use Rattle.nfs_files.specs.Write as of_write
-use Rattle.nfs_files.proofs.{Opened.none_at_next, Outcomes.one_or_delay, Passing.mapped_came, WrittenOps.current_number}
+use Rattle.nfs_files.proofs.{OpenAnswers.rest_pass, Opened.none_at_next, Outcomes.one_or_delay, Passing.mapped_came, WrittenOps.current_number}
 use Rattle.nfs_files.proofs.InSteps as in_steps
 use Rattle.nfs_exec.specs.Runs.Ops.{RanOp}
 use Rattle.nfs_exec.proofs.Runs.OneRun.{IsRun, by_item}
@@ -69,19 +68,11 @@ current_other : (s : State) (x : Context) → IsOther (current s x)
 unfolding current
 current_other s x = at_other s x.current
 
-fault_other : (f : AttrFault) → is_reason (attr_fault_status f) ≡ false
-unfolding is_reason
-fault_other F.AttrNotSupp = refl
-fault_other F.Inval = refl
-fault_other F.BadXdr = refl
-fault_other F.BadOwner = refl
-
-read_other : {A : Type 0} (v : Result A AttrFault) → IsOther (map_err attr_fault_status v)
-read_other (Err f) = err_without is_reason (attr_fault_status f) (fault_other f)
-read_other (Ok a) = ok_without is_reason a
-
 wanted_other : (a : Attributes) → IsOther (attributes_in a)
-wanted_other a = read_other (wanted_of a)
+unfolding is_reason attributes_in
+wanted_other a =
+    by_read IsOther (err_without is_reason _ refl) (err_without is_reason _ refl) (err_without is_reason _ refl) (err_without is_reason _ refl) (ok_without is_reason)
+    (mask_of a.attrmask) a.attr_vals
 
 -- What an operation is refused with.
 
@@ -154,45 +145,15 @@ module _ (s : State) (x : Context) (o : Open) where
   asked_other = then_without is_reason (checked (current s x) (argument_checks o)) _
       (checked_without is_reason (current s x) (argument_checks o) (current_other s x) (λ d e. good (argument_checks o d) refl)) (λ d e. claim_other o.claim d)
 
--- The checks of the tree answer otherwise.
-
-tree_other : (f : TreeFault) → is_reason (tree_fault_status f) ≡ false
-unfolding is_reason
-tree_other T.NoEnt = refl
-tree_other T.Exist = refl
-tree_other T.NotDir = refl
-tree_other T.IsDir = refl
-tree_other T.NotEmpty = refl
-tree_other T.Inval = refl
-tree_other T.Fbig = refl
-tree_other T.NoSpc = refl
-tree_other T.Mlink = refl
-tree_other T.Counter = refl
-tree_other T.Memory = refl
-
-by_tree_good : (checks : List (Bool × TreeFault)) → AreGood is_reason (by_tree checks)
-by_tree_good [] f e = absurd cc
-by_tree_good (check ∷ checks) f e = elim (cases_Bool check.0) [
-  | inl fails ↦ (let is : Some (tree_fault_status check.1) ≡ Some f = rw fails at e in
-      let same : tree_fault_status check.1 ≡ f = cc in ap is_reason (sym same) ∙ tree_other check.1)
-  | inr passes ↦ by_tree_good checks f (rw passes at e)
-]
-
-append_good : (a b : List (Bool × Status)) → AreGood is_reason a → AreGood is_reason b → AreGood is_reason (a ++ b)
-append_good a b one other f e = go (first_fault a) refl (sym (first_append a b) ∙ e)
-  where
-    go : (o : Option Status) → first_fault a ≡ o → or_fault o (first_fault b) ≡ Some f → is_reason f ≡ false
-    go None at rest = other f rest
-    go (Some g) at rest = (let same : g ≡ f = cc in one f (at ∙ ap (λ g. Some g) same))
-
--- the share reservations are looked at before those
+-- what is checked behind the share reservations answers otherwise
 denied_first : (s : State) (x : Context) (o : Open) (f : _) (status : Status) → is_reason status ≡ true → first_fault (last_checks s x o f) ≡ Some status
     → list_any (clashes_with (asking x o (file_of s.tree f))) s.opens.opens ≡ true
 unfolding is_reason
 denied_first s x o f status is e =
-    let end = (is_none (own_open s.opens (asking x o (file_of s.tree f))) && (s.opens.last == last_number), S.ServerFault) ∷ [] in
-    first_of (list_any (clashes_with (asking x o (file_of s.tree f))) s.opens.opens) S.ShareDenied (by_tree (tree_checks s.tree o f) ++ end) status
-    (append_good (by_tree (tree_checks s.tree o f)) end (by_tree_good (tree_checks s.tree o f)) (good end refl)) is e
+    let spent = is_none (own_open s.opens (asking x o (file_of s.tree f))) && (s.opens.last == last_number) in
+    let rest = room_checks s.tree f ++ (spent, S.ServerFault) ∷ [] in
+    first_of (list_any (clashes_with (asking x o (file_of s.tree f))) s.opens.opens) S.ShareDenied rest status
+    (good rest (rest_pass (λ f. not (is_reason f)) s.tree f spent refl refl refl)) is e
 
 node_of : (n : ℕ) (o : Option Object) (d : Node) → node_as n o ≡ Ok d → Some n ≡ Some d.number
 node_of n None d e = absurd cc

@@ -90,7 +90,7 @@ abbrev pub IsGiven : SessionId → SessionTable → Type 0
 IsGiven id t = id.counter ≤ t.last
 
 created_leaves : (t : SessionTable) (client : ℕ) (wish : Wish) (id : SessionId) (k : ℕ) → IsSessions t → IsGiven id t
-    → slot_at (with_session t client wish) id k ≡ slot_at t id k
+    → slot_at (with_session t client wish.fore) id k ≡ slot_at t id k
 created_leaves t client wish id k is given =
     let new : SessionId = record { client = client; counter = t.last + 1 } in
     ap (slot_in k) ((sessions_are_a_map t is).created client wish id) ∙ by (is_id id new) refl

@@ -30,7 +30,7 @@ fewer_slotted t p is = record {
   ];
 }
 
-made_slotted : (t : SessionTable) (client : ℕ) (wish : Wish) → IsSlotted t → IsSlotted (with_session t client wish)
+made_slotted : (t : SessionTable) (client : ℕ) (wish : Wish) → IsSlotted t → IsSlotted (with_session t client wish.fore)
 made_slotted t client wish is = record {
   sound = sessions_with t client wish is.sound;
   slots = λ id s e. by id s (is_id id (record { client = client; counter = t.last + 1 })) (sym ((sessions_are_a_map t is.sound).created client wish id) ∙ e);

@@ -9,11 +9,11 @@ use Rattle.nfs_rpc.specs.declared.call.Procedure.TheVariants as Procedures
 use Rattle.nfs_compound.specs.{declared.op.Item.Item, declared.op.Item.TheVariants.{Operation, Fault}, Request.{Request, item_number}, ReadRequest.request_at}
 use Rattle.nfs_compound.specs.declared.session_args.Sequence.{Sequence}
 use Rattle.nfs_compound.specs.declared.op.Op.TheVariants as Op
-use Rattle.nfs_exec.specs.{Step.Machine.{by_fault, Machine, MachineOutcome}, Step.Place.place_fault, Step.Sequence.{Sequenced, sequenced}, Step.Run.is_here}
+use Rattle.nfs_exec.specs.Step.{Machine.{Machine, MachineOutcome}, Place.place_fault, Sequence.{Sequenced, sequenced}, Run.is_here}
 use Rattle.nfs_exec.specs.{Step.Compound.{carried_out, first_item, in_session, by_first, compound}, Step.Expiry.expired}
 use Rattle.nfs_exec.specs.{Step.Laws.{if_runs, first_runs}, Step.Executing.{is_alone, executes}}
 use Rattle.nfs_exec.specs.Step.Sequence as sequence
-use Rattle.nfs_exec.proofs.Step.Repeating.{expires}
+use Rattle.nfs_exec.proofs.Step.{Repeating.expires, Terms.by_fault}
 use Rattle.nfs_serve.proofs.{Promises.ServerLaws.KeepsTime, Promises.Settled.{IsSettled, settled_new, settled_step, ticks_nothing}}
 use Rattle.nfs_serve.specs.{Promises.Endpoint.Answer, Step.{asked_of, ServerState, Stepped, with_arguments, by_procedure, reply_to, step}}
 use Rattle.nfs_serve.specs.Promises.Seen.{ticked, executes_by, seen, server}
@@ -36,7 +36,7 @@ first_idle m declared who now b (Operation (Op.CreateSession a)) more e = rw (be
 first_idle m declared who now b (Operation (Op.DestroySession a)) more e = rw (beyond (nat_lt 1 declared) e) refl
 first_idle m declared who now b (Operation (Op.DestroyClientId a)) more e = rw (beyond (nat_lt 1 declared) e) refl
 first_idle m declared who now b (Operation op) more e =
-    faulted m (item_number (Operation op)) (place_fault declared op) (carried_out m who now b (Operation op)) refl
+    faulted m (item_number (Operation op)) (place_fault declared (Operation op)) (carried_out m who now b (Operation op)) refl
 
 verdict_idle : (m : Machine) (r : Request) (who : Caller) (now : ℕ) (choice : Option ℕ) (s : Sequence) (more : List Item) (v : Sequenced)
     → (is_some (if_runs s v) || false) ≡ false → (in_session m r who now choice s more v).machine ≡ m

@@ -1,12 +1,10 @@
 -- What an operation is refused with is none of some statuses: `bad` says which.
-use Rattle.std.proofs.Common.{◌≡◌, ℕ, Bool, true, false, cond, not, List, [], ◌∷◌, ◌++◌, Option, Some, None, refl, sym, ◌∙◌, ap, inl, inr}
-use Rattle.std.proofs.lemmas.Bool.{cases_Bool}
+use Rattle.std.proofs.Common.{◌≡◌, ℕ, Bool, true, false, cond, not, List, [], ◌∷◌, ◌++◌, Option, Some, None, refl, sym, ◌∙◌, ap}
 use Rattle.std.specs.Prelude.{Result, Ok, Err, ok_or}
 use Rattle.nfs_xdr.specs.{Checks.{first_fault, judged}, declared.status.Status.Status}
 use Rattle.nfs_xdr.specs.declared.status.Status.TheVariants as S
 use Rattle.nfs_compound.specs.{OpNum.op_number, declared.op_num.OpNum.OpNum, declared.stateid.Stateid.Stateid}
 use Rattle.nfs_results.specs.Results.{status_of_result}
-use Rattle.nfs_tree.specs.declared.fault.TreeFault.{TreeFault}
 use Rattle.nfs_opens.specs.{declared.judging.Seat.Seat, declared.judging.Seat.TheVariants.{Anonymous, ReadBypass}, declared.judging.Sort.Sort}
 use Rattle.nfs_opens.specs.{declared.judging.Sort.TheVariants.{Either, LockOnly, OpenOnly}, declared.stateid.CurrentSeqid.CurrentSeqid}
 use Rattle.nfs_opens.specs.{declared.stateid.CurrentSeqid.TheVariants.Any, declared.stateid.StateId.StateId}
@@ -15,8 +13,7 @@ use Rattle.nfs_opens.specs.Table.{Table}
 use Rattle.nfs_opens.specs.Steps.{◌>>=◌, ◌>>◌, in_order, require}
 use Rattle.nfs_names.specs.{declared.context.Context.Context, declared.node.Node.Node, Outcome.{Outcome, passed, checked, mapped, answers, or_refusal}}
 use Rattle.nfs_names.specs.State.{State}
-use Rattle.nfs_names.specs.Faults.{tree_fault_status, by_tree}
-use Rattle.nfs_names.proofs.{Faulted.status_of_refusal, Found.{or_fault, first_append}}
+use Rattle.nfs_names.proofs.Faulted.{status_of_refusal}
 use Rattle.nfs_files.specs.{Bytes.seat, StateIds.{state_id, meant}, Parts.if_passed}
 use Rattle.nfs_files.proofs.Prompt.{all_pass, first_passes, not_true}
 
@@ -37,22 +34,6 @@ module _ (bad : Status → Bool) where
 
   pub are_good : (checks : List (Bool × Status)) → all_good checks ≡ true → AreGood checks
   are_good checks all f e = not_true (bad f) (first_passes (λ f. not (bad f)) checks all f e)
-
-  -- the tree's own checks, and checks behind others
-  pub by_tree_good : ((f : TreeFault) → bad (tree_fault_status f) ≡ false) → (checks : List (Bool × TreeFault)) → AreGood (by_tree checks)
-  by_tree_good other [] f e = absurd cc
-  by_tree_good other (check ∷ checks) f e = elim (cases_Bool check.0) [
-    | inl fails ↦ (let is : Some (tree_fault_status check.1) ≡ Some f = rw fails at e in
-        let same : tree_fault_status check.1 ≡ f = cc in ap bad (sym same) ∙ other check.1)
-    | inr passes ↦ by_tree_good other checks f (rw passes at e)
-  ]
-
-  pub append_good : (a b : List (Bool × Status)) → AreGood a → AreGood b → AreGood (a ++ b)
-  append_good a b one other f e = go (first_fault a) refl (sym (first_append a b) ∙ e)
-    where
-      go : (o : Option Status) → first_fault a ≡ o → or_fault o (first_fault b) ≡ Some f → bad f ≡ false
-      go None at rest = other f rest
-      go (Some g) at rest = (let same : g ≡ f = cc in one f (at ∙ ap (λ g. Some g) same))
 
   pub err_without : {A : Type 0} (g : Status) → bad g ≡ false → IsWithout {A = A} (Err g)
   err_without g other f e = (let same : g ≡ f = cc in ap bad (sym same) ∙ other)

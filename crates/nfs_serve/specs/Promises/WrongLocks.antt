@@ -1,6 +1,6 @@
 -- Wrong steps that the promises of locks refuse, worked by hand over the run of `HeldLock` (RFC 8881 sections 8.3, 9.1, 18.2 and 18.10). Each is a step that this server
 -- does not take: what a server that took it did is no lock kept.
-use Rattle.std.specs.Prelude.{◌≡◌, ℕ, true, false, [], ◌∷◌, ◌++◌, Option, None, Some}
+use Rattle.std.specs.Prelude.{◌≡◌, ℕ, ◌==◌, not, true, false, [], ◌∷◌, ◌++◌, Option, None, Some}
 use Rattle.nfs_compound.specs.declared.op_num.OpNum.TheVariants as Num
 use Rattle.nfs_compound.specs.declared.op.Item.TheVariants.{Operation}
 use Rattle.nfs_compound.specs.declared.op.Op.TheVariants as Op
@@ -8,8 +8,8 @@ use Rattle.nfs_lease.specs.Renewals.{with_renewal, has_run_out}
 use Rattle.nfs_results.specs.Results.{done_head}
 use Rattle.nfs_ranges.specs.declared.Kind.TheVariants.{Write}
 use Rattle.nfs_opens.specs.Closing.{without_open}
-use Rattle.nfs_names.specs.Ending.{with_opens}
-use Rattle.nfs_exec.specs.{Step.Machine.Machine, Step.CreateSession.without_any_opens, Step.Laws.{MachineEvent, Asks}, Step.Delayed.IsDelayed}
+use Rattle.nfs_names.specs.Ending.{with_opens, staying}
+use Rattle.nfs_exec.specs.Step.{Machine.Machine, Laws.{MachineEvent, Asks}, Delayed.IsDelayed}
 use Rattle.nfs_exec.specs.{Runs.Ended.HasNothing, Runs.Ops.RanOp, Runs.LockHeld.{StandsBefore, StandsWhile}}
 use Rattle.nfs_serve.specs.{Step.{ServerState, new_state}, Promises.Points.{state_after, reached, before, asked_by, ops_of}}
 use Rattle.nfs_serve.specs.{Promises.LockKept.{replaces_by, StaysHeld}, Promises.Outlived.{last_renewal, IsInTime}, Promises.Exchanges.words}
@@ -49,7 +49,7 @@ confirms = came 104 10 (create_session 2)
 
 -- an EXCHANGE_ID that ends what A has open and locked
 abbrev pub ended : ServerState
-ended = record locked { machine = record locked.machine { store = without_any_opens locked.machine.store (Some told.client) } }
+ended = record locked { machine = record locked.machine { store = staying (λ c. not (c == told.client)) locked.machine.store } }
 
 -- The answer to what a record asks for is none where the operation at a place of it is delayed.
 abbrev pub NoneDelayed : Machine → (place : ℕ) → Option MachineEvent → Type 0

@@ -14,7 +14,7 @@ returns-in-Err c =
     let o = c.args.asked.now in
     let found : asked_for s x o ≡ Ok c.in_ok-found.found = sym c.judge.ensures ∙ c.in_ok-found.was in
     sym (stopped (asked_for s x o) (last_checks s x o) c.in_ok-found.found c.in-Err.status found
-    (last_same s x o c.in_ok-found.found c.kept.ensures c.requires found ∙ judged_err _ _ (sym c.judge_last.ensures ∙ c.in-Err.is)))
+    (last_same s x o c.in_ok-found.found c.kept.ensures c.requires ∙ judged_err _ _ (sym c.judge_last.ensures ∙ c.in-Err.is)))
 
 pub returns-in-Ok : goal.returns-in-Ok
 returns-in-Ok c =
@@ -24,5 +24,5 @@ returns-in-Ok c =
     let f = c.in_ok-found.found in
     let found : asked_for s x o ≡ Ok f = sym c.judge.ensures ∙ c.in_ok-found.was in
     let none : first_fault (last_checks s x o f) ≡ None =
-    last_same s x o f c.kept.ensures c.requires found ∙ judged_ok _ _ (sym c.judge_last.ensures ∙ c.in-Ok.is) in
+    last_same s x o f c.kept.ensures c.requires ∙ judged_ok _ _ (sym c.judge_last.ensures ∙ c.in-Ok.is) in
     sym (ap (λ v. checked v (last_checks s x o)) found ∙ ap (passed f) none)

@@ -1,12 +1,13 @@
-use Rattle.nfs_opens.specs.{Table.table, Locking.unlock, Calls.is_whole}
+use Rattle.nfs_opens.specs.{declared.locking.OpenFault.TheVariants.Refused, Table.table, Locking.unlock, Calls.is_whole, Steps.map_err}
 use Rattle.nfs_names.specs.{Ending.with_opens, State.state_of, Outcome.{or_delay, is_delay}}
 use Rattle.nfs_compound.specs.declared.stateid.Stateid.{Stateid}
-use Rattle.nfs_files.specs.{Target.with_stateid, Parts.unlocks}
+use Rattle.nfs_files.specs.{Denied.open_fault_status, Target.with_stateid, Parts.unlocks}
+use Rattle.nfs_xdr.specs.declared.status.Status.TheVariants.{Nfs4Ok}
 use Rattle.std.proofs.Common.{ap, ◌∙◌, sym, refl, not}
 use Rattle.std.specs.Prelude.{◌&&◌}
 use Rattle.nfs_compound.specs.declared.op_num.OpNum.TheVariants as Num
 use Rattle.nfs_results.specs.{declared.res.Res.Res, Results.status_of_result}
-use Rattle.nfs_files.proofs.Refused.{refused_outcome, unlock_tells, unlocked_by, ok_unlocked, granted_outcome}
+use Rattle.nfs_files.proofs.Refused.{refused_outcome, unlock_tells, unlocked_by, unlocked_is, ok_unlocked, granted_outcome}
 use Rattle.nfs_files.proofs.locking.give_up.Goals as goal
 
 pub returns-in-Err : goal.returns-in-Err
@@ -16,10 +17,12 @@ returns-in-Err c =
     let k = c.args.wished.now in
     let w = k.wish in
     let whole = is_whole w.first w.last in
-    let did = unlock s.opens k.id w.client w.file w.first w.last in
+    let said = unlock s.opens k.id w.client w.file w.first w.last in
+    let did = map_err Refused said in
     let is = c.refuse.ensures ∙ ap (Res.Refused 14) c.status_of.ensures in
     refused_outcome s x Num.LockU (not whole) did (unlocked_by s x) c.in-Err.fault _ _ (ok_unlocked s x) refl is
     (unlock_tells s.opens whole did _ c.in-Err.fault c.in-Err.ensures.unlocks)
+    ∙ ap (or_delay (not whole && is_delay (open_fault_status c.in-Err.fault)) s x Num.LockU) (unlocked_is s x said)
     ∙ sym (ap (λ (r : Res). or_delay (not whole && is_delay (status_of_result r)) s x Num.LockU (unlocks s x k)) is)
 
 pub returns-in-Ok : goal.returns-in-Ok
@@ -29,6 +32,8 @@ returns-in-Ok c =
     let k = c.args.wished.now in
     let w = k.wish in
     let grows = not (is_whole w.first w.last) in
-    let did = unlock s.opens k.id w.client w.file w.first w.last in
+    let said = unlock s.opens k.id w.client w.file w.first w.last in
+    let did = map_err Refused said in
     ap (λ (w : Stateid). record { result = Res.LockU w; state = with_opens s (table c.unlock.new.self); context = with_stateid x w }) c.wire_id-id.ensures
     ∙ granted_outcome grows s x did c.in-Ok.id _ c.in-Ok.ensures.unlocks.0 c.in-Ok.ensures.unlocks.1
+    ∙ ap (or_delay (grows && is_delay Nfs4Ok) s x Num.LockU) (unlocked_is s x said)

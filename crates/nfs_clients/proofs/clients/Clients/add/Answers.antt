@@ -1,7 +1,7 @@
 use Rattle.std.proofs.{Common.{ap, arith, false}, lemmas.Bool.{and_parts, ltb-true}}
 use Rattle.std.specs.Result.{is_ok}
-use Rattle.nfs_clients.specs.{Roster.{Roster, counter_of, last_counter}, ExchangeId.asks}
-use Rattle.nfs_clients.proofs.Changes.{pushed, roster_pushed}
+use Rattle.nfs_clients.specs.{Roster.{Roster, last_counter}, ExchangeId.asks}
+use Rattle.nfs_clients.proofs.{Changes.{pushed, roster_pushed}, Terms.counter_of}
 use Rattle.nfs_clients.proofs.clients.Clients.add.Goals as goal
 
 pub invariant_of-self-3 : goal.invariant_of-self-3

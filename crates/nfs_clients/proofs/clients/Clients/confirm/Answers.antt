@@ -1,6 +1,6 @@
 use Rattle.std.proofs.Common.{◌≡◌, ◌∙◌, ap, subst}
-use Rattle.nfs_clients.specs.{Roster.IsRoster, CreateSession.{without_any, leaving}}
-use Rattle.nfs_clients.proofs.Changes.{confirmed_view, confirmed_roster, confirmed_none}
+use Rattle.nfs_clients.specs.{Roster.IsRoster, CreateSession.leaving}
+use Rattle.nfs_clients.proofs.{Changes.{confirmed_view, confirmed_roster, confirmed_none}, Terms.without_any}
 use Rattle.nfs_clients.proofs.clients.Clients.confirm.Goals as goal
 use Rattle.nfs_clients.proofs.clients.Clients.confirm.Goals.{in-Some, in_default}
 

@@ -2,7 +2,7 @@ use Rattle.std.proofs.Common.{◌≡◌, ℕ, Option, Ok, Err, ap, sym, subst, �
 use Rattle.nfs_xdr.specs.declared.status.Status.{Status}
 use Rattle.nfs_sessions.specs.{declared.channel.Wish.Wish, Sessions.create, SessionTables.CreatesOrWants}
 use Rattle.nfs_names.specs.Outcome.{is_delay}
-use Rattle.nfs_exec.specs.{Step.Machine.{or_with_delay, with_refusal, machine_of}, Step.CreateSession.wish_of}
+use Rattle.nfs_exec.specs.Step.{Machine.{or_with_delay, with_refusal, machine_of}, Parts.wish_of}
 use Rattle.nfs_exec.specs.Step.View.{Does}
 use Rattle.nfs_exec.specs.Step.Parts.{creates}
 use Rattle.nfs_exec.proofs.Step.Creating.{made, refused_session}

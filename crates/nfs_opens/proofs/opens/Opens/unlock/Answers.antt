@@ -17,15 +17,14 @@ returns-in-None-clause-unlocks c =
     ap (λ (k : Kept). judge (table k) c.args.id c.args.client (Some c.args.file) LockOnly) c.self.view_is ∙ (sym c.judge.ensures ∙ c.in_ok-judge.was) in
     let found : lock_at (table (the_view c.self.inside)) c.args.id.number ≡ None =
     sym c.get.ensures ∙ ap option_copied c.in-None.is in
-    let is : unlock (table (the_view c.self.inside)) c.args.id c.args.client c.args.file c.args.first c.args.last ≡ Err (Refused BadStateId) =
-    goes_on (map_err Refused (judge (table (the_view c.self.inside)) c.args.id c.args.client (Some c.args.file) LockOnly)) _ c.in_ok-judge.field-0
-    (ap (λ r. map_err Refused r) judged)
-    ∙ stops (ok_or (lock_at (table (the_view c.self.inside)) c.args.id.number) (Refused BadStateId)) _ (Refused BadStateId)
-    (ap (λ o. ok_or o (Refused BadStateId)) found) in
-    subst (λ (k : Kept). (Err (Refused BadStateId) ≡ answer_of (unlock (table k) c.args.id c.args.client c.args.file c.args.first c.args.last)) ×
-    (table k ≡ table_after (table k) (unlock (table k) c.args.id c.args.client c.args.file c.args.first c.args.last)))
+    let is : unlock (table (the_view c.self.inside)) c.args.id c.args.client c.args.file c.args.first c.args.last ≡ Err BadStateId =
+    goes_on (judge (table (the_view c.self.inside)) c.args.id c.args.client (Some c.args.file) LockOnly) _ c.in_ok-judge.field-0 judged
+    ∙ stops (ok_or (lock_at (table (the_view c.self.inside)) c.args.id.number) BadStateId) _ BadStateId
+    (ap (λ o. ok_or o BadStateId) found) in
+    subst (λ (k : Kept). (Err (Refused BadStateId) ≡ answer_of (map_err Refused (unlock (table k) c.args.id c.args.client c.args.file c.args.first c.args.last))) ×
+    (table k ≡ table_after (table k) (map_err Refused (unlock (table k) c.args.id c.args.client c.args.file c.args.first c.args.last))))
     c.self.view_is
-    (sym (ap answer_of is), sym (ap (table_after (table (the_view c.self.inside))) is))
+    (sym (ap (λ d. answer_of (map_err Refused d)) is), sym (ap (λ d. table_after (table (the_view c.self.inside)) (map_err Refused d)) is))
 
 pub invariant_of-self-2 : goal.invariant_of-self-2
 invariant_of-self-2 c =
@@ -51,23 +50,22 @@ returns-clause-unlocks c =
         held = on_file (held_by c.self.inside.files) c.args.file (λ h. cleared h c.args.id.number c.args.first c.args.last);
       },
     ) =
-    goes_on (map_err Refused (judge (table (the_view c.self.inside)) c.args.id c.args.client (Some c.args.file) LockOnly)) _ c.in_ok-judge.field-0
-    (ap (λ r. map_err Refused r) judged)
-    ∙ goes_on (ok_or (lock_at (table (the_view c.self.inside)) c.args.id.number) (Refused BadStateId)) _ c.in-Some.lock.now
-    (ap (λ o. ok_or o (Refused BadStateId)) found) in
+    goes_on (judge (table (the_view c.self.inside)) c.args.id c.args.client (Some c.args.file) LockOnly) _ c.in_ok-judge.field-0 judged
+    ∙ goes_on (ok_or (lock_at (table (the_view c.self.inside)) c.args.id.number) BadStateId) _ c.in-Some.lock.now
+    (ap (λ o. ok_or o BadStateId) found) in
     let same = same_table c.self.inside.opens.items _ c.raise.new.self.items _
     (held_by c.clear_bytes.new.files) _ c.self.inside.last c.self.inside.instance refl c.raise.ensures c.in_ok-clear_bytes.ensures.ok in
     subst (λ (k : Kept). (Ok (record { seqid = c.next_seqid-seqid.result; instance = c.self.inside.instance; number = c.args.id.number }) ≡
-    answer_of (unlock (table k) c.args.id c.args.client c.args.file c.args.first c.args.last))
+    answer_of (map_err Refused (unlock (table k) c.args.id c.args.client c.args.file c.args.first c.args.last)))
     × (record {
       opens = c.self.inside.opens.items;
       locks = c.raise.new.self.items;
       held = held_by c.clear_bytes.new.files;
       last = c.self.inside.last;
       instance = c.self.inside.instance;
-    } ≡ table_after (table k) (unlock (table k) c.args.id c.args.client c.args.file c.args.first c.args.last)))
+    } ≡ table_after (table k) (map_err Refused (unlock (table k) c.args.id c.args.client c.args.file c.args.first c.args.last))))
     c.self.view_is (
       ap (λ (s : ℕ). Ok (record { seqid = s; instance = c.self.inside.instance; number = c.args.id.number })) c.next_seqid-seqid.ensures
-          ∙ sym (ap answer_of is),
-      same ∙ sym (ap (table_after (table (the_view c.self.inside))) is),
+          ∙ sym (ap (λ d. answer_of (map_err Refused d)) is),
+      same ∙ sym (ap (λ d. table_after (table (the_view c.self.inside)) (map_err Refused d)) is),
     )
