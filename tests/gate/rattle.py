@@ -18,7 +18,7 @@ ANTT = re.compile(r"(?<![^\s(){}])--[^\n]*|\{-|\"(?:\\.|[^\"\\])*\"|[{}]")
 HEAD = re.compile(r"(?P<pub>pub(?:\s*\([^)]*\))?\s+)?(?:(?:const|unsafe)\s+(?=(?:const|unsafe|fn|impl|trait|extern)\b))*(?P<word>ghost\s+use|[\w!]+)(?:\s+(?P<name>\w+))?")
 CLAUSE = re.compile(r"(requires|ensures|ghost)\s*\*?(?:\s*(\w+))?(?:\s*:(?:\s*\w+)?)?\s*(?=\{)")
 # (the toolchain gives a block of a trait a name of its own, behind `as`)
-IMPL = re.compile(r"impl\s*(?P<own><.*?>)?\s+(?:(?P<trait>[^{]+?)\s+for\s+)?(?P<type>[^{]+?)(?:\s+as\s+\w+)?\s*(?:\bwhere\b[^{]*)?\Z", re.S)
+IMPL = re.compile(r"impl\s*(?P<own><(?:->|[^<>]|<(?:[^<>]|<[^<>]*>)*>)*>)?\s+(?:(?P<trait>[^{]+?)\s+for\s+)?(?P<type>[^{]+?)(?:\s+as\s+\w+)?\s*(?:\bwhere\b[^{]*)?\Z", re.S)
 TYPES = ("struct", "enum", "union")
 
 
