@@ -1,13 +1,14 @@
 -- What a search finds, adds, takes and changes in one block, seen among the items of all.
-use Rattle.std.proofs.Common.{◌≡◌, ◌≢◌, ◌⊎◌, inl, inr, ℕ, zero, suc, ◌-◌, ◌<◌, ◌≤◌, Bool, true, false, List, [], ◌∷◌, ◌++◌, set, length, get_or}
-use Rattle.std.proofs.{Common.{Option, Some, None, refl, sym, ◌∙◌, ap, subst, arith}, lemmas.Bool.{cases_Bool, false≢true}, lemmas.List.{append-nil, append_assoc}, lemmas.Option.slice_get-get_or}
+use Rattle.std.proofs.Common.{◌≡◌, ◌≢◌, inl, inr, ℕ, zero, suc, ◌-◌, ◌<◌, ◌≤◌, Bool, true, false, List, [], ◌∷◌, ◌++◌, take, drop, set, length, get_or}
+use Rattle.std.proofs.{Common.{Option, Some, None, refl, sym, ◌∙◌, ap, subst, arith}, lemmas.Bool.{cases_Bool}, lemmas.List.{append-nil, append_assoc, drop_all}, lemmas.Option.slice_get-get_or}
 use Rattle.std.specs.{Prelude.{slice_get, IfSome}, List.{insert, remove}, List.Sorted.IsPartitionedBy}
 use Rattle.nfs_xdr.specs.Tables.{In}
-use Rattle.nfs_xdr.proofs.Lists.{in_at, in_push}
+use Rattle.nfs_xdr.proofs.Lists.{in_at}
 use Rattle.nfs_ranges.specs.Edits.{lead}
-use Rattle.nfs_opens.specs.Flat.{flat, last_of, front_of, rest_of}
-use Rattle.nfs_opens.specs.Blocks.{IsParted, AreSome, found, onward, added, removed, changed, first_out, first_changed, passes}
-use Rattle.nfs_opens.proofs.FlatLemmas.{in_front, in_rear, in_flat, last_among, last_got, block_in, around, set_around, added_around, removed_around, in_set, in_insert, removed_in, removed_set, rest_last, flat_push}
+use Rattle.nfs_ranges.specs.{Blocks.{flat, last_of, AreSome}, Owners.is_empty}
+use Rattle.nfs_ranges.proofs.BlockLemmas.{flat-append, flat_at, flat_remove, flat_set, flat_split, last_got, some-append, some_insert, some_remove, some_set}
+use Rattle.nfs_opens.specs.Blocks.{IsParted, found, onward, added, removed, changed, first_out, first_changed, passes}
+use Rattle.nfs_opens.proofs.FlatLemmas.{in_front, in_rear, in_flat, last_among, removed_set}
 
 module _ {X : Type 0} (p : X → Bool) where
   -- What passes stands before what does not.
@@ -43,17 +44,22 @@ module _ {X : Type 0} (p : X → Bool) where
   block_passes [] parted e y there = absurd there
   block_passes (x ∷ xs) parted e y there = all_pass x xs parted e y there
 
+  some_in : (bs : List (List X)) (c : List X) → AreSome bs → In c bs → is_empty c ≡ false
+  some_in [] c some there = absurd there
+  some_in (b ∷ bs) c some (inl is) = ap is_empty is ∙ some.0
+  some_in (b ∷ bs) c some (inr more) = some_in bs c some.1 more
+
   passes_so : (b : List X) (bs : List (List X)) → AreSome bs → IsParted p (b ++ flat bs) → (c : List X) → In c bs → passes p c ≡ true → passes p b ≡ true
   passes_so [] bs some parted c there e = refl
-  passes_so (x ∷ xs) bs some parted [] there e = absurd (some [] there refl)
+  passes_so (x ∷ xs) bs some parted [] there e = absurd (let bad : true ≡ false = some_in bs [] some there in cc)
   passes_so (x ∷ xs) bs some parted (y ∷ ys) there e =
       parted_across (x ∷ xs) (flat bs) parted (last_of x xs) (last_of y ys) (last_among x xs) (in_flat bs (y ∷ ys) (last_of y ys) there (last_among y ys)) e
 
   pub blocks_parted : (bs : List (List X)) → AreSome bs → IsParted p (flat bs) → IsParted (passes p) bs
   blocks_parted [] some parted = tt
   blocks_parted (b ∷ bs) some parted = (
-    passes_so b bs (λ c there. some c (inr there)) parted,
-    blocks_parted bs (λ c there. some c (inr there)) (parted_rear b (flat bs) parted),
+    passes_so b bs some.1 parted,
+    blocks_parted bs some.1 (parted_rear b (flat bs) parted),
   )
 
   pub block_parted : (bs : List (List X)) (i : ℕ) (b : List X) → IsParted p (flat bs) → i < length bs → b ≡ get_or bs i b → IsParted p b
@@ -63,11 +69,7 @@ module _ {X : Type 0} (p : X → Bool) where
 
   pub ends_at : (xs : List X) (x : X) → Some x ≡ slice_get xs (length xs - 1) → p x ≡ passes p xs
   ends_at [] x e = absurd cc
-  ends_at (y ∷ ys) x e =
-      let last : length (y ∷ ys) - 1 ≡ length ys = omega arith in
-      let same : Some x ≡ Some (last_of y ys) = e ∙ (ap (slice_get (y ∷ ys)) last ∙ last_got y ys) in
-      let is : x ≡ last_of y ys = cc in
-      ap p is
+  ends_at (y ∷ ys) x e = ap p (last_got y x ys e)
 
   -- In one list.
 
@@ -193,19 +195,19 @@ module _ {X : Type 0} (p : X → Bool) where
     pub found_in : (bs : List (List X)) (b : List X) → AreSome bs → IsParted p (flat bs) → slice_get bs (lead (passes p) bs) ≡ Some b
         → found p is b ≡ found p is (flat bs)
     found_in [] b some parted at = absurd cc
-    found_in ([] ∷ bs) b some parted at = absurd (some [] (inl refl) refl)
+    found_in ([] ∷ bs) b some parted at = absurd (let bad : true ≡ false = some.0 in cc)
     found_in ((x ∷ xs) ∷ bs) b some parted at = elim (cases_Bool (p (last_of x xs))) [
-      | inl on ↦ found_in bs b (λ c there. some c (inr there)) (parted_rear (x ∷ xs) (flat bs) parted) (let more : slice_get bs (lead (passes p) bs) ≡ Some b = rw on at at in more)
+      | inl on ↦ found_in bs b some.1 (parted_rear (x ∷ xs) (flat bs) parted) (let more : slice_get bs (lead (passes p) bs) ≡ Some b = rw on at at in more)
           ∙ sym (found_behind (x ∷ xs) (flat bs) (all_pass x xs (parted_front (x ∷ xs) (flat bs) parted) on))
       | inr off ↦ (let same : x ∷ xs ≡ b = (let first : Some (x ∷ xs) ≡ Some b = rw off at at in cc) in ap (found p is) (sym same) ∙ sym (found_front x xs (flat bs) off))
     ]
 
     pub found_none : (bs : List (List X)) → AreSome bs → IsParted p (flat bs) → slice_get bs (lead (passes p) bs) ≡ None → found p is (flat bs) ≡ None
     found_none [] some parted at = refl
-    found_none ([] ∷ bs) some parted at = absurd (some [] (inl refl) refl)
+    found_none ([] ∷ bs) some parted at = absurd (let bad : true ≡ false = some.0 in cc)
     found_none ((x ∷ xs) ∷ bs) some parted at = elim (cases_Bool (p (last_of x xs))) [
       | inl on ↦ found_behind (x ∷ xs) (flat bs) (all_pass x xs (parted_front (x ∷ xs) (flat bs) parted) on)
-          ∙ found_none bs (λ c there. some c (inr there)) (parted_rear (x ∷ xs) (flat bs) parted) (let more : slice_get bs (lead (passes p) bs) ≡ None = rw on at at in more)
+          ∙ found_none bs some.1 (parted_rear (x ∷ xs) (flat bs) parted) (let more : slice_get bs (lead (passes p) bs) ≡ None = rw on at at in more)
       | inr off ↦ absurd (let first : Some (x ∷ xs) ≡ None = rw off at at in cc)
     ]
 
@@ -235,18 +237,18 @@ module _ {X : Type 0} (p : X → Bool) where
       ]
 
       pub onward_in : (bs : List (List X)) (i : ℕ) (b : List X) → AreSome bs → IsParted p (flat bs) → i ≡ lead (passes p) bs → i < length bs → b ≡ get_or bs i b
-          → onward p change (flat bs) ≡ front_of bs i ++ (onward p change b ++ rest_of bs i)
+          → onward p change (flat bs) ≡ flat (take i bs) ++ (onward p change b ++ flat (drop (suc i) bs))
       onward_in [] i b some parted is less at = absurd (omega arith)
-      onward_in ([] ∷ bs) i b some parted is less at = absurd (some [] (inl refl) refl)
+      onward_in ([] ∷ bs) i b some parted is less at = absurd (let bad : true ≡ false = some.0 in cc)
       onward_in ((x ∷ xs) ∷ bs) zero b some parted is less at = elim (cases_Bool (p (last_of x xs))) [
         | inl on ↦ absurd (let bad : zero ≡ suc (lead (passes p) bs) = rw on at is in omega arith)
         | inr off ↦ onward_front x xs (flat bs) off ∙ ap (λ (ys : List X). onward p change ys ++ flat bs) (sym at)
       ]
       onward_in ((x ∷ xs) ∷ bs) (suc i) b some parted is less at = elim (cases_Bool (p (last_of x xs))) [
         | inl on ↦ onward_behind (x ∷ xs) (flat bs) (all_pass x xs (parted_front (x ∷ xs) (flat bs) parted) on)
-            ∙ (ap (λ (zs : List X). (x ∷ xs) ++ zs) (onward_in bs i b (λ c there. some c (inr there)) (parted_rear (x ∷ xs) (flat bs) parted)
+            ∙ (ap (λ (zs : List X). (x ∷ xs) ++ zs) (onward_in bs i b some.1 (parted_rear (x ∷ xs) (flat bs) parted)
             (let more : suc i ≡ suc (lead (passes p) bs) = rw on at is in omega arith) (omega arith) at)
-            ∙ sym (append_assoc (x ∷ xs) (front_of bs i) (onward p change b ++ rest_of bs i)))
+            ∙ sym (append_assoc (x ∷ xs) (flat (take i bs)) (onward p change b ++ flat (drop (suc i) bs))))
         | inr off ↦ absurd (let bad : suc i ≡ zero = rw off at is in omega arith)
       ]
 
@@ -258,41 +260,42 @@ module _ {X : Type 0} where
     pub items : flat bs ≡ xs
     pub some : AreSome bs
 
-  set_some : (bs : List (List X)) (i : ℕ) (c : List X) → AreSome bs → c ≢ [] → AreSome (set bs i c)
-  set_some bs i c some is d there = elim (in_set bs i c d there) [ inl same ↦ (λ none. is (sym same ∙ none)) | inr old ↦ some d old ]
+  some_is : (c : List X) → c ≢ [] → is_empty c ≡ false
+  some_is [] full = absurd (full refl)
+  some_is (x ∷ xs) full = refl
 
   module _ (p : X → Bool) (change : List X → List X) (first : (x : X) (xs ys : List X) → change (x ∷ (xs ++ ys)) ≡ change (x ∷ xs) ++ ys)
       (bs : List (List X)) (i : ℕ) (b : List X) (some : AreSome bs) (parted : IsParted p (flat bs)) (is : i ≡ lead (passes p) bs) (less : i < length bs)
       (at : b ≡ get_or bs i b) where
-    here : onward p change (flat bs) ≡ front_of bs i ++ (onward p change b ++ rest_of bs i)
+    here : onward p change (flat bs) ≡ flat (take i bs) ++ (onward p change b ++ flat (drop (suc i) bs))
     here = onward_in p change first bs i b some parted is less at
 
     pub one_changed : (c : List X) → c ≡ onward p change b → c ≢ [] → Holds (set bs i c) (onward p change (flat bs))
     one_changed c made full = record {
-      items = set_around bs i c less ∙ (ap (λ (ys : List X). front_of bs i ++ (ys ++ rest_of bs i)) made ∙ sym here);
-      some = set_some bs i c some full;
+      items = flat_set bs i c less ∙ (ap (λ (ys : List X). flat (take i bs) ++ (ys ++ flat (drop (suc i) bs))) made ∙ sym here);
+      some = some_set bs i c some (some_is c full);
     }
 
     pub one_emptied : (c : List X) (cs : List (List X)) → c ≡ onward p change b → c ≡ [] → cs ≡ remove (set bs i c) i → Holds cs (onward p change (flat bs))
     one_emptied c cs made none left =
         let gone : cs ≡ remove bs i = left ∙ removed_set bs i c in
         record {
-          items = ap flat gone ∙ (removed_around bs i less ∙ (ap (λ (ys : List X). front_of bs i ++ (ys ++ rest_of bs i)) (sym none ∙ made) ∙ sym here));
-          some = λ d there. some d (removed_in bs i d (subst (λ (ds : List (List X)). In d ds) gone there));
+          items = ap flat gone ∙ (flat_remove bs i less ∙ (ap (λ (ys : List X). flat (take i bs) ++ (ys ++ flat (drop (suc i) bs))) (sym none ∙ made) ∙ sym here));
+          some = subst (λ (ds : List (List X)). AreSome ds) (sym gone) (some_remove bs i some);
         }
 
     pub one_split : (c t : List X) (cs : List (List X)) → c ++ t ≡ onward p change b → c ≢ [] → t ≢ [] → cs ≡ insert (set bs i c) (suc i) t
         → Holds cs (onward p change (flat bs))
     one_split c t cs made full more added = record {
-      items = ap flat added ∙ (added_around bs i c t less ∙ (ap (λ (ys : List X). front_of bs i ++ (ys ++ rest_of bs i)) made ∙ sym here));
-      some = λ d there. elim (in_insert (set bs i c) (suc i) t d (subst (λ (ds : List (List X)). In d ds) added there)) [
-        | inl same ↦ (λ none. more (sym same ∙ none))
-        | inr old ↦ set_some bs i c some full d old
-      ];
+      items = ap flat added ∙ (flat_split bs i c t less ∙ (ap (λ (ys : List X). flat (take i bs) ++ (ys ++ flat (drop (suc i) bs))) made ∙ sym here));
+      some = subst (λ (ds : List (List X)). AreSome ds) (sym added)
+          (some_insert (set bs i c) (suc i) t (some_set bs i c some (some_is c full)) (some_is t more));
     }
 
   pub block_some : (bs : List (List X)) (i : ℕ) (b : List X) → AreSome bs → i < length bs → b ≡ get_or bs i b → b ≢ []
-  block_some bs i b some less at = some b (subst (λ (d : List X). In d bs) (sym at) (block_in bs i b less))
+  block_some [] i b some less at none = absurd (omega arith)
+  block_some (c ∷ bs) zero b some less at none = let bad : true ≡ false = ap is_empty (sym none ∙ at) ∙ some.0 in cc
+  block_some (c ∷ bs) (suc i) b some less at none = block_some bs i b some.1 (omega arith) at none
 
   pub spare_empty : (spare : Option (List X)) (b : List X) (n room : ℕ) → IfSome spare (λ s. (s ≡ []) × (n < room)) → spare ≡ Some b → b ≡ []
   spare_empty None b n room is e = absurd cc
@@ -302,33 +305,27 @@ module _ {X : Type 0} where
   pub pushed_last : (bs : List (List X)) (i : ℕ) (b c : List X) (new : X) → AreSome bs → length bs ≡ suc i → b ≡ get_or bs i b → c ≡ b ++ new ∷ []
       → Holds (set bs i c) (flat bs ++ new ∷ [])
   pushed_last bs i b c new some last at made =
-      let none = rest_last bs i (omega arith) in
-      let before : flat bs ≡ front_of bs i ++ b = around bs i b (omega arith) at
-      ∙ (ap (λ (ys : List X). front_of bs i ++ (b ++ ys)) none ∙ ap (λ (ys : List X). front_of bs i ++ ys) (append-nil b)) in
+      let none = ap (λ (ds : List (List X)). flat ds) (drop_all (suc i) bs (omega arith)) in
+      let before : flat bs ≡ flat (take i bs) ++ b = flat_at bs i b (omega arith) at
+      ∙ (ap (λ (ys : List X). flat (take i bs) ++ (b ++ ys)) none ∙ ap (λ (ys : List X). flat (take i bs) ++ ys) (append-nil b)) in
       record {
-        items = set_around bs i c (omega arith)
-            ∙ (ap (λ (ys : List X). front_of bs i ++ (c ++ ys)) none
-            ∙ (ap (λ (ys : List X). front_of bs i ++ ys) (append-nil c ∙ made)
-            ∙ (sym (append_assoc (front_of bs i) b (new ∷ [])) ∙ ap (λ (ys : List X). ys ++ new ∷ []) (sym before))));
-        some = set_some bs i c some (λ none. pushed_some b (sym made ∙ none));
+        items = flat_set bs i c (omega arith)
+            ∙ (ap (λ (ys : List X). flat (take i bs) ++ (c ++ ys)) none
+            ∙ (ap (λ (ys : List X). flat (take i bs) ++ ys) (append-nil c ∙ made)
+            ∙ (sym (append_assoc (flat (take i bs)) b (new ∷ [])) ∙ ap (λ (ys : List X). ys ++ new ∷ []) (sym before))));
+        some = some_set bs i c some (ap is_empty made ∙ pushed_some b);
       }
     where
-      pushed_some : (b : List X) → b ++ new ∷ [] ≢ []
-      pushed_some [] e = absurd cc
-      pushed_some (x ∷ xs) e = absurd cc
+      pushed_some : (b : List X) → is_empty (b ++ new ∷ []) ≡ false
+      pushed_some [] = refl
+      pushed_some (x ∷ xs) = refl
 
   -- and in one of its own
   pub pushed_new : (bs cs : List (List X)) (b : List X) (new : X) → AreSome bs → b ≡ new ∷ [] → cs ≡ bs ++ b ∷ [] → Holds cs (flat bs ++ new ∷ [])
   pushed_new bs cs b new some one made = record {
-    items = ap flat made ∙ (flat_push bs b ∙ ap (λ (ys : List X). flat bs ++ ys) one);
-    some = λ d there. elim (in_push bs b d (subst (λ (ds : List (List X)). In d ds) made there)) [
-      | inl same ↦ (λ none. full (sym one ∙ (sym same ∙ none)))
-      | inr old ↦ some d old
-    ];
+    items = ap flat made ∙ (flat-append bs (b ∷ []) ∙ (ap (λ (ys : List X). flat bs ++ ys) (append-nil b) ∙ ap (λ (ys : List X). flat bs ++ ys) one));
+    some = subst (λ (ds : List (List X)). AreSome ds) (sym made) (some-append bs (b ∷ []) some (ap is_empty one, tt));
   }
-    where
-      full : new ∷ [] ≢ []
-      full e = absurd cc
 
   -- what finds, takes and changes one item looks at the first alone
   pub first_removed : (is : X → Bool) (x : X) (xs ys : List X) → first_out is (x ∷ (xs ++ ys)) ≡ first_out is (x ∷ xs) ++ ys

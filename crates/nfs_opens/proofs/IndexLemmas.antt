@@ -1,11 +1,10 @@
 -- Pairs in their order, what stands before and behind a place, what one that comes or goes leaves; and a walk over the states that belong to one file.
-use Rattle.std.proofs.Common.{◌≡◌, ◌≢◌, ◌⊎◌, inl, inr, ℕ, zero, suc, ◌<◌, ◌≤◌, Bool, true, false, not, List, [], ◌∷◌, ◌++◌, map, take, drop, length, get_or}
+use Rattle.std.proofs.Common.{◌≡◌, ◌≢◌, ◌⊎◌, inl, inr, ℕ, suc, ◌<◌, ◌≤◌, Bool, true, false, not, List, [], ◌∷◌, ◌++◌, map}
 use Rattle.std.proofs.Common.{Option, Some, None, refl, sym, ◌∙◌, ap, subst, arith}
 use Rattle.std.proofs.lemmas.Bool.{cases_Bool, cases_lt, eq-eqb, ne_eqb, eqb-true, lt-ltb, le-ltb, ltb-true, and_parts, false≢true}
-use Rattle.std.specs.{Prelude.{◌==◌, ◌&&◌, ◌||◌, nat_lt, is_some, find, filter, slice_get, if◌then◌else◌}, List.{insert, remove, list_any}}
-use Rattle.std.specs.List.Sorted.{IsPartitionPoint, IsPartitionedBy}
+use Rattle.std.specs.{Prelude.{◌==◌, ◌&&◌, ◌||◌, nat_lt, is_some, find, filter, if◌then◌else◌}, List.{list_any}}
 use Rattle.nfs_xdr.specs.Tables.{IsRising, In}
-use Rattle.nfs_xdr.proofs.Lists.{in_at, in_filter, stays_in, in_map, map_in, in_push, push_in, last_in, find_in, find_none, none_in, in_any}
+use Rattle.nfs_xdr.proofs.Lists.{in_filter, stays_in, in_map, map_in, in_push, push_in, last_in, find_in, find_none, none_in, in_any}
 use Rattle.nfs_xdr.proofs.Tables.{in_bounds, in_once, without_none}
 use Rattle.nfs_opens.specs.{declared.index.Pair.Pair, Index.{Precedes, IsAscending, pair_of, is_before, IsNext, HasPut, HasTaken, IsIndex}, Blocks.{IsParted, found, added, removed}}
 use Rattle.nfs_opens.proofs.BlockLemmas.{added_behind_one, added_first, found_behind_one, found_first, found_not, removed_behind_one, removed_first}

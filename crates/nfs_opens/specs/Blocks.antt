@@ -1,7 +1,7 @@
 -- A list that lies in blocks, none of them empty, and what a search for one of its items finds, adds, takes and changes there.
-use Rattle.std.specs.Prelude.{◌≡◌, ◌≢◌, ℕ, ◌<◌, Bool, true, if◌then◌else◌, length, List, [], ◌∷◌, Option, Some, None, IfSome}
+use Rattle.std.specs.Prelude.{◌≡◌, ℕ, ◌<◌, Bool, true, if◌then◌else◌, length, List, [], ◌∷◌, Option, Some, None, IfSome}
 use Rattle.nfs_xdr.specs.Tables.{In}
-use Rattle.nfs_opens.specs.Flat.{last_of}
+use Rattle.nfs_ranges.specs.Blocks.{last_of, AreSome}
 
 -- the items, and whether there is room for one more
 pub record Listed (X : Type 0) : Type 0 where
@@ -52,9 +52,6 @@ module _ {X : Type 0} where
   abbrev pub items_in : Option (List X) → List X
   items_in None = []
   items_in (Some b) = b
-
-  abbrev pub AreSome : List (List X) → Type 0
-  AreSome bs = (b : List X) → In b bs → b ≢ []
 
   -- blocks, none of them empty, and room for the spare one; capacity is how many there is room for
   pub record AreBlocks (bs : List (List X)) (capacity : ℕ) (spare : Option (List X)) : Type 0 where

@@ -1,5 +1,5 @@
 -- CLOSE and FREE_STATEID (RFC 8881 sections 18.2 and 18.38).
-use Rattle.std.specs.{Prelude.{ℕ, ◌==◌, Bool, not, List, Some, None, ok_or, Result, Ok, Err, filter, if◌then◌else◌}, List.list_any}
+use Rattle.std.specs.{Prelude.{ℕ, ◌==◌, not, List, Some, None, ok_or, Result, Ok, Err, filter, if◌then◌else◌}, List.list_any}
 use Rattle.nfs_xdr.specs.{declared.status.Status.Status, declared.status.Status.TheVariants.{BadStateId, LocksHeld}}
 use Rattle.nfs_ranges.specs.Holders.{holds_any}
 use Rattle.nfs_opens.specs.{declared.stateid.StateId.StateId, declared.records.LockState.LockState, declared.judging.Seat.Seat}

@@ -1,7 +1,6 @@
 pub mod Blocks
 pub mod Closing
 pub mod Counts
-pub mod Flat
 pub mod Holding
 pub mod Index
 pub mod Keys

@@ -3,8 +3,8 @@
 ghost use Rattle.std.specs.Prelude.{◌≡◌, ◌≢◌, ◌+◌, ◌/◌, ◌<◌, ◌≤◌, ◌++◌, ◌∷◌, [], true, false, length, min, vec_capacity, List, slice_get, slice_index_or, Some, None, IfSome, IfNone, IfOk, OnOk, ℕ, nat_lt};
 ghost use Rattle.std.specs.Option.{option_copied};
 ghost use Rattle.nfs_ranges.specs.Edits.{lead};
-ghost use Rattle.nfs_opens.specs.Flat.{flat};
-ghost use Rattle.nfs_opens.specs.Blocks.{IsParted, AreSome, found, added, removed, changed, passes, items_in};
+ghost use Rattle.nfs_ranges.specs.Blocks.{flat, AreSome};
+ghost use Rattle.nfs_opens.specs.Blocks.{IsParted, found, added, removed, changed, passes, items_in};
 ghost use Rattle.nfs_opens.specs.StateId.{last_number};
 
 use std::alloc::{AllocError, Global};
@@ -221,7 +221,7 @@ pub(crate) struct Blocks<T: InBlocks> {
 
 impl<T: InBlocks> Model for Blocks<T> {
     ghost use Rattle.std.specs.Prelude.{vec_capacity, is_some};
-    ghost use Rattle.nfs_opens.specs.Flat.{flat};
+    ghost use Rattle.nfs_ranges.specs.Blocks.{flat};
     ghost use Rattle.nfs_opens.specs.Blocks.{Listed, AreBlocks};
 
     ghost Value = { Listed T };

@@ -1,17 +1,55 @@
 -- Intervals in blocks: which block and which place in it, and what an edit leaves of them.
-use Rattle.std.proofs.Common.{◌≡◌, ℕ, zero, suc, ◌-◌, ◌<◌, ◌≤◌, min, Bool, true, false, nat_lt, nat_le, ◌==◌, List, [], ◌∷◌, ◌++◌, take, drop, length, get_or}
+use Rattle.std.proofs.Common.{◌≡◌, ℕ, zero, suc, ◌-◌, ◌<◌, ◌≤◌, min, Bool, true, false, ◌==◌, List, [], ◌∷◌, ◌++◌, take, drop, set, length, get_or}
 use Rattle.std.proofs.Common.{Option, Some, None, refl, sym, ◌∙◌, ap, subst, arith, inl, inr, append_assoc}
-use Rattle.std.proofs.{lemmas.Bool.{cases_Bool, ltb-true, lt-ltb, leb-true, le-leb, ne_eqb}, lemmas.List.{append-nil, drop_all, drop_min, take-append-drop}}
-use Rattle.std.specs.{Option.option_to_list, Prelude.{slice_get, if◌then◌else◌}, List.Sorted.IsPartitionedBy}
+use Rattle.std.proofs.{lemmas.Bool.{cases_Bool, ne_eqb}, lemmas.List.{append-nil, drop_min, set_split, set-get_or, take-append-drop}}
+use Rattle.std.specs.{Option.option_to_list, Prelude.{slice_get, if◌then◌else◌}, List.{insert, remove}, List.Sorted.IsPartitionedBy}
 use Rattle.nfs_ranges.specs.{declared.interval.Interval.Interval, declared.blocks.Place.Place, declared.blocks.Parts.Parts, declared.edits.Edit.Edit}
-use Rattle.nfs_ranges.specs.{Intervals.{AreFrom, IsCanonical}, Owners.is_empty, Edits.{lead, head, ends_before, ends_by}}
-use Rattle.nfs_ranges.specs.Blocks.{flat, last_from, last_end, AreSome, AreBlocks, spot, block_at, IsPlace, spliced, IsSomeIn, ArePartsOf, ends_whole, ends_whole_by}
-use Rattle.nfs_ranges.proofs.EditLemmas.{from_later}
+use Rattle.nfs_ranges.specs.{Intervals.{AreFrom, IsCanonical}, Owners.is_empty, Edits.{lead, head}}
+use Rattle.nfs_ranges.specs.Blocks.{flat, last_of, last_end, AreSome, AreBlocks, spot, block_at, IsPlace, spliced, IsSomeIn, ArePartsOf}
+use Rattle.nfs_ranges.proofs.{EditLemmas.from_later, RiseLemmas.{Lower, Rises, rising_parted}}
 
 -- lists of blocks
 pub flat-append : {X : Type 0} (bs cs : List (List X)) → flat (bs ++ cs) ≡ flat bs ++ flat cs
 flat-append [] cs = refl
 flat-append (b ∷ bs) cs = ap (λ t. b ++ t) (flat-append bs cs) ∙ sym (append_assoc b (flat bs) (flat cs))
+
+-- one block in the place of another, and what stands round it
+pub flat_set : {X : Type 0} (bs : List (List X)) (i : ℕ) (b : List X) → i < length bs → flat (set bs i b) ≡ flat (take i bs) ++ (b ++ flat (drop (suc i) bs))
+flat_set bs i b lt = ap flat (set_split bs i b lt) ∙ flat-append (take i bs) (b ∷ drop (suc i) bs)
+
+pub flat_at : {X : Type 0} (bs : List (List X)) (i : ℕ) (b : List X) → i < length bs → b ≡ get_or bs i b
+    → flat bs ≡ flat (take i bs) ++ (b ++ flat (drop (suc i) bs))
+flat_at bs i b lt at = ap flat (sym (ap (set bs i) at ∙ set-get_or bs i b)) ∙ flat_set bs i b lt
+
+-- one more block behind another, and one that goes
+pub flat_split : {X : Type 0} (bs : List (List X)) (i : ℕ) (b c : List X) → i < length bs
+    → flat (insert (set bs i b) (suc i) c) ≡ flat (take i bs) ++ ((b ++ c) ++ flat (drop (suc i) bs))
+flat_split [] i b c lt = absurd (omega arith)
+flat_split (d ∷ bs) zero b c lt = sym (append_assoc b c (flat bs))
+flat_split (d ∷ bs) (suc i) b c lt =
+    ap (λ ps. d ++ ps) (flat_split bs i b c (omega arith)) ∙ sym (append_assoc d (flat (take i bs)) ((b ++ c) ++ flat (drop (suc i) bs)))
+
+pub flat_remove : {X : Type 0} (bs : List (List X)) (i : ℕ) → i < length bs → flat (remove bs i) ≡ flat (take i bs) ++ flat (drop (suc i) bs)
+flat_remove [] i lt = absurd (omega arith)
+flat_remove (d ∷ bs) zero lt = refl
+flat_remove (d ∷ bs) (suc i) lt = ap (λ ps. d ++ ps) (flat_remove bs i (omega arith)) ∙ sym (append_assoc d (flat (take i bs)) (flat (drop (suc i) bs)))
+
+-- no block is empty
+pub some_set : {X : Type 0} (bs : List (List X)) (i : ℕ) (b : List X) → AreSome bs → is_empty b ≡ false → AreSome (set bs i b)
+some_set [] i b some e = tt
+some_set (c ∷ bs) zero b some e = (e, some.1)
+some_set (c ∷ bs) (suc i) b some e = (some.0, some_set bs i b some.1 e)
+
+pub some_insert : {X : Type 0} (bs : List (List X)) (i : ℕ) (b : List X) → AreSome bs → is_empty b ≡ false → AreSome (insert bs i b)
+some_insert bs zero b some e = (e, some)
+some_insert [] (suc i) b some e = (e, tt)
+some_insert (c ∷ bs) (suc i) b some e = (some.0, some_insert bs i b some.1 e)
+
+pub some_remove : {X : Type 0} (bs : List (List X)) (i : ℕ) → AreSome bs → AreSome (remove bs i)
+some_remove [] zero some = tt
+some_remove [] (suc i) some = tt
+some_remove (c ∷ bs) zero some = some.1
+some_remove (c ∷ bs) (suc i) some = (some.0, some_remove bs i some.1)
 
 pub some-append : {X : Type 0} (bs cs : List (List X)) → AreSome bs → AreSome cs → AreSome (bs ++ cs)
 some-append [] cs some more = more
@@ -78,8 +116,8 @@ blocks_drop n bs are = let from = go n 0 bs are.canonical.from in record {
     go (suc n) low (b ∷ bs) are = let rest = rear_from low b (flat bs) are in go n rest.0 bs rest.1
 
 -- the last byte of a block
-pub lows : (low : ℕ) (x : Interval) (xs ys : List Interval) → AreFrom low ((x ∷ xs) ++ ys) → (low ≤ last_from x xs) × (x.last ≤ last_from x xs) ×
-    AreFrom (suc (last_from x xs)) ys
+pub lows : (low : ℕ) (x : Interval) (xs ys : List Interval) → AreFrom low ((x ∷ xs) ++ ys) → (low ≤ (last_of x xs).last) × (x.last ≤ (last_of x xs).last) ×
+    AreFrom (suc (last_of x xs).last) ys
 lows low x [] ys are = let lo = are.0 in let le = are.1 in (omega arith, omega arith, are.4)
 lows low x (y ∷ xs) ys are =
     let lo = are.0 in
@@ -92,64 +130,34 @@ pub lows_block : (low : ℕ) (b ys : List Interval) → is_empty b ≡ false →
 lows_block low [] ys some are = absurd cc
 lows_block low (x ∷ xs) ys some are = let all = lows low x xs ys are in (all.0, all.2)
 
+pub last_got : {X : Type 0} (x z : X) (xs : List X) → Some z ≡ slice_get (x ∷ xs) (length (x ∷ xs) - 1) → z ≡ last_of x xs
+last_got x z [] e = cc
+last_got x z (y ∷ ys) e =
+    let count : length (x ∷ y ∷ ys) - 1 ≡ suc (length (y ∷ ys) - 1) = omega arith in last_got y z ys (e ∙ ap (slice_get (x ∷ y ∷ ys)) count)
+
 pub last_is : (xs : List Interval) (z : Interval) → Some z ≡ slice_get xs (length xs - 1) → z.last ≡ last_end xs
 last_is [] z e = absurd cc
-last_is (x ∷ xs) z e =
-    let count : length (x ∷ xs) - 1 ≡ length xs = omega arith in go x xs (e ∙ ap (slice_get (x ∷ xs)) count)
-  where
-    go : (x : Interval) (xs : List Interval) → Some z ≡ slice_get (x ∷ xs) (length xs) → z.last ≡ last_from x xs
-    go x [] e = let same : z ≡ x = cc in ap (λ (t : Interval). t.last) same
-    go x (y ∷ ys) e = go y ys e
+last_is (x ∷ xs) z e = ap (λ (t : Interval). t.last) (last_got x z xs e)
 
-ends_from : (low : ℕ) (bs : List (List Interval)) (j : ℕ) (d : List Interval) → AreFrom low (flat bs) → AreSome bs → j < length bs →
-    low ≤ last_end (get_or bs j d)
-ends_from low [] j d are some lt = absurd (omega arith)
-ends_from low (b ∷ bs) zero d are some lt = (lows_block low b (flat bs) some.0 are).0
-ends_from low (b ∷ bs) (suc j) d are some lt =
-    let here = lows_block low b (flat bs) some.0 are in
-    let up = here.0 in
-    let rest = ends_from (suc (last_end b)) bs j d here.1 some.1 (omega arith) in
-    omega arith
-
-ends_rise : (low : ℕ) (bs : List (List Interval)) (i j : ℕ) (d : List Interval) → AreFrom low (flat bs) → AreSome bs → i ≤ j → j < length bs →
-    last_end (get_or bs i d) ≤ last_end (get_or bs j d)
-ends_rise low [] i j d are some le lt = absurd (omega arith)
-ends_rise low (b ∷ bs) zero zero d are some le lt = omega arith
-ends_rise low (b ∷ bs) zero (suc j) d are some le lt =
-    let here = lows_block low b (flat bs) some.0 are in
-    let rest = ends_from (suc (last_end b)) bs j d here.1 some.1 (omega arith) in
-    omega arith
-ends_rise low (b ∷ bs) (suc i) zero d are some le lt = absurd (omega arith)
-ends_rise low (b ∷ bs) (suc i) (suc j) d are some le lt =
-    let here = lows_block low b (flat bs) some.0 are in
-    ends_rise (suc (last_end b)) bs i j d here.1 some.1 (omega arith) (omega arith)
-
--- a test of last bytes that passes below where it passes
-abbrev pub Lower : (ℕ → Bool) → Type 0
-Lower q = (m n : ℕ) → m ≤ n → q n ≡ true → q m ≡ true
-
-pub before_lower : (byte : ℕ) → Lower (λ n. nat_lt n byte)
-before_lower byte m n le e = let lt = ltb-true n byte e in lt-ltb m byte (omega arith)
-
-pub by_lower : (byte : ℕ) → Lower (λ n. nat_le n byte)
-by_lower byte m n le e = let lt = leb-true n byte e in le-leb m byte (omega arith)
+ends_rise : (low : ℕ) (bs : List (List Interval)) → AreFrom low (flat bs) → AreSome bs → Rises last_end low bs
+ends_rise low [] are some = tt
+ends_rise low (b ∷ bs) are some = let here = lows_block low b (flat bs) some.0 are in (here.0, ends_rise (suc (last_end b)) bs here.1 some.1)
 
 pub blocks_parted : (q : ℕ → Bool) → Lower q → (bs : List (List Interval)) → AreBlocks bs → IsPartitionedBy (λ b. q (last_end b)) bs
-blocks_parted q lower bs are i j d le lt e =
-    lower (last_end (get_or bs i d)) (last_end (get_or bs j d)) (ends_rise 0 bs i j d are.canonical.from are.some le lt) e
+blocks_parted q lower bs are = rising_parted last_end q lower 0 bs (ends_rise 0 bs are.canonical.from are.some)
 
 -- intervals that all pass, and such of which the last does not
-pass_all : (q : ℕ → Bool) → Lower q → (low : ℕ) (x : Interval) (xs ys : List Interval) → AreFrom low ((x ∷ xs) ++ ys) → q (last_from x xs) ≡ true →
+pass_all : (q : ℕ → Bool) → Lower q → (low : ℕ) (x : Interval) (xs ys : List Interval) → AreFrom low ((x ∷ xs) ++ ys) → q (last_of x xs).last ≡ true →
     (take (lead (λ y. q y.last) ((x ∷ xs) ++ ys)) ((x ∷ xs) ++ ys) ≡ (x ∷ xs) ++ take (lead (λ y. q y.last) ys) ys) ×
     (drop (lead (λ y. q y.last) ((x ∷ xs) ++ ys)) ((x ∷ xs) ++ ys) ≡ drop (lead (λ y. q y.last) ys) ys)
 pass_all q lower low x [] ys are e = rw e (refl, refl)
 pass_all q lower low x (y ∷ xs) ys are e =
     let all = lows low x (y ∷ xs) ys are in
-    let here = lower x.last (last_from y xs) all.1 e in
+    let here = lower x.last (last_of y xs).last all.1 e in
     let rest = pass_all q lower (suc x.last) y xs ys are.4 e in
     rw here (ap (λ ts. x ∷ ts) rest.0, rest.1)
 
-stops : (q : ℕ → Bool) (x : Interval) (xs ys : List Interval) → q (last_from x xs) ≡ false →
+stops : (q : ℕ → Bool) (x : Interval) (xs ys : List Interval) → q (last_of x xs).last ≡ false →
     (take (lead (λ y. q y.last) ((x ∷ xs) ++ ys)) ((x ∷ xs) ++ ys) ≡ take (lead (λ y. q y.last) (x ∷ xs)) (x ∷ xs)) ×
     (drop (lead (λ y. q y.last) ((x ∷ xs) ++ ys)) ((x ∷ xs) ++ ys) ≡ drop (lead (λ y. q y.last) (x ∷ xs)) (x ∷ xs) ++ ys) ×
     ((z : Interval) × (zs : List Interval) × (drop (lead (λ y. q y.last) (x ∷ xs)) (x ∷ xs) ≡ z ∷ zs))
@@ -159,24 +167,14 @@ stops q x (y ∷ xs) ys e = elim (cases_Bool (q x.last)) [
   | inr not ↦ rw not (refl, refl, (x, y ∷ xs, refl))
 ]
 
-few_of_some : (o : Option Interval) (z : Interval) (t : ℕ) → o ≡ Some z → t ≤ length (option_to_list o) → t ≤ 1
-few_of_some None z t e le = absurd cc
-few_of_some (Some y) z t e le = le
-
-drop_in : (t : ℕ) (z : Interval) (zs ys : List Interval) → t ≤ 1 → drop t (z ∷ zs) ++ ys ≡ drop t ((z ∷ zs) ++ ys)
-drop_in zero z zs ys le = refl
-drop_in (suc zero) z zs ys le = refl
-drop_in (suc (suc t)) z zs ys le = absurd (omega arith)
-
 abbrev place_in : (ℕ → Bool) → List (List Interval) → ℕ → Place
 place_in q bs i = record { block = i; at = lead (λ y. q y.last) (block_at bs i) }
 
 one_block : (q : ℕ → Bool) (b : List Interval) → IsPlace (λ y. q y.last) (b ∷ []) (place_in q (b ∷ []) 0)
 one_block q b = record {
   front = ap (λ ys. take (lead (λ y. q y.last) ys) ys) (sym (append-nil b));
+  rest = append-nil (drop (lead (λ y. q y.last) b) b) ∙ ap (λ ys. drop (lead (λ y. q y.last) ys) ys) (sym (append-nil b));
   next = ap (λ ys. head (drop (lead (λ y. q y.last) ys) ys)) (sym (append-nil b));
-  behind = λ t le. append-nil (drop t (drop (lead (λ y. q y.last) b) b)) ∙
-      ap (λ ys. drop t (drop (lead (λ y. q y.last) ys) ys)) (sym (append-nil b));
 }
 
 in_first : (q : ℕ → Bool) (b : List Interval) (bs : List (List Interval)) → is_empty b ≡ false → q (last_end b) ≡ false →
@@ -184,16 +182,8 @@ in_first : (q : ℕ → Bool) (b : List Interval) (bs : List (List Interval)) �
 in_first q [] bs some e = absurd cc
 in_first q (x ∷ xs) bs some e =
     let all = stops q x xs (flat bs) e in
-    let z = all.2.0 in
-    let zs = all.2.1 in
     let is = all.2.2 in
-    let whole = all.1 ∙ ap (λ ts. ts ++ flat bs) is in
-    record {
-      front = sym all.0;
-      next = ap head is ∙ sym (ap head whole);
-      behind = λ t le. ap (λ ts. ts ++ flat bs) (ap (drop t) is) ∙
-          drop_in t z zs (flat bs) (few_of_some _ z t (ap head whole) le) ∙ ap (drop t) (sym whole);
-    }
+    record { front = sym all.0; rest = sym all.1; next = ap head is ∙ sym (ap head (all.1 ∙ ap (λ ts. ts ++ flat bs) is)) }
 
 further : (q : ℕ → Bool) → Lower q → (low : ℕ) (b : List Interval) (bs : List (List Interval)) (i : ℕ) → is_empty b ≡ false → AreFrom low (flat (b ∷ bs))
     → q (last_end b) ≡ true → IsPlace (λ y. q y.last) bs (place_in q bs i) → IsPlace (λ y. q y.last) (b ∷ bs) (place_in q (b ∷ bs) (suc i))
@@ -203,18 +193,14 @@ further q lower low (x ∷ xs) bs i some are e place =
     record {
       front = append_assoc (x ∷ xs) (flat (take i bs)) (take (lead (λ y. q y.last) (block_at bs i)) (block_at bs i)) ∙
           ap (λ ts. (x ∷ xs) ++ ts) place.front ∙ sym both.0;
+      rest = place.rest ∙ sym both.1;
       next = place.next ∙ ap head (sym both.1);
-      behind = λ t le. place.behind t (subst (λ ts. t ≤ length (option_to_list (head ts))) both.1 le) ∙ ap (drop t) (sym both.1);
     }
 
 -- the place that is searched for
 pub placed : (q : ℕ → Bool) → Lower q → (low : ℕ) (bs : List (List Interval)) → AreFrom low (flat bs) → AreSome bs →
     IsPlace (λ y. q y.last) bs (place_in q bs (spot (λ b. q (last_end b)) bs))
-placed q lower low [] are some = record {
-  front = refl;
-  next = refl;
-  behind = λ t le. ap (λ ts. ts ++ []) (drop_all t [] (omega arith)) ∙ sym (drop_all t [] (omega arith));
-}
+placed q lower low [] are some = record { front = refl; rest = refl; next = refl }
 placed q lower low (b ∷ []) are some = one_block q b
 placed q lower low (b ∷ c ∷ bs) are some =
     by_test (q (last_end b)) refl (placed q lower (suc (last_end b)) (c ∷ bs) (lows_block low b (flat (c ∷ bs)) some.0 are).1 some.1)
@@ -232,33 +218,27 @@ spot_is p (b ∷ c ∷ bs) = elim (cases_Bool (p b)) [
   | inr e ↦ rw e (omega arith)
 ]
 
-pub spot-le : {X : Type 0} (p r : List X → Bool) (bs : List (List X)) → ((b : List X) → p b ≡ true → r b ≡ true) → spot p bs ≤ spot r bs
-spot-le p r [] h = omega arith
-spot-le p r (b ∷ []) h = omega arith
-spot-le p r (b ∷ c ∷ bs) h = elim (cases_Bool (p b)) [
-  | inl e ↦ (let rest = spot-le p r (c ∷ bs) h in rw (e, h b e) (omega arith))
+pub lead-le : {X : Type 0} (p q : X → Bool) (xs : List X) → ((x : X) → p x ≡ true → q x ≡ true) → lead p xs ≤ lead q xs
+lead-le p q [] h = omega arith
+lead-le p q (x ∷ xs) h = elim (cases_Bool (p x)) [
+  | inl e ↦ (let rest = lead-le p q xs h in rw (e, h x e) (omega arith))
   | inr e ↦ rw e (omega arith)
 ]
+
+pub spot-le : {X : Type 0} (p q : List X → Bool) (bs : List (List X)) → ((b : List X) → p b ≡ true → q b ≡ true) → spot p bs ≤ spot q bs
+spot-le p q bs h = omega (arith, spot_is p bs, spot_is q bs, lead-le p q bs h)
 
 pub spot-length : {X : Type 0} (p : List X → Bool) (bs : List (List X)) → spot p bs ≤ length bs
-spot-length p [] = omega arith
-spot-length p (b ∷ []) = omega arith
-spot-length p (b ∷ c ∷ bs) = elim (cases_Bool (p b)) [
-  | inl e ↦ (let rest = spot-length p (c ∷ bs) in rw e (omega arith))
-  | inr e ↦ rw e (omega arith)
-]
+spot-length p bs = omega (arith, spot_is p bs)
 
-pub placed_before : (byte n i : ℕ) (bs : List (List Interval)) → AreBlocks bs → i ≡ min (lead (ends_whole byte) bs) (length bs - 1) →
-    n ≡ lead (ends_before byte) (block_at bs i) → IsPlace (ends_before byte) bs (record { block = i; at = n })
-placed_before byte n i bs are e f =
-    let same = e ∙ spot_is (ends_whole byte) bs in
-    rw (f, same) (placed (λ m. nat_lt m byte) (before_lower byte) 0 bs are.canonical.from are.some)
+pub spot_within : {X : Type 0} (p : List X → Bool) (bs : List (List X)) → 0 < length bs → spot p bs < length bs
+spot_within p bs some = omega (arith, spot_is p bs)
 
-pub placed_by : (byte n i : ℕ) (bs : List (List Interval)) → AreBlocks bs → i ≡ min (lead (ends_whole_by byte) bs) (length bs - 1) →
-    n ≡ lead (ends_by byte) (block_at bs i) → IsPlace (ends_by byte) bs (record { block = i; at = n })
-placed_by byte n i bs are e f =
-    let same = e ∙ spot_is (ends_whole_by byte) bs in
-    rw (f, same) (placed (λ m. nat_le m byte) (by_lower byte) 0 bs are.canonical.from are.some)
+pub placed_at : (q : ℕ → Bool) → Lower q → (n i : ℕ) (bs : List (List Interval)) → AreBlocks bs → i ≡ min (lead (λ b. q (last_end b)) bs) (length bs - 1) →
+    n ≡ lead (λ y. q y.last) (block_at bs i) → IsPlace (λ y. q y.last) bs (record { block = i; at = n })
+placed_at q lower n i bs are e f =
+    let same = e ∙ spot_is (λ b. q (last_end b)) bs in
+    rw (f, same) (placed q lower 0 bs are.canonical.from are.some)
 
 -- an edit, by its parts
 pub splice_is : (f a l m r b g c d : List Interval) → f ++ a ≡ c → b ++ g ≡ d → f ++ (a ++ (l ++ (m ++ (r ++ (b ++ g))))) ≡ c ++ (l ++ (m ++ (r ++ d)))
@@ -336,11 +316,3 @@ pub no_flat : (bs : List (List Interval)) → AreSome bs → (length bs == 0) �
 no_flat [] some = refl
 no_flat ([] ∷ bs) some = absurd (let bad : true ≡ false = some.0 in cc)
 no_flat ((x ∷ xs) ∷ bs) some = ne_eqb (suc (length bs)) 0 (λ e. omega arith)
-
-pub spot_within : {X : Type 0} (p : List X → Bool) (bs : List (List X)) → 0 < length bs → spot p bs < length bs
-spot_within p [] some = absurd (omega arith)
-spot_within p (b ∷ []) some = omega arith
-spot_within p (b ∷ c ∷ bs) some = elim (cases_Bool (p b)) [
-  | inl e ↦ (let rest = spot_within p (c ∷ bs) (omega arith) in rw e (omega arith))
-  | inr e ↦ rw e (omega arith)
-]

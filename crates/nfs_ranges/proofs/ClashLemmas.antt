@@ -5,7 +5,7 @@ use Rattle.std.proofs.lemmas.Bool.{cases_lt, cases_Bool, and_parts, and_cases, a
 use Rattle.std.proofs.lemmas.Bool.{le-leb, lt-leb, eq-eqb, ne_eqb}
 use Rattle.std.specs.Prelude.{All, find, not, option_map}
 use Rattle.nfs_ranges.specs.{declared.Kind.Kind, declared.interval.Interval.Interval, declared.Held.Held, Intervals.{AreFrom, IsCanonical}, Edits.lead}
-use Rattle.nfs_ranges.specs.{Blocks.{flat, last_from, last_end, AreSome, AreBlocks, ends_whole}, Holders.{Holders, Owned, LockedBytes, at, nobody, kind_at}}
+use Rattle.nfs_ranges.specs.{Blocks.{flat, last_of, last_end, AreSome, AreBlocks, ends_whole}, Holders.{Holders, Owned, LockedBytes, at, nobody, kind_at}}
 use Rattle.nfs_ranges.specs.{Owners.{AreOwners, AreCanonical}, Clashes.{hits, held_by, clash_of, sooner, tell}, Told.{meets, clashes}, Facts.{IsTold, Tells}}
 use Rattle.nfs_ranges.proofs.{CanonicalLemmas.{none_below, ends_there, at_above, at_within}, EditLemmas.or_else, BlockLemmas.{lows, lows_block}}
 use Rattle.nfs_ranges.proofs.OwnerLemmas.{no_bytes}
@@ -44,7 +44,7 @@ find_behind p (z ∷ zs) ys e = elim (cases_Bool (p z)) [
   | inr not ↦ (let found = rw not at e in rw not (find_behind p zs ys found))
 ]
 
-skip_whole : (k : Kind) (first last low : ℕ) (x : Interval) (xs ys : List Interval) → AreFrom low ((x ∷ xs) ++ ys) → last_from x xs < first →
+skip_whole : (k : Kind) (first last low : ℕ) (x : Interval) (xs ys : List Interval) → AreFrom low ((x ∷ xs) ++ ys) → (last_of x xs).last < first →
     find (hits k first last) ((x ∷ xs) ++ ys) ≡ find (hits k first last) ys
 skip_whole k first last low x [] ys are lt =
     let miss : hits k first last x ≡ false = and_right (meets k (Some x.kind)) _ (and_left (leb first x.last) (leb x.first last) (lt-leb first x.last lt)) in
@@ -61,8 +61,8 @@ skip_blocks k first last low ([] ∷ bs) are some = absurd (let bad : true ≡ f
 skip_blocks k first last low ((x ∷ xs) ∷ bs) are some = elim (cases_Bool (ends_whole first (x ∷ xs))) [
   | inl e ↦ (
       let rest = lows low x xs (flat bs) are in
-      rw e (skip_blocks k first last (suc (last_from x xs)) bs rest.2 some.1 ∙
-      sym (skip_whole k first last low x xs (flat bs) are (ltb-true (last_from x xs) first e)))
+      rw e (skip_blocks k first last (suc (last_of x xs).last) bs rest.2 some.1 ∙
+      sym (skip_whole k first last low x xs (flat bs) are (ltb-true (last_of x xs).last first e)))
       )
   | inr e ↦ rw e refl
 ]

@@ -1,12 +1,12 @@
 -- Owners that lie in groups: which group an owner belongs to, and what a change of one group makes of all.
 use Rattle.std.proofs.Common.{◌≡◌, ℕ, zero, suc, ◌-◌, ◌<◌, ◌≤◌, Bool, true, false, eqb, List, [], ◌∷◌, ◌++◌, take, drop, set, length, get_or, refl, sym, ◌∙◌, ap}
 use Rattle.std.proofs.{Common.{subst, arith, append_assoc, Some, inl, inr}, lemmas.Bool.{cases_Bool, cases_lt, ltb-true, ltb-false, lt-ltb, le-ltb, ne_eqb}}
-use Rattle.std.proofs.lemmas.List.{append-nil, set_split, set-get_or}
-use Rattle.std.specs.{Prelude.{if◌then◌else◌, slice_get, ◌==◌}, List.{insert, remove}, List.Sorted.IsPartitionedBy}
+use Rattle.std.proofs.lemmas.List.{append-nil, set-get_or}
+use Rattle.std.specs.{Prelude.{if◌then◌else◌, slice_get, ◌==◌, nat_lt}, List.{insert, remove}, List.Sorted.IsPartitionedBy}
 use Rattle.nfs_ranges.specs.{declared.interval.Interval.Interval, Intervals.{IsCanonical, without, with_range}, Holders.{Owned, LockedBytes, bytes_of}}
-use Rattle.nfs_ranges.specs.{Owners.{is_empty, AreOwners, AreCanonical, entry, with_owner}, Blocks.{flat, AreSome, block_at, spot}}
-use Rattle.nfs_ranges.specs.Groups.{AreKept, AreSame, AreSomeBut, IsPut, are_below, last_number, number_from}
-use Rattle.nfs_ranges.proofs.{BlockLemmas.{flat-append, block_got, spot_within}, OwnerLemmas.{no_bytes, owners_later, with_owner-canonical, held_some}}
+use Rattle.nfs_ranges.specs.{Owners.{is_empty, AreOwners, AreCanonical, entry, with_owner}, Blocks.{flat, last_of, AreSome, block_at, spot}}
+use Rattle.nfs_ranges.specs.Groups.{AreKept, AreSame, AreSomeBut, IsPut, are_below, last_number}
+use Rattle.nfs_ranges.proofs.{BlockLemmas.{block_got, flat_at, flat_set, flat_split, last_got, some_insert, some_set, spot_within}, OwnerLemmas.{no_bytes, owners_later, with_owner-canonical, held_some}, RiseLemmas.{before_lower, Rises, rising_parted}}
 
 -- owners before and behind
 pub front_owners : (low : ℕ) (os ps : LockedBytes) → AreOwners low (os ++ ps) → AreOwners low os
@@ -17,8 +17,8 @@ rear_owners : (low : ℕ) (os ps : LockedBytes) → AreOwners low (os ++ ps) →
 rear_owners low [] ps are = (low, are)
 rear_owners low (o ∷ os) ps are = rear_owners (suc o.number) os ps are.3
 
-tops : (low : ℕ) (o : Owned) (os ps : LockedBytes) → AreOwners low ((o ∷ os) ++ ps) → (low ≤ number_from o os) × (o.number ≤ number_from o os) ×
-    AreOwners (suc (number_from o os)) ps
+tops : (low : ℕ) (o : Owned) (os ps : LockedBytes) → AreOwners low ((o ∷ os) ++ ps) → (low ≤ (last_of o os).number) × (o.number ≤ (last_of o os).number) ×
+    AreOwners (suc (last_of o os).number) ps
 tops low o [] ps are = let lo = are.0 in (omega arith, omega arith, are.3)
 tops low o (p ∷ os) ps are =
     let lo = are.0 in
@@ -43,37 +43,15 @@ pub got_group : (gs : List LockedBytes) (i : ℕ) (g : LockedBytes) → AreKept 
 got_group gs i g kept lt e = subst AreCanonical (block_got gs i g lt e) (group_canonical gs i kept)
 
 -- last numbers rise
-last_from : (low : ℕ) (gs : List LockedBytes) (j : ℕ) (d : LockedBytes) → AreOwners low (flat gs) → AreSome gs → j < length gs →
-    low ≤ last_number (get_or gs j d)
-last_from low [] j d are some lt = absurd (omega arith)
-last_from low (g ∷ gs) zero d are some lt = (tops_group low g (flat gs) some.0 are).0
-last_from low (g ∷ gs) (suc j) d are some lt =
-    let here = tops_group low g (flat gs) some.0 are in
-    let up = here.0 in
-    let rest = last_from (suc (last_number g)) gs j d here.1 some.1 (omega arith) in
-    omega arith
-
-last_rise : (low : ℕ) (gs : List LockedBytes) (i j : ℕ) (d : LockedBytes) → AreOwners low (flat gs) → AreSome gs → i ≤ j → j < length gs →
-    last_number (get_or gs i d) ≤ last_number (get_or gs j d)
-last_rise low [] i j d are some le lt = absurd (omega arith)
-last_rise low (g ∷ gs) zero zero d are some le lt = omega arith
-last_rise low (g ∷ gs) zero (suc j) d are some le lt =
-    let here = tops_group low g (flat gs) some.0 are in
-    let rest = last_from (suc (last_number g)) gs j d here.1 some.1 (omega arith) in
-    omega arith
-last_rise low (g ∷ gs) (suc i) zero d are some le lt = absurd (omega arith)
-last_rise low (g ∷ gs) (suc i) (suc j) d are some le lt =
-    let here = tops_group low g (flat gs) some.0 are in
-    last_rise (suc (last_number g)) gs i j d here.1 some.1 (omega arith) (omega arith)
+last_rise : (low : ℕ) (gs : List LockedBytes) → AreOwners low (flat gs) → AreSome gs → Rises last_number low gs
+last_rise low [] are some = tt
+last_rise low (g ∷ gs) are some = let here = tops_group low g (flat gs) some.0 are in (here.0, last_rise (suc (last_number g)) gs here.1 some.1)
 
 pub groups_parted : (s : ℕ) (gs : List LockedBytes) → AreKept gs → IsPartitionedBy (are_below s) gs
-groups_parted s gs kept i j d le lt e =
-    let rise = last_rise 0 gs i j d kept.canonical.from kept.some le lt in
-    let less = ltb-true (last_number (get_or gs j d)) s e in
-    lt-ltb (last_number (get_or gs i d)) s (omega arith)
+groups_parted s gs kept = rising_parted last_number (λ n. nat_lt n s) (before_lower s) 0 gs (last_rise 0 gs kept.canonical.from kept.some)
 
 -- a group that ends before the number, and one that does not
-skip_group : (low s : ℕ) (xs : List Interval) (o : Owned) (os ps : LockedBytes) → AreOwners low ((o ∷ os) ++ ps) → number_from o os < s →
+skip_group : (low s : ℕ) (xs : List Interval) (o : Owned) (os ps : LockedBytes) → AreOwners low ((o ∷ os) ++ ps) → (last_of o os).number < s →
     (with_owner s xs ((o ∷ os) ++ ps) ≡ (o ∷ os) ++ with_owner s xs ps) × (bytes_of ((o ∷ os) ++ ps) s ≡ bytes_of ps s)
 skip_group low s xs o [] ps are lt = rw (lt-ltb o.number s lt, ne_eqb o.number s (λ same. omega arith)) (refl, refl)
 skip_group low s xs o (p ∷ os) ps are lt =
@@ -92,7 +70,7 @@ stop_here low s xs o os ps are le = elim (cases_Bool (eqb o.number s)) [
       )
 ]
 
-stop_group : (low s : ℕ) (xs : List Interval) (o : Owned) (os ps : LockedBytes) → AreOwners low ((o ∷ os) ++ ps) → s ≤ number_from o os →
+stop_group : (low s : ℕ) (xs : List Interval) (o : Owned) (os ps : LockedBytes) → AreOwners low ((o ∷ os) ++ ps) → s ≤ (last_of o os).number →
     (with_owner s xs ((o ∷ os) ++ ps) ≡ with_owner s xs (o ∷ os) ++ ps) × (bytes_of ((o ∷ os) ++ ps) s ≡ bytes_of (o ∷ os) s)
 stop_group low s xs o [] ps are le = stop_here low s xs o [] ps are le
 stop_group low s xs o (p ∷ os) ps are le = elim (cases_lt o.number s) [
@@ -116,30 +94,22 @@ belongs low s xs (g ∷ []) are some = (
 )
 belongs low s xs ([] ∷ h ∷ gs) are some = absurd (let bad : true ≡ false = some.0 in cc)
 belongs low s xs ((o ∷ os) ∷ h ∷ gs) are some =
-    by_test (are_below s (o ∷ os)) refl (belongs (suc (number_from o os)) s xs (h ∷ gs) (tops low o os (flat (h ∷ gs)) are).2 some.1)
+    by_test (are_below s (o ∷ os)) refl (belongs (suc (last_of o os).number) s xs (h ∷ gs) (tops low o os (flat (h ∷ gs)) are).2 some.1)
   where
     by_test : (v : Bool) → are_below s (o ∷ os) ≡ v → Belongs s xs (h ∷ gs) (spot (are_below s) (h ∷ gs)) → Belongs s xs ((o ∷ os) ∷ h ∷ gs) (if v then suc (spot (are_below s) (h ∷ gs)) else 0)
     by_test true e rest =
         let i = spot (are_below s) (h ∷ gs) in
-        let skip = skip_group low s xs o os (flat (h ∷ gs)) are (ltb-true (number_from o os) s e) in (
+        let skip = skip_group low s xs o os (flat (h ∷ gs)) are (ltb-true (last_of o os).number s e) in (
           skip.0
               ∙ ap (λ ts. (o ∷ os) ++ ts) rest.0
               ∙ sym (append_assoc (o ∷ os) (flat (take i (h ∷ gs))) (with_owner s xs (block_at (h ∷ gs) i) ++ flat (drop (suc i) (h ∷ gs)))),
           rest.1 ∙ sym skip.1,
         )
     by_test false e rest =
-        let stop = stop_group low s xs o os (flat (h ∷ gs)) are (ltb-false (number_from o os) s e) in
+        let stop = stop_group low s xs o os (flat (h ∷ gs)) are (ltb-false (last_of o os).number s e) in
         (stop.0, sym stop.1)
 
 -- one group in the place of another
-flat_set : (gs : List LockedBytes) (i : ℕ) (g : LockedBytes) → i < length gs → flat (set gs i g) ≡ flat (take i gs) ++ (g ++ flat (drop (suc i) gs))
-flat_set gs i g lt = ap flat (set_split gs i g lt) ∙ flat-append (take i gs) (g ∷ drop (suc i) gs)
-
-some_set : (gs : List LockedBytes) (i : ℕ) (g : LockedBytes) → AreSome gs → is_empty g ≡ false → AreSome (set gs i g)
-some_set [] i g some e = tt
-some_set (h ∷ gs) zero g some e = (e, some.1)
-some_set (h ∷ gs) (suc i) g some e = (some.0, some_set gs i g some.1 e)
-
 pub but_set : (gs : List LockedBytes) (i : ℕ) (g : LockedBytes) → AreSome gs → AreSomeBut i (set gs i g)
 but_set [] i g some = tt
 but_set (h ∷ gs) zero g some = some.1
@@ -198,14 +168,10 @@ put_some s i xs gs g new kept at lt e made some = record {
 -- a group in two
 pub in_two : (gs : List LockedBytes) (i : ℕ) (g front behind : LockedBytes) → AreSome gs → i < length gs → g ≡ get_or gs i g → front ++ behind ≡ g →
     is_empty front ≡ false → is_empty behind ≡ false → AreSame gs (insert (set gs i front) (suc i) behind)
-in_two [] i g front behind some lt e both one two = absurd (omega arith)
-in_two (h ∷ gs) zero g front behind some lt e both one two = record {
-  some = (one, (two, some.1));
-  same = sym (append_assoc front behind (flat gs)) ∙ ap (λ os. os ++ flat gs) (both ∙ e);
+in_two gs i g front behind some lt e both one two = record {
+  some = some_insert (set gs i front) (suc i) behind (some_set gs i front some one) two;
+  same = flat_split gs i front behind lt ∙ ap (λ os. flat (take i gs) ++ (os ++ flat (drop (suc i) gs))) both ∙ sym (flat_at gs i g lt e);
 }
-in_two (h ∷ gs) (suc i) g front behind some lt e both one two =
-    let rest = in_two gs i g front behind some.1 (omega arith) e both one two in
-    record { some = (some.0, rest.some); same = ap (λ os. h ++ os) rest.same }
 
 -- what is kept
 pub kept_put : (s : ℕ) (xs : List Interval) (old new : List LockedBytes) → IsPut s xs old new → IsCanonical xs → AreKept old → AreKept new
@@ -278,9 +244,4 @@ some_of (suc n) r e not = omega arith
 -- the last of the owners of a group
 pub number_is : (os : LockedBytes) (z : Owned) → Some z ≡ slice_get os (length os - 1) → z.number ≡ last_number os
 number_is [] z e = absurd cc
-number_is (o ∷ os) z e =
-    let count : length (o ∷ os) - 1 ≡ length os = omega arith in go o os (e ∙ ap (slice_get (o ∷ os)) count)
-  where
-    go : (o : Owned) (os : LockedBytes) → Some z ≡ slice_get (o ∷ os) (length os) → z.number ≡ number_from o os
-    go o [] e = let same : z ≡ o = cc in ap (λ (t : Owned). t.number) same
-    go o (p ∷ os) e = go p os e
+number_is (o ∷ os) z e = ap (λ (t : Owned). t.number) (last_got o z os e)

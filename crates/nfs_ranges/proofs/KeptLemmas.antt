@@ -1,32 +1,18 @@
 -- Owners in a list by their numbers: one found, one put, one taken out.
-use Rattle.std.proofs.Common.{◌≡◌, ℕ, zero, suc, ◌<◌, ◌≤◌, Bool, true, false, eqb, List, [], ◌∷◌, ◌++◌, drop, set, length, get_or, refl, sym, ◌∙◌, ap, arith}
-use Rattle.std.proofs.{Common.{inl, inr}, lemmas.Bool.{cases_Bool, cases_lt, ltb-true, lt-ltb, le-ltb, eqb-true, ne_eqb}}
-use Rattle.std.specs.{Prelude.not, List.{insert, remove}, List.Sorted.IsPartitionedBy}
+use Rattle.std.proofs.Common.{◌≡◌, ℕ, zero, suc, Bool, true, false, eqb, List, [], ◌∷◌, ◌++◌, drop, set, get_or, refl, sym, ◌∙◌, ap, arith}
+use Rattle.std.proofs.{Common.{inl, inr}, lemmas.Bool.{cases_Bool, cases_lt, lt-ltb, le-ltb, eqb-true, ne_eqb}}
+use Rattle.std.specs.{Prelude.{not, nat_lt}, List.{insert, remove}, List.Sorted.IsPartitionedBy}
 use Rattle.nfs_ranges.specs.{declared.interval.Interval.Interval, Intervals.{IsCanonical, without, with_range}, Holders.{Owned, LockedBytes, bytes_of}}
 use Rattle.nfs_ranges.specs.{Edits.{lead, head}, Owners.{is_empty, AreOwners, AreCanonical, entry, with_owner}, Groups.{is_below, is_own}}
-use Rattle.nfs_ranges.proofs.OwnerLemmas.{bytes-canonical, held_some, no_bytes}
+use Rattle.nfs_ranges.proofs.{OwnerLemmas.{bytes-canonical, held_some, no_bytes}, RiseLemmas.{before_lower, Rises, rising_parted}}
 
 -- numbers rise
-numbers_from : (low : ℕ) (os : LockedBytes) (j : ℕ) (d : Owned) → AreOwners low os → j < length os → low ≤ (get_or os j d).number
-numbers_from low [] j d are lt = absurd (omega arith)
-numbers_from low (o ∷ os) zero d are lt = are.0
-numbers_from low (o ∷ os) (suc j) d are lt =
-    let lo = are.0 in
-    let rest = numbers_from (suc o.number) os j d are.3 (omega arith) in
-    omega arith
-
-numbers_rise : (low : ℕ) (os : LockedBytes) (i j : ℕ) (d : Owned) → AreOwners low os → i ≤ j → j < length os → (get_or os i d).number ≤ (get_or os j d).number
-numbers_rise low [] i j d are le lt = absurd (omega arith)
-numbers_rise low (o ∷ os) zero zero d are le lt = omega arith
-numbers_rise low (o ∷ os) zero (suc j) d are le lt = let rest = numbers_from (suc o.number) os j d are.3 (omega arith) in omega arith
-numbers_rise low (o ∷ os) (suc i) zero d are le lt = absurd (omega arith)
-numbers_rise low (o ∷ os) (suc i) (suc j) d are le lt = numbers_rise (suc o.number) os i j d are.3 (omega arith) (omega arith)
+numbers_rise : (low : ℕ) (os : LockedBytes) → AreOwners low os → Rises (λ (o : Owned). o.number) low os
+numbers_rise low [] are = tt
+numbers_rise low (o ∷ os) are = (are.0, numbers_rise (suc o.number) os are.3)
 
 pub owners_parted : (s : ℕ) (os : LockedBytes) → AreCanonical os → IsPartitionedBy (is_below s) os
-owners_parted s os are i j d le lt e =
-    let rise = numbers_rise 0 os i j d are.from le lt in
-    let less = ltb-true (get_or os j d).number s e in
-    lt-ltb (get_or os i d).number s (omega arith)
+owners_parted s os are = rising_parted (λ (o : Owned). o.number) (λ n. nat_lt n s) (before_lower s) 0 os (numbers_rise 0 os are.from)
 
 entry_is : (s : ℕ) (ys : List Interval) (o : Owned) → is_empty ys ≡ false → o.number ≡ s → entry s ys ≡ record o { intervals = ys } ∷ []
 entry_is s [] o e n = absurd cc

@@ -10,5 +10,6 @@ pub mod KindLemmas
 pub mod LayLemmas
 pub mod OwnerLemmas
 pub mod PlaceLemmas
+pub mod RiseLemmas
 pub mod ToldLemmas
 mod SpanLemmas

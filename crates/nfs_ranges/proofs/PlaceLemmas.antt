@@ -1,15 +1,15 @@
 -- What an edit leaves, by the places at which it begins and ends.
 use Rattle.std.proofs.Common.{◌≡◌, ℕ, zero, suc, ◌-◌, ◌<◌, ◌≤◌, ◌^◌, min, max, Bool, true, false, ltb, eqb, leb, ◌&&◌, List, [], ◌∷◌, ◌++◌, take, drop}
-use Rattle.std.proofs.Common.{length, get_or, Option, Some, None, refl, sym, ◌∙◌, ap, subst, arith, inl, inr}
+use Rattle.std.proofs.Common.{length, Option, Some, None, refl, sym, ◌∙◌, ap, subst, arith, inl, inr}
 use Rattle.std.proofs.lemmas.Bool.{cases_lt, cases_Bool, and_parts, leb-true, leb-false, ltb-true, ltb-false, lt-ltb, le-ltb, and_right, and_from, le-leb}
 use Rattle.std.proofs.lemmas.Bool.{lt-leb, eq-eqb, ne_eqb}
-use Rattle.std.specs.{Option.option_to_list, Prelude.{IfSome, is_some}, List.Sorted.{IsPartitionPoint, IsPartitionedBy}}
+use Rattle.std.specs.{Option.option_to_list, Prelude.{IfSome, is_some, nat_lt, nat_le}, List.Sorted.{IsPartitionPoint, IsPartitionedBy}}
 use mir.Val.{bool_byte}
 use Rattle.nfs_ranges.specs.{declared.Kind.Kind, declared.interval.Interval.Interval, declared.edits.Edit.Edit}
 use Rattle.nfs_ranges.specs.Intervals.{is_same, joins, touches, AreFrom, IsCanonical, kept_below, kept_above, put, glue, without, with_range}
 use Rattle.nfs_ranges.specs.{Edits.{lead, ends_before, ends_by, apart_by, head, begin_at, end_at, left_before, left_behind}, declared.blocks.Place.Place}
 use Rattle.nfs_ranges.specs.Blocks.{flat, last_end, block_at, IsPlace, spliced, spot, ends_whole, ends_whole_by}
-use Rattle.nfs_ranges.proofs.{BlockLemmas.{splice_is, spot-le, spot-length}, CanonicalLemmas.same_is}
+use Rattle.nfs_ranges.proofs.{BlockLemmas.{splice_is, spot-le, spot-length}, CanonicalLemmas.same_is, RiseLemmas.{before_lower, by_lower, Rises, rising_parted}}
 
 -- put before intervals that it does not touch
 put_apart : (x : Interval) (ys : List Interval) → touches x ys ≡ false → put x ys ≡ x ∷ ys
@@ -197,34 +197,17 @@ lead_point p (x ∷ xs) (suc i) le point =
           (omega arith),
     )))
 
-ends_from : (low : ℕ) (xs : List Interval) (j : ℕ) (d : Interval) → AreFrom low xs → j < length xs → low ≤ (get_or xs j d).last
-ends_from low [] j d are lt = absurd (omega arith)
-ends_from low (x ∷ xs) zero d are lt = let lo = are.0 in let le = are.1 in omega arith
-ends_from low (x ∷ xs) (suc j) d are lt = let lo = are.0 in let le = are.1 in let rest = ends_from (suc x.last) xs j d are.4 (omega arith) in omega arith
-
-pub ends_rise : (low : ℕ) (xs : List Interval) (i j : ℕ) (d : Interval) → AreFrom low xs → i ≤ j → j < length xs → (get_or xs i d).last ≤ (get_or xs j d).last
-ends_rise low [] i j d are le lt = absurd (omega arith)
-ends_rise low (x ∷ xs) zero zero d are le lt = omega arith
-ends_rise low (x ∷ xs) zero (suc j) d are le lt = let rest = ends_from (suc x.last) xs j d are.4 (omega arith) in omega arith
-ends_rise low (x ∷ xs) (suc i) zero d are le lt = absurd (omega arith)
-ends_rise low (x ∷ xs) (suc i) (suc j) d are le lt = ends_rise (suc x.last) xs i j d are.4 (omega arith) (omega arith)
+ends_rise : (low : ℕ) (xs : List Interval) → AreFrom low xs → Rises (λ (x : Interval). x.last) low xs
+ends_rise low [] are = tt
+ends_rise low (x ∷ xs) are = let lo = are.0 in let le = are.1 in (omega arith, ends_rise (suc x.last) xs are.4)
 
 pub parted_before : (b : ℕ) (xs : List Interval) → IsCanonical xs → IsPartitionedBy (ends_before b) xs
-parted_before b xs are i j d le lt e = let rise = ends_rise 0 xs i j d are.from le lt in let there = ltb-true (get_or xs j d).last b e in
-    lt-ltb (get_or xs i d).last b (omega arith)
+parted_before b xs are = rising_parted (λ (x : Interval). x.last) (λ n. nat_lt n b) (before_lower b) 0 xs (ends_rise 0 xs are.from)
 
 pub parted_by : (b : ℕ) (xs : List Interval) → IsCanonical xs → IsPartitionedBy (ends_by b) xs
-parted_by b xs are i j d le lt e = let rise = ends_rise 0 xs i j d are.from le lt in let there = leb-true (get_or xs j d).last b e in
-    le-leb (get_or xs i d).last b (omega arith)
+parted_by b xs are = rising_parted (λ (x : Interval). x.last) (λ n. nat_le n b) (by_lower b) 0 xs (ends_rise 0 xs are.from)
 
 -- places
-pub lead-le : (p q : Interval → Bool) (xs : List Interval) → ((x : Interval) → p x ≡ true → q x ≡ true) → lead p xs ≤ lead q xs
-lead-le p q [] h = omega arith
-lead-le p q (x ∷ xs) h = elim (cases_Bool (p x)) [
-  | inl e ↦ (let rest = lead-le p q xs h in rw (e, h x e) (omega arith))
-  | inr e ↦ rw e (omega arith)
-]
-
 pub lead-length : {X : Type 0} (p : X → Bool) (xs : List X) → lead p xs ≤ length xs
 lead-length p [] = omega arith
 lead-length p (x ∷ xs) = elim (cases_Bool (p x)) [ inl e ↦ (let rest = lead-length p xs in rw e (omega arith)) | inr e ↦ rw e (omega arith) ]
@@ -269,6 +252,20 @@ clear_edit first last from to x z = record {
   right = left_behind last z;
 }
 
+-- what comes behind a place, and behind the interval there
+drop_few : {X : Type 0} (t : ℕ) (xs ys : List X) → t ≤ length (option_to_list (head xs)) → drop t xs ++ ys ≡ drop t (xs ++ ys)
+drop_few zero xs ys le = refl
+drop_few (suc t) [] ys le = absurd (omega arith)
+drop_few (suc zero) (x ∷ xs) ys le = refl
+drop_few (suc (suc t)) (x ∷ xs) ys le = absurd (omega arith)
+
+behind_place : (p : Interval → Bool) (bs : List (List Interval)) (place : Place) (t : ℕ) → IsPlace p bs place →
+    t ≤ length (option_to_list (head (drop (lead p (flat bs)) (flat bs)))) →
+    drop t (drop place.at (block_at bs place.block)) ++ flat (drop (suc place.block) bs) ≡ drop t (drop (lead p (flat bs)) (flat bs))
+behind_place p bs place t is le =
+    drop_few t (drop place.at (block_at bs place.block)) (flat (drop (suc place.block) bs)) (subst (λ o. t ≤ length (option_to_list o)) (sym is.next) le)
+    ∙ ap (drop t) is.rest
+
 set_here : (k : Kind) (first last : ℕ) (bs : List (List Interval)) (from to : Place) → first ≤ last → last < 2 ^ 64 → IsCanonical (flat bs) →
     IsPlace (apart_by first) bs from → IsPlace (ends_by last) bs to →
     spliced (set_edit k first last from to (head (drop (lead (apart_by first) (flat bs)) (flat bs))) (head (drop (lead (ends_by last) (flat bs)) (flat bs)))) bs ≡
@@ -281,7 +278,7 @@ set_here k first last bs from to le small are pf pt =
     splice_is (flat (take from.block bs)) (take from.at (block_at bs from.block)) (option_to_list begin.piece)
     (record { kind = k; first = begin.byte; last = end.byte } ∷ []) (option_to_list end.piece) (drop end.taken (drop to.at (block_at bs to.block)))
     (flat (drop (suc to.block) bs)) (take i (flat bs)) (drop end.taken (drop j (flat bs))) pf.front
-    (pt.behind end.taken (taken_few k last (head (drop j (flat bs)))))
+    (behind_place (ends_by last) bs to end.taken pt (taken_few k last (head (drop j (flat bs)))))
     ∙ sym (held_by_place (record { kind = k; first = first; last = last }) (flat bs) le small are)
 
 pub set_spliced : (k : Kind) (first last : ℕ) (bs : List (List Interval)) (from to : Place) (x z : Option Interval) → first ≤ last → last < 2 ^ 64 →
@@ -304,7 +301,7 @@ clear_here first last bs from to le small are pf pt =
     splice_is (flat (take from.block bs)) (take from.at (block_at bs from.block)) (option_to_list (left_before first (head (drop i (flat bs)))))
     [] (option_to_list behind) (drop (length (option_to_list behind)) (drop to.at (block_at bs to.block)))
     (flat (drop (suc to.block) bs)) (take i (flat bs)) (drop (length (option_to_list behind)) (drop j (flat bs))) pf.front
-    (pt.behind (length (option_to_list behind)) (behind_few last (head (drop j (flat bs)))))
+    (behind_place (ends_by last) bs to (length (option_to_list behind)) pt (behind_few last (head (drop j (flat bs)))))
     ∙ sym (cleared_by_place first last (flat bs) le small are)
 
 pub clear_spliced : (first last : ℕ) (bs : List (List Interval)) (from to : Place) (x z : Option Interval) → first ≤ last → last < 2 ^ 64 →

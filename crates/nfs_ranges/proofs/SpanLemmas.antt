@@ -5,7 +5,7 @@ use Rattle.std.proofs.lemmas.Bool.{cases_Bool, and_left, and_right, or_parts, lt
 use Rattle.std.specs.Prelude.{find, slice_get}
 use Rattle.nfs_ranges.specs.{declared.Kind.Kind, declared.interval.Interval.Interval, declared.span.Span.Span}
 use Rattle.nfs_ranges.specs.{Intervals.{AreFrom, joins, kept_below, kept_above, put, glue, without, with_range}, Edits.head}
-use Rattle.nfs_ranges.specs.{Blocks.{flat, last_from, last_end, block_at, AreSome, AreBlocks}, Owners.{LieWithin, IsSpan, IsSpanOf}, Clashes.{hits, has_write}}
+use Rattle.nfs_ranges.specs.{Blocks.{flat, last_of, last_end, block_at, AreSome, AreBlocks}, Owners.{LieWithin, IsSpan, IsSpanOf}, Clashes.{hits, has_write}}
 use Rattle.nfs_ranges.specs.Told.{is_write, meets}
 
 wider : (first low last : ℕ) (xs : List Interval) → first ≤ low → LieWithin low last xs → LieWithin first last xs
@@ -13,7 +13,7 @@ wider first low last [] le within = tt
 wider first low last (x ∷ xs) le within = (omega arith, within.1, wider first low last xs le within.2)
 
 -- from the first byte of the first interval to the last byte of the last
-lie_from : (low : ℕ) (x : Interval) (xs : List Interval) → AreFrom low (x ∷ xs) → (x.last ≤ last_from x xs) × LieWithin x.first (last_from x xs) (x ∷ xs)
+lie_from : (low : ℕ) (x : Interval) (xs : List Interval) → AreFrom low (x ∷ xs) → (x.last ≤ (last_of x xs).last) × LieWithin x.first (last_of x xs).last (x ∷ xs)
 lie_from low x [] are = let le = are.1 in (omega arith, (omega arith, omega arith, tt))
 lie_from low x (y ∷ ys) are =
     let here = are.1 in
@@ -21,13 +21,13 @@ lie_from low x (y ∷ ys) are =
     let there = are.4.1 in
     let rest = lie_from (suc x.last) y ys are.4 in
     let top = rest.0 in
-    (omega arith, (omega arith, omega arith, wider x.first y.first (last_from y ys) (y ∷ ys) (omega arith) rest.1))
+    (omega arith, (omega arith, omega arith, wider x.first y.first (last_of y ys).last (y ∷ ys) (omega arith) rest.1))
 
-last_behind : (x : Interval) (xs : List Interval) (y : Interval) (ys : List Interval) → last_from x (xs ++ y ∷ ys) ≡ last_from y ys
+last_behind : (x : Interval) (xs : List Interval) (y : Interval) (ys : List Interval) → (last_of x (xs ++ y ∷ ys)).last ≡ (last_of y ys).last
 last_behind x [] y ys = refl
 last_behind x (z ∷ zs) y ys = last_behind z zs y ys
 
-end_behind : (xs : List Interval) (y : Interval) (ys : List Interval) → last_end (xs ++ y ∷ ys) ≡ last_from y ys
+end_behind : (xs : List Interval) (y : Interval) (ys : List Interval) → last_end (xs ++ y ∷ ys) ≡ (last_of y ys).last
 end_behind [] y ys = refl
 end_behind (x ∷ xs) y ys = last_behind x xs y ys
 
@@ -44,10 +44,10 @@ span_is x b ([] ∷ bs) are first last = absurd cc
 span_is x b ((y ∷ ys) ∷ bs) are first last =
     let same : y ≡ x = (let back : Some y ≡ Some x = sym first in cc) in
     let count : length ((y ∷ ys) ∷ bs) - 1 ≡ length bs = omega arith in
-    let top : last_from y (ys ++ flat bs) ≡ last_end b = last_flat (y ∷ ys) bs b are.some (last ∙ ap (slice_get ((y ∷ ys) ∷ bs)) count) in
+    let top : (last_of y (ys ++ flat bs)).last ≡ last_end b = last_flat (y ∷ ys) bs b are.some (last ∙ ap (slice_get ((y ∷ ys) ∷ bs)) count) in
     record {
       each = subst (λ l. LieWithin x.first l (y ∷ (ys ++ flat bs))) top
-          (subst (λ (z : Interval). LieWithin z.first (last_from y (ys ++ flat bs)) (y ∷ (ys ++ flat bs))) same (lie_from 0 y (ys ++ flat bs) are.canonical.from).1);
+          (subst (λ (z : Interval). LieWithin z.first (last_of y (ys ++ flat bs)).last (y ∷ (ys ++ flat bs))) same (lie_from 0 y (ys ++ flat bs) are.canonical.from).1);
     }
 
 pub no_span : (first last : ℕ) (bs : List (List Interval)) → AreSome bs → None ≡ head (drop 0 (block_at bs 0)) → IsSpan first last (flat bs)

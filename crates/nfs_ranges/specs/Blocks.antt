@@ -1,5 +1,5 @@
 -- A list that lies in blocks, each with what stands next to each other; and the intervals of one that does.
-use Rattle.std.specs.Prelude.{◌≡◌, ℕ, zero, suc, ◌≤◌, take, drop, length, ◌++◌, nat_le, nat_lt, Bool, false, if◌then◌else◌, List, [], ◌∷◌, Option, Some, None}
+use Rattle.std.specs.Prelude.{◌≡◌, ℕ, zero, suc, take, drop, ◌++◌, nat_le, nat_lt, Bool, false, if◌then◌else◌, List, [], ◌∷◌, Option, Some, None}
 use Rattle.std.specs.Option.{option_to_list}
 use Rattle.nfs_ranges.specs.{declared.interval.Interval.Interval, declared.blocks.Place.Place, declared.blocks.Parts.Parts, declared.edits.Edit.Edit}
 use Rattle.nfs_ranges.specs.{Intervals.IsCanonical, Owners.is_empty, Edits.{lead, head}}
@@ -9,14 +9,15 @@ abbrev pub flat : {X : Type 0} → List (List X) → List X
 flat [] = []
 flat (b ∷ bs) = b ++ flat bs
 
-abbrev pub last_from : Interval → List Interval → ℕ
-last_from x [] = x.last
-last_from x (y ∷ ys) = last_from y ys
+-- the last of an item and those behind it
+abbrev pub last_of : {X : Type 0} → X → List X → X
+last_of x [] = x
+last_of x (y ∷ ys) = last_of y ys
 
 -- the last byte of the last interval
 abbrev pub last_end : List Interval → ℕ
 last_end [] = 0
-last_end (x ∷ xs) = last_from x xs
+last_end (x ∷ xs) = (last_of x xs).last
 
 abbrev pub AreSome : {X : Type 0} → List (List X) → Type 0
 AreSome [] = Unit {0}
@@ -47,9 +48,8 @@ block_at (b ∷ bs) (suc i) = block_at bs i
 -- the place behind the intervals that pass
 pub record IsPlace (p : Interval → Bool) (bs : List (List Interval)) (place : Place) : Type 0 where
   pub front : flat (take place.block bs) ++ take place.at (block_at bs place.block) ≡ take (lead p (flat bs)) (flat bs)
+  pub rest : drop place.at (block_at bs place.block) ++ flat (drop (suc place.block) bs) ≡ drop (lead p (flat bs)) (flat bs)
   pub next : head (drop place.at (block_at bs place.block)) ≡ head (drop (lead p (flat bs)) (flat bs))
-  pub behind : (t : ℕ) → t ≤ length (option_to_list (head (drop (lead p (flat bs)) (flat bs))))
-      → drop t (drop place.at (block_at bs place.block)) ++ flat (drop (suc place.block) bs) ≡ drop t (drop (lead p (flat bs)) (flat bs))
 
 -- what an edit leaves of the two blocks in which it begins and ends
 abbrev pub edges : Edit → List (List Interval) → List Interval

@@ -1,7 +1,7 @@
 -- Owners in rising order, and groups of them: those that stand next to each other.
 use Rattle.std.specs.Prelude.{◌≡◌, All, ℕ, zero, suc, ◌==◌, nat_lt, Bool, false, List, [], ◌∷◌, Option, Some, None}
 use Rattle.nfs_ranges.specs.{declared.interval.Interval.Interval, declared.span.Span.Span, Holders.{Owned, LockedBytes}}
-use Rattle.nfs_ranges.specs.{Owners.{is_empty, AreCanonical, with_owner, IsSpanOf}, Blocks.{flat, AreSome}}
+use Rattle.nfs_ranges.specs.{Owners.{is_empty, AreCanonical, with_owner, IsSpanOf}, Blocks.{flat, last_of, AreSome}}
 
 -- the owner has a lower number
 abbrev pub is_below : ℕ → Owned → Bool
@@ -12,14 +12,10 @@ abbrev pub is_own : ℕ → Option Owned → Bool
 is_own s None = false
 is_own s (Some o) = o.number == s
 
-abbrev pub number_from : Owned → LockedBytes → ℕ
-number_from o [] = o.number
-number_from o (p ∷ os) = number_from p os
-
 -- the number of the last owner
 abbrev pub last_number : LockedBytes → ℕ
 last_number [] = 0
-last_number (o ∷ os) = number_from o os
+last_number (o ∷ os) = (last_of o os).number
 
 -- each owner of the group has a lower number
 abbrev pub are_below : ℕ → LockedBytes → Bool

@@ -1,11 +1,9 @@
-use Rattle.std.proofs.Common.{◌≡◌, ◌<◌, ◌+◌, suc, List, length, subst, sym, ap, ◌∙◌, arith, rules}
+use Rattle.std.proofs.{Common.{◌≡◌, ◌<◌, ◌+◌, suc, List, take, length, subst, ap, ◌∙◌, arith, rules}, lemmas.List.take_all}
 use Rattle.std.specs.Prelude.{min}
-use Rattle.nfs_opens.specs.{Flat.front_of, StateId.last_number}
-use Rattle.nfs_opens.proofs.FlatLemmas.{front_none, front_longer, front_is_all}
+use Rattle.nfs_ranges.specs.Blocks.{flat}
+use Rattle.nfs_opens.specs.StateId.{last_number}
+use Rattle.nfs_opens.proofs.FlatLemmas.{front_longer}
 use Rattle.nfs_opens.proofs.blocks.count_in.Goals as goal
-
-pub loop-place-init : goal.loop-place-init
-loop-place-init g c = sym (ap (λ (xs : List g.row.T.Denot). min (length xs) last_number) (front_none c.args.blocks.now))
 
 pub loop-place-preserved : goal.loop-place-preserved
 loop-place-preserved g c =
@@ -14,7 +12,7 @@ loop-place-preserved g c =
     let place = c.loop-place.place in
     let block = c.index-blocks-place.result in
     let next : suc place ≡ place + 1 = omega arith in
-    let more = subst (λ n. length (front_of blocks n) ≡ length (front_of blocks place) + length block) next
+    let more = subst (λ n. length (flat (take n blocks)) ≡ length (flat (take place blocks)) + length block) next
     (front_longer blocks place block less c.index-blocks-place.is) in
     let before = c.loop-place.invariant in
     let one = c.len.ensures in
@@ -24,5 +22,5 @@ loop-place-preserved g c =
 pub returns : goal.returns
 returns g c =
     let at : c.loop-place.place ≡ length c.args.blocks.now = search rules in
-    c.loop-place.invariant ∙ ap (λ (xs : List g.row.T.Denot). min (length xs) last_number)
-    (ap (front_of c.args.blocks.now) at ∙ front_is_all c.args.blocks.now)
+    c.loop-place.invariant ∙ ap (λ (bs : List (List g.row.T.Denot)). min (length (flat bs)) last_number)
+    (ap (λ n. take n c.args.blocks.now) at ∙ take_all (length c.args.blocks.now) c.args.blocks.now (omega arith))

@@ -1,6 +1,5 @@
 use Rattle.std.proofs.Common.{◌≡◌, Some, None, sym, ◌∙◌, ap}
 use Rattle.std.specs.{Prelude.slice_get, Option.option_copied}
-use Rattle.nfs_ranges.specs.Edits.{lead}
 use Rattle.nfs_opens.proofs.BlockLemmas.{found_here, found_other, found_nowhere}
 use Rattle.nfs_opens.proofs.blocks.place_with.Goals as goal
 

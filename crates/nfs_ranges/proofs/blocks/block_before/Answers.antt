@@ -1,6 +1,6 @@
 use Rattle.std.proofs.{Common.{rules, of_calls, nat_lt}, lemmas.Fn.always_returns_same}
 use Rattle.nfs_ranges.specs.Blocks.{ends_whole}
-use Rattle.nfs_ranges.proofs.{BlockLemmas.{blocks_parted, before_lower}, PlaceLemmas.lead_point}
+use Rattle.nfs_ranges.proofs.{BlockLemmas.blocks_parted, PlaceLemmas.lead_point, RiseLemmas.before_lower}
 use Rattle.nfs_ranges.proofs.blocks.block_before.Goals as goal
 
 pub returns-clause-place : goal.returns-clause-place

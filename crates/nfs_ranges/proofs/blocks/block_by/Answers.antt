@@ -1,6 +1,6 @@
 use Rattle.std.proofs.{Common.{rules, of_calls, nat_le}, lemmas.Fn.always_returns_same}
 use Rattle.nfs_ranges.specs.Blocks.{ends_whole_by}
-use Rattle.nfs_ranges.proofs.{BlockLemmas.{blocks_parted, by_lower}, PlaceLemmas.lead_point}
+use Rattle.nfs_ranges.proofs.{BlockLemmas.blocks_parted, PlaceLemmas.lead_point, RiseLemmas.by_lower}
 use Rattle.nfs_ranges.proofs.blocks.block_by.Goals as goal
 
 pub returns : goal.returns

@@ -1,4 +1,4 @@
-use Rattle.std.proofs.{Common.{◌≡◌, List, [], ◌++◌, sym, ◌∙◌, ap, arith}, lemmas.Grind.common_steps, lemmas.List.append-nil}
+use Rattle.std.proofs.{Common.{◌≡◌, sym, ◌∙◌, ap, arith}, lemmas.Grind.common_steps, lemmas.List.append-nil}
 use Rattle.std.specs.List.{insert}
 use Rattle.nfs_ranges.specs.Edits.{lead}
 use Rattle.nfs_opens.specs.Blocks.{added}

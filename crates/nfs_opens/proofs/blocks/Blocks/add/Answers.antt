@@ -1,8 +1,8 @@
 use Rattle.std.proofs.{Common.{◌≡◌, ◌<◌, ◌≤◌, ◌++◌, ◌∷◌, [], List, Option, length, suc, set, subst, sym, ap, ◌∙◌, refl, arith}, lemmas.Grind.common_steps}
 use Rattle.std.proofs.lemmas.List.{length-set, append-nil}
 use Rattle.std.specs.List.{insert}
-use Rattle.nfs_ranges.specs.Edits.{lead}
-use Rattle.nfs_opens.specs.{Flat.flat, Blocks.{Listed, IsParted, added, passes, items_in}}
+use Rattle.nfs_ranges.specs.{Edits.lead}
+use Rattle.nfs_opens.specs.Blocks.{Listed, IsParted, added, passes, items_in}
 use Rattle.nfs_opens.proofs.BlockLemmas.{block_parted, onward_none, one_changed, one_split}
 use Rattle.nfs_opens.proofs.blocks.Blocks.add.Goals as goal
 

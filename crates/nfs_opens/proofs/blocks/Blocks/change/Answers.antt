@@ -1,6 +1,6 @@
-use Rattle.std.proofs.{Common.{◌≡◌, ◌<◌, ◌≤◌, List, [], length, subst, sym, ap, ◌∙◌, arith}, lemmas.List.{length-set, append-nil}}
-use Rattle.nfs_ranges.specs.Edits.{lead}
-use Rattle.nfs_opens.specs.{Flat.flat, Blocks.{Listed, IsParted, changed, first_changed, passes}}
+use Rattle.std.proofs.{Common.{◌≡◌, ◌<◌, ◌≤◌, length, subst, sym, ap, ◌∙◌, arith}, lemmas.List.{length-set, append-nil}}
+use Rattle.nfs_ranges.specs.{Blocks.flat, Edits.lead}
+use Rattle.nfs_opens.specs.Blocks.{Listed, IsParted, changed, first_changed, passes}
 use Rattle.nfs_opens.proofs.BlockLemmas.{block_parted, block_some, onward_none, one_changed, first_made}
 use Rattle.nfs_opens.proofs.blocks.Blocks.change.Goals as goal
 

@@ -1,7 +1,7 @@
 use Rattle.std.proofs.Common.{◌≡◌, List, Some, None, subst, sym, ap, ◌∙◌}
 use Rattle.std.specs.{Prelude.slice_get, Option.option_copied}
-use Rattle.nfs_ranges.specs.Edits.{lead}
-use Rattle.nfs_opens.specs.{Flat.flat, Blocks.{Listed, IsParted, found, passes}}
+use Rattle.nfs_ranges.specs.{Edits.lead}
+use Rattle.nfs_opens.specs.Blocks.{Listed, IsParted, found, passes}
 use Rattle.nfs_opens.proofs.{FlatLemmas.got_block, BlockLemmas.{block_parted, found_in, found_none}}
 use Rattle.nfs_opens.proofs.blocks.Blocks.find.Goals as goal
 

@@ -1,6 +1,6 @@
-use Rattle.std.proofs.{Common.{◌≡◌, ◌<◌, ◌≤◌, List, [], length, subst, sym, ap, ◌∙◌, arith}, lemmas.List.{length-set, append-nil}}
-use Rattle.nfs_ranges.specs.Edits.{lead}
-use Rattle.nfs_opens.specs.{Flat.flat, Blocks.{Listed, IsParted, removed, first_out, passes}}
+use Rattle.std.proofs.{Common.{◌≡◌, ◌<◌, ◌≤◌, length, subst, sym, ap, ◌∙◌, arith}, lemmas.List.{length-set, append-nil}}
+use Rattle.nfs_ranges.specs.{Blocks.flat, Edits.lead}
+use Rattle.nfs_opens.specs.Blocks.{Listed, IsParted, removed, first_out, passes}
 use Rattle.nfs_opens.proofs.{FlatLemmas.room_kept, BlockLemmas.{block_parted, onward_none, one_changed, one_emptied, first_removed}}
 use Rattle.nfs_opens.proofs.blocks.Blocks.remove.Goals as goal
 

@@ -1,4 +1,4 @@
-use Rattle.std.proofs.Common.{◌≡◌, ◌≢◌, ℕ, List, false, map, subst, sym, ap, ◌∙◌}
+use Rattle.std.proofs.Common.{◌≡◌, ◌≢◌, ℕ, false, map, subst, sym, ap, ◌∙◌}
 use Rattle.nfs_xdr.specs.Tables.{In}
 use Rattle.nfs_opens.specs.{declared.index.Pair.Pair, Index.{HasPut, is_before}, Blocks.{Listed, added}}
 use Rattle.nfs_opens.proofs.{EntryLemmas.{parted_map, added_map}, IndexLemmas.{parted, has_put}}
