@@ -111,6 +111,12 @@ class Replay:
                 pipe.close()
 
 
+def whole(file):
+    """The bytes of a file that a program has for its output. (It writes a line in pieces, each where the file stands that both have open: what reads here
+    must not move that.)"""
+    return os.pread(file.fileno(), os.fstat(file.fileno()).st_size, 0)
+
+
 class Served:
     """The program, serving on a port of the loopback that it took itself: so many connections, or until it is stopped if no number is given, so many at
     once, under these settings. `words` are further ones, `files` limits how many files it may have open, and `under` is the words of a tool that runs
@@ -134,12 +140,8 @@ class Served:
 
     def listening(self):
         """The port that it says it listens on."""
-        def told():
-            self.told.seek(0)
-            return LISTENING.match(self.told.read()) or self.program.poll() is not None
-
-        found = waits_for(told, pause=0.01)
-        if found in (True, None):
+        found = waits_for(lambda: LISTENING.match(whole(self.told)) or self.program.poll() is not None, pause=0.01)
+        if isinstance(found, bool):
             raise RuntimeError("the program does not listen")
         return int(found[1])
 
@@ -157,8 +159,7 @@ class Served:
 
     def lines(self):
         """The lines that it has said on standard error."""
-        self.told.seek(0)
-        return self.told.read().splitlines()
+        return whole(self.told).splitlines()
 
     def runs_until_stopped(self):
         """Whether it runs still, ends by SIGTERM, and has said nothing but where it listens."""
