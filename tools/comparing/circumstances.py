@@ -3,7 +3,7 @@ import nfs4
 
 from .differences import When
 from .reference import LEASE, T0
-from .symbols import State, Turn, Values
+from .symbols import State, Turn, compares_a_time
 
 ALONE = {"EXCHANGE_ID", "CREATE_SESSION", "DESTROY_SESSION", "DESTROY_CLIENTID"}
 
@@ -25,7 +25,7 @@ class Circumstances:
             return When.UNUSED_SLOT
         if b == "GRACE" and self.play.caller(step) not in self.play.twin.ready:
             return When.BEFORE_RECLAIM_COMPLETE
-        if op.name in ("VERIFY", "NVERIFY") and isinstance(op.get("attrs"), Values) and any(name.startswith("Time_") for name, _ in op.get("attrs")):
+        if compares_a_time(op):
             return When.A_TIME
         if op.name in ALONE and step.sequence:
             return When.IN_A_SESSION

@@ -105,6 +105,11 @@ class Script:
         return Script(steps, self.binds)
 
 
+def compares_a_time(op):
+    """Whether it compares a time that a reply gave with what it is now."""
+    return op.name in ("VERIFY", "NVERIFY") and isinstance(op.get("attrs"), Values) and any(name.startswith("Time_") for name, _ in op.get("attrs"))
+
+
 def is_special(stateid):
     return stateid[10:] in SPECIAL
 
