@@ -6,6 +6,9 @@ HAS_RUN = ("NFS4ERR_SEQ_FALSE_RETRY", "NFS4ERR_RETRY_UNCACHED_REP")
 # how repeats.differences begins with what may be another one
 MAY_DIFFER = ("xid ", "gid ", "gids ", "high_slot_id of SEQUENCE ")
 ROUND = 1 << 32
+MISORDERED = "NFS4ERR_SEQ_MISORDERED"
+# how many compounds are kept that were refused and passed over: a client that asks for them does so at once
+KEPT = 64
 
 
 class Sent:
@@ -44,14 +47,15 @@ class Slot:
     def __init__(self, place, is_known, found):
         self.place, self.is_known, self.found = place, is_known, found
         self.last, self.count, self.again, self.moved = None, 0, 0, 0
-        # compounds that were passed over while they waited; and the first number behind what is not known
-        self.open_ends, self.floor = [], None
+        # compounds that were passed over while they waited; those that were passed over when they were refused as misordered; and the first number behind
+        # what is not known
+        self.open_ends, self.refused_ends, self.floor = [], [], None
 
     def forget(self):
         """Compounds or replies may be lacking from here on."""
         if self.last:
             self.last.is_over = True
-        self.last, self.is_known, self.open_ends = None, False, []
+        self.last, self.is_known, self.open_ends, self.refused_ends = None, False, [], []
 
     def send(self, new, has_ended):
         """Takes a sending, and says of which compound it is: of this new one, or of the one before, sent again. `has_ended` tells
@@ -66,8 +70,9 @@ class Slot:
             return self.same_number(last, new, has_ended)
         ahead = (new.number - last.number) % ROUND
         if asked := self.asked_by(new):
-            self.open_ends.remove(asked)
-            text = f"{new.name} ({names_of(asked.call)}) had no reply when the next number was sent, which was misordered; a lone SEQUENCE asks whether it ran"
+            ends, how = (self.open_ends, "had no reply") if asked in self.open_ends else (self.refused_ends, "was misordered")
+            ends.remove(asked)
+            text = f"{new.name} ({names_of(asked.call)}) {how} when the next number was sent, which was misordered; a lone SEQUENCE asks whether it ran"
             self.say("asked-instead", (asked.sendings[-1], asked.passed, new.sendings[0]), text)
         elif ahead != 1 and not self.is_before_all(new):
             how = f"{ahead - 1} skipped" if ahead < ROUND // 2 else f"{ROUND - ahead} back"
@@ -78,13 +83,13 @@ class Slot:
 
     def is_before_all(self, new):
         """Whether it goes back to where the capture lacks bytes, as a lone SEQUENCE does that asks for a compound there."""
-        return self.floor is not None and new.number < self.floor and self.last.refused == "NFS4ERR_SEQ_MISORDERED"
+        return self.floor is not None and new.number < self.floor and self.last.refused == MISORDERED
 
     def asked_by(self, new):
         """The compound that was given up, and of which a lone SEQUENCE asks whether it ran, where a later number was refused as misordered."""
-        if not new.is_lone or self.last.refused != "NFS4ERR_SEQ_MISORDERED":
+        if not new.is_lone or self.last.refused != MISORDERED:
             return None
-        return next((sent for sent in self.open_ends if sent.number == new.number), None)
+        return next((sent for sent in (*self.open_ends, *self.refused_ends) if sent.number == new.number), None)
 
     def take(self, new):
         if self.last:
@@ -101,6 +106,9 @@ class Slot:
         if last.refused:
             text = f"{new.name} comes after {last.name} ({names_of(last.call)}), whose SEQUENCE was refused with {last.refused} and did not use it up"
             self.say("given-up", (last.sendings[-1], new.sendings[0]), text)
+            if last.refused == MISORDERED:
+                last.passed = new.sendings[0]
+                self.refused_ends = [*self.refused_ends, last][-KEPT:]
         elif last.other is not None:
             text = f"{new.name} is sent after a reply that has the xid of {last.name} and another SEQUENCE"
             self.say("other-reply", (last.sendings[-1], last.other, new.sendings[0]), text)
