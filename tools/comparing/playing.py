@@ -60,7 +60,7 @@ class Play(Flights, Wording):
         self.twin, self.outcome = Twin(), Outcome()
         self.binds, self.known = source.binds, {}
         self.windows, self.sent, self.edited, self.owners = {}, {}, set(), {}
-        self.xid, self.moment, self.skew = 0x100, T0, 0.0
+        self.xid, self.moment, self.skew = 0x100, T0, (0.0, 0.0)
         self.looks = Looks(self)
         self.forks = []  # the last flights that another order may explain as well
 
@@ -89,10 +89,10 @@ class Play(Flights, Wording):
         if "Time_Metadata" in values:
             seconds, part = values["Time_Metadata"].split(".")
             at = int(seconds) + int(part) / 1e9
-            if part == "000000000":  # whole seconds: the window is a second wider
-                self.skew = None if before - 1 <= at <= after + 1 else at - before
+            if part == "000000000":  # whole seconds: it shows up to a second less than it is; and how far it is from ours is known by a second alone
+                self.skew = (-1.0, 0.0) if before - 1 <= at <= after else (at - after - 1, at + 1 - before)
             else:
-                self.skew = 0.0 if before - SLACK <= at <= after + SLACK else at - (before + after) / 2
+                self.skew = (0.0, 0.0) if before - SLACK <= at <= after + SLACK else 2 * (at - (before + after) / 2,)
         self.reference.begin()
         self.bind_base(self.reference.base, handle)
         return name, handle
@@ -157,9 +157,8 @@ class Play(Flights, Wording):
         return time.time()
 
     def window(self, low, high):
-        if self.skew is None:  # a clock of whole seconds
-            return low - 1 - SLACK, high + SLACK
-        return low + self.skew - SLACK, high + self.skew + SLACK
+        least, most = self.skew
+        return low + least - SLACK, high + most + SLACK
 
     # one call
 
