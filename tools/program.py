@@ -173,6 +173,16 @@ class Served:
         """The seconds of a processor that the program has used."""
         return seconds_of(self.program)
 
+    def settles(self, most=10):
+        """Waits until the program uses no processor, but no longer than that many seconds: one that never sleeps is taken as it is."""
+        used = [-1]
+
+        def sleeps():
+            used.append(self.seconds())
+            return used[-1] - used[-2] <= 0.01
+
+        waits_for(sleeps, most, 0.3)
+
     @contextlib.contextmanager
     def stopped(self):
         """The program stands still."""
