@@ -22,7 +22,7 @@ use Rattle.nfs_tree.proofs.{Objects.stored_within, Trees.{remove_granted, has_on
 use Rattle.nfs_attrs.specs.{declared.wanted.Wanted.Wanted, Mask.{mask_of, trimmed_words}}
 use Rattle.nfs_opens.specs.Opening.{opens}
 use Rattle.nfs_names.specs.{declared.context.Context.Context, declared.context.Saved.Saved, declared.node.Node.Node, State.{with_tree, without_unused}}
-use Rattle.nfs_names.specs.{Checks.{node_at, current, both, saved_object}, Create.{attributes_in, change_info, new_of, sets_of, create}, Link.link}
+use Rattle.nfs_names.specs.{Checks.{node_at, current, both, saved_object}, Create.{attributes_in, change_info, given_sets, new_of, sets_of, create}, Link.link}
 use Rattle.nfs_names.specs.{Outcome.{Outcome, checked, is_ok}, Remove.remove, Rename.{move_of, rename, without_replaced}}
 use Rattle.nfs_names.specs.State as store
 use Rattle.nfs_names.proofs.{Found.{came, ok_is, checked_ok, current_is}, NameLaws.{current_refuses, by_create, by_link, by_remove, by_rename}, Ones.by_delay}
@@ -305,11 +305,11 @@ write_raises n refused s x now w at there some =
 set_raises : (n : ℕ) (t : Files) (now : Time) (wanted : Wanted) (size : Option ℕ) → is_there t n ≡ true → of_set.gives_some wanted ≡ true
     → Raises n t (of_set.with_set t n now wanted size)
 set_raises n t now wanted (Some size) there some =
-    goes_up n t (with_resized t n size (of_set.sets_of now wanted) now)
-    (bytes_here n now (of_set.sets_of now wanted) (λ s. resized s.bytes size) t.objects (change_of t n) (at_now t n there))
+    goes_up n t (with_resized t n size (given_sets now wanted) now)
+    (bytes_here n now (given_sets now wanted) (λ s. resized s.bytes size) t.objects (change_of t n) (at_now t n there))
 set_raises n t now wanted None there some =
-    rw some (goes_up n t (record t { objects = with_changed n now (of_set.sets_of now wanted) t.objects })
-    (at_here n now (of_set.sets_of now wanted) t.objects (change_of t n) (at_now t n there)))
+    rw some (goes_up n t (record t { objects = with_changed n now (given_sets now wanted) t.objects })
+    (at_here n now (given_sets now wanted) t.objects (change_of t n) (at_now t n there)))
 
 ok_same : (v : Result Wanted Status) (a b : Wanted) → v ≡ Ok a → v ≡ Ok b → a ≡ b
 ok_same v a b e f = (let same : Ok a ≡ Ok b = sym e ∙ f in cc)

@@ -10,7 +10,6 @@ use Rattle.nfs_compound.specs.{declared.file_args.Write.Write, declared.file_arg
 use Rattle.nfs_compound.specs.{declared.op.Item.Item, declared.op.Item.TheVariants.{Operation, Fault}}
 use Rattle.nfs_compound.specs.declared.op_num.OpNum.TheVariants as Num
 use Rattle.nfs_results.specs.{declared.res.Res.Res, Results.status_of_result}
-use Rattle.nfs_results.specs.declared.res.Res.TheVariants as Res
 use Rattle.nfs_tree.specs.{Object.no_sets, Bytes.has_bytes, Calls.write_fault}
 use Rattle.nfs_ranges.specs.declared.Held.{Held}
 use Rattle.nfs_opens.specs.{declared.stateid.StateId.StateId, declared.records.OpenState.OpenState, declared.records.LockState.LockState, StateId.last_number}
@@ -18,11 +17,11 @@ use Rattle.nfs_opens.specs.{Table.{Table, open_at, lock_at}, TableInvariants.IsT
 use Rattle.nfs_opens.specs.Locking as locking
 use Rattle.nfs_opens.proofs.CallLaws.{IsLocked}
 use Rattle.nfs_names.specs.{declared.context.Context.Context, declared.node.Node.Node, State.{State, with_tree}, Ending.with_opens, Faults.tree_fault_status}
-use Rattle.nfs_names.specs.{Outcome.{Outcome, checked, done, is_ok}, Checks.current}
+use Rattle.nfs_names.specs.{Outcome.{Outcome, checked, done, is_ok}, Checks.current, Create.given_sets}
 use Rattle.nfs_names.proofs.{Found.checked_ok, Ones.by_delay, Effects.Makes, Rows.none_mapped}
 use Rattle.nfs_files.specs.{declared.opening.Found.Found, declared.opening.Found.TheVariants.{There, Absent}, declared.ranges.Wished.Wished}
 use Rattle.nfs_files.specs.{declared.setting.Setting.Setting, Bytes.file_checks, Operation.grows, Close.close, Parts.{readable, writable}}
-use Rattle.nfs_files.specs.{Commit.write_verifier, FreeStateid.free_stateid, LockT.tested, LockU.lock_u, OpenParts.tree_fault}
+use Rattle.nfs_files.specs.{Commit.write_verifier, FreeStateid.free_stateid, LockU.lock_u, OpenParts.tree_fault}
 use Rattle.nfs_files.specs.{OpenDowngrade.{bits, open_downgrade}, Read.was_read, TestStateid.test_stateid}
 use Rattle.nfs_files.specs.Parts as parts
 use Rattle.nfs_files.specs.Lock as of_lock
@@ -31,6 +30,7 @@ use Rattle.nfs_files.specs.Open as of_open
 use Rattle.nfs_files.specs.SetAttrParts as set_parts
 use Rattle.nfs_files.specs.SetAttr as of_set
 use Rattle.nfs_files.specs.Write as of_write
+use Rattle.nfs_files.proofs.Terms.{tested}
 use Rattle.nfs_files.proofs.{WriteRows.write_found, SetRows.set_found, OpenAnswers.file_regular_behind, Granted.tree_free, Opened.shared_free}
 use Rattle.nfs_files.proofs.{OthersTables.{OpensAreOf, LocksAreOf, lock_is_of}, Outcomes.{one, one_or_delay, comes_to}}
 use Rattle.nfs_files.proofs.OpensMoved.{answered, by_close, by_free, by_downgrade, by_lock, by_unlock}
@@ -219,10 +219,10 @@ module _ (s : State) (x : Context) where
   set_did : (now : Time) (a : SetAttr) (m : Setting) (size : Option ℕ) → m.wanted.size ≡ size → set_parts.asked_for s x a ≡ Ok m
       → set_parts.tree_fault s.tree m.node.number m.wanted size ≡ None
       → Did s x (Op.SetAttr a) (record (set_parts.was_set s x now a m) { state = with_tree s (of_set.with_set s.tree m.node.number now m.wanted size) })
-  set_did now a m (Some size) is found none = had (Op.SetAttr a) _ (Resizes m.node.number size (of_set.sets_of now m.wanted) now) (λ table. none)
+  set_did now a m (Some size) is found none = had (Op.SetAttr a) _ (Resizes m.node.number size (given_sets now m.wanted) now) (λ table. none)
       (inl (record { asked = a; is = refl; setting = m; found = found; number = refl; sets = is; words = _; answers = refl })) refl refl refl
   set_did now a m None is found none = elim (cases_Bool (of_set.gives_some m.wanted)) [
-    | inl some ↦ had (Op.SetAttr a) _ (Changes m.node.number (of_set.sets_of now m.wanted) now) (λ table. tt)
+    | inl some ↦ had (Op.SetAttr a) _ (Changes m.node.number (given_sets now m.wanted) now) (λ table. tt)
         (record { asked = a; is = refl; setting = m; found = found; number = refl; sets = is; words = _; answers = refl }) refl (rw some refl) refl
     | inr empty ↦ record { effects = []; caused = tt; state = rw empty refl; client = refl }
   ]

@@ -6,7 +6,6 @@ use Rattle.nfs_xdr.specs.{Checks.first_fault, Tables.In, declared.time.Time.Time
 use Rattle.nfs_compound.specs.{declared.file_args.SetAttr.SetAttr, declared.file_args.Write.Write, declared.op.Op.Op, declared.open_args.Open.Open}
 use Rattle.nfs_compound.specs.declared.open_args.OpenDowngrade.{OpenDowngrade}
 use Rattle.nfs_results.specs.{declared.res.OpenOk.OpenOk, declared.res.Res.Res, Results.status_of_result}
-use Rattle.nfs_results.specs.declared.res.Res.TheVariants as Res
 use Rattle.nfs_tree.specs.{declared.sets.Sets.Sets, Files.with_changed, Bytes.{has_bytes, with_written, with_resized}}
 use Rattle.nfs_tree.specs.{Calls.{is_regular_at, write_fault, resize_fault}, TreeInvariants.IsTree}
 use Rattle.nfs_ranges.specs.Holders.{holding, cleared, holds_any}

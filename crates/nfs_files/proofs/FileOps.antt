@@ -24,15 +24,15 @@ use Rattle.nfs_attrs.specs.declared.wanted.Wanted.{Wanted}
 use Rattle.nfs_opens.specs.Closing as closing
 use Rattle.nfs_opens.specs.Locking as locking
 use Rattle.nfs_names.specs.{declared.context.Context.Context, declared.node.Node.Node, declared.making.Making.Making, State.State, Ending.with_opens}
-use Rattle.nfs_names.specs.{Outcome.{Outcome, answers, checked, refuses, is_ok}, Checks.{node_as, node_at, current}, Create.attributes_in}
+use Rattle.nfs_names.specs.{Outcome.{Outcome, answers, checked, refuses, is_ok}, Checks.{node_as, node_at, current}, Create.{attributes_in, given_sets}}
 use Rattle.nfs_names.specs.Operation as names
 use Rattle.nfs_names.proofs.{Found.{came, ok_is, checked_ok, current_is}, NameLaws.current_refuses, Ones.{by_delay, each_of}}
 use Rattle.nfs_names.proofs.{Refusing.{IsRefusal, Refuses, refuses_checked}, Effected.kept_item}
 use Rattle.nfs_names.proofs.Effects as names_effects
 use Rattle.nfs_files.specs.{declared.opening.Found.Found, declared.opening.Found.TheVariants.{There, Absent}, declared.setting.Setting.Setting, Parts.writable}
-use Rattle.nfs_files.specs.{Operation.grows, Close.close, FreeStateid.free_stateid, LockT.tested, LockU.lock_u}
-use Rattle.nfs_files.specs.{Open.{makes, access_of, place_checks, there_checks, absent_checks, cuts}, OpenDowngrade.open_downgrade}
-use Rattle.nfs_files.specs.OpenParts.{by_handle}
+use Rattle.nfs_files.specs.{Operation.grows, Close.close, FreeStateid.free_stateid, LockU.lock_u}
+use Rattle.nfs_files.specs.{Open.{makes, access_of, there_checks, cuts}, OpenDowngrade.open_downgrade}
+use Rattle.nfs_files.specs.OpenParts.{place_checks, absent_checks, by_handle}
 use Rattle.nfs_files.specs.TestStateid.{test_stateid}
 use Rattle.nfs_files.specs.FileImage.{Image, unwritten, written_over, cut_to, size_in, new_size, old_size, asks_empty, claimed, is_number, left_of}
 use Rattle.nfs_files.specs.Parts as parts
@@ -42,6 +42,7 @@ use Rattle.nfs_files.specs.Open as of_open
 use Rattle.nfs_files.specs.SetAttrParts as set_parts
 use Rattle.nfs_files.specs.SetAttr as of_set
 use Rattle.nfs_files.specs.Write as of_write
+use Rattle.nfs_files.proofs.Terms.{tested}
 use Rattle.nfs_files.proofs.{Outcomes.{one, comes_to, one_or_delay}, OpenAnswers.open_refuses, OpensMoved.{by_close, by_free, by_downgrade, by_lock, by_unlock}}
 use Rattle.nfs_files.proofs.{Passing.{if_passed_ok, mapped_came}, Seats.writable_refuses, SetAnswers.asked_refuses, WrittenOps.{current_number, writable_at}}
 use Rattle.nfs_files.proofs.FileImages.{IsOf, Has, unwritten_is, has_new, has_changed, has_written, has_resized, has_unused, has_effect}
@@ -118,9 +119,9 @@ setting_is s x a m e =
 
 sized_left : (n : ℕ) (img : Image) (t : Files) (m : ℕ) (now : Time) (wanted : Wanted) (size : Option ℕ) → Has n img t
     → Has n (if m == n then cut_to img size else img) (of_set.with_set t m now wanted size)
-sized_left n img t m now wanted (Some size) is = has_resized n img t m size (of_set.sets_of now wanted) now is
+sized_left n img t m now wanted (Some size) is = has_resized n img t m size (given_sets now wanted) now is
 sized_left n img t m now wanted None is = same_if n img (of_set.with_set t m now wanted None) (m == n) (elim (cases_Bool (of_set.gives_some wanted)) [
-  | inl some ↦ rw some (has_changed n img t m (of_set.sets_of now wanted) now is)
+  | inl some ↦ rw some (has_changed n img t m (given_sets now wanted) now is)
   | inr nothing ↦ rw nothing is
 ])
 
@@ -280,8 +281,8 @@ claim_is s x o DelegPrevFh d f at is e = absurd cc
 pub open_is : (s : State) (x : Context) (o : Open) (f : Found) → open_parts.asked_for s x o ≡ Ok f → Is s x o f
 unfolding open_parts.asked_for
 open_is s x o f e =
-    let c = came (checked (current s x) (of_open.argument_checks o)) (open_parts.by_claim s x o o.claim) f e in
-    claim_is s x o o.claim c.found f (checked_ok (current s x) (of_open.argument_checks o) c.found c.is).0 refl c.then
+    let c = came (checked (current s x) (open_parts.argument_checks o)) (open_parts.by_claim s x o o.claim) f e in
+    claim_is s x o o.claim c.found f (checked_ok (current s x) (open_parts.argument_checks o) c.found c.is).0 refl c.then
 
 -- what it leaves
 

@@ -1,9 +1,9 @@
 -- OPEN: where its own checks pass, the tree refuses nothing; and what the code looks at in their place.
-use Rattle.std.proofs.Common.{◌≡◌, ℕ, Bool, true, false, cond, not, List, [], ◌∷◌, ◌++◌, Option, Some, None, refl, sym, ◌∙◌, ap, subst}
+use Rattle.std.proofs.Common.{◌≡◌, ℕ, Bool, true, false, cond, not, Option, Some, None, refl, ◌∙◌, ap, subst}
 use Rattle.std.proofs.lemmas.Bool.{and_parts, not-false, false≢true}
 use Rattle.std.proofs.lemmas.List.{length-replicate}
-use Rattle.std.specs.{Prelude.{Ok, Err, ◌==◌, ◌&&◌, is_some, option_map, unwrap_or}, Option.option_map_or}
-use Rattle.nfs_xdr.specs.{Checks.first_fault, declared.status.Status.Status, declared.status.Status.TheVariants.Inval}
+use Rattle.std.specs.{Prelude.{Ok, Err, is_some, option_map, unwrap_or}, Option.option_map_or}
+use Rattle.nfs_xdr.specs.{Checks.first_fault, declared.status.Status.TheVariants.Inval}
 use Rattle.nfs_xdr.proofs.Checks.{all_passed}
 use Rattle.nfs_compound.specs.{declared.open_args.Open.Open, declared.open_args.OpenClaim.OpenClaim}
 use Rattle.nfs_compound.specs.declared.open_args.OpenClaim.TheVariants.{Null, Previous, DelegateCur, DelegatePrev, Fh, DelegCurFh, DelegPrevFh}
@@ -14,9 +14,8 @@ use Rattle.nfs_tree.specs.declared.object.FileType.TheVariants as Kind
 use Rattle.nfs_names.specs.{declared.context.Context.Context, declared.node.Node.Node, declared.making.Making.Making, State.State, Outcome.{mapped, checked}}
 use Rattle.nfs_names.specs.{Checks.{node_at, current}, Create.attributes_in, Faults.by_tree, StoreInvariants.IsStore}
 use Rattle.nfs_names.proofs.{Rows.tree_passes, Found.{IsHeld, current_is, checked_ok, came, ok_is, short_name}}
-use Rattle.nfs_opens.specs.StateId.{last_number}
 use Rattle.nfs_files.specs.{declared.opening.Found.Found, declared.opening.Found.TheVariants.{There, Absent}}
-use Rattle.nfs_files.specs.{Open.{makes, name_of, argument_checks, place_checks, absent_checks, there_checks, cuts}, OpenParts.found_by}
+use Rattle.nfs_files.specs.{Open.{makes, name_of, there_checks, cuts}, OpenParts.{argument_checks, place_checks, absent_checks, found_by}}
 use Rattle.nfs_files.specs.{Open.{last_checks, new_of, room_checks}, OpenParts.{tree_fault, can_enter}}
 use Rattle.nfs_files.specs.OpenParts.{by_name, by_handle, by_claim, asked_for}
 use Rattle.nfs_files.specs.OpenParts as part

@@ -22,17 +22,18 @@ use Rattle.nfs_names.specs.{declared.context.Context.Context, declared.node.Node
 use Rattle.nfs_names.specs.{Outcome.{Outcome, done, passed, checked, mapped, or_refusal, refuses, answers}, Checks.{node_at, current}, Create.attributes_in}
 use Rattle.nfs_files.specs.{declared.target.Target.Target, declared.ranges.Wished.Wished, declared.setting.Setting.Setting}
 use Rattle.nfs_files.specs.{Bytes.{file_checks, seat, reading, writing, seat_checks, may_use}, Close.close, Commit.{write_verifier, commit}}
-use Rattle.nfs_files.specs.{FreeStateid.free_stateid, Lock.{stateid_in, locks_as, locked, lock}, LockT.{tested, lock_t}, LockU.lock_u}
+use Rattle.nfs_files.specs.{FreeStateid.free_stateid, Lock.{stateid_in, locks_as, locked, lock}, LockT.lock_t, LockU.lock_u}
 use Rattle.nfs_files.specs.{OpenDowngrade.{bits, open_downgrade}, Ranges.{range, wished}, Read.{was_read, read}, SetAttr.{may_resize, set_attr}}
 use Rattle.nfs_files.specs.{StateIds.meant, Target.the_file, Write.{last_checks, write}}
 use Rattle.nfs_files.specs.Parts.{if_passed, readable, writable, was_written, target, closed, closes, bit_checks, narrowing, narrowed, narrows, frees, wish, locking, locks, unlocking, unlocked, unlocks}
 use Rattle.nfs_files.specs.{declared.opening.Found.Found, declared.opening.Found.TheVariants.{There, Absent}}
-use Rattle.nfs_files.specs.Open.{makes, argument_checks, place_checks, absent_checks, there_checks, cuts, found_by, by_claim, opened, open_file}
+use Rattle.nfs_files.specs.Open.{makes, there_checks, cuts, found_by, by_claim, opened, open_file}
+use Rattle.nfs_files.specs.OpenParts.{argument_checks, place_checks, absent_checks}
 use Rattle.nfs_files.specs.Open as of_open
 use Rattle.nfs_files.specs.OpenParts as open_parts
 use Rattle.nfs_files.proofs.Terms as terms
 use Rattle.nfs_files.specs.SetAttrParts as set_parts
-use Rattle.nfs_files.proofs.Terms.{range_checks, last_of}
+use Rattle.nfs_files.proofs.Terms.{range_checks, last_of, tested}
 
 -- Steps without an outcome.
 

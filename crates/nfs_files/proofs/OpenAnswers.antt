@@ -21,7 +21,7 @@ use Rattle.nfs_names.proofs.StoreInvariants.{regular_same}
 use Rattle.nfs_names.proofs.Refusing.{Refuses, refusal_by, all_refuse, refuses_checked, refuses_mapped, refuses_then, err_refuses, ok_refuses, answers_with}
 use Rattle.nfs_names.proofs.Masks.{few_words}
 use Rattle.nfs_files.specs.{declared.opening.Found.Found, declared.opening.Found.TheVariants.{There, Absent}, StateIds.wire_id, Bytes.file_checks}
-use Rattle.nfs_files.specs.{Open.{makes, argument_checks, place_checks, absent_checks, there_checks, cuts}, OpenParts.found_by}
+use Rattle.nfs_files.specs.{Open.{makes, there_checks, cuts}, OpenParts.{argument_checks, place_checks, absent_checks, found_by}}
 use Rattle.nfs_files.specs.Open.{file_of, asking, room_checks, last_checks, new_of, sets_of, tree_of, set_of, open_file}
 use Rattle.nfs_files.specs.OpenParts.{by_name, by_handle, by_claim, asked_for}
 use Rattle.nfs_files.proofs.{Passing.mapped_came, Prompt.all_pass, Seats.by_bool, SetRows.file_regular, Keeping.kind_bytes}

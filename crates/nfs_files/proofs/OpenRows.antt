@@ -24,9 +24,9 @@ record IsAbsent (x : Context) (o : Open) (m : Making) : Type 0 where
 
 made_absent : (s : State) (x : Context) (o : Open) (m k : Making) (n : Option ℕ) → open_parts.found_by s x o m n ≡ Ok (Absent k) → m ≡ k
 made_absent s x o m k None e =
-    let c = mapped_came Absent (checked (Ok m) (of_open.absent_checks x o)) (Absent k) e in
+    let c = mapped_came Absent (checked (Ok m) (open_parts.absent_checks x o)) (Absent k) e in
     let same : c.found ≡ k = cc in
-    ok_is refl (checked_ok (Ok m) (of_open.absent_checks x o) c.found c.is).0 ∙ same
+    ok_is refl (checked_ok (Ok m) (open_parts.absent_checks x o) c.found c.is).0 ∙ same
 made_absent s x o m k (Some n) e =
     let c = mapped_came (λ f. There m.place.number f (of_open.cuts o m.wanted)) (checked (node_at s (Some n)) (of_open.there_checks x o)) (Absent k) e in
     let bad : There m.place.number c.found (of_open.cuts o m.wanted) ≡ Absent k = c.same in
@@ -35,9 +35,9 @@ made_absent s x o m k (Some n) e =
 named_absent : (s : State) (x : Context) (o : Open) (name : List ℕ) (d : Node) (m : Making) → current s x ≡ Ok d → o.claim ≡ Null name
     → open_parts.by_name s x o name d ≡ Ok (Absent m) → IsAbsent x o m
 named_absent s x o name d m at is e =
-    let p = came (checked (Ok d) (of_open.place_checks x name)) _ (Absent m) e in
+    let p = came (checked (Ok d) (open_parts.place_checks x name)) _ (Absent m) e in
     let w = came (attributes_in (of_open.makes o.openhow).attributes) _ (Absent m) p.then in
-    let same : d ≡ p.found = ok_is refl (checked_ok (Ok d) (of_open.place_checks x name) p.found p.is).0 in
+    let same : d ≡ p.found = ok_is refl (checked_ok (Ok d) (open_parts.place_checks x name) p.found p.is).0 in
     let made = made_absent s x o (record { place = p.found; wanted = w.found }) m (object_named s.tree p.found.number name) w.then in
     record {
       name = name;
@@ -65,8 +65,8 @@ claimed_absent s x o DelegPrevFh d m at is e = absurd cc
 asked_absent : (s : State) (x : Context) (o : Open) (m : Making) → open_parts.asked_for s x o ≡ Ok (Absent m) → IsAbsent x o m
 unfolding open_parts.asked_for
 asked_absent s x o m e =
-    let c = came (checked (current s x) (of_open.argument_checks o)) (open_parts.by_claim s x o o.claim) (Absent m) e in
-    claimed_absent s x o o.claim c.found m (checked_ok (current s x) (of_open.argument_checks o) c.found c.is).0 refl c.then
+    let c = came (checked (current s x) (open_parts.argument_checks o)) (open_parts.by_claim s x o o.claim) (Absent m) e in
+    claimed_absent s x o o.claim c.found m (checked_ok (current s x) (open_parts.argument_checks o) c.found c.is).0 refl c.then
 
 pub opened_rows : (s : State) (x : Context) (now : Time) (o : Open) (f : Found) → open_parts.asked_for s x o ≡ Ok f
     → OpensRows s x o (of_open.tree_of s.tree x now o f).rows

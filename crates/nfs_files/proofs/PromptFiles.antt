@@ -21,7 +21,7 @@ use Rattle.nfs_opens.proofs.Terms.{lock_by_owner, unless_told}
 use Rattle.nfs_names.specs.{declared.context.Context.Context, State.State, Outcome.{checked, is_delay}, Checks.current}
 use Rattle.nfs_names.proofs.{Faulted.status_of_refusal, NameLaws.current_refuses, Refusing.refuses_checked}
 use Rattle.nfs_files.specs.{Bytes.{seat, file_checks}, StateIds.meant, Ranges.wished, Denied.open_fault_status, Close.close, Parts.{writable, target, closes}}
-use Rattle.nfs_files.specs.{FreeStateid.free_stateid, LockT.tested, LockU.lock_u, Parts.{frees, unlocking, unlocks}}
+use Rattle.nfs_files.specs.{FreeStateid.free_stateid, LockU.lock_u, Parts.{frees, unlocking, unlocks}}
 use Rattle.nfs_files.specs.{OpenDowngrade.{bits, open_downgrade}, TestStateid.test_stateid, Parts.{narrowing, narrows}}
 use Rattle.nfs_files.specs.Write.{last_checks}
 use Rattle.nfs_files.proofs.{Outcomes.one, Prompt.{IsPrompt, err_prompt, ok_prompt, own_prompt, answered_prompt}, OpenAnswers.open_refuses}
@@ -30,6 +30,7 @@ use Rattle.nfs_files.proofs.StateAnswers.{target_refuses, close_refuses, free_re
 use Rattle.nfs_files.specs.Parts as parts
 use Rattle.nfs_files.specs.Lock as of_lock
 use Rattle.nfs_files.specs.SetAttrParts as set_parts
+use Rattle.nfs_files.proofs.Terms.{tested}
 use Rattle.nfs_files.proofs.InSteps.{close_is, free_is, unlock_is, downgrade_is, commit_is, test_is, read_is, set_attr_is, write_is}
 use Rattle.nfs_files.proofs.InSteps as in_steps
 

@@ -8,8 +8,9 @@ use Rattle.nfs_opens.specs.{declared.stateid.StateId.StateId, declared.stateid.C
 use Rattle.nfs_opens.specs.{declared.judging.Seat.Seat, declared.judging.Seat.TheVariants.{Anonymous, ReadBypass, Open, Lock}, declared.judging.Sort.Sort}
 use Rattle.nfs_opens.specs.{declared.judging.Sort.TheVariants.{OpenOnly, LockOnly, Either}, declared.share.Share.Share}
 use Rattle.nfs_opens.specs.{StateId.{is_current, with_seqid, is_anonymous, is_bypass}, Table.Table}
-use Rattle.nfs_opens.specs.Judging.{judge_checks, seated, judge_named, special, judge, state_named}
+use Rattle.nfs_opens.specs.Judging.{judge_checks, special, judge, state_named}
 use Rattle.nfs_names.specs.{declared.context.Context.Context, declared.node.Node.Node, State.State, Outcome.{passed, checked}}
+use Rattle.nfs_opens.proofs.Terms.{seated, judge_named}
 use Rattle.nfs_names.proofs.Refusing.{Refuses, refusal_by, all_refuse, err_refuses, ok_refuses, refuses_checked, refuses_then}
 use Rattle.nfs_files.specs.{StateIds.{state_id, meant}, Bytes.{file_checks, seat, reading, writing, seat_checks, may_use}, Parts.{readable, writable}}
 use Rattle.nfs_files.proofs.Passing.{if_passed_refuses}

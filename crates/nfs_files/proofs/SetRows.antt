@@ -17,7 +17,6 @@ use Rattle.nfs_names.proofs.{Found.{IsHeld, current_is, checked_ok, came, ok_is}
 use Rattle.nfs_files.specs.{declared.setting.Setting.Setting, Bytes.{file_checks, writing, may_use}, Parts.writable}
 use Rattle.nfs_files.specs.{SetAttr.{gives_some, set_attr}}
 use Rattle.nfs_files.specs.SetAttrParts.{tree_fault, setting, owner_checks, sized, sized_by, asked_for, last_checks, was_set}
-use Rattle.nfs_files.specs.SetAttr as of_set
 use Rattle.nfs_files.proofs.Passing.{if_passed_ok}
 use Rattle.nfs_files.proofs.InSteps.{set_attr_is}
 
@@ -74,7 +73,7 @@ given_some w size e = rw e refl
 set_rows : (s : State) (x : Context) (given : Stateid) (m : Setting) (o : Option ℕ) (k : Node)
     → m.wanted.size ≡ o → IsHeld s.tree m.node → sized_by s x given m.node o ≡ Ok k
     → option_map tree_fault_status (tree_fault s.tree m.node.number m.wanted o)
-    ≡ first_fault ((of_set.is_too_big o, tree_fault_status F.Fbig) ∷ (gives_some m.wanted && not (can_change s.tree m.node.number), tree_fault_status F.Counter) ∷ [])
+    ≡ first_fault ((option_map_or (nat_lt most_bytes) o false, tree_fault_status F.Fbig) ∷ (gives_some m.wanted && not (can_change s.tree m.node.number), tree_fault_status F.Counter) ∷ [])
 set_rows s x given m None k h is e = plain_rows s m.node m.wanted is
 set_rows s x given m (Some size) k h is e =
     let found = writable_ok s x given (Ok m.node) k e in

@@ -1,6 +1,6 @@
 -- CLOSE, FREE_STATEID, LOCKU and OPEN_DOWNGRADE: the results that they may have.
-use Rattle.std.proofs.{Common.{◌≡◌, ℕ, length, Option, Some, None, refl, arith}, lemmas.List.length-append}
-use Rattle.std.specs.Prelude.{Result, Ok, Err, ok_or, not}
+use Rattle.std.proofs.{Common.{◌≡◌, ℕ, length, Some, None, refl, arith}, lemmas.List.length-append}
+use Rattle.std.specs.Prelude.{Result, Ok, ok_or, not}
 use Rattle.nfs_xdr.specs.{Spelling.{number, hyper}, declared.status.Status.Status}
 use Rattle.nfs_xdr.specs.declared.status.Status.TheVariants as S
 use Rattle.nfs_xdr.proofs.Putting.{length_number, length_hyper}
@@ -12,7 +12,7 @@ use Rattle.nfs_results.specs.declared.res.Res.TheVariants as Res
 use Rattle.nfs_ranges.specs.Holders.{holds_any}
 use Rattle.nfs_opens.specs.{declared.share.Share.Share, declared.stateid.StateId.StateId, declared.stateid.CurrentSeqid.CurrentSeqid}
 use Rattle.nfs_opens.specs.{declared.stateid.CurrentSeqid.TheVariants.{Own, Any}, declared.judging.Seat.Seat}
-use Rattle.nfs_opens.specs.{declared.judging.Sort.TheVariants.{OpenOnly, LockOnly, Either}, declared.locking.Wish.Wish, Steps.{◌>>=◌, require}}
+use Rattle.nfs_opens.specs.{declared.judging.Sort.TheVariants.{OpenOnly, LockOnly, Either}, declared.locking.Wish.Wish, Steps.{require}}
 use Rattle.nfs_opens.specs.{Table.{Table, open_at, lock_at}, Judging.judge}
 use Rattle.nfs_opens.specs.declared.judging.Seat.TheVariants as Seats
 use Rattle.nfs_files.specs.{declared.ranges.Wished.Wished, declared.target.Target.Target, StateIds.{meant, wire_id}}

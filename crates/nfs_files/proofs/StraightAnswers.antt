@@ -12,7 +12,8 @@ use Rattle.nfs_results.proofs.Lengths.{behind_within, length_spelled}
 use Rattle.nfs_ranges.specs.declared.Held.{Held}
 use Rattle.nfs_opens.specs.Locking.{test_lock}
 use Rattle.nfs_names.specs.{declared.context.Context.Context, State.State, Outcome.{Outcome, refuses, answers, or_delay, is_ok}}
-use Rattle.nfs_files.specs.{Ranges.wished, Lock.lock, LockT.{tested, lock_t}, TestStateid.{code, test_stateid}}
+use Rattle.nfs_files.specs.{Ranges.wished, Lock.lock, LockT.lock_t, TestStateid.{code, test_stateid}}
+use Rattle.nfs_files.proofs.Terms.{tested}
 use Rattle.nfs_files.proofs.{Fitting.few_denied, StateAnswers.length_id, OpensMoved.by_lock}
 use Rattle.nfs_files.proofs.InSteps.{test_is}
 

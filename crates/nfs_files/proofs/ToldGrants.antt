@@ -25,7 +25,7 @@ use Rattle.nfs_files.proofs.{Inside.{Locks, Unlocks, Closes}, KeptOps.{lock_ok, 
 use Rattle.nfs_names.specs.{declared.context.Context.Context, State.State, Outcome.{Outcome, answers, mapped, is_ok, or_delay}}
 use Rattle.nfs_names.proofs.Found.{came, ok_is}
 use Rattle.nfs_files.specs.{declared.ranges.Wished.Wished, declared.target.Target.Target, StateIds.{wire_id, meant}, Target.the_file, Parts.target}
-use Rattle.nfs_files.specs.{Ranges.wished, Operation.grows, Close.{spent, close}, Parts.{wish, closes, closed, unlocking, unlocked, unlocks}}
+use Rattle.nfs_files.specs.{Ranges.wished, Operation.grows, Close.{spent}, Parts.{wish, closes, closed, unlocking, unlocked, unlocks}}
 use Rattle.nfs_files.specs.{LockTold.{Names, LockTold}, Laws.{ClashesAreRefused, ToldLocksAreHeld}}
 use Rattle.nfs_files.specs.Parts as parts
 use Rattle.nfs_files.specs.Lock as of_lock

@@ -12,7 +12,6 @@ use Rattle.nfs_compound.specs.{Stateid.stateid, declared.op_num.OpNum.OpNum, OpN
 use Rattle.nfs_compound.specs.{declared.op.Item.Item, declared.op.Item.TheVariants.Operation}
 use Rattle.nfs_compound.specs.declared.op_num.OpNum.TheVariants as Num
 use Rattle.nfs_results.specs.{declared.res.ChangeInfo.ChangeInfo, Items.open_ok, declared.res.Res.Res, Results.{spell_result, done_head, status_of_result}}
-use Rattle.nfs_results.specs.declared.res.Res.TheVariants as Res
 use Rattle.nfs_results.proofs.Lengths.{length_spelled}
 use Rattle.nfs_tree.specs.{declared.object.Object.Object, declared.row.Row.Row, declared.sets.Sets.Sets, Create.{New, with_new}}
 use Rattle.nfs_tree.specs.Files.{Files, object_at, is_entry, entry, object_named}
@@ -406,8 +405,8 @@ Leads s x now a d name f = object_named (of_open.tree_of s.tree x now a f) d nam
 name_leads : (s : State) (x : Context) (now : Time) (a : Open) (name : List ℕ) (m : Making) (o : Option ℕ) (f : Found) → of_open.name_of a.claim ≡ name
     → object_named s.tree m.place.number name ≡ o → open_parts.found_by s x a m o ≡ Ok f → Leads s x now a m.place.number name f
 name_leads s x now a name m None f called none e =
-    let made = mapped_ok Absent (checked (Ok m) (of_open.absent_checks x a)) f e in
-    let one : m ≡ made.from = ok_is refl (checked_ok (Ok m) (of_open.absent_checks x a) made.from made.is).0 in
+    let made = mapped_ok Absent (checked (Ok m) (open_parts.absent_checks x a)) f e in
+    let one : m ≡ made.from = ok_is refl (checked_ok (Ok m) (open_parts.absent_checks x a) made.from made.is).0 in
     subst (Leads s x now a m.place.number name) (ap Absent one ∙ made.to)
     (made_found s.tree m.place.number name (of_open.name_of a.claim) (of_open.new_of a m.wanted) (of_open.sets_of x now a m.wanted) now called none)
 name_leads s x now a name m (Some n) f called at e =
@@ -419,9 +418,9 @@ name_leads s x now a name m (Some n) f called at e =
 claim_leads : (s : State) (x : Context) (now : Time) (a : Open) (claim : OpenClaim) (d : Node) (f : Found) → a.claim ≡ claim → x.current ≡ Some d.number
     → open_parts.by_claim s x a claim d ≡ Ok f → claimed (of_open.tree_of s.tree x now a f) x claim ≡ Some (of_open.file_of s.tree f)
 claim_leads s x now a (Null name) d f same at e =
-    let place = came (checked (Ok d) (of_open.place_checks x name)) _ f e in
+    let place = came (checked (Ok d) (open_parts.place_checks x name)) _ f e in
     let wanted = came (attributes_in (of_open.makes a.openhow).attributes) _ f place.then in
-    let one : d ≡ place.found = ok_is refl (checked_ok (Ok d) (of_open.place_checks x name) place.found place.is).0 in
+    let one : d ≡ place.found = ok_is refl (checked_ok (Ok d) (open_parts.place_checks x name) place.found place.is).0 in
     let leads = name_leads s x now a name (record { place = place.found; wanted = wanted.found }) (object_named s.tree place.found.number name) f
     (ap of_open.name_of same) refl wanted.then in
     ap (named_in (of_open.tree_of s.tree x now a f) name) (at ∙ ap (λ (d : Node). Some d.number) one) ∙ leads
@@ -439,8 +438,8 @@ pub asked_leads : (s : State) (x : Context) (now : Time) (a : Open) (f : Found) 
     → claimed (of_open.tree_of s.tree x now a f) x a.claim ≡ Some (of_open.file_of s.tree f)
 unfolding open_parts.asked_for
 asked_leads s x now a f e =
-    let d = came (checked (current s x) (of_open.argument_checks a)) _ f e in
-    let node = (checked_ok (current s x) (of_open.argument_checks a) d.found d.is).0 in
+    let d = came (checked (current s x) (open_parts.argument_checks a)) _ f e in
+    let node = (checked_ok (current s x) (open_parts.argument_checks a) d.found d.is).0 in
     claim_leads s x now a a.claim d.found f refl (current_number s x d.found node) d.then
 
 -- So an OPEN that answers a stateid told an open, which stands behind it ..

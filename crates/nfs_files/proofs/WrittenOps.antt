@@ -13,7 +13,6 @@ use Rattle.nfs_compound.specs.declared.op.Item.TheVariants.{Operation}
 use Rattle.nfs_compound.specs.declared.op_num.OpNum.TheVariants as Num
 use Rattle.nfs_results.specs.Items as item
 use Rattle.nfs_results.specs.{declared.res.Res.Res, declared.res.WriteOk.WriteOk, Results.{spell_result, done_head}}
-use Rattle.nfs_results.specs.declared.res.Res.TheVariants as Res
 use Rattle.nfs_tree.specs.{declared.object.Object.Object, Files.{object_at, object_named as looked_up, number_named}, Bytes.has_bytes}
 use Rattle.nfs_tree.specs.Names.{with_moved, without_name}
 use Rattle.nfs_attrs.specs.declared.wanted.Wanted.{Wanted}
@@ -26,13 +25,12 @@ use Rattle.nfs_names.specs.Operation as names
 use Rattle.nfs_names.proofs.Effects as names_effects
 use Rattle.nfs_files.specs.{declared.opening.Found.TheVariants.{There, Absent}, declared.setting.Setting.Setting}
 use Rattle.nfs_files.specs.{Bytes.{file_checks, writing, may_use}, Parts.writable}
-use Rattle.nfs_files.specs.{Open.{makes, access_of, place_checks, there_checks, absent_checks, cuts}, Written.{Byte, Lasts, Spares, NamesLeaveBytes}}
-use Rattle.nfs_files.specs.OpenParts.{by_handle}
+use Rattle.nfs_files.specs.{Open.{makes, access_of, there_checks, cuts}, Written.{Byte, Lasts, Spares, NamesLeaveBytes}}
+use Rattle.nfs_files.specs.OpenParts.{place_checks, absent_checks, by_handle}
 use Rattle.nfs_files.proofs.{Outcomes.comes_to, Effects.{Effect, Names, Writes, Resizes, Changes, Closes, SetsOf, OpensEmpty, Caused, behind}}
 use Rattle.nfs_files.proofs.{Effected.caused_item, Passing.{if_passed_ok, mapped_came}}
 use Rattle.nfs_files.proofs.WrittenTrees.{lasts_new, lasts_link, lasts_without, lasts_moved, lasts_rest, lasts_forget, lasts_changed, lasts_written, lasts_resized}
 use Rattle.nfs_files.specs.OpenParts as open_parts
-use Rattle.nfs_files.specs.Open as of_open
 use Rattle.nfs_files.specs.SetAttrParts as set_parts
 use Rattle.nfs_files.specs.Write as of_write
 
@@ -188,8 +186,8 @@ claimed_cut s x o DelegPrevFh d place f at is e = absurd cc
 asked_cut : (s : State) (x : Context) (o : Open) (place : ℕ) (f : Node) → open_parts.asked_for s x o ≡ Ok (There place f true) → IsCut s x o f
 unfolding open_parts.asked_for
 asked_cut s x o place f e =
-    let c = came (checked (current s x) (of_open.argument_checks o)) (open_parts.by_claim s x o o.claim) (There place f true) e in
-    claimed_cut s x o o.claim c.found place f (checked_ok (current s x) (of_open.argument_checks o) c.found c.is).0 refl c.then
+    let c = came (checked (current s x) (open_parts.argument_checks o)) (open_parts.by_claim s x o o.claim) (There place f true) e in
+    claimed_cut s x o o.claim c.found place f (checked_ok (current s x) (open_parts.argument_checks o) c.found c.is).0 refl c.then
 
 -- how it asks for that
 record AsksEmpty (o : Open) (wanted : Wanted) : Type 0 where

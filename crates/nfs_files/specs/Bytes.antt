@@ -1,11 +1,11 @@
 -- Whether bytes of a file may be read or changed by a stateid (RFC 8881 sections 8.2.3, 9.1.2 and 9.7).
-use Rattle.std.specs.{Prelude.{◌==◌, ◌&&◌, Bool, true, false, not, List, [], ◌∷◌, Some, Result, Ok}, List.list_any}
+use Rattle.std.specs.Prelude.{◌&&◌, Bool, true, false, not, List, [], ◌∷◌, Some, Result, Ok}
 use Rattle.nfs_xdr.specs.{declared.status.Status.Status, declared.status.Status.TheVariants.{IsDir, Symlink, Locked, OpenMode}}
 use Rattle.nfs_compound.specs.declared.stateid.Stateid.{Stateid}
 use Rattle.nfs_tree.specs.Object.{is_directory, is_link}
 use Rattle.nfs_opens.specs.{declared.stateid.CurrentSeqid.TheVariants.Any, declared.judging.Seat.Seat}
 use Rattle.nfs_opens.specs.{declared.judging.Seat.TheVariants.{Anonymous, ReadBypass, Open, Lock}, declared.judging.Sort.TheVariants.Either}
-use Rattle.nfs_opens.specs.{declared.share.Share.Share, Share.{meets, is_part}, Judging.judge, Steps.{in_order, ◌>>=◌, ◌>>◌}}
+use Rattle.nfs_opens.specs.{declared.share.Share.Share, Share.{meets, is_part}, Judging.judge, Table.denials, Steps.{in_order, ◌>>=◌, ◌>>◌}}
 use Rattle.nfs_attrs.specs.declared.permission.Want.{Want}
 use Rattle.nfs_names.specs.{declared.context.Context.Context, declared.node.Node.Node, State.State, Checks.no_access}
 use Rattle.nfs_files.specs.StateIds.{meant}
@@ -29,18 +29,11 @@ writing = record { reads = false; writes = true }
 abbrev pub want_of : Share → Want
 want_of access = record { read = access.reads; write = access.writes; execute = false }
 
--- what the opens of the file deny to others
-abbrev pub denials : State → Node → Share
-denials s d = record {
-  reads = list_any (λ o. (o.file == d.number) && o.deny.reads) s.opens.opens;
-  writes = list_any (λ o. (o.file == d.number) && o.deny.writes) s.opens.opens;
-}
-
 -- By an open or a lock state the open's access decides. By a special stateid the share reservations of all opens do, which the one
 -- that bypasses them passes for reading alone, and then the permission bits.
 abbrev pub seat_checks : State → Context → Share → Node → Seat → List (Bool × Status)
-seat_checks s x wanted d Anonymous = (meets wanted (denials s d), Locked) ∷ no_access x d (want_of wanted) ∷ []
-seat_checks s x wanted d ReadBypass = (wanted.writes && (denials s d).writes, Locked) ∷ no_access x d (want_of wanted) ∷ []
+seat_checks s x wanted d Anonymous = (meets wanted (denials s.opens d.number), Locked) ∷ no_access x d (want_of wanted) ∷ []
+seat_checks s x wanted d ReadBypass = (wanted.writes && (denials s.opens d.number).writes, Locked) ∷ no_access x d (want_of wanted) ∷ []
 seat_checks s x wanted d (Open number access) = (not (is_part wanted access), OpenMode) ∷ []
 seat_checks s x wanted d (Lock number access) = (not (is_part wanted access), OpenMode) ∷ []
 

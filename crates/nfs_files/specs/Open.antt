@@ -56,25 +56,7 @@ abbrev pub name_of : OpenClaim → List ℕ
 name_of (Null file) = file
 name_of claim = []
 
--- first what is asked for is looked at ..
-abbrev pub argument_checks : Open → Node → List (Bool × Status)
-argument_checks o d = (o.share_access % 4 == 0, Inval) ∷ (is_none (share_of o.share_deny), Inval) ∷ []
-
--- .. then the directory and the name ..
-abbrev pub place_checks : Context → List ℕ → Node → List (Bool × Status)
-place_checks x name d =
-    no_directory d
-    ∷ no_access x d execute
-    ∷ name_checks name
-
--- .. then, where the name is free, whether a file may be made ..
-abbrev pub absent_checks : Context → Open → Making → List (Bool × Status)
-absent_checks x o m =
-    (not (makes o.openhow).creates, NoEnt)
-    ∷ no_access x m.place write
-    ∷ make_checks m.wanted x.who
-
--- .. and where an object is there, whether it may be opened.
+-- whether an object that is there may be opened
 abbrev pub there_checks : Context → Open → Node → List (Bool × Status)
 there_checks x o f =
     (not ((makes o.openhow).opens f.object.verifier), Exist)
@@ -86,10 +68,10 @@ there_checks x o f =
 abbrev pub cuts : Open → Wanted → Bool
 cuts o wanted = (makes o.openhow).cuts && (option_map_or (λ n. n == 0) wanted.size false && (access_of o).writes)
 
--- what is to be opened: a file that is there, and the object of which the change is reported; or one that is to be made
+-- what is to be opened: where the name is free a file that may be made, else the one that is there, and the object of which the change is reported
 abbrev pub found_by : State → Context → Open → Making → Option ℕ → Result Found Status
 found_by s x o m None = do
-  in_order (absent_checks x o m)
+  in_order ((not (makes o.openhow).creates, NoEnt) ∷ no_access x m.place write ∷ make_checks m.wanted x.who)
   Ok (Absent m)
 found_by s x o m (Some n) = do
   f ← node_at s (Some n)
@@ -99,7 +81,7 @@ found_by s x o m (Some n) = do
 -- The claims (open_claim4): the file of a filehandle is not made, nothing is there to be reclaimed, and nothing is delegated.
 abbrev pub by_claim : State → Context → Open → OpenClaim → Node → Result Found Status
 by_claim s x o (Null name) d = do
-  in_order (place_checks x name d)
+  in_order (no_directory d ∷ no_access x d execute ∷ name_checks name)
   wanted ← attributes_in (makes o.openhow).attributes
   found_by s x o (record { place = d; wanted = wanted }) (object_named s.tree d.number name)
 by_claim s x o Fh d = do
@@ -162,7 +144,7 @@ opened s x now o found =
 unfoldable pub open_file : State → Context → Time → Open → Outcome
 open_file s x now o = or_refusal s x Num.Open (do
   d ← current s x
-  in_order (argument_checks o d)
+  in_order ((o.share_access % 4 == 0, Inval) ∷ (is_none (share_of o.share_deny), Inval) ∷ [])
   found ← by_claim s x o o.claim d
   in_order (last_checks s x o found)
   Ok (opened s x now o found))

@@ -1,6 +1,6 @@
 -- OPEN_DOWNGRADE (RFC 8881 section 18.18): an open has less access and denies less from now on.
-use Rattle.std.specs.Prelude.{ℕ, Bool, List, [], ◌∷◌, Ok, Some, is_none, unwrap_or}
-use Rattle.nfs_xdr.specs.{declared.status.Status.Status, declared.status.Status.TheVariants.Inval}
+use Rattle.std.specs.Prelude.{ℕ, [], ◌∷◌, Ok, Some, is_none, unwrap_or}
+use Rattle.nfs_xdr.specs.{declared.status.Status.TheVariants.Inval}
 use Rattle.nfs_compound.specs.declared.open_args.OpenDowngrade.{OpenDowngrade}
 use Rattle.nfs_compound.specs.declared.op_num.OpNum.TheVariants as Num
 use Rattle.nfs_results.specs.declared.res.Res.TheVariants as Res

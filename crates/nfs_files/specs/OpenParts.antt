@@ -1,19 +1,30 @@
 -- OPEN in the parts that its code takes, which only contracts inside the crate cite: what is looked at first, the tree's part of it, and
 -- what is left where memory is refused.
-use Rattle.std.specs.Prelude.{◌≡◌, ◌==◌, ◌&&◌, ℕ, Bool, true, false, List, [], ◌∷◌, ◌++◌, Option, Some, None, is_none, Result, Ok, Err, if◌then◌else◌}
+use Rattle.std.specs.Prelude.{◌≡◌, ◌==◌, ◌%◌, ◌&&◌, ℕ, Bool, true, false, not, List, [], ◌∷◌, ◌++◌, Option, Some, None, is_none, Result, Ok, Err, if◌then◌else◌}
 use Rattle.std.specs.List.{list_any}
 use Rattle.nfs_xdr.specs.{declared.time.Time.Time, declared.status.Status.Status}
-use Rattle.nfs_xdr.specs.declared.status.Status.TheVariants.{Delay, Inval, NoGrace, NotSupp, ShareDenied, ServerFault}
+use Rattle.nfs_xdr.specs.declared.status.Status.TheVariants.{Delay, Inval, NoEnt, NoGrace, NotSupp, ShareDenied, ServerFault}
 use Rattle.nfs_compound.specs.{declared.open_args.Open.Open, declared.open_args.OpenClaim.OpenClaim, declared.open_args.OpenClaim.TheVariants.{Null, Previous, Fh}}
 use Rattle.nfs_results.specs.declared.res.OpenOk.{OpenOk}
 use Rattle.nfs_results.specs.declared.res.Res.TheVariants as Res
 use Rattle.nfs_tree.specs.{Files.{Files, can_change, object_named}, declared.fault.TreeFault.TreeFault}
 use Rattle.nfs_tree.specs.Calls.{resize_fault, create_fault, Did, does_unless}
-use Rattle.nfs_opens.specs.{StateId.last_number, Table.clashes_with, Opening.own_open, Steps.◌>>=◌}
+use Rattle.nfs_attrs.specs.{Setting.make_checks, Permissions.{execute, write}}
+use Rattle.nfs_opens.specs.{Share.share_of, StateId.last_number, Table.clashes_with, Opening.own_open, Steps.◌>>=◌}
 use Rattle.nfs_names.specs.{declared.context.Context.Context, declared.node.Node.Node, declared.making.Making.Making, State.State}
-use Rattle.nfs_names.specs.{Outcome.{Outcome, checked, mapped}, Checks.{node_at, current}, Create.attributes_in}
+use Rattle.nfs_names.specs.{Outcome.{Outcome, checked, mapped}, Checks.{node_at, current, no_directory, no_access, name_checks}, Create.attributes_in}
 use Rattle.nfs_files.specs.{declared.opening.Found.Found, declared.opening.Found.TheVariants.{There, Absent}, Open.{asking, file_of, tree_of, name_of, new_of}}
-use Rattle.nfs_files.specs.Open.{makes, argument_checks, place_checks, absent_checks, there_checks, cuts, room_checks}
+use Rattle.nfs_files.specs.Open.{makes, there_checks, cuts, room_checks}
+
+-- what is asked for, the directory and the name, and whether a file may be made
+abbrev pub argument_checks : Open → Node → List (Bool × Status)
+argument_checks o d = (o.share_access % 4 == 0, Inval) ∷ (is_none (share_of o.share_deny), Inval) ∷ []
+
+abbrev pub place_checks : Context → List ℕ → Node → List (Bool × Status)
+place_checks x name d = no_directory d ∷ no_access x d execute ∷ name_checks name
+
+abbrev pub absent_checks : Context → Open → Making → List (Bool × Status)
+absent_checks x o m = (not (makes o.openhow).creates, NoEnt) ∷ no_access x m.place write ∷ make_checks m.wanted x.who
 
 -- what is to be opened
 abbrev pub found_by : State → Context → Open → Making → Option ℕ → Result Found Status

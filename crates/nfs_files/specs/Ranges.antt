@@ -1,5 +1,5 @@
 -- The bytes that LOCK, LOCKT and LOCKU are for, and how they are to be locked (RFC 8881 sections 18.10.3, 18.11.3 and 18.12.3).
-use Rattle.std.specs.Prelude.{ℕ, ◌+◌, ◌-◌, ◌==◌, Bool, not, ◌&&◌, List, [], ◌∷◌, nat_lt, Result, Ok, if◌then◌else◌}
+use Rattle.std.specs.Prelude.{ℕ, ◌+◌, ◌-◌, ◌==◌, not, ◌&&◌, [], ◌∷◌, nat_lt, Result, Ok, if◌then◌else◌}
 use Rattle.nfs_xdr.specs.{declared.status.Status.Status, declared.status.Status.TheVariants.Inval}
 use Rattle.nfs_compound.specs.declared.lock_args.LockType.{LockType}
 use Rattle.nfs_compound.specs.declared.lock_args.LockType.TheVariants as LockTypes

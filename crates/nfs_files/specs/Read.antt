@@ -1,5 +1,5 @@
 -- READ (RFC 8881 section 18.22): bytes of a file, and whether they end where it does.
-use Rattle.std.specs.Prelude.{ℕ, List, Ok}
+use Rattle.std.specs.Prelude.{Ok}
 use Rattle.nfs_compound.specs.declared.op_num.OpNum.TheVariants as Num
 use Rattle.nfs_compound.specs.declared.file_args.Read.{Read}
 use Rattle.nfs_results.specs.{Largest.given, declared.res.ReadOk.ReadOk}

@@ -1,14 +1,15 @@
 -- SETATTR (RFC 8881 section 18.30): attributes of an object are set, all that are given or none.
-use Rattle.std.specs.Prelude.{ℕ, ◌||◌, ◌&&◌, Bool, false, not, List, [], ◌∷◌, nat_lt, Option, Some, None, Result, Ok, is_some, option_map, if◌then◌else◌}
+use Rattle.std.specs.Prelude.{ℕ, ◌||◌, ◌&&◌, Bool, false, not, [], ◌∷◌, nat_lt, Option, Some, None, Result, Ok, is_some, if◌then◌else◌}
+use Rattle.std.specs.Option.{option_map_or}
 use Rattle.nfs_xdr.specs.{declared.time.Time.Time, declared.status.Status.Status, declared.status.Status.TheVariants.{Nfs4Ok, FBig, ServerFault}}
 use Rattle.nfs_compound.specs.declared.op_num.OpNum.TheVariants as Num
 use Rattle.nfs_compound.specs.{declared.stateid.Stateid.Stateid, declared.file_args.SetAttr.SetAttr}
 use Rattle.nfs_results.specs.declared.res.Res.TheVariants as Res
-use Rattle.nfs_tree.specs.{declared.sets.Sets.Sets, Files.{Files, most_bytes, can_change, with_changed}, Bytes.with_resized}
+use Rattle.nfs_tree.specs.{Files.{Files, most_bytes, can_change, with_changed}, Bytes.with_resized}
 use Rattle.nfs_attrs.specs.{declared.wanted.Wanted.Wanted, Mask.{mask_of, trimmed_words}, Setting.set_checks}
 use Rattle.nfs_opens.specs.Steps.{in_order, ◌>>=◌, ◌>>◌}
 use Rattle.nfs_names.specs.{declared.context.Context.Context, declared.node.Node.Node, State.{State, with_tree}, Outcome.{Outcome, or_refusal}}
-use Rattle.nfs_names.specs.{Checks.current, Create.{attributes_in, time_of}}
+use Rattle.nfs_names.specs.{Checks.current, Create.{attributes_in, given_sets}}
 use Rattle.nfs_files.specs.Bytes.{file_checks, writing, may_use}
 
 -- where a size is given, the object is a file whose bytes may be changed by the stateid
@@ -19,42 +20,22 @@ may_resize s x given d (Some size) = do
   may_use s x writing given d
   Ok tt
 
--- a size that no file may have
-abbrev pub is_too_big : Option ℕ → Bool
-is_too_big None = false
-is_too_big (Some size) = nat_lt most_bytes size
-
 abbrev pub gives_some : Wanted → Bool
 gives_some wanted = is_some wanted.size || is_some wanted.mode || is_some wanted.owner || is_some wanted.group || is_some wanted.access || is_some wanted.modify
 
--- last the size, and whether the change can be counted: nothing given changes nothing
-abbrev pub last_checks : State → Node → Wanted → List (Bool × Status)
-last_checks s d wanted =
-    (is_too_big wanted.size, FBig)
-    ∷ (gives_some wanted && not (can_change s.tree d.number), ServerFault)
-    ∷ []
-
-abbrev pub sets_of : Time → Wanted → Sets
-sets_of now wanted = record {
-  mode = wanted.mode;
-  owner = wanted.owner;
-  group = wanted.group;
-  access = option_map (time_of now) wanted.access;
-  modify = option_map (time_of now) wanted.modify;
-}
-
 -- A size cuts the file or puts zeros behind its bytes. The object changes once, whatever is set of it.
 abbrev pub with_set : Files → ℕ → Time → Wanted → Option ℕ → Files
-with_set t n now wanted (Some size) = with_resized t n size (sets_of now wanted) now
-with_set t n now wanted None = if gives_some wanted then record t { objects = with_changed n now (sets_of now wanted) t.objects } else t
+with_set t n now wanted (Some size) = with_resized t n size (given_sets now wanted) now
+with_set t n now wanted None = if gives_some wanted then record t { objects = with_changed n now (given_sets now wanted) t.objects } else t
 
+-- last the size is looked at, and whether the change can be counted: nothing given changes nothing
 unfoldable pub set_attr : State → Context → Time → SetAttr → Outcome
 set_attr s x now a = or_refusal s x Num.SetAttr (do
   d ← current s x
   wanted ← attributes_in a.obj_attributes
   in_order (set_checks d.object wanted x.who)
   may_resize s x a.stateid d wanted.size
-  in_order (last_checks s d wanted)
+  in_order ((option_map_or (nat_lt most_bytes) wanted.size false, FBig) ∷ (gives_some wanted && not (can_change s.tree d.number), ServerFault) ∷ [])
   Ok (record {
     result = Res.SetAttr Nfs4Ok (trimmed_words (mask_of a.obj_attributes.attrmask));
     state = with_tree s (with_set s.tree d.number now wanted wanted.size);

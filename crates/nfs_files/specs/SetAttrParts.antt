@@ -1,15 +1,14 @@
 -- SETATTR in the parts that its code takes, which only contracts inside the crate cite: what is looked at first, and its change of the tree.
-use Rattle.std.specs.Prelude.{ℕ, Bool, List, Option, Some, None, Result, Ok, if◌then◌else◌}
-use Rattle.nfs_xdr.specs.{declared.time.Time.Time, declared.status.Status.Status, declared.status.Status.TheVariants.Nfs4Ok}
+use Rattle.std.specs.{Prelude.{ℕ, ◌&&◌, Bool, false, not, List, [], ◌∷◌, nat_lt, Option, Some, None, Result, Ok, if◌then◌else◌}, Option.option_map_or}
+use Rattle.nfs_xdr.specs.{declared.time.Time.Time, declared.status.Status.Status, declared.status.Status.TheVariants.{Nfs4Ok, FBig, ServerFault}}
 use Rattle.nfs_compound.specs.{declared.stateid.Stateid.Stateid, declared.file_args.SetAttr.SetAttr}
 use Rattle.nfs_results.specs.declared.res.Res.TheVariants as Res
-use Rattle.nfs_tree.specs.{Files.Files, declared.fault.TreeFault.TreeFault, Calls.{Did, does_unless, resize_fault, set_fault}}
+use Rattle.nfs_tree.specs.{Files.{Files, most_bytes, can_change}, declared.fault.TreeFault.TreeFault, Calls.{Did, does_unless, resize_fault, set_fault}}
 use Rattle.nfs_attrs.specs.{declared.wanted.Wanted.Wanted, Mask.{mask_of, trimmed_words}, Setting.set_checks}
 use Rattle.nfs_opens.specs.Steps.{◌>>=◌}
 use Rattle.nfs_names.specs.{declared.context.Context.Context, declared.node.Node.Node, State.{State, with_tree}, Outcome.{Outcome, checked}}
 use Rattle.nfs_names.specs.{Checks.current, Create.attributes_in}
 use Rattle.nfs_files.specs.{declared.setting.Setting.Setting, Parts.{if_passed, writable}, SetAttr.{gives_some, with_set}}
-use Rattle.nfs_files.specs.SetAttr as of_set
 
 abbrev pub owner_checks : Context → Setting → List (Bool × Status)
 owner_checks x m = set_checks m.node.object m.wanted x.who
@@ -31,7 +30,10 @@ unfoldable pub asked_for : State → Context → SetAttr → Result Setting Stat
 asked_for s x a = if_passed (setting s x a) (sized s x a.stateid)
 
 abbrev pub last_checks : State → Setting → List (Bool × Status)
-last_checks s m = of_set.last_checks s m.node m.wanted
+last_checks s m =
+    (option_map_or (nat_lt most_bytes) m.wanted.size false, FBig)
+    ∷ (gives_some m.wanted && not (can_change s.tree m.node.number), ServerFault)
+    ∷ []
 
 abbrev pub was_set : State → Context → Time → SetAttr → Setting → Outcome
 was_set s x now a m = record {

@@ -12,8 +12,8 @@ ghost use Rattle.nfs_opens.specs.Table.{table, lock_at};
 ghost use Rattle.nfs_opens.specs.Calls.{LocksOrWants, is_whole};
 ghost use Rattle.nfs_names.specs.State.{state_of};
 ghost use Rattle.nfs_names.specs.Comes.{Comes};
-ghost use Rattle.nfs_names.specs.Outcome.{checked, or_delay, is_delay};
-ghost use Rattle.nfs_names.specs.View.{MayWant};
+ghost use Rattle.nfs_names.specs.Outcome.{checked};
+ghost use Rattle.nfs_names.specs.View.{MayWant, ComesOrWants};
 ghost use Rattle.nfs_files.specs.Denied as of_denied;
 ghost use Rattle.nfs_files.specs.Parts as parts;
 ghost use Rattle.nfs_files.specs.Lock as of_lock;
@@ -221,7 +221,7 @@ fn set_lock(
 ) -> Status
     requires order { wished.now.wish.first ≤ wished.now.wish.last }
     requires room { length out.old.bytes + of_denied.most_denied ≤ out.old.room }
-    ensures { Comes (or_delay (is_delay result) (state_of store.old) context.old Num.Lock (parts.locks (state_of store.old) context.old locker.now wished.now))
+    ensures { ComesOrWants (state_of store.old) context.old Num.Lock (parts.locks (state_of store.old) context.old locker.now wished.now)
         out.old out.new result (state_of store.new) context.new }
 {
     match lock_bytes(alloc, &mut store.opens, locker, wished) {
@@ -245,7 +245,7 @@ pub(crate) fn lock(
     out: &mut Sheet,
 ) -> Status
     requires { length out.old.bytes + of_denied.most_denied ≤ out.old.room }
-    ensures { Comes (or_delay (is_delay result) (state_of store.old) context.old Num.Lock (of_lock.lock (state_of store.old) context.old asked.now)) out.old out.new result (state_of store.new) context.new }
+    ensures { ComesOrWants (state_of store.old) context.old Num.Lock (of_lock.lock (state_of store.old) context.old asked.now) out.old out.new result (state_of store.new) context.new }
 {
     match judge_lock(store, context, asked) {
         Ok(wished) => set_lock(alloc, store, context, &asked.locker, &wished, out),

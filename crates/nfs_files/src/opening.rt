@@ -142,7 +142,7 @@ pub(crate) fn name_of<'a>(claim: &OpenClaim<'a>) -> &'a [u8]
 
 /// The current filehandle's object, where such things may be asked for.
 fn judge_arguments(asked: &Open<'_>, node: Node) -> Result<Node, Status>
-    ensures { result ≡ checked (Ok node) (of_open.argument_checks asked.now) }
+    ensures { result ≡ checked (Ok node) (part.argument_checks asked.now) }
 {
     if asked.share_access % 4 == 0 {
         return Err(Status::Inval);
@@ -155,7 +155,7 @@ fn judge_arguments(asked: &Open<'_>, node: Node) -> Result<Node, Status>
 
 /// The directory in which the name is looked for.
 fn judge_place(context: &Context<'_>, name: &[u8], node: Node) -> Result<Node, Status>
-    ensures { result ≡ checked (Ok node) (of_open.place_checks context.now name.now) }
+    ensures { result ≡ checked (Ok node) (part.place_checks context.now name.now) }
 {
     if !node.object.kind.is_directory() {
         return Err(Status::NotDir);
@@ -169,7 +169,7 @@ fn judge_place(context: &Context<'_>, name: &[u8], node: Node) -> Result<Node, S
 
 /// What is to be made where, if it may be.
 fn judge_absent(context: &Context<'_>, asked: &Open<'_>, making: Making) -> Result<Making, Status>
-    ensures { result ≡ checked (Ok making) (of_open.absent_checks context.now asked.now) }
+    ensures { result ≡ checked (Ok making) (part.absent_checks context.now asked.now) }
 {
     if !creates(&asked.openhow) {
         return Err(Status::NoEnt);

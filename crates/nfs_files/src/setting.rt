@@ -2,6 +2,7 @@
 
 ghost use Rattle.std.specs.Prelude.{◌≡◌};
 ghost use Rattle.nfs_names.specs.State.{state_of};
+ghost use Rattle.nfs_names.specs.Create.{given_sets};
 ghost use Rattle.nfs_names.specs.View.{outcome_of};
 ghost use Rattle.nfs_files.specs.SetAttr as of_set_attr;
 ghost use Rattle.nfs_files.specs.SetAttrParts as part;
@@ -62,7 +63,7 @@ fn judge(store: &Store, context: &Context<'_>, asked: &SetAttr<'_>) -> Result<Se
 }
 
 fn sets_of(now: Time, wanted: &Wanted) -> Sets
-    ensures { result ≡ of_set_attr.sets_of now wanted.now }
+    ensures { result ≡ given_sets now wanted.now }
 {
     Sets {
         mode: wanted.mode,

@@ -1,5 +1,5 @@
 -- Where the places and the names passed, what the tree looks at decides like the checks that are left.
-use Rattle.std.proofs.Common.{◌≡◌, ℕ, true, false, not, List, ◌∷◌, length, None, refl, ◌∙◌, ap}
+use Rattle.std.proofs.Common.{◌≡◌, ℕ, true, false, not, List, ◌∷◌, None, refl, ◌∙◌, ap}
 use Rattle.std.proofs.lemmas.Bool.{not-false}
 use Rattle.std.specs.Prelude.{Ok, ◌==◌, nat_lt}
 use Rattle.nfs_xdr.specs.{Checks.first_fault, declared.status.Status.TheVariants.{Exist, IsDir}}

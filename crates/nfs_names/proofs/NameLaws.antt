@@ -1,6 +1,6 @@
 -- What an operation on names found if it was done, and what it came to: a law for each. If it was refused, it was for a reason of its own.
 use Rattle.std.proofs.Common.{◌≡◌, ℕ, ◌+◌, Bool, true, List, [], ◌∷◌, Option, Some, None, refl, ◌∙◌}
-use Rattle.std.specs.Prelude.{◌==◌, Result, Ok, Err, not, is_some}
+use Rattle.std.specs.Prelude.{◌==◌, Ok, Err, not, is_some}
 use Rattle.nfs_xdr.specs.{Checks.first_fault, declared.time.Time.Time, declared.status.Status.Status}
 use Rattle.nfs_xdr.specs.declared.status.Status.TheVariants.{Exist, IsDir, Symlink, Inval, Stale, NoEnt, BadHandle, NoFileHandle, WrongType}
 use Rattle.nfs_xdr.specs.declared.status.Status.TheVariants.{NotSame, Same, TooSmall}

@@ -42,16 +42,10 @@ abbrev pub no_access : Context → Node → Want → Bool × Status
 no_access x d want = (not (permits x d want), Access)
 
 -- The four checks of a name (component4, RFC 8881 sections 14.3 and 15.1.7): `/` and a zero byte stand in none, and `.` and `..` are none.
-abbrev pub is_barred : ℕ → Bool
-is_barred byte = byte == 0x2f || byte == 0
-
-abbrev pub is_dots : List ℕ → Bool
-is_dots name = bytes_eq name (0x2e ∷ []) || bytes_eq name (0x2e ∷ 0x2e ∷ [])
-
 abbrev pub name_checks : List ℕ → List (Bool × Status)
 name_checks name =
     (length name == 0, Inval)
     ∷ (nat_lt most_name (length name), NameTooLong)
-    ∷ (list_any is_barred name, BadChar)
-    ∷ (is_dots name, BadName)
+    ∷ (list_any (λ byte. byte == 0x2f || byte == 0) name, BadChar)
+    ∷ (bytes_eq name (0x2e ∷ []) || bytes_eq name (0x2e ∷ 0x2e ∷ []), BadName)
     ∷ []

@@ -56,18 +56,21 @@ room_checks t d =
 unfoldable pub attributes_in : Attributes → Result Wanted Status
 attributes_in a = read_attrs (mask_of a.attrmask) a.attr_vals
 
--- what is set: what is given, else the plain mode, and the caller's user and group
 abbrev pub time_of : Time → SetTime → Time
 time_of now Now = now
 time_of now (Given t) = t
 
+-- what is set: what is given ..
+abbrev pub given_sets : Time → Wanted → Sets
+given_sets now w =
+    record { mode = w.mode; owner = w.owner; group = w.group; access = option_map (time_of now) w.access; modify = option_map (time_of now) w.modify }
+
+-- .. and of a new object else the plain mode, and the caller's user and group
 abbrev pub sets_of : Context → Time → New → Wanted → Sets
-sets_of x now new wanted = record {
+sets_of x now new wanted = record (given_sets now wanted) {
   mode = Some (unwrap_or wanted.mode (plain_mode new));
   owner = Some (unwrap_or wanted.owner x.who.uid);
   group = Some (unwrap_or wanted.group x.who.gid);
-  access = option_map (time_of now) wanted.access;
-  modify = option_map (time_of now) wanted.modify;
 }
 
 -- how a directory changed, with nothing else in between

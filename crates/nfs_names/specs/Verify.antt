@@ -6,7 +6,7 @@ use Rattle.nfs_compound.specs.declared.attributes.Attributes.{Attributes}
 use Rattle.nfs_results.specs.declared.res.Res.TheVariants as Res
 use Rattle.nfs_attrs.specs.{Mask.mask_of, Comparing.same}
 use Rattle.nfs_opens.specs.Steps.{◌>>=◌, require, ◌>>◌}
-use Rattle.nfs_names.specs.{declared.context.Context.Context, declared.node.Node.Node, State.State, Outcome.{Outcome, done, or_refusal}, Checks.current}
+use Rattle.nfs_names.specs.{declared.context.Context.Context, State.State, Outcome.{Outcome, done, or_refusal}, Checks.current}
 use Rattle.nfs_names.specs.Attributes.{about}
 
 -- whether they are the same, or why that cannot be said

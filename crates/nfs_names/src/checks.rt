@@ -1,6 +1,6 @@
 //! Checks that several operations share.
 
-ghost use Rattle.std.specs.Prelude.{◌≡◌, ◌+◌, ◌≤◌, is_some, length};
+ghost use Rattle.std.specs.Prelude.{◌≡◌, ◌+◌, ◌≤◌, ◌==◌, ◌||◌, [], ◌∷◌, is_some, length, bytes_eq};
 ghost use Rattle.std.specs.List.{list_any};
 ghost use Rattle.nfs_xdr.specs.Checks.{first_fault, judged};
 ghost use Rattle.nfs_compound.specs.OpNum.{op_number};
@@ -10,7 +10,7 @@ ghost use Rattle.nfs_results.specs.Results.{refusal, spell_result};
 ghost use Rattle.nfs_tree.specs.Object.{is_link};
 ghost use Rattle.nfs_tree.specs.Files.{object_at};
 ghost use Rattle.nfs_names.specs.State.{state_of};
-ghost use Rattle.nfs_names.specs.Checks.{node_at, current, both, saved_object, permits, is_barred, is_dots, name_checks};
+ghost use Rattle.nfs_names.specs.Checks.{node_at, current, both, saved_object, permits, name_checks};
 ghost use Rattle.nfs_names.specs.Fronts.{sized};
 
 use crate::context::{Context, Saved};
@@ -127,13 +127,13 @@ pub fn is_link(kind: FileType) -> bool
 }
 
 fn is_barred(name: &[u8]) -> bool
-    ensures { result ≡ list_any is_barred name.now }
+    ensures { result ≡ list_any (λ byte. byte == 0x2f || byte == 0) name.now }
 {
     name.iter().any(|byte| *byte == b'/' || *byte == 0)
 }
 
 fn is_dots(name: &[u8]) -> bool
-    ensures { result ≡ is_dots name.now }
+    ensures { result ≡ (bytes_eq name.now (0x2e ∷ []) || bytes_eq name.now (0x2e ∷ 0x2e ∷ [])) }
 {
     name == b".".as_slice() || name == b"..".as_slice()
 }

@@ -5,7 +5,7 @@ ghost use Rattle.nfs_compound.specs.declared.op.Item.TheVariants.{Operation};
 ghost use Rattle.nfs_results.specs.Largest.{largest};
 ghost use Rattle.nfs_names.specs.State.{state_of, moment};
 ghost use Rattle.nfs_names.specs.StoreInvariants.{IsStore};
-ghost use Rattle.nfs_names.specs.Comes.{MayCome};
+ghost use Rattle.nfs_names.specs.Comes.{OpComes};
 ghost use Rattle.nfs_names.specs.Operation.{comes_to};
 
 use crate::attributes::{access, get_attr, get_fh, nverify, verify};
@@ -48,7 +48,7 @@ pub fn name_op(
     requires moment { now < 2 ^ 63 }
     requires store { IsStore (state_of store.old) }
     requires room { length out.old.bytes + largest (Operation op.now) ≤ out.old.room }
-    ensures comes { MayCome (λ refused. comes_to refused (state_of store.old) context.old (moment now) (Operation op.now)) (state_of store.old) context.old out.old out.new result (state_of store.new) context.new }
+    ensures comes { OpComes comes_to (state_of store.old) context.old (moment now) op.now out.old out.new result (state_of store.new) context.new }
     ensures store { IsStore (state_of store.new) }
     ensures within { length out.new.bytes ≤ length out.old.bytes + largest (Operation op.now) }
 {

@@ -8,12 +8,12 @@ use Rattle.nfs_ranges.specs.{declared.Kind.Kind, Holders.{Holders, holding, drop
 use Rattle.nfs_ranges.proofs.{ToldLemmas.{told_is_unique, any_is_decided}, HolderLemmas.set_keeps}
 use Rattle.nfs_opens.specs.{declared.stateid.StateId.StateId, declared.judging.Seat.Seat, declared.judging.Seat.TheVariants.{Anonymous, ReadBypass, Open, Lock}}
 use Rattle.nfs_opens.specs.{declared.judging.Sort.TheVariants.{OpenOnly, LockOnly, Either}, StateId.{is_anonymous, is_bypass}}
-use Rattle.nfs_opens.specs.{Judging.{access_of, judge, judge_named, named_by, seated}, declared.records.OpenState.OpenState}
+use Rattle.nfs_opens.specs.{Judging.{judge, named_by}, declared.records.OpenState.OpenState}
 use Rattle.nfs_opens.specs.{declared.records.LockState.LockState, Holding.{FileHolders, on_file}, Table.{Table, open_at, lock_at}}
 use Rattle.nfs_opens.specs.{TableInvariants.{IsTable, IsHolder, AreHolders}, Closing.{held_within, lock_in}, Calls.held_without}
 use Rattle.nfs_xdr.proofs.{Lists.{any_in, in_filter, stays_in, none_any, in_any, find_in}, Tables.in_once}
 use Rattle.nfs_opens.proofs.{FileLemmas.{file_here, file_other, on_file_same}, TableLemmas.{KeepsBytes, holders_left}}
-use Rattle.nfs_opens.proofs.Terms.{stands}
+use Rattle.nfs_opens.proofs.Terms.{access_of, judge_named, seated, stands}
 
 -- who holds a byte behind a lock: the lock state that locks, in the range, or whoever held it
 held_then : (h : Holders) (n : ℕ) (kind : Kind) (first last s b : ℕ) → ((n ≡ s) × (first ≤ b) × (b ≤ last)) ⊎ (holding h n kind first last s b ≡ h s b)

@@ -16,18 +16,13 @@ is_locker client owner file l = (l.file == file) && ((l.client == client) && byt
 abbrev pub state_of : Table → ℕ → List ℕ → ℕ → Option LockState
 state_of t client owner file = find (is_locker client owner file) t.locks
 
--- under which number a clash is looked for: 0 is no state's
-abbrev pub number_of : Option LockState → ℕ
-number_of None = 0
-number_of (Some l) = l.number
-
 -- what is reported against a wish to lock bytes
 abbrev pub clash : Table → ℕ → Wish → Option Held
 clash t state w = told (t.held w.file) (suc t.last) state w.kind w.first w.last
 
--- LOCKT: no open is needed
+-- LOCKT: no open is needed, and where the owner has no state, a clash is looked for under 0, which is no state's number
 abbrev pub test_lock : Table → List ℕ → Wish → Option Held
-test_lock t owner w = clash t (number_of (state_of t w.client owner w.file)) w
+test_lock t owner w = clash t (option_map_or (λ l. l.number) (state_of t w.client owner w.file) 0) w
 
 -- the open's access lets bytes be locked in this way
 abbrev pub permits : Share → Kind → Bool

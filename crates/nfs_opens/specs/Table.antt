@@ -1,5 +1,6 @@
 -- Opens, lock states and locked bytes (RFC 8881 sections 8.2, 9.1 and 9.7).
 use Rattle.std.specs.Prelude.{ℕ, ◌==◌, Bool, not, ◌&&◌, ◌||◌, List, [], Option, Result, Ok, Err, find, map, bytes_eq, if◌then◌else◌}
+use Rattle.std.specs.List.{list_any}
 use Rattle.nfs_ranges.specs.Holders.{LockedBytes}
 use Rattle.nfs_opens.specs.{declared.share.Share.Share, declared.records.OpenState.OpenState, declared.records.LockState.LockState, Share.meets}
 use Rattle.nfs_opens.specs.Holding.{FileHolders, held_by, unlocked}
@@ -71,6 +72,13 @@ is_own a o = (o.file == a.file) && is_owners a o
 -- an open of the same file by another owner, which denies what is asked or has what is to be denied (section 9.7)
 abbrev pub clashes_with : Asked → OpenState → Bool
 clashes_with a o = (o.file == a.file) && (not (is_owners a o) && (meets a.access o.deny || meets a.deny o.access))
+
+-- what the opens of a file deny to others
+abbrev pub denials : Table → ℕ → Share
+denials t file = record {
+  reads = list_any (λ o. (o.file == file) && o.deny.reads) t.opens;
+  writes = list_any (λ o. (o.file == file) && o.deny.writes) t.opens;
+}
 
 abbrev pub as_asked : OpenState → Asked
 as_asked o = record { client = o.client; owner = o.owner; file = o.file; access = o.access; deny = o.deny }

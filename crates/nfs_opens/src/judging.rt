@@ -1,8 +1,10 @@
 //! What a stateid means (RFC 8881 section 8.2).
 
-ghost use Rattle.std.specs.Prelude.{◌≡◌, Some};
+ghost use Rattle.std.specs.Prelude.{◌≡◌, ◌==◌, true};
+ghost use Rattle.std.specs.Option.{option_map_or};
 ghost use Rattle.nfs_opens.specs.Table.{table, open_at};
-ghost use Rattle.nfs_opens.specs.Judging.{state_named, judge, judge_named, special, is_sort, is_file, lock_named, open_named, access_of};
+ghost use Rattle.nfs_opens.specs.Judging.{state_named, judge, seat_named, special, is_sort, lock_named, open_named};
+ghost use Rattle.nfs_opens.specs.Share.{neither};
 
 use crate::opens::Opens;
 use crate::records::{LockState, OpenState};
@@ -75,7 +77,7 @@ impl Sort {
 }
 
 fn is_file(wanted: Option<u64>, file: u64) -> bool
-    ensures { result ≡ is_file wanted file }
+    ensures { result ≡ option_map_or (λ f. file == f) wanted true }
 {
     match wanted {
         Some(wanted) => file == wanted,
@@ -85,7 +87,7 @@ fn is_file(wanted: Option<u64>, file: u64) -> bool
 
 impl Named {
     fn judge(self, client: u64, file: Option<u64>, sort: Sort, seqid: u32) -> Result<Seat, Status>
-        ensures { result ≡ judge_named client file sort seqid (Some self) }
+        ensures { result ≡ seat_named client file sort seqid self }
     {
         if self.client != client || !is_file(file, self.file) || !sort.takes(self.seat) {
             return Err(Status::BadStateId);
@@ -173,7 +175,7 @@ impl Opens {
     }
 
     fn access_of(&self, number: u64) -> Share
-        ensures { result ≡ access_of (open_at (table self.now) number) }
+        ensures { result ≡ option_map_or (λ o. o.access) (open_at (table self.now) number) neither }
     {
         match self.opens.get(number) {
             Some(open) => open.access,

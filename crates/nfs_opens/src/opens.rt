@@ -3,7 +3,7 @@
 ghost use Rattle.std.specs.Prelude.{◌≡◌, ◌==◌, ◌&&◌, not, length, filter, find, nat_lt};
 ghost use Rattle.std.specs.Option.{option_copied};
 ghost use Rattle.std.specs.List.{list_any};
-ghost use Rattle.nfs_opens.specs.Table.{table, no_opens, open_at, lock_at};
+ghost use Rattle.nfs_opens.specs.Table.{table, no_opens, open_at, lock_at, denials};
 ghost use Rattle.nfs_opens.specs.TableInvariants.{IsTable};
 ghost use Rattle.nfs_opens.specs.Keys.{open_key, lock_key, key_of};
 ghost use Rattle.nfs_opens.specs.Share.{bits_of};
@@ -174,15 +174,15 @@ impl Opens {
 
     /// What the opens of a file deny, joined.
     pub fn denies(&self, file: u64) -> Share
-        ensures reads { result.reads ≡ list_any (λ o. (o.file == file) && o.deny.reads) (table self.now).opens }
-        ensures writes { result.writes ≡ list_any (λ o. (o.file == file) && o.deny.writes) (table self.now).opens }
+        ensures reads { result.reads ≡ (denials (table self.now) file).reads }
+        ensures writes { result.writes ≡ (denials (table self.now) file).writes }
     {
         self.opens.count_on(file).denied()
     }
 
     /// The same as the number on the wire: 0 is neither, 1 READ, 2 WRITE, 3 both.
     pub fn deny_bits(&self, file: u64) -> u32
-        ensures { result ≡ bits_of (record { reads = list_any (λ o. (o.file == file) && o.deny.reads) (table self.now).opens; writes = list_any (λ o. (o.file == file) && o.deny.writes) (table self.now).opens }) }
+        ensures { result ≡ bits_of (denials (table self.now) file) }
     {
         self.denies(file).bits()
     }

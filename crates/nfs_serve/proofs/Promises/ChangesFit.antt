@@ -25,6 +25,7 @@ use Rattle.nfs_names.specs.{declared.context.Context.Context, State.{with_tree, 
 use Rattle.nfs_names.specs.{Rename.without_replaced, Outcome.{Outcome, checked, is_ok}}
 use Rattle.nfs_names.specs.State as store
 use Rattle.nfs_names.specs.Operation as names
+use Rattle.nfs_names.specs.Create.{given_sets}
 use Rattle.nfs_names.proofs.{Found.checked_ok, Ones.{by_delay, each_of}, Effects.{Makes, Links, Removes, Moves}}
 use Rattle.nfs_names.proofs.Sound as names_sound
 use Rattle.nfs_names.proofs.Effects as names_effects
@@ -164,10 +165,10 @@ set_low : (t : Files) (n : ℕ) (now : Time) (wanted : Wanted) (size : Option �
     → of_set.gives_some wanted && not (can_change t n) ≡ false → Low t.objects → Low (of_set.with_set t n now wanted size).objects
 set_low t n now wanted (Some size) same is checks low =
     let some : of_set.gives_some wanted ≡ true = rw same refl in
-    low_bytes n now (of_set.sets_of now wanted) (λ s. resized s.bytes size) t.objects
+    low_bytes n now (given_sets now wanted) (λ s. resized s.bytes size) t.objects
     (can t n is (not-false _ (guarded (of_set.gives_some wanted) (not (can_change t n)) checks some))) low
 set_low t n now wanted None same is checks low = elim (cases_Bool (of_set.gives_some wanted)) [
-  | inl some ↦ rw some (low_changed n now (of_set.sets_of now wanted) t.objects
+  | inl some ↦ rw some (low_changed n now (given_sets now wanted) t.objects
       (can t n is (not-false _ (guarded (of_set.gives_some wanted) (not (can_change t n)) checks some))) low)
   | inr empty ↦ rw empty low
 ]

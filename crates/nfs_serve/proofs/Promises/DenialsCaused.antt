@@ -14,23 +14,23 @@ use Rattle.nfs_opens.specs.{declared.judging.Seat.Seat, declared.judging.Sort.So
 use Rattle.nfs_opens.specs.{declared.judging.Sort.TheVariants.{OpenOnly, LockOnly, Either}, declared.locking.Wish.Wish, declared.locking.OpenFault.OpenFault}
 use Rattle.nfs_opens.specs.{declared.records.LockState.LockState, declared.share.Share.Share, declared.stateid.CurrentSeqid.CurrentSeqid}
 use Rattle.nfs_opens.specs.{declared.stateid.CurrentSeqid.TheVariants.Any, declared.stateid.StateId.StateId}
-use Rattle.nfs_opens.specs.Judging.{judge_checks, judge_named, special, judge, state_named, seated}
+use Rattle.nfs_opens.specs.Judging.{judge_checks, special, judge, state_named}
 use Rattle.nfs_opens.specs.{StateId.{last_number, is_anonymous, is_bypass, is_current, has_zeros, has_ones, with_seqid}, Steps.{◌>>=◌, require, map_err}}
 use Rattle.nfs_opens.specs.Table.{Table, lock_at}
 use Rattle.nfs_opens.specs.declared.locking.OpenFault.TheVariants as F
 use Rattle.nfs_opens.specs.Locking as locking
-use Rattle.nfs_opens.proofs.{CallLaws.came, Terms.{lock_by_owner, unless_told}}
+use Rattle.nfs_opens.proofs.{CallLaws.came, Terms.{judge_named, lock_by_owner, number_of, seated, unless_told}}
 use Rattle.nfs_names.specs.{declared.context.Context.Context, Checks.{node_as, node_at, current}, Outcome.{Outcome, passed, checked, mapped, answers}}
 use Rattle.nfs_names.specs.State.{State}
 use Rattle.nfs_names.proofs.{Faulted.status_of_refusal, Ones.by_delay}
 use Rattle.nfs_tree.specs.{declared.object.Object.Object, Files.object_at}
-use Rattle.nfs_files.specs.{Bytes.file_checks, Denied.{lock_denied, open_fault_status}, LockT.{tested, lock_t}, Operation.grows}
+use Rattle.nfs_files.specs.{Bytes.file_checks, Denied.{lock_denied, open_fault_status}, LockT.lock_t, Operation.grows}
 use Rattle.nfs_files.specs.{Ranges.{range, wished}, StateIds.{state_id, meant}, Target.the_file, Parts.wish}
 use Rattle.nfs_files.specs.Parts as parts
 use Rattle.nfs_files.specs.Lock as of_lock
 use Rattle.nfs_files.proofs.{Outcomes.one_or_delay, Prompt.{all_pass, first_passes, not_true}, Wishes.lock_wish}
 use Rattle.nfs_files.proofs.InSteps as in_steps
-use Rattle.nfs_files.proofs.Terms.{range_checks, last_of}
+use Rattle.nfs_files.proofs.Terms.{range_checks, last_of, tested}
 
 -- What is checked first answers other statuses.
 
@@ -179,7 +179,7 @@ as_fair t w n access =
     next_fair t w n (ok_or (lock_at t n) (F.Refused S.BadStateId)) _ (there_fair t w n (lock_at t n)) (λ l. ok_fair t w n _))
 
 owner_fair : (t : Table) (w : Wish) (opened : ℕ) (owner : List ℕ) (access : Share) (o : Option LockState)
-    → IsFair t w (locking.number_of o) (lock_by_owner t w opened owner access o)
+    → IsFair t w (number_of o) (lock_by_owner t w opened owner access o)
 owner_fair t w opened owner access (Some l) = as_fair t w l.number access
 owner_fair t w opened owner access None =
     next_fair t w 0 (locking.lock_judged t 0 access w) _ (judged_fair t w 0 access) (λ u.
@@ -187,12 +187,12 @@ owner_fair t w opened owner access None =
 
 -- the lock state of whoever asks, 0 where there is none
 abbrev pub asker : Table → Locker → StateId → Wish → ℕ
-asker t (OpenOwner o) id w = locking.number_of (locking.state_of t w.client o.lock_owner.owner w.file)
+asker t (OpenOwner o) id w = number_of (locking.state_of t w.client o.lock_owner.owner w.file)
 asker t (LockOwner o) id w = id.number
 
 locks_fair : (t : Table) (who : Locker) (id : StateId) (w : Wish) → IsFair t w (asker t who id w) (of_lock.locks_as t who id w)
 locks_fair t (OpenOwner o) id w =
-    let n = locking.number_of (locking.state_of t w.client o.lock_owner.owner w.file) in
+    let n = number_of (locking.state_of t w.client o.lock_owner.owner w.file) in
     next_fair t w n (map_err F.Refused (judge t id w.client (Some w.file) OpenOnly)) _
     (seat_fair t w n (judge t id w.client (Some w.file) OpenOnly) (judge_clear t id w.client (Some w.file) OpenOnly))
     (λ seat. owner_fair t w id.number o.lock_owner.owner (locking.access_in seat) (locking.state_of t w.client o.lock_owner.owner w.file))
@@ -232,7 +232,7 @@ module _ (s : State) (x : Context) where
   IsLocker a w n = (id : StateId) × (meant x Any (of_lock.stateid_in a.locker) ≡ Ok id) × (n ≡ asker s.opens a.locker id w)
 
   abbrev pub IsTester : LockT → Wish → ℕ → Type 0
-  IsTester a w n = n ≡ locking.number_of (locking.state_of s.opens w.client a.owner.owner w.file)
+  IsTester a w n = n ≡ number_of (locking.state_of s.opens w.client a.owner.owner w.file)
 
   abbrev IsDenied : Lock → Outcome → Type 0
   IsDenied a o = is_denied (status_of_result o.result) ≡ true → WasDenied s x a.locktype a.offset a.length o.result Res.LockDenied (IsLocker a)
@@ -279,7 +279,7 @@ module _ (s : State) (x : Context) where
   by_wish a (Err status) e is =
       absurd (refused_not (wished s x a.locktype a.offset a.length) status (op_number Num.LockT) (wished_clear s x a.locktype a.offset a.length) e is)
   by_wish a (Ok w) e is =
-      by_test a w (locking.number_of (locking.state_of s.opens w.client a.owner.owner w.file)) e refl (locking.test_lock s.opens a.owner.owner w) refl is
+      by_test a w (number_of (locking.state_of s.opens w.client a.owner.owner w.file)) e refl (locking.test_lock s.opens a.owner.owner w) refl is
 
   pub test_denied : (now : Time) (refused : Bool) (a : LockT) → IsTestDenied a (one_or_delay refused s x now (Op.LockT a))
   test_denied now refused a = by_delay (IsTestDenied a) (grows s x (Op.LockT a) && refused) s x Num.LockT (lock_t s x a) (λ is. absurd (false≢true is))

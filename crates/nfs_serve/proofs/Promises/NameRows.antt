@@ -28,7 +28,7 @@ use Rattle.nfs_names.specs.{PutRootFh.put_root_fh, Rename.{without_replaced, mov
 use Rattle.nfs_names.specs.Operation as names
 use Rattle.nfs_names.proofs.{Found.{came, ok_is, checked_ok}, Ones.{if_delayed, each_of, by_delay}}
 use Rattle.nfs_names.proofs.NameLaws as law
-use Rattle.nfs_files.specs.{Operation.grows, Close.close, FreeStateid.free_stateid, LockT.tested, LockU.lock_u, Parts.writable}
+use Rattle.nfs_files.specs.{Operation.grows, Close.close, FreeStateid.free_stateid, LockU.lock_u, Parts.writable}
 use Rattle.nfs_files.specs.{OpenDowngrade.open_downgrade, Read.read, TestStateid.test_stateid}
 use Rattle.nfs_files.specs.Parts as parts
 use Rattle.nfs_files.specs.Lock as of_lock
@@ -37,6 +37,7 @@ use Rattle.nfs_files.specs.Open as of_open
 use Rattle.nfs_files.specs.SetAttrParts as set_parts
 use Rattle.nfs_files.specs.SetAttr as of_set
 use Rattle.nfs_files.specs.Write as of_write
+use Rattle.nfs_files.proofs.Terms.{tested}
 use Rattle.nfs_files.proofs.Outcomes as files
 use Rattle.nfs_files.proofs.{Outcomes.for_each, OpenRows.{OpensRows, Kept, Put, opened_rows}, WrittenOps.{by_found, current_number, number_back}}
 use Rattle.nfs_files.proofs.OpensMoved.{by_close, by_free, by_downgrade, by_lock, by_unlock}

@@ -25,8 +25,8 @@ use Rattle.nfs_names.specs.{declared.context.Context.Context, declared.making.Ma
 use Rattle.nfs_names.specs.{State.State, Outcome.checked}
 use Rattle.nfs_names.proofs.Faulted.{status_of_refusal}
 use Rattle.nfs_files.specs.{Bytes.file_checks, Close.close, Commit.commit}
-use Rattle.nfs_files.specs.{Denied.open_fault_status, FreeStateid.free_stateid, LockT.{tested, lock_t}, LockU.lock_u, OpenDowngrade.{bits, open_downgrade}}
-use Rattle.nfs_files.specs.{Open.{makes, argument_checks, place_checks, absent_checks, there_checks, last_checks, open_file}, OpenParts.{found_by, by_name, by_handle, by_claim, asked_for}}
+use Rattle.nfs_files.specs.{Denied.open_fault_status, FreeStateid.free_stateid, LockT.lock_t, LockU.lock_u, OpenDowngrade.{bits, open_downgrade}}
+use Rattle.nfs_files.specs.{Open.{makes, there_checks, last_checks, open_file}, OpenParts.{argument_checks, place_checks, absent_checks, found_by, by_name, by_handle, by_claim, asked_for}}
 use Rattle.nfs_files.specs.{Parts.{target, closes, bit_checks, narrowing, narrows, frees, wish, wished_by, reclaim_checks, unlocking, unlocks}, Ranges.{range, wished}}
 use Rattle.nfs_files.specs.{StateIds.meant, Target.the_file}
 use Rattle.nfs_files.specs.Lock as of_lock
@@ -35,7 +35,7 @@ use Rattle.nfs_files.proofs.InSteps as in_steps
 use Rattle.nfs_serve.proofs.Promises.Without.{Answers, err_without, ok_without, by_bool, then_without, passed_without, checked_without, mapped_without}
 use Rattle.nfs_serve.proofs.Promises.Without.{if_passed_without, answers_without, meant_without, judge_without}
 use Rattle.nfs_serve.proofs.Promises.NeverStale.{is_stale, IsFresh, good, file_fresh, wanted_fresh}
-use Rattle.nfs_files.proofs.{OpenAnswers.last_pass, Terms.{range_checks, last_of}}
+use Rattle.nfs_files.proofs.{OpenAnswers.last_pass, Terms.{range_checks, last_of, tested}}
 
 -- What is looked at first.
 

@@ -12,9 +12,10 @@ use Rattle.nfs_compound.specs.declared.op.Op.TheVariants as Op
 use Rattle.nfs_results.specs.declared.res.Denied as result
 use Rattle.nfs_results.specs.{declared.res.Res.Res, Results.spell_result}
 use Rattle.nfs_ranges.specs.{declared.Held.Held, Told.{meets, told}}
-use Rattle.nfs_opens.specs.{declared.locking.Wish.Wish, declared.records.LockState.LockState, Locking.{clash, number_of, state_of, is_locker}}
+use Rattle.nfs_opens.specs.{declared.locking.Wish.Wish, declared.records.LockState.LockState, Locking.{clash, state_of, is_locker}}
 use Rattle.nfs_opens.specs.{declared.stateid.CurrentSeqid.TheVariants.Any, declared.stateid.StateId.StateId, Table.{Table, lock_at}}
 use Rattle.nfs_opens.proofs.LockLemmas.{clash_tells}
+use Rattle.nfs_opens.proofs.Terms.{number_of}
 use Rattle.nfs_names.specs.State as of_store
 use Rattle.nfs_names.specs.{State.moment, declared.context.Context.Context}
 use Rattle.nfs_files.specs.{Denied.{lock_denied, type_of, size_of}, Lock.stateid_in, LockTold.LockTold, StateIds.meant}

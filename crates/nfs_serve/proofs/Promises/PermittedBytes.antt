@@ -15,13 +15,14 @@ use Rattle.nfs_tree.specs.Bytes.{has_bytes}
 use Rattle.nfs_opens.specs.{declared.judging.Seat.Seat, declared.judging.Seat.TheVariants.{Anonymous, ReadBypass, Open, Lock}}
 use Rattle.nfs_opens.specs.{declared.judging.Sort.TheVariants.Either, declared.records.LockState.LockState, declared.records.OpenState.OpenState}
 use Rattle.nfs_opens.specs.{declared.share.Share.Share, declared.stateid.CurrentSeqid.TheVariants.Any, declared.stateid.StateId.StateId}
-use Rattle.nfs_opens.specs.{Judging.{access_of, judge_named, judge, seated, special, named_by}, Share.{meets, is_part}, StateId.{is_anonymous, is_bypass}}
-use Rattle.nfs_opens.specs.{Table.{Table, open_at, lock_at}, TableInvariants.IsTable}
+use Rattle.nfs_opens.specs.{Judging.{judge, special, named_by}, Share.{meets, is_part}, StateId.{is_anonymous, is_bypass}}
+use Rattle.nfs_opens.specs.{Table.{Table, denials, open_at, lock_at}, TableInvariants.IsTable}
+use Rattle.nfs_opens.proofs.Terms.{access_of, judge_named, seated}
 use Rattle.nfs_names.specs.{declared.context.Context.Context, declared.node.Node.Node, Checks.{permits, current}, Outcome.{Outcome, is_ok, checked, answers}}
 use Rattle.nfs_names.specs.State.{State, moment}
 use Rattle.nfs_names.proofs.{Faulted.status_of_refusal, Found.{came, ok_is, checked_ok}, NameLaws.current_refuses, Ones.by_delay}
 use Rattle.nfs_names.proofs.Refusing.{Refuses, refuses_checked}
-use Rattle.nfs_files.specs.{Bytes.{file_checks, seat, reading, writing, want_of, denials, seat_checks, may_use}, StateIds.meant, Parts.{readable, writable}}
+use Rattle.nfs_files.specs.{Bytes.{file_checks, seat, reading, writing, want_of, seat_checks, may_use}, StateIds.meant, Parts.{readable, writable}}
 use Rattle.nfs_files.specs.Read as of_read
 use Rattle.nfs_files.specs.Write as of_write
 use Rattle.nfs_files.proofs.{Passing.if_passed_ok, Seats.{readable_refuses, writable_refuses}, WrittenOps.current_number}
@@ -297,8 +298,8 @@ write_granted d run n r at ok a same =
 -- What is refused by NFS4ERR_ACCESS.
 
 seat_let : (s : State) (x : Context) (right : Right) (d : Node) (k : Seat) → permits x d (want_of (wanted_by right)) ≡ true → AreGood is_access (seat_checks s x (wanted_by right) d k)
-seat_let s x right d Anonymous may = lets ((meets (wanted_by right) (denials s d), Locked) ∷ []) [] (permits x d (want_of (wanted_by right))) may refl
-seat_let s x right d ReadBypass may = lets (((wanted_by right).writes && (denials s d).writes, Locked) ∷ []) [] (permits x d (want_of (wanted_by right))) may refl
+seat_let s x right d Anonymous may = lets ((meets (wanted_by right) (denials s.opens d.number), Locked) ∷ []) [] (permits x d (want_of (wanted_by right))) may refl
+seat_let s x right d ReadBypass may = lets (((wanted_by right).writes && (denials s.opens d.number).writes, Locked) ∷ []) [] (permits x d (want_of (wanted_by right))) may refl
 seat_let s x right d (Open number access) may = are_good is_access (seat_checks s x (wanted_by right) d (Open number access)) refl
 seat_let s x right d (Lock number access) may = are_good is_access (seat_checks s x (wanted_by right) d (Lock number access)) refl
 

@@ -13,8 +13,8 @@ use Rattle.nfs_names.specs.{Checks.{node_as, node_at, no_directory, permits, nam
 use Rattle.nfs_names.specs.{Outcome.checked, State.{State, moment}}
 use Rattle.nfs_names.proofs.{Found.{ok_is, checked_ok}, Ones.by_delay}
 use Rattle.nfs_files.specs.Bytes.{file_checks, want_of}
-use Rattle.nfs_files.specs.Open.{access_of, makes, argument_checks, place_checks, absent_checks, there_checks, last_checks}
-use Rattle.nfs_files.specs.OpenParts.{found_by, by_name, by_claim, asked_for}
+use Rattle.nfs_files.specs.Open.{access_of, makes, there_checks, last_checks}
+use Rattle.nfs_files.specs.OpenParts.{argument_checks, place_checks, absent_checks, found_by, by_name, by_claim, asked_for}
 use Rattle.nfs_files.specs.Open.{opened, open_file}
 use Rattle.nfs_files.proofs.{OpenAnswers.last_pass, WrittenOps.current_number}
 use Rattle.nfs_exec.specs.Runs.Ops.{RanOp}

@@ -13,8 +13,8 @@ use Rattle.nfs_attrs.specs.declared.wanted.Wanted.{Wanted}
 use Rattle.nfs_names.specs.{declared.context.Context.Context, declared.making.Making.Making, declared.node.Node.Node, Checks.{node_at, current}}
 use Rattle.nfs_names.specs.{Create.attributes_in, Outcome.{Outcome, is_ok, checked}, State.{State, moment}}
 use Rattle.nfs_names.proofs.{Found.{came, ok_is, checked_ok}, Ones.by_delay}
-use Rattle.nfs_files.specs.Open.{access_of, makes, argument_checks, place_checks, absent_checks, there_checks, last_checks}
-use Rattle.nfs_files.specs.OpenParts.{found_by, by_name, by_handle, by_claim, asked_for}
+use Rattle.nfs_files.specs.Open.{access_of, makes, there_checks, last_checks}
+use Rattle.nfs_files.specs.OpenParts.{argument_checks, place_checks, absent_checks, found_by, by_name, by_handle, by_claim, asked_for}
 use Rattle.nfs_files.specs.{Open.{opened, open_file}, OpenTold.{named_in, claimed}}
 use Rattle.nfs_files.proofs.{OpenAnswers.open_refuses, Passing.mapped_came, WrittenOps.current_number}
 use Rattle.nfs_exec.specs.Runs.Ops.{RanOp}

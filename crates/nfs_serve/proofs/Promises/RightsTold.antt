@@ -19,7 +19,7 @@ use Rattle.nfs_tree.proofs.Objects.{keeps_changed, stored_map}
 use Rattle.nfs_attrs.specs.declared.wanted.Wanted.{Wanted}
 use Rattle.nfs_lease.specs.Renewals.{has_run_out}
 use Rattle.nfs_names.specs.{declared.context.Context.Context, declared.making.Making.Making, declared.node.Node.Node, Checks.{node_at, current}}
-use Rattle.nfs_names.specs.{Create.{attributes_in, new_of, plain_mode, create}, Outcome.{Outcome, is_ok, checked, answers, refuses}, State.moment}
+use Rattle.nfs_names.specs.{Create.{attributes_in, given_sets, new_of, plain_mode, create}, Outcome.{Outcome, is_ok, checked, answers, refuses}, State.moment}
 use Rattle.nfs_names.specs.Create as creating
 use Rattle.nfs_names.specs.State as store
 use Rattle.nfs_names.proofs.{Faulted.status_of_refusal, Found.{came, ok_is, checked_ok}, NameLaws.by_create, Ones.by_delay}
@@ -56,8 +56,8 @@ there_tree t x now o m false = Same refl
 found_tree : (s : store.State) (x : Context) (now : Time) (o : Open) (m : Making) (at : Option ℕ) (f : _) → attributes_in (makes o.openhow).attributes ≡ Ok m.wanted
     → open_parts.found_by s x o m at ≡ Ok f → OpenTree s.tree x now o (of_open.tree_of s.tree x now o f)
 found_tree s x now o m None f wanted e =
-    let c = mapped_came _ (checked (Ok m) (of_open.absent_checks x o)) f e in
-    let same : m ≡ c.found = ok_is refl (checked_ok (Ok m) (of_open.absent_checks x o) c.found c.is).0 in
+    let c = mapped_came _ (checked (Ok m) (open_parts.absent_checks x o)) f e in
+    let same : m ≡ c.found = ok_is refl (checked_ok (Ok m) (open_parts.absent_checks x o) c.found c.is).0 in
     subst (λ f. OpenTree s.tree x now o (of_open.tree_of s.tree x now o f)) c.same
     (Made c.found.place.number (of_open.name_of o.claim) c.found.wanted (wanted ∙ ap (λ (m : Making). Ok m.wanted) same) refl)
 found_tree s x now o m (Some n) f wanted e =
@@ -86,7 +86,7 @@ claim_tree s x now o DelegPrevFh d f e = absurd cc
 asked_tree : (s : store.State) (x : Context) (now : Time) (o : Open) (f : _) → open_parts.asked_for s x o ≡ Ok f → OpenTree s.tree x now o (of_open.tree_of s.tree x now o f)
 unfolding open_parts.asked_for
 asked_tree s x now o f e =
-    let c = came (checked (current s x) (of_open.argument_checks o)) (open_parts.by_claim s x o o.claim) f e in claim_tree s x now o o.claim c.found f c.then
+    let c = came (checked (current s x) (open_parts.argument_checks o)) (open_parts.by_claim s x o o.claim) f e in claim_tree s x now o o.claim c.found f c.then
 
 open_tree : (s : store.State) (x : Context) (now : Time) (o : Open) → OpenTree s.tree x now o (open_file s x now o).state.tree
 open_tree s x now o =
@@ -114,19 +114,19 @@ set_at n m r w f xs number set other is = elim (cases_eq m n) [
 ]
 
 sized_set : (n m size : ℕ) (r : Rights) (w : Wanted) (now : Time) (t : Files) → Have n r t
-    → Have n (cond (m == n) (with_given r w) r) (with_resized t m size (of_set.sets_of now w) now)
+    → Have n (cond (m == n) (with_given r w) r) (with_resized t m size (given_sets now w) now)
 sized_set n m size r w now t is = record {
   given = is.given;
-  rights = set_at n m r w (λ (s : Stored). if s.number == m then with_bytes now (of_set.sets_of now w) (resized s.bytes size) s else s) t.objects
-      (λ s. elim (s.number == m) as (λ v. (cond v (with_bytes now (of_set.sets_of now w) (resized s.bytes size) s) s).number ≡ s.number) [ true ↦ refl | false ↦ refl ])
+  rights = set_at n m r w (λ (s : Stored). if s.number == m then with_bytes now (given_sets now w) (resized s.bytes size) s else s) t.objects
+      (λ s. elim (s.number == m) as (λ v. (cond v (with_bytes now (given_sets now w) (resized s.bytes size) s) s).number ≡ s.number) [ true ↦ refl | false ↦ refl ])
       (λ s here. rw (eq-eqb s.number m here) refl) (λ s apart. rw (ne_eqb s.number m apart) refl) is.rights;
 }
 
 changed_set : (n m : ℕ) (r : Rights) (w : Wanted) (now : Time) (t : Files) → Have n r t
-    → Have n (cond (m == n) (with_given r w) r) (record t { objects = with_changed m now (of_set.sets_of now w) t.objects })
+    → Have n (cond (m == n) (with_given r w) r) (record t { objects = with_changed m now (given_sets now w) t.objects })
 changed_set n m r w now t is = record {
   given = is.given;
-  rights = set_at n m r w (change_at m now (of_set.sets_of now w)) t.objects (keeps_changed m now (of_set.sets_of now w) []).number
+  rights = set_at n m r w (change_at m now (given_sets now w)) t.objects (keeps_changed m now (given_sets now w) []).number
       (λ s here. rw (eq-eqb s.number m here) refl) (λ s apart. rw (ne_eqb s.number m apart) refl) is.rights;
 }
 

@@ -24,9 +24,10 @@ use Rattle.nfs_names.specs.State.{State, moment}
 use Rattle.nfs_names.specs.Operation as names
 use Rattle.nfs_names.proofs.{Found.{current_is, checked_ok}, Ones.{each_of, if_delayed, by_delay}}
 use Rattle.nfs_names.proofs.NameLaws as law
-use Rattle.nfs_files.specs.{LockT.tested, OpenTold.{named_in, claimed}, Operation.grows, Read.read, TestStateid.test_stateid}
+use Rattle.nfs_files.specs.{OpenTold.{named_in, claimed}, Operation.grows, Read.read, TestStateid.test_stateid}
 use Rattle.nfs_files.specs.OpenParts as open_parts
 use Rattle.nfs_files.specs.Open as of_open
+use Rattle.nfs_files.proofs.Terms.{tested}
 use Rattle.nfs_files.proofs.{ChangesTold.Done, FileOps.by_granted, OpenAnswers.open_refuses, OpensMoved.{by_close, by_free, by_downgrade, by_lock, by_unlock}}
 use Rattle.nfs_files.proofs.{Outcomes.for_each, ToldOpens.asked_leads, WrittenOps.{by_found, current_number}}
 use Rattle.nfs_files.proofs.Outcomes as files

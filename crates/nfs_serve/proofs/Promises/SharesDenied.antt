@@ -18,16 +18,17 @@ use Rattle.nfs_attrs.specs.{declared.wanted.Wanted.Wanted, Mask.mask_of}
 use Rattle.nfs_attrs.proofs.Answered.{by_read}
 use Rattle.nfs_opens.specs.{declared.judging.Seat.Seat, declared.judging.Seat.TheVariants.{Anonymous, ReadBypass, Open as OpenSeat, Lock as LockSeat}}
 use Rattle.nfs_opens.specs.{declared.judging.Sort.TheVariants.Either, declared.records.OpenState.OpenState, declared.share.Share.Share, Share.meets}
-use Rattle.nfs_opens.specs.{declared.stateid.CurrentSeqid.TheVariants.Any, declared.stateid.StateId.StateId, Judging.{judge, judge_named, state_named, special}}
-use Rattle.nfs_opens.specs.{Opening.own_open, StateId.{last_number, is_anonymous, is_bypass}, Table.{Table, clashes_with}}
+use Rattle.nfs_opens.specs.{declared.stateid.CurrentSeqid.TheVariants.Any, declared.stateid.StateId.StateId, Judging.{judge, state_named, special}}
+use Rattle.nfs_opens.specs.{Opening.own_open, StateId.{last_number, is_anonymous, is_bypass}, Table.{Table, clashes_with, denials}}
+use Rattle.nfs_opens.proofs.Terms.{judge_named}
 use Rattle.nfs_names.specs.{declared.context.Context.Context, declared.making.Making.Making, declared.node.Node.Node}
 use Rattle.nfs_names.specs.Checks.{node_as, node_at, no_access, current}
 use Rattle.nfs_names.specs.{Create.attributes_in, Outcome.{Outcome, passed, checked, answers}}
 use Rattle.nfs_names.specs.State.{State, moment}
 use Rattle.nfs_names.specs.StoreInvariants.{IsStore}
 use Rattle.nfs_names.proofs.{Faulted.status_of_refusal, Found.{came, ok_is, checked_ok}, Ones.by_delay}
-use Rattle.nfs_files.specs.{Bytes.{file_checks, seat, reading, writing, want_of, denials, seat_checks, may_use}, Parts.{if_passed, readable, writable}, StateIds.meant}
-use Rattle.nfs_files.specs.{Open.{makes, argument_checks, place_checks, absent_checks, there_checks, asking, file_of}, OpenParts.{found_by, by_name, by_handle, by_claim, asked_for}}
+use Rattle.nfs_files.specs.{Bytes.{file_checks, seat, reading, writing, want_of, seat_checks, may_use}, Parts.{if_passed, readable, writable}, StateIds.meant}
+use Rattle.nfs_files.specs.{Open.{makes, there_checks, asking, file_of}, OpenParts.{argument_checks, place_checks, absent_checks, found_by, by_name, by_handle, by_claim, asked_for}}
 use Rattle.nfs_files.specs.{Open.{room_checks, last_checks, opened, open_file}, OpenTold.{OpenTold, Bits, IsOpenWith, named_in, claimed}}
 use Rattle.nfs_files.specs.Read as of_read
 use Rattle.nfs_files.specs.SetAttrParts as set_parts
@@ -283,22 +284,22 @@ or_second : (p q : Bool) → q ≡ true → p || q ≡ true
 or_second true q e = refl
 or_second false q e = e
 
-reads_denied : (s : State) (wanted : Share) (d : Node) → wanted.reads ≡ true → (denials s d).reads ≡ true → Denies s wanted d.number
+reads_denied : (s : State) (wanted : Share) (d : Node) → wanted.reads ≡ true → (denials s.opens d.number).reads ≡ true → Denies s wanted d.number
 reads_denied s wanted d asks some =
     let (o, there, tests) = in_any (λ (o : OpenState). (o.file == d.number) && o.deny.reads) s.opens.opens some in
     let parts = and_parts _ _ tests in
     record { its = o; there = there; file = eqb-true _ _ parts.0; denies = rw (asks, parts.1) refl }
 
-writes_denied : (s : State) (wanted : Share) (d : Node) → wanted.writes ≡ true → (denials s d).writes ≡ true → Denies s wanted d.number
+writes_denied : (s : State) (wanted : Share) (d : Node) → wanted.writes ≡ true → (denials s.opens d.number).writes ≡ true → Denies s wanted d.number
 writes_denied s wanted d asks some =
     let (o, there, tests) = in_any (λ (o : OpenState). (o.file == d.number) && o.deny.writes) s.opens.opens some in
     let parts = and_parts _ _ tests in
     record { its = o; there = there; file = eqb-true _ _ parts.0; denies = or_second (wanted.reads && o.deny.reads) (wanted.writes && o.deny.writes) (rw (asks, parts.1) refl) }
 
-any_denied : (s : State) (wanted : Share) (d : Node) → meets wanted (denials s d) ≡ true → Denies s wanted d.number
-any_denied s wanted d e = go (wanted.reads && (denials s d).reads) refl e
+any_denied : (s : State) (wanted : Share) (d : Node) → meets wanted (denials s.opens d.number) ≡ true → Denies s wanted d.number
+any_denied s wanted d e = go (wanted.reads && (denials s.opens d.number).reads) refl e
   where
-    go : (b : Bool) → wanted.reads && (denials s d).reads ≡ b → b || (wanted.writes && (denials s d).writes) ≡ true → Denies s wanted d.number
+    go : (b : Bool) → wanted.reads && (denials s.opens d.number).reads ≡ b → b || (wanted.writes && (denials s.opens d.number).writes) ≡ true → Denies s wanted d.number
     go true both e = (let parts = and_parts _ _ both in reads_denied s wanted d parts.0 parts.1)
     go false none e = (let parts = and_parts _ _ e in writes_denied s wanted d parts.0 parts.1)
 
@@ -344,10 +345,10 @@ by_seat s x wanted given d Anonymous status seat is e =
       means = seat.1;
       special = some;
       read = λ reads. anonymous_is (is_anonymous seat.0) (is_bypass seat.0) (judge_named x.client (Some d.number) Either seat.0.seqid (state_named s.opens seat.0)) some seat.2;
-      by = any_denied s wanted d (first_of (meets wanted (denials s d)) S.Locked (no_access x d (want_of wanted) ∷ []) status (good (no_access x d (want_of wanted) ∷ []) refl) is e);
+      by = any_denied s wanted d (first_of (meets wanted (denials s.opens d.number)) S.Locked (no_access x d (want_of wanted) ∷ []) status (good (no_access x d (want_of wanted) ∷ []) refl) is e);
     }
 by_seat s x wanted given d ReadBypass status seat is e =
-    let both = and_parts _ _ (first_of (wanted.writes && (denials s d).writes) S.Locked (no_access x d (want_of wanted) ∷ []) status (good (no_access x d (want_of wanted) ∷ []) refl) is e) in
+    let both = and_parts _ _ (first_of (wanted.writes && (denials s.opens d.number).writes) S.Locked (no_access x d (want_of wanted) ∷ []) status (good (no_access x d (want_of wanted) ∷ []) refl) is e) in
     record {
       id = seat.0;
       means = seat.1;

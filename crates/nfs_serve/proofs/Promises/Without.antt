@@ -8,9 +8,10 @@ use Rattle.nfs_results.specs.Results.{status_of_result}
 use Rattle.nfs_opens.specs.{declared.judging.Seat.Seat, declared.judging.Seat.TheVariants.{Anonymous, ReadBypass}, declared.judging.Sort.Sort}
 use Rattle.nfs_opens.specs.{declared.judging.Sort.TheVariants.{Either, LockOnly, OpenOnly}, declared.stateid.CurrentSeqid.CurrentSeqid}
 use Rattle.nfs_opens.specs.{declared.stateid.CurrentSeqid.TheVariants.Any, declared.stateid.StateId.StateId}
-use Rattle.nfs_opens.specs.{Judging.{judge_checks, seated, judge_named, special, judge, state_named}, StateId.{is_current, with_seqid, is_anonymous, is_bypass}}
+use Rattle.nfs_opens.specs.{Judging.{judge_checks, special, judge, state_named}, StateId.{is_current, with_seqid, is_anonymous, is_bypass}}
 use Rattle.nfs_opens.specs.Table.{Table}
 use Rattle.nfs_opens.specs.Steps.{◌>>=◌, ◌>>◌, in_order, require}
+use Rattle.nfs_opens.proofs.Terms.{judge_named, seated}
 use Rattle.nfs_names.specs.{declared.context.Context.Context, declared.node.Node.Node, Outcome.{Outcome, passed, checked, mapped, answers, or_refusal}}
 use Rattle.nfs_names.specs.State.{State}
 use Rattle.nfs_names.proofs.Faulted.{status_of_refusal}

@@ -1,7 +1,6 @@
 use Rattle.std.proofs.Common.{sym, ap, ◌∙◌}
 use Rattle.nfs_compound.specs.declared.op_num.OpNum.TheVariants as Num
 use Rattle.nfs_results.specs.{declared.res.Res.Res}
-use Rattle.nfs_results.specs.declared.res.Res.TheVariants as Res
 use Rattle.nfs_names.specs.{State.state_of, Outcome.done}
 use Rattle.nfs_files.specs.Commit.{commit}
 use Rattle.nfs_files.proofs.InSteps.{commit_is, where_found, where_refused}

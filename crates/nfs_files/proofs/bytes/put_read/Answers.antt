@@ -10,7 +10,6 @@ use Rattle.nfs_names.specs.State.{state_of}
 use Rattle.nfs_names.proofs.Masks.{room_then}
 use Rattle.nfs_files.proofs.ReadBytes.{read_within}
 use Rattle.nfs_files.proofs.bytes.put_read.Goals as goal
-use Rattle.nfs_files.proofs.Terms.{bytes_of}
 
 pub write_done_head-requires : goal.write_done_head-requires
 write_done_head-requires c = record { room = omega (arith, length_head (op_number Num.Read) Nfs4Ok) }

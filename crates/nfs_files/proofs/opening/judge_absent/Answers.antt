@@ -4,7 +4,7 @@ use Rattle.nfs_xdr.specs.Checks.{first_fault, judged}
 use Rattle.nfs_attrs.specs.{Permissions.write, Setting.make_checks}
 use Rattle.nfs_names.specs.Checks.{permits}
 use Rattle.nfs_names.proofs.Found.{judged_err, stopped}
-use Rattle.nfs_files.specs.Open.{makes, absent_checks}
+use Rattle.nfs_files.specs.{Open.makes, OpenParts.absent_checks}
 use Rattle.nfs_files.proofs.opening.judge_absent.Goals as goal
 
 pub returns-in_err-may_make : goal.returns-in_err-may_make

@@ -5,7 +5,7 @@ use Rattle.nfs_tree.specs.Object.{is_directory}
 use Rattle.nfs_attrs.specs.Permissions.{execute}
 use Rattle.nfs_names.specs.Checks.{permits, name_checks}
 use Rattle.nfs_names.proofs.Found.{judged_err, stopped}
-use Rattle.nfs_files.specs.Open.{place_checks}
+use Rattle.nfs_files.specs.OpenParts.{place_checks}
 use Rattle.nfs_files.proofs.opening.judge_place.Goals as goal
 
 pub returns-in_err-judge_name : goal.returns-in_err-judge_name
