@@ -17,12 +17,14 @@ ghost use Rattle.nfs_exec.specs.Step.Compound.{compound, first_item, in_session,
 ghost use Rattle.nfs_exec.specs.Step.View.{Does, AreTables, MayRun, RanIn, CanBear, IsOpened, HasReplyRoom, HasLoneRoom, Answers};
 
 use crate::place::{place_fault, sequence_in};
-use crate::sequence::{Sequenced, ahead, behind, judge, sequence_ok};
+use crate::receipt::Receipt;
+use crate::run::ReplySize;
+use crate::sequence::{Sequenced, compared, judge, sequence_ok};
 use crate::tables::Tables;
 use nfs_compound::{ChannelAttrs, Compound, Item, MINOR_VERSION, Op, OpNum, Sequence};
 use nfs_names::Context;
 use nfs_results::{OpenHead, Res, write, write_compound_head};
-use nfs_sessions::SessionId;
+use nfs_sessions::{RPC_HEAD, SessionId};
 use nfs_xdr::{Sheet, Status, Who};
 use std::alloc::Global;
 
@@ -57,7 +59,14 @@ impl Tables {
             return;
         };
         match sequence_in(&item) {
-            Some(asked) => self.in_session(alloc, asked, args, who, size, now, out),
+            Some(asked) => {
+                let receipt = Receipt {
+                    who,
+                    size,
+                    moment: now,
+                };
+                self.in_session(alloc, asked, args, &receipt, out);
+            }
             None => {
                 let head = OpenHead::put(tag, out);
                 let status = self.alone(alloc, &item, args.declared(), who, now, out);
@@ -130,31 +139,29 @@ impl Tables {
         alloc: Global,
         asked: &Sequence,
         args: &mut Compound<'_>,
-        who: &Who<'_>,
-        size: usize,
-        now: u64,
+        receipt: &Receipt<'_>,
         out: &mut Sheet,
     )
         requires bears { (i : Item) → In i args.old.left → CanBear i }
         requires few { length args.old.left ≤ args.old.declared }
         requires tag { length args.old.tag ≤ opaque_limit }
-        requires size { length args.old.bytes ≤ size }
-        requires moment { now < 2 ^ 63 }
+        requires size { length args.old.bytes ≤ receipt.now.size }
+        requires moment { receipt.now.moment < 2 ^ 63 }
         requires store { IsStore (machine_of self.old).store }
-        requires latest { IsLatest (machine_of self.old).leases now }
+        requires latest { IsLatest (machine_of self.old).leases receipt.now.moment }
         requires room { HasReplyRoom out.old }
         ensures answer { (choice : Option ℕ)
-            × Answers (by_first (machine_of self.old) args.old (caller who.now) size now choice (Operation (Op.Sequence asked.now) ∷ args.old.left))
+            × Answers (by_first (machine_of self.old) args.old (caller receipt.now.who.now) receipt.now.size receipt.now.moment choice (Operation (Op.Sequence asked.now) ∷ args.old.left))
             out.old out.new (machine_of self.new) }
         ensures store { IsStore (machine_of self.new).store }
     {
-        match judge(&self.sessions, asked, args, who, size) {
+        match judge(&self.sessions, asked, args, receipt.who, receipt.size) {
             Sequenced::Refuses(status) => {
                 write_compound_head(status, args.tag(), 1, out);
                 write(&Res::refusal(OpNum::Sequence.number(), status), out);
             }
             Sequenced::Repeats(reply) => out.put_bytes(reply),
-            Sequenced::Runs(channel) => self.run_new(alloc, asked, &channel, args, who, now, out),
+            Sequenced::Runs(channel) => self.run_new(alloc, asked, &channel, args, receipt, out),
         }
     }
 
@@ -166,35 +173,34 @@ impl Tables {
         asked: &Sequence,
         channel: &ChannelAttrs,
         args: &mut Compound<'_>,
-        who: &Who<'_>,
-        now: u64,
+        receipt: &Receipt<'_>,
         out: &mut Sheet,
     )
         requires bears { (i : Item) → In i args.old.left → CanBear i }
         requires few { length args.old.left ≤ args.old.declared }
         requires tag { length args.old.tag ≤ opaque_limit }
-        requires runs { (size : ℕ) × (length args.old.bytes ≤ size) × (sequenced (machine_of self.old) args.old (caller who.now) size asked.now ≡ Runs channel.now) }
+        requires size { length args.old.bytes ≤ receipt.now.size }
+        requires runs { sequenced (machine_of self.old) args.old (caller receipt.now.who.now) receipt.now.size asked.now ≡ Runs channel.now }
         requires granted { IsGranted channel.now }
-        requires moment { now < 2 ^ 63 }
+        requires moment { receipt.now.moment < 2 ^ 63 }
         requires store { IsStore (machine_of self.old).store }
-        requires latest { IsLatest (machine_of self.old).leases now }
+        requires latest { IsLatest (machine_of self.old).leases receipt.now.moment }
         requires room { HasReplyRoom out.old }
         ensures answer { (choice : Option ℕ)
-            × Answers (in_session (machine_of self.old) args.old (caller who.now) now choice asked.now args.old.left (Runs channel.now)) out.old out.new (machine_of self.new) }
+            × Answers (in_session (machine_of self.old) args.old (caller receipt.now.who.now) receipt.now.moment choice asked.now args.old.left (Runs channel.now)) out.old out.new (machine_of self.new) }
         ensures store { IsStore (machine_of self.new).store }
     {
         let id = SessionId::from_bytes(&asked.sessionid);
-        self.leases.renew(id.client, now);
+        self.leases.renew(id.client, receipt.moment);
         let start = out.len();
-        self.put_run(alloc, asked, channel, args, who, now, out);
+        self.put_run(alloc, asked, channel, args, receipt, out);
         let reply = &out.bytes()[start..];
         self.sessions.keep(
             &id,
             asked.slotid,
             asked.sequenceid,
-            who.uid,
-            ahead(args),
-            behind(args),
+            receipt.who.uid,
+            &compared(args),
             reply,
         );
     }
@@ -206,26 +212,21 @@ impl Tables {
         asked: &Sequence,
         channel: &ChannelAttrs,
         args: &mut Compound<'_>,
-        who: &Who<'_>,
-        now: u64,
+        receipt: &Receipt<'_>,
         out: &mut Sheet,
     )
-        requires { MayRun (machine_of self.old) args.old asked.now channel.now now out.old }
-        ensures { RanIn (machine_of self.old) args.old (caller who.now) now asked.now channel.now (machine_of self.new) args.new out.old out.new }
+        requires { MayRun (machine_of self.old) args.old asked.now channel.now receipt.now.moment out.old }
+        ensures { RanIn (machine_of self.old) args.old (caller receipt.now.who.now) receipt.now.moment asked.now channel.now (machine_of self.new) args.new out.old out.new }
     {
         let start = out.len();
         let head = OpenHead::put(args.tag(), out);
         write(&Res::Sequence(sequence_ok(asked, channel)), out);
-        let mut context = Context::new(SessionId::from_bytes(&asked.sessionid).client, who);
-        let ran = self.run(
-            alloc,
-            args,
-            &mut context,
-            channel.maxresponsesize,
-            start,
-            now,
-            out,
-        );
+        let mut context = Context::new(SessionId::from_bytes(&asked.sessionid).client, receipt.who);
+        let reply = ReplySize {
+            sofar: u64::from(RPC_HEAD) + (out.len() - start) as u64,
+            limit: u64::from(channel.maxresponsesize),
+        };
+        let ran = self.run(alloc, args, &mut context, reply, receipt.moment, out);
         head.close(ran.status, ran.count + 1, out);
     }
 }

@@ -22,6 +22,7 @@ mod expiry;
 mod held;
 pub mod laws;
 mod place;
+mod receipt;
 mod reclaim_complete;
 mod run;
 mod sequence;

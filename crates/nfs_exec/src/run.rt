@@ -1,6 +1,6 @@
 //! The operations of a compound behind its SEQUENCE (RFC 8881 section 2.3).
 
-ghost use Rattle.std.specs.Prelude.{◌≡◌, ◌≤◌, ◌<◌, ◌^◌, ◌+◌, ◌-◌, ℕ, Option, length};
+ghost use Rattle.std.specs.Prelude.{◌≡◌, ◌≤◌, ◌<◌, ◌^◌, ◌+◌, ℕ, Option, length};
 ghost use Rattle.nfs_xdr.specs.Tables.{In};
 ghost use Rattle.nfs_xdr.specs.declared.status.Status.TheVariants.{Nfs4Ok};
 ghost use Rattle.nfs_compound.specs.declared.op.Item.{Item};
@@ -9,7 +9,6 @@ ghost use Rattle.nfs_results.specs.Largest.{largest};
 ghost use Rattle.nfs_results.specs.Results.{spell_result};
 ghost use Rattle.nfs_results.specs.ResultCodec.{IsBounded};
 ghost use Rattle.nfs_names.specs.StoreInvariants.{IsStore};
-ghost use Rattle.nfs_sessions.specs.Channel.{rpc_head};
 ghost use Rattle.nfs_names.specs.Outcome.{is_delay};
 ghost use Rattle.nfs_exec.specs.Step.Machine.{with_result, machine_of};
 ghost use Rattle.nfs_exec.specs.Step.Place.{status_behind};
@@ -22,12 +21,18 @@ use nfs_compound::{Compound, Item, Op};
 use nfs_files::file_op;
 use nfs_names::{Context, name_op};
 use nfs_results::{Res, largest, write};
-use nfs_sessions::RPC_HEAD;
 use nfs_xdr::{Sheet, Status};
 use std::alloc::Global;
 
 /// The bytes that are kept for a refusal before an operation is run.
 const RESERVE: u64 = 12;
+
+/// How many bytes a reply has so far, its RPC head among them, and how many it may have.
+#[derive(Clone, Copy)]
+pub(crate) struct ReplySize {
+    pub(crate) sofar: u64,
+    pub(crate) limit: u64,
+}
 
 /// What came of the operations that were run.
 #[derive(Clone, Copy)]
@@ -38,15 +43,14 @@ pub(crate) struct Ran {
 }
 
 impl Tables {
-    /// Runs what is left of a compound, up to the first operation whose status is not NFS4_OK, and puts the results. The result
-    /// of the compound begins at `start` on the sheet, and its reply may have `limit` bytes, its RPC head among them.
+    /// Runs what is left of a compound, up to the first operation whose status is not NFS4_OK, and puts the results behind what
+    /// the reply has so far.
     pub(crate) fn run(
         &mut self,
         alloc: Global,
         args: &mut Compound<'_>,
         context: &mut Context<'_>,
-        limit: u32,
-        start: usize,
+        reply: ReplySize,
         now: u64,
         out: &mut Sheet,
     ) -> Ran
@@ -54,19 +58,22 @@ impl Tables {
         requires few { length args.old.left ≤ 64 }
         requires moment { now < 2 ^ 63 }
         requires store { IsStore (machine_of self.old).store }
-        requires start { start ≤ length out.old.bytes }
-        requires fits { length out.old.bytes + (rpc_head + reserve) ≤ start + limit }
-        requires room { start + limit ≤ out.old.room + rpc_head }
+        requires reserve { reply.sofar + reserve ≤ reply.limit }
+        requires room { length out.old.bytes + reply.limit ≤ out.old.room + reply.sofar }
         ensures ran { (choice : Option ℕ)
-            × RunsTo (run limit (rpc_head + (length out.old.bytes - start)) now choice (machine_of self.old) context.old args.old.left) result (machine_of self.new) out.old out.new }
-        ensures fits { length out.new.bytes + rpc_head ≤ start + limit }
+            × RunsTo (run reply.limit reply.sofar now choice (machine_of self.old) context.old args.old.left) result (machine_of self.new) out.old out.new }
+        ensures fits { length out.new.bytes + reply.sofar ≤ length out.old.bytes + reply.limit }
         ensures same { args.new ≡ record args.old { left = args.new.left } }
         ensures store { IsStore (machine_of self.new).store }
     {
+        let begin = out.len();
         let mut count = 0;
         while let Some(item) = args.next() {
-            let sofar = u64::from(RPC_HEAD) + (out.len() - start) as u64;
-            let status = self.in_room(alloc, &item, context, u64::from(limit), sofar, now, out);
+            let here = ReplySize {
+                sofar: reply.sofar + (out.len() - begin) as u64,
+                limit: reply.limit,
+            };
+            let status = self.in_room(alloc, &item, context, here, now, out);
             count += 1;
             match status {
                 Status::Nfs4Ok => {}
@@ -79,29 +86,27 @@ impl Tables {
         }
     }
 
-    /// Runs one operation in its place, where the reply has `sofar` bytes and may have `limit`, puts its result and returns its
-    /// status.
+    /// Runs one operation in its place, behind what the reply has so far, puts its result and returns its status.
     fn in_room(
         &mut self,
         alloc: Global,
         item: &Item<'_>,
         context: &mut Context<'_>,
-        limit: u64,
-        sofar: u64,
+        reply: ReplySize,
         now: u64,
         out: &mut Sheet,
     ) -> Status
         requires bears { CanBear item.now }
         requires moment { now < 2 ^ 63 }
         requires store { IsStore (machine_of self.old).store }
-        requires reserve { sofar + reserve ≤ limit }
-        requires room { length out.old.bytes + limit ≤ out.old.room + sofar }
-        ensures steps { Steps (in_room limit sofar now (is_delay result) (machine_of self.old) context.old item.now) result (machine_of self.new) context.new out.old out.new }
-        ensures fits { length out.new.bytes + sofar ≤ length out.old.bytes + limit }
-        ensures more { result ≡ Nfs4Ok → length out.new.bytes + sofar + reserve ≤ length out.old.bytes + limit }
+        requires reserve { reply.sofar + reserve ≤ reply.limit }
+        requires room { length out.old.bytes + reply.limit ≤ out.old.room + reply.sofar }
+        ensures steps { Steps (in_room reply.limit reply.sofar now (is_delay result) (machine_of self.old) context.old item.now) result (machine_of self.new) context.new out.old out.new }
+        ensures fits { length out.new.bytes + reply.sofar ≤ length out.old.bytes + reply.limit }
+        ensures more { result ≡ Nfs4Ok → length out.new.bytes + reply.sofar + reserve ≤ length out.old.bytes + reply.limit }
         ensures store { IsStore (machine_of self.new).store }
     {
-        if largest(item) > limit - RESERVE - sofar {
+        if largest(item) > reply.limit - RESERVE - reply.sofar {
             write(&Res::refusal(item.number(), Status::RepTooBig), out);
             return Status::RepTooBig;
         }

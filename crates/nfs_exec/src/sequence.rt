@@ -8,14 +8,14 @@ ghost use Rattle.nfs_sessions.specs.Id.{id_of};
 ghost use Rattle.nfs_sessions.specs.Channel.{rpc_head};
 ghost use Rattle.nfs_sessions.specs.Sessions.{session_at};
 ghost use Rattle.nfs_compound.specs.declared.channel_attrs.ChannelAttrs.{ChannelAttrs as Granted};
-ghost use Rattle.nfs_exec.specs.Step.Sequence.{Repeats, Runs, highest_at, sequence_ok};
+ghost use Rattle.nfs_exec.specs.Step.Sequence.{Repeats, Runs, highest_at, compared, sequence_ok};
 ghost use Rattle.nfs_exec.specs.Step.Parts.{by_session, slot_fault, fresh_fault};
 ghost use Rattle.nfs_exec.specs.Step.View.{sequenced_of};
 
 use nfs_compound::{ChannelAttrs, Compound, Sequence};
 use nfs_results::SequenceOk;
 use nfs_sessions::{SessionId, Sessions};
-use nfs_slots::Verdict;
+use nfs_slots::{Args, Verdict};
 use nfs_xdr::{Status, Who};
 
 /// What a SEQUENCE comes to, before anything is run.
@@ -52,13 +52,7 @@ pub(crate) fn judge<'a>(
     if let Some(status) = slot_fault(asked, &channel) {
         return Sequenced::Refuses(status);
     }
-    let verdict = session.judge(
-        asked.slotid,
-        asked.sequenceid,
-        who.uid,
-        ahead(args),
-        behind(args),
-    );
+    let verdict = session.judge(asked.slotid, asked.sequenceid, who.uid, &compared(args));
     match verdict {
         Verdict::NoSlot => Sequenced::Refuses(Status::BadSlot),
         Verdict::Misordered => Sequenced::Refuses(Status::SeqMisordered),
@@ -81,8 +75,15 @@ fn highest_at(args: &Compound<'_>) -> usize
     tag + (4 - tag % 4) % 4 + 40
 }
 
-/// The argument bytes before sa_highest_slotid. A repeat is compared by these and those behind the field.
-pub(crate) fn ahead<'a>(args: &Compound<'a>) -> &'a [u8]
+/// What a repeat is compared by: the argument bytes but for those of sa_highest_slotid.
+pub(crate) fn compared<'a>(args: &Compound<'a>) -> Args<'a>
+    ensures { result ≡ compared args.now }
+{
+    Args::new(ahead(args), behind(args))
+}
+
+/// The argument bytes before sa_highest_slotid.
+fn ahead<'a>(args: &Compound<'a>) -> &'a [u8]
     ensures { result.now ≡ take (highest_at args.now) args.now.bytes }
 {
     let bytes = args.bytes();
@@ -93,7 +94,7 @@ pub(crate) fn ahead<'a>(args: &Compound<'a>) -> &'a [u8]
 }
 
 /// The argument bytes behind sa_highest_slotid.
-pub(crate) fn behind<'a>(args: &Compound<'a>) -> &'a [u8]
+fn behind<'a>(args: &Compound<'a>) -> &'a [u8]
     ensures { result.now ≡ drop (highest_at args.now + 4) args.now.bytes }
 {
     match args.bytes().split_at_checked(highest_at(args) + 4) {

@@ -4,8 +4,8 @@
 //!
 //! ```text
 //! let id = sessions.create(alloc, client, &wish)?;
-//! match sessions.session(&id).map(|s| s.judge(slot, number, uid, head, tail)) { .. }
-//! sessions.keep(&id, slot, number, uid, head, tail, reply);
+//! match sessions.session(&id).map(|s| s.judge(slot, number, uid, &args)) { .. }
+//! sessions.keep(&id, slot, number, uid, &args, reply);
 //! ```
 //!
 //! RFC 8881 sections 2.10 (sessions), 18.36 (CREATE_SESSION) and 18.37 (DESTROY_SESSION).

@@ -1,14 +1,14 @@
 //! One session: the parts of its id, its channel, and its slots with the room that the channel asks for (RFC 8881
 //! section 2.10.6).
 
-ghost use Rattle.std.specs.Prelude.{◌≡◌, ◌≤◌, ◌+◌, ◌++◌, IfOk, length};
+ghost use Rattle.std.specs.Prelude.{◌≡◌, ◌≤◌, ◌+◌, IfOk, length};
 ghost use Rattle.nfs_slots.specs.Slot.{judge, kept, keep};
 ghost use Rattle.nfs_sessions.specs.Sessions.{new_session, is_session, outlasts};
 ghost use Rattle.nfs_sessions.specs.SessionTables.{IsGranted, MayKeep, HasGrantedSlots};
 
 use crate::id::SessionId;
 use nfs_compound::ChannelAttrs;
-use nfs_slots::{Slots, Verdict};
+use nfs_slots::{Args, Slots, Verdict};
 use std::alloc::{AllocError, Global};
 use std::marker::Model;
 
@@ -96,12 +96,11 @@ impl Session {
         self.channel
     }
 
-    /// What slot `slot` says of a request with this number, caller and argument bytes: `head` and behind it `tail`, as in
-    /// `Slots::judge`.
-    pub fn judge(&self, slot: u32, number: u32, uid: u32, head: &[u8], tail: &[u8]) -> Verdict
-        ensures { result ≡ judge self.now.slots slot number uid (head.now ++ tail.now) }
+    /// What slot `slot` says of a request with this number, caller and argument bytes, as `Slots::judge` does.
+    pub fn judge(&self, slot: u32, number: u32, uid: u32, args: &Args<'_>) -> Verdict
+        ensures { result ≡ judge self.now.slots slot number uid args.now }
     {
-        self.slots.judge(slot, number, uid, head, tail)
+        self.slots.judge(slot, number, uid, args)
     }
 
     /// The reply that slot `slot` keeps, from the status of its COMPOUND on; none where it keeps nothing. With the RPC
@@ -113,19 +112,11 @@ impl Session {
         self.slots.kept(slot)
     }
 
-    /// Keeps the reply to a request that was fresh and has run. Its argument bytes are `head` and behind it `tail`.
-    pub(crate) fn keep(
-        &mut self,
-        slot: u32,
-        number: u32,
-        uid: u32,
-        head: &[u8],
-        tail: &[u8],
-        reply: &[u8],
-    )
-        requires { MayKeep self.old slot number uid (head.now ++ tail.now) reply.now }
-        ensures { self.new ≡ record self.old { slots = keep self.old.slots slot number uid (head.now ++ tail.now) reply.now } }
+    /// Keeps the reply to a request that was fresh and has run.
+    pub(crate) fn keep(&mut self, slot: u32, number: u32, uid: u32, args: &Args<'_>, reply: &[u8])
+        requires { MayKeep self.old slot number uid args.now reply.now }
+        ensures { self.new ≡ record self.old { slots = keep self.old.slots slot number uid args.now reply.now } }
     {
-        self.slots.keep(slot, number, uid, head, tail, reply);
+        self.slots.keep(slot, number, uid, args, reply);
     }
 }

@@ -1,6 +1,6 @@
 //! The table of sessions (RFC 8881 sections 2.10, 18.36 and 18.37).
 
-ghost use Rattle.std.specs.Prelude.{◌≡◌, ◌≤◌, ◌+◌, ◌++◌, ◌==◌, None, IfOk, OnOk, OnErr, IsSomeAnd, is_some, length, count_by, find, filter, not, position};
+ghost use Rattle.std.specs.Prelude.{◌≡◌, ◌≤◌, ◌+◌, ◌==◌, None, IfOk, OnOk, OnErr, IsSomeAnd, is_some, length, count_by, find, filter, not, position};
 ghost use Rattle.std.specs.Option.{option_copied};
 ghost use Rattle.std.specs.List.{list_any};
 ghost use Rattle.nfs_xdr.specs.Checks.{judged};
@@ -12,6 +12,7 @@ ghost use Rattle.nfs_sessions.specs.SessionTables.{IsSessions, CreatesOrWants, M
 use crate::channel::{Wish, granted, is_too_small};
 use crate::id::SessionId;
 use crate::session::Session;
+use nfs_slots::Args;
 use nfs_xdr::Status;
 use std::alloc::{AllocError, Global};
 use std::marker::Model;
@@ -180,24 +181,22 @@ impl Sessions {
         self.sessions.iter().any(|s| s.client() == client)
     }
 
-    /// Keeps the reply to a request that was fresh on a session's slot and has run. Its argument bytes are `head` and behind
-    /// it `tail`.
+    /// Keeps the reply to a request that was fresh on a session's slot and has run.
     pub fn keep(
         &mut self,
         id: &SessionId,
         slot: u32,
         number: u32,
         uid: u32,
-        head: &[u8],
-        tail: &[u8],
+        args: &Args<'_>,
         reply: &[u8],
     )
-        requires { IsSomeAnd (session_at self.old id.now) (λ s. MayKeep s slot number uid (head.now ++ tail.now) reply.now) }
-        ensures { self.new ≡ keep self.old id.now slot number uid (head.now ++ tail.now) reply.now }
+        requires { IsSomeAnd (session_at self.old id.now) (λ s. MayKeep s slot number uid args.now reply.now) }
+        ensures { self.new ≡ keep self.old id.now slot number uid args.now reply.now }
     {
         if let Some(place) = self.find(id) {
             let session = &mut self.sessions[place];
-            session.keep(slot, number, uid, head, tail, reply);
+            session.keep(slot, number, uid, args, reply);
         }
     }
 

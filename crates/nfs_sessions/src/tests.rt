@@ -2,7 +2,7 @@
 
 use super::*;
 use nfs_compound::ChannelAttrs;
-use nfs_slots::Verdict;
+use nfs_slots::{Args, Verdict};
 use std::test::Fail;
 
 const A: u64 = 0x0000_0007_0000_0001;
@@ -34,7 +34,8 @@ fn serve(
 ) -> Option<Verdict> {
     let session = sessions.session(id)?;
     let (head, tail) = args.split_at(args.len() / 2);
-    let verdict = session.judge(0, number, 0, head, tail);
+    let compared = Args::new(head, tail);
+    let verdict = session.judge(0, number, 0, &compared);
     let channel = session.channel();
     if args.len() > channel.maxrequestsize as usize
         || reply.len() + 24 > channel.maxresponsesize as usize
@@ -44,7 +45,7 @@ fn serve(
     let Verdict::Fresh = verdict else {
         return Some(verdict);
     };
-    sessions.keep(id, 0, number, 0, head, tail, reply);
+    sessions.keep(id, 0, number, 0, &compared, reply);
     Some(verdict)
 }
 

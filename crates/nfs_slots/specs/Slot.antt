@@ -1,5 +1,5 @@
 -- A slot of a session, and what it says of a request's number (RFC 8881 section 2.10.6.1).
-use Rattle.std.specs.Prelude.{ℕ, ◌==◌, Bool, true, false, not, ◌&&◌, if◌then◌else◌, List, [], Option, bytes_eq, slice_get, slice_set}
+use Rattle.std.specs.Prelude.{ℕ, ◌==◌, Bool, true, false, not, ◌&&◌, if◌then◌else◌, List, [], bytes_eq, slice_get, slice_set}
 use Rattle.std.specs.Option.{option_map_or}
 use Rattle.nfs_xdr.specs.Numbers.{next_number}
 use Rattle.nfs_slots.specs.{declared.slot.Verdict.Verdict, declared.slot.Verdict.TheVariants.{Fresh, Again, FalseRetry, Misordered, NoSlot}}

@@ -14,14 +14,10 @@ pub record SlotTable : Type 0 where
 abbrev pub unused : ℕ → ℕ → ℕ → SlotTable
 unused count size request = record { slots = replicate count unused_slot; size = size; request = request }
 
--- the argument bytes that a slot keeps, by which a repeat is compared
-abbrev pub kept_args : List SlotState → ℕ → List ℕ
-kept_args slots slot = option_map_or (λ s. s.args) (slice_get slots slot) []
-
 -- no slot keeps a reply or arguments of more bytes than the table has room for
 pub record IsBounded (t : SlotTable) : Type 0 where
   pub reply : (slot : ℕ) → length (kept t.slots slot) ≤ t.size
-  pub args : (slot : ℕ) → length (kept_args t.slots slot) ≤ t.request
+  pub args : (slot : ℕ) → length (option_map_or (λ s. s.args) (slice_get t.slots slot) []) ≤ t.request
 
 -- the status that a verdict is answered with: a new request, and one that is repeated, are not refused
 abbrev pub verdict_status : Verdict → Status

@@ -1,10 +1,11 @@
 //! One slot: what it says of a request, and the reply that it keeps (RFC 8881 section 2.10.6.1).
 
-ghost use Rattle.std.specs.Prelude.{◌≡◌, ◌≤◌, ◌++◌, Bool, true, false, [], length, IfOk, bytes_eq, vec_capacity};
+ghost use Rattle.std.specs.Prelude.{◌≡◌, ◌≤◌, Bool, true, false, [], length, IfOk, vec_capacity};
 ghost use Rattle.nfs_slots.specs.Slot.{judge_slot, unused_slot};
 ghost use Rattle.nfs_slots.specs.SlotTables.{verdict_status};
 ghost use Rattle.nfs_slots.specs.Buffers.{state_of, HasRoom, IsWithinRoom};
 
+use crate::args::Args;
 use nfs_xdr::Status;
 use std::alloc::{AllocError, Global};
 
@@ -64,9 +65,9 @@ impl Slot {
         })
     }
 
-    /// What the slot says of a request with this number and caller, whose argument bytes are `head` and behind it `tail`.
-    pub(crate) fn judge(&self, number: u32, uid: u32, head: &[u8], tail: &[u8]) -> Verdict
-        ensures { result ≡ judge_slot (state_of self.now) number uid (head.now ++ tail.now) }
+    /// What the slot says of a request with this number, caller and argument bytes.
+    pub(crate) fn judge(&self, number: u32, uid: u32, args: &Args<'_>) -> Verdict
+        ensures { result ≡ judge_slot (state_of self.now) number uid args.now }
     {
         if number == self.number.wrapping_add(1) {
             return Verdict::Fresh;
@@ -74,7 +75,7 @@ impl Slot {
         if !(self.used && number == self.number) {
             return Verdict::Misordered;
         }
-        if uid == self.uid && is_joined(&self.args, head, tail) {
+        if uid == self.uid && args.are(&self.args) {
             Verdict::Again
         } else {
             Verdict::FalseRetry
@@ -88,33 +89,20 @@ impl Slot {
         &self.reply
     }
 
-    /// Keeps a request and its reply in the room that was reserved, in the place of the one before. The argument bytes
-    /// are `head` and behind it `tail`.
-    pub(crate) fn keep(&mut self, number: u32, uid: u32, head: &[u8], tail: &[u8], reply: &[u8])
-        requires args { length (head.now ++ tail.now) ≤ vec_capacity self.old.args }
+    /// Keeps a request and its reply in the room that was reserved, in the place of the one before.
+    pub(crate) fn keep(&mut self, number: u32, uid: u32, args: &Args<'_>, reply: &[u8])
+        requires args { length args.now ≤ vec_capacity self.old.args }
         requires reply { length reply.now ≤ vec_capacity self.old.reply }
-        ensures state { state_of self.new ≡ record { number = number; used = true; uid = uid; args = head.now ++ tail.now; reply = reply.now } }
+        ensures state { state_of self.new ≡ record { number = number; used = true; uid = uid; args = args.now; reply = reply.now } }
         ensures args_room { vec_capacity self.old.args ≤ vec_capacity self.new.args }
         ensures reply_room { vec_capacity self.old.reply ≤ vec_capacity self.new.reply }
     {
         self.number = number;
         self.used = true;
         self.uid = uid;
-        self.args.clear();
-        self.args.extend_from_slice(head).unwrap();
-        self.args.extend_from_slice(tail).unwrap();
+        args.keep_in(&mut self.args);
         self.reply.clear();
         self.reply.extend_from_slice(reply).unwrap();
-    }
-}
-
-/// Whether these bytes are `head` and behind it `tail`.
-fn is_joined(bytes: &[u8], head: &[u8], tail: &[u8]) -> bool
-    ensures { result ≡ bytes_eq (head.now ++ tail.now) bytes.now }
-{
-    match bytes.split_at_checked(head.len()) {
-        Some((front, behind)) => head == front && tail == behind,
-        None => false,
     }
 }
 

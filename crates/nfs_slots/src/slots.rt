@@ -1,9 +1,10 @@
 //! The slots of one session (RFC 8881 section 2.10.6).
 
-ghost use Rattle.std.specs.Prelude.{◌≡◌, ◌≤◌, ◌++◌, length, IfOk};
+ghost use Rattle.std.specs.Prelude.{◌≡◌, ◌≤◌, length, IfOk};
 ghost use Rattle.nfs_slots.specs.Slot.{judge, keep, kept};
 ghost use Rattle.nfs_slots.specs.SlotTables.{unused, IsBounded};
 
+use crate::args::Args;
 use crate::slot::{Slot, Verdict};
 use std::alloc::{AllocError, Global};
 use std::marker::Model;
@@ -53,27 +54,23 @@ impl Slots {
     }
 
     /// What slot `slot` says of a request with this number, caller and argument bytes (RFC 8881 section 2.10.6.1).
-    ///
-    /// The argument bytes are those that a repeat is compared by, and come in two parts: what a request has between
-    /// `head` and `tail` is not compared.
-    pub fn judge(&self, slot: u32, number: u32, uid: u32, head: &[u8], tail: &[u8]) -> Verdict
-        ensures { result ≡ judge self.now.slots slot number uid (head.now ++ tail.now) }
+    pub fn judge(&self, slot: u32, number: u32, uid: u32, args: &Args<'_>) -> Verdict
+        ensures { result ≡ judge self.now.slots slot number uid args.now }
     {
         match self.slots.get(slot as usize) {
-            Some(s) => s.judge(number, uid, head, tail),
+            Some(s) => s.judge(number, uid, args),
             None => Verdict::NoSlot,
         }
     }
 
-    /// Keeps the reply to a request that was fresh and has run, in the place of the request before it. The argument
-    /// bytes are in two parts, as in `judge`.
-    pub fn keep(&mut self, slot: u32, number: u32, uid: u32, head: &[u8], tail: &[u8], reply: &[u8])
-        requires fresh { judge self.old.slots slot number uid (head.now ++ tail.now) ≡ Verdict.Fresh }
-        requires args { length (head.now ++ tail.now) ≤ self.old.request }
+    /// Keeps the reply to a request that was fresh and has run, in the place of the request before it.
+    pub fn keep(&mut self, slot: u32, number: u32, uid: u32, args: &Args<'_>, reply: &[u8])
+        requires fresh { judge self.old.slots slot number uid args.now ≡ Verdict.Fresh }
+        requires args { length args.now ≤ self.old.request }
         requires reply { length reply.now ≤ self.old.size }
-        ensures { self.new ≡ record self.old { slots = keep self.old.slots slot number uid (head.now ++ tail.now) reply.now } }
+        ensures { self.new ≡ record self.old { slots = keep self.old.slots slot number uid args.now reply.now } }
     {
-        self.slots[slot as usize].keep(number, uid, head, tail, reply);
+        self.slots[slot as usize].keep(number, uid, args, reply);
     }
 
     /// The reply that slot `slot` keeps: the bytes of its last `keep`, and none where it keeps nothing. It is no longer

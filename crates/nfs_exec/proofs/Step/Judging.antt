@@ -1,14 +1,10 @@
 -- SEQUENCE: what the code's judgement comes to.
-use Rattle.std.proofs.Common.{◌≡◌, ℕ, ◌+◌, List, ◌++◌, take, drop, Option, Some, None, refl, ap, ◌∙◌}
+use Rattle.std.proofs.Common.{◌≡◌, ℕ, Option, Some, None, refl}
 use Rattle.nfs_xdr.specs.{Caller.Caller, declared.status.Status.Status}
 use Rattle.nfs_compound.specs.{Request.Request, declared.session_args.Sequence.Sequence}
 use Rattle.nfs_slots.specs.{Slot.judge, declared.slot.Verdict.TheVariants.Fresh}
 use Rattle.nfs_sessions.specs.Sessions.{Session}
-use Rattle.nfs_exec.specs.{Step.Sequence.{highest_at, compared, Refuses}, Step.Parts.{by_session, slot_fault, fresh_fault}}
-
--- the two slices that the code gives are what is compared
-pub joined : (r : Request) (head tail : List ℕ) → head ≡ take (highest_at r) r.bytes → tail ≡ drop (highest_at r + 4) r.bytes → head ++ tail ≡ compared r
-joined r head tail ahead behind = ap (λ (xs : List ℕ). xs ++ tail) ahead ∙ ap (λ (xs : List ℕ). take (highest_at r) r.bytes ++ xs) behind
+use Rattle.nfs_exec.specs.{Step.Sequence.{compared, Refuses}, Step.Parts.{by_session, slot_fault, fresh_fault}}
 
 -- a new request is refused
 pub refuses_fresh : (r : Request) (who : Caller) (size : ℕ) (s : Sequence) (o : Option Session) (x : Session) (status : Status) →

@@ -5,7 +5,7 @@ use Rattle.nfs_xdr.specs.{Tables.In, SheetState.{SheetState, Puts}, declared.sta
 use Rattle.nfs_compound.specs.{declared.op.Item.Item, Request.Request}
 use Rattle.nfs_names.specs.{declared.context.Context.Context, StoreInvariants.IsStore, Outcome.{is_delay, is_ok}}
 use Rattle.nfs_exec.specs.{Step.Machine.{Machine, MachineOutcome}, Step.Behind.Step, Step.Run.{Ran, run, in_room, follow, only, is_here, behind_here}}
-use Rattle.nfs_exec.specs.Step.View.{RunsTo, Steps, CanBear}
+use Rattle.nfs_exec.specs.{Step.View.{RunsTo, Steps, CanBear}, declared.run.Ran.{Ran as Told}}
 
 -- The place at which memory was refused: here, or one place further than from behind.
 
@@ -45,35 +45,35 @@ pub record Stand : Type 0 where
   pub context : Context
   pub sheet : SheetState
 
--- the bytes of a reply whose text begins at a place of the sheet
-abbrev pub so_far : ℕ → SheetState → ℕ
-so_far at sheet = 24 + (length sheet.bytes - at)
+-- the bytes of a reply that had some at a place of the sheet
+abbrev pub so_far : (begun at : ℕ) → SheetState → ℕ
+so_far begun at sheet = begun + (length sheet.bytes - at)
 
-abbrev pub run_at : (limit at now : ℕ) → Option ℕ → Stand → List Item → Ran
-run_at limit at now choice s items = run limit (so_far at s.sheet) now choice s.machine s.context items
+abbrev pub run_at : (limit begun at now : ℕ) → Option ℕ → Stand → List Item → Ran
+run_at limit begun at now choice s items = run limit (so_far begun at s.sheet) now choice s.machine s.context items
 
 -- one operation where the run stands
-abbrev pub step_at : (limit at now : ℕ) → Bool → Stand → Item → Step
-step_at limit at now refused s item = in_room limit (so_far at s.sheet) now refused s.machine s.context item
+abbrev pub step_at : (limit begun at now : ℕ) → Bool → Stand → Item → Step
+step_at limit begun at now refused s item = in_room limit (so_far begun at s.sheet) now refused s.machine s.context item
 
-pub record Going (limit at now : ℕ) (first here : Stand) (all left : List Item) (done : ℕ) : Type 0 where
+pub record Going (limit begun at now : ℕ) (first here : Stand) (all left : List Item) (done : ℕ) : Type 0 where
   pub bears : (i : Item) → In i left → CanBear i
   pub few : done + length left ≤ 64
   pub start : at ≤ length here.sheet.bytes
-  pub fits : length here.sheet.bytes + 36 ≤ at + limit
+  pub fits : length here.sheet.bytes + (begun + 12) ≤ at + limit
   pub room : here.sheet.room ≡ first.sheet.room
   pub ran : (choice : Option ℕ)
-      → (whole : Option ℕ) × Joins (run_at limit at now whole first all) (run_at limit at now choice here left) done first.sheet.bytes here.sheet.bytes
+      → (whole : Option ℕ) × Joins (run_at limit begun at now whole first all) (run_at limit begun at now choice here left) done first.sheet.bytes here.sheet.bytes
 
-pub record Loop (limit at now : ℕ) (first here : Stand) (all left : Request) (done : ℕ) : Type 0 where
-  pub going : Going limit at now first here all.left left.left done
+pub record Loop (limit begun at now : ℕ) (first here : Stand) (all left : Request) (done : ℕ) : Type 0 where
+  pub going : Going limit begun at now first here all.left left.left done
   pub same : left ≡ record all { left = left.left }
   pub store : IsStore here.machine.store
 
-pub begins : (limit at now : ℕ) (first : Stand) (all : List Item) → ((i : Item) → In i all → CanBear i) →
-    length all ≤ 64 → at ≤ length first.sheet.bytes → length first.sheet.bytes + 36 ≤ at + limit →
-    Going limit at now first first all all 0
-begins limit at now first all bears few start fits = record {
+pub begins : (limit begun at now : ℕ) (first : Stand) (all : List Item) → ((i : Item) → In i all → CanBear i) →
+    length all ≤ 64 → at ≤ length first.sheet.bytes → length first.sheet.bytes + (begun + 12) ≤ at + limit →
+    Going limit begun at now first first all all 0
+begins limit begun at now first all bears few start fits = record {
   bears = bears;
   few = omega (arith, few);
   start = start;
@@ -83,8 +83,8 @@ begins limit at now first all bears few start fits = record {
 }
 
 -- the operation was run where the run stood, and left it there
-abbrev pub Stepped : (limit at now : ℕ) (here next : Stand) → Item → Status → Type 0
-Stepped limit at now here next item s = Steps (step_at limit at now (is_delay s) here item) s next.machine next.context here.sheet next.sheet
+abbrev pub Stepped : (limit begun at now : ℕ) (here next : Stand) → Item → Status → Type 0
+Stepped limit begun at now here next item s = Steps (step_at limit begun at now (is_delay s) here item) s next.machine next.context here.sheet next.sheet
 
 grown : (old new : SheetState) (text : List ℕ) → Puts old new text → length new.bytes ≡ length old.bytes + length text
 grown old new text put = ap length put.bytes ∙ length-append old.bytes text
@@ -111,29 +111,29 @@ joined o whole rest done before here new ok joins put =
 abbrev unrolled : (limit now : ℕ) → Step → (sofar : ℕ) → Option ℕ → Machine → Context → List Item → Ran
 unrolled limit now s sofar choice m x left = follow s.outcome (run limit sofar now choice m x left)
 
-unrolls : (limit at now : ℕ) (here next : Stand) (left : List Item) (item : Item) (s : Status) (choice : Option ℕ) →
-    Stepped limit at now here next item s → is_here choice ≡ is_delay s → at ≤ length here.sheet.bytes →
-    run_at limit at now choice here (item ∷ left)
-    ≡ follow (step_at limit at now (is_delay s) here item).outcome (run_at limit at now (behind_here choice) next left)
-unrolls limit at now here next left item s choice did place start =
-    let o = step_at limit at now (is_delay s) here item in
+unrolls : (limit begun at now : ℕ) (here next : Stand) (left : List Item) (item : Item) (s : Status) (choice : Option ℕ) →
+    Stepped limit begun at now here next item s → is_here choice ≡ is_delay s → at ≤ length here.sheet.bytes →
+    run_at limit begun at now choice here (item ∷ left)
+    ≡ follow (step_at limit begun at now (is_delay s) here item).outcome (run_at limit begun at now (behind_here choice) next left)
+unrolls limit begun at now here next left item s choice did place start =
+    let o = step_at limit begun at now (is_delay s) here item in
     let long = grown here.sheet next.sheet o.outcome.result did.put in
-    let sofar : so_far at here.sheet + length o.outcome.result ≡ so_far at next.sheet = omega (arith, long, start) in
-    ap (λ (b : Bool). unrolled limit now (step_at limit at now b here item)
-    (so_far at here.sheet + length (step_at limit at now b here item).outcome.result) (behind_here choice)
-    (step_at limit at now b here item).outcome.machine (step_at limit at now b here item).context left) place
+    let sofar : so_far begun at here.sheet + length o.outcome.result ≡ so_far begun at next.sheet = omega (arith, long, start) in
+    ap (λ (b : Bool). unrolled limit now (step_at limit begun at now b here item)
+    (so_far begun at here.sheet + length (step_at limit begun at now b here item).outcome.result) (behind_here choice)
+    (step_at limit begun at now b here item).outcome.machine (step_at limit begun at now b here item).context left) place
     ∙ ap (λ (n : ℕ). unrolled limit now o n (behind_here choice) o.outcome.machine o.context left) sofar
-    ∙ ap (λ (m : Machine). unrolled limit now o (so_far at next.sheet) (behind_here choice) m o.context left) (sym did.machine)
-    ∙ ap (λ (x : Context). unrolled limit now o (so_far at next.sheet) (behind_here choice) next.machine x left) (sym did.context)
+    ∙ ap (λ (m : Machine). unrolled limit now o (so_far begun at next.sheet) (behind_here choice) m o.context left) (sym did.machine)
+    ∙ ap (λ (x : Context). unrolled limit now o (so_far begun at next.sheet) (behind_here choice) next.machine x left) (sym did.context)
 
 -- one more was run, and the run goes on
-pub goes_on : (limit at now : ℕ) (first here next : Stand) (all left : List Item) (item : Item) (done : ℕ) (s : Status) →
-    Going limit at now first here all (item ∷ left) done →
-    Stepped limit at now here next item s → s ≡ Nfs4Ok →
-    length next.sheet.bytes + so_far at here.sheet + 12 ≤ length here.sheet.bytes + limit → Going limit at now first next all left (done + 1)
-goes_on limit at now first here next all left item done s going did ok short =
+pub goes_on : (limit begun at now : ℕ) (first here next : Stand) (all left : List Item) (item : Item) (done : ℕ) (s : Status) →
+    Going limit begun at now first here all (item ∷ left) done →
+    Stepped limit begun at now here next item s → s ≡ Nfs4Ok →
+    length next.sheet.bytes + so_far begun at here.sheet + 12 ≤ length here.sheet.bytes + limit → Going limit begun at now first next all left (done + 1)
+goes_on limit begun at now first here next all left item done s going did ok short =
     let start = going.start in
-    let o = (step_at limit at now (is_delay s) here item).outcome in
+    let o = (step_at limit begun at now (is_delay s) here item).outcome in
     let long = grown here.sheet next.sheet o.result did.put in
     record {
       bears = λ i there. going.bears i (inr there);
@@ -144,30 +144,30 @@ goes_on limit at now first here next all left item done s going did ok short =
       ran = λ choice.
           (let whole = going.ran (later choice) in
           let place : is_here (later choice) ≡ is_delay s = later_not_here choice ∙ sym (ap is_delay ok) in
-          let rest : run_at limit at now (later choice) here (item ∷ left) ≡ follow o (run_at limit at now choice next left) =
-          unrolls limit at now here next left item s (later choice) did place start
-          ∙ ap (λ (c : Option ℕ). follow o (run_at limit at now c next left)) (later_behind choice) in (
+          let rest : run_at limit begun at now (later choice) here (item ∷ left) ≡ follow o (run_at limit begun at now choice next left) =
+          unrolls limit begun at now here next left item s (later choice) did place start
+          ∙ ap (λ (c : Option ℕ). follow o (run_at limit begun at now c next left)) (later_behind choice) in (
             whole.0,
-            joined o (run_at limit at now whole.0 first all)
-                (run_at limit at now choice next left) done first.sheet.bytes here.sheet.bytes next.sheet.bytes (sym did.status ∙ ok)
-                (subst (λ (ran : Ran). Joins (run_at limit at now whole.0 first all) ran done first.sheet.bytes here.sheet.bytes) rest whole.1) did.put.bytes,
+            joined o (run_at limit begun at now whole.0 first all)
+                (run_at limit begun at now choice next left) done first.sheet.bytes here.sheet.bytes next.sheet.bytes (sym did.status ∙ ok)
+                (subst (λ (ran : Ran). Joins (run_at limit begun at now whole.0 first all) ran done first.sheet.bytes here.sheet.bytes) rest whole.1) did.put.bytes,
           ));
     }
 
 -- one more was run, and the run ends with it
-pub ends_with : (limit at now : ℕ) (first here next : Stand) (all left : List Item) (item : Item) (done : ℕ) (s : Status) →
-    Going limit at now first here all (item ∷ left) done →
-    Stepped limit at now here next item s → is_ok s ≡ false →
-    (choice : Option ℕ) × RunsTo (run_at limit at now choice first all) (record { status = s; count = done + 1 }) next.machine first.sheet next.sheet
-ends_with limit at now first here next all left item done s going did bad =
+pub ends_with : (limit begun at now : ℕ) (first here next : Stand) (all left : List Item) (item : Item) (done : ℕ) (s : Status) →
+    Going limit begun at now first here all (item ∷ left) done →
+    Stepped limit begun at now here next item s → is_ok s ≡ false →
+    (choice : Option ℕ) × RunsTo (run_at limit begun at now choice first all) (record { status = s; count = done + 1 }) next.machine first.sheet next.sheet
+ends_with limit begun at now first here next all left item done s going did bad =
     let choice = choice_of (is_delay s) in
-    let o = (step_at limit at now (is_delay s) here item).outcome in
+    let o = (step_at limit begun at now (is_delay s) here item).outcome in
     let w = going.ran choice in
-    let whole = run_at limit at now w.0 first all in
-    let rest = run_at limit at now (behind_here choice) next left in
+    let whole = run_at limit begun at now w.0 first all in
+    let rest = run_at limit begun at now (behind_here choice) next left in
     let refused : is_ok o.status ≡ false = ap is_ok (sym did.status) ∙ bad in
-    let last : run_at limit at now choice here (item ∷ left) ≡ only o =
-    unrolls limit at now here next left item s choice did (chosen (is_delay s)) going.start ∙ stopped o rest refused in
+    let last : run_at limit begun at now choice here (item ∷ left) ≡ only o =
+    unrolls limit begun at now here next left item s choice did (chosen (is_delay s)) going.start ∙ stopped o rest refused in
     let j : Joins whole (only o) done first.sheet.bytes here.sheet.bytes =
     subst (λ (ran : Ran). Joins whole ran done first.sheet.bytes here.sheet.bytes) last w.1 in (
       w.0,
@@ -179,14 +179,14 @@ ends_with limit at now first here next all left item done s going did bad =
       },
     )
 
-pub ends_within : (limit at now : ℕ) (first here : Stand) (next : SheetState) (all left : List Item) (item : Item) (done : ℕ) →
-    Going limit at now first here all (item ∷ left) done →
-    length next.bytes + so_far at here.sheet ≤ length here.sheet.bytes + limit → length next.bytes + 24 ≤ at + limit
-ends_within limit at now first here next all left item done going short = (let start = going.start in omega (arith, start, short))
+pub ends_within : (limit begun at now : ℕ) (first here : Stand) (next : SheetState) (all left : List Item) (item : Item) (done : ℕ) →
+    Going limit begun at now first here all (item ∷ left) done →
+    length next.bytes + so_far begun at here.sheet ≤ length here.sheet.bytes + limit → length next.bytes + begun ≤ at + limit
+ends_within limit begun at now first here next all left item done going short = (let start = going.start in omega (arith, start, short))
 
-pub ends : (limit at now : ℕ) (first here : Stand) (all : List Item) (done : ℕ) → Going limit at now first here all [] done →
-    (choice : Option ℕ) × RunsTo (run_at limit at now choice first all) (record { status = Nfs4Ok; count = done }) here.machine first.sheet here.sheet
-ends limit at now first here all done going =
+pub ends : (limit begun at now : ℕ) (first here : Stand) (all : List Item) (done : ℕ) → Going limit begun at now first here all [] done →
+    (choice : Option ℕ) × RunsTo (run_at limit begun at now choice first all) (record { status = Nfs4Ok; count = done }) here.machine first.sheet here.sheet
+ends limit begun at now first here all done going =
     let w = going.ran None in
     let j = w.1 in (
       w.0,
@@ -203,7 +203,14 @@ not_ok Nfs4Ok other = absurd (other refl)
 not_ok s other = refl
 
 -- the bytes so far as the code counts them
-pub counted : (P : (limit sofar : ℕ) → Type 0) (limit at : ℕ) (here : SheetState) (given head len : ℕ)
-    → given ≡ limit → head ≡ 24 → len ≡ length here.bytes → P given (head + (len - at)) → P limit (so_far at here)
-counted P limit at here given head len same front long p =
-    subst (λ n. P limit (24 + (n - at))) long (subst (λ n. P limit (n + (len - at))) front (subst (λ n. P n (head + (len - at))) same p))
+pub counted : (P : ℕ → Type 0) (begun at : ℕ) (here : SheetState) (begin len : ℕ)
+    → begin ≡ at → len ≡ length here.bytes → P (begun + (len - begin)) → P (so_far begun at here)
+counted P begun at here begin len first long p = subst (λ n. P (begun + (n - at))) long (subst (λ n. P (begun + (len - n))) first p)
+
+-- nothing was put when the run began
+pub whole : (limit begun now : ℕ) (first : Stand) (all : List Item) (done : Told) (left : Machine) (new : SheetState)
+    → (choice : Option ℕ) × RunsTo (run_at limit begun (length first.sheet.bytes) now choice first all) done left first.sheet new
+    → (choice : Option ℕ) × RunsTo (run limit begun now choice first.machine first.context all) done left first.sheet new
+whole limit begun now first all done left new runs =
+    let none : so_far begun (length first.sheet.bytes) first.sheet ≡ begun = omega arith in
+    (runs.0, subst (λ n. RunsTo (run limit n now runs.0 first.machine first.context all) done left first.sheet new) none runs.1)

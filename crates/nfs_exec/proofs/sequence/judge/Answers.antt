@@ -4,7 +4,7 @@ use Rattle.nfs_xdr.specs.Caller.{caller}
 use Rattle.nfs_slots.specs.Slot.{judge}
 use Rattle.nfs_sessions.specs.{Id.id_of, Sessions.session_at}
 use Rattle.nfs_exec.specs.Step.Parts.{slot_fault, fresh_fault}
-use Rattle.nfs_exec.proofs.Step.Judging.{joined, refuses_fresh}
+use Rattle.nfs_exec.proofs.Step.Judging.{refuses_fresh}
 use Rattle.nfs_exec.proofs.sequence.judge.Goals as goal
 
 pub returns-in-Some-fresh_fault-clause-verdict : goal.returns-in-Some-fresh_fault-clause-verdict
@@ -15,5 +15,5 @@ returns-in-Some-fresh_fault-clause-verdict c =
     (ap (slot_fault c.args.asked.now) (sym c.channel-channel.ensures.channel) ∙ sym c.slot_fault.ensures ∙ c.in_default-slot_fault.is)
     (sym (c.in-Fresh.ensures
     ∙ ap (λ (args : List ℕ). judge c.in-Some.session.now.slots c.args.asked.now.slotid c.args.asked.now.sequenceid c.args.who.now.uid args)
-    (joined c.args.args.now c.ahead.result.now c.behind.result.now c.ahead.ensures c.behind.ensures)))
+    c.compared.ensures))
     (ap (fresh_fault c.args.args.now c.args.size) (sym c.channel-channel.ensures.channel) ∙ sym c.fresh_fault.ensures ∙ c.in-Some-fresh_fault.is)

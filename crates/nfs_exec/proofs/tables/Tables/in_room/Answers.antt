@@ -11,8 +11,8 @@ write-requires-clause-room c = λ arrays.
     let room = c.requires.room in
     omega (arith, short, reserve, room))
 
-pub returns-then-largest-limit-clause-fits : goal.returns-then-largest-limit-clause-fits
-returns-then-largest-limit-clause-fits c =
+pub returns-then-largest-reply-clause-fits : goal.returns-then-largest-reply-clause-fits
+returns-then-largest-reply-clause-fits c =
     let short = subst (λ (r : Res). length (spell_result r) ≤ 12) (sym c.refusal.ensures) (refusal_short c.number.result RepTooBig) in
     let reserve = c.requires.reserve in
     let long = ap length c.write.ensures.bytes in

@@ -10,4 +10,4 @@ write-requires-clause-room c = λ arrays. refusal_fits c.args.out.now c.write_co
     c.tag.result.now 1 _ _ _ c.tag.ensures.bound c.requires.room c.write_compound_head.ensures c.refusal.ensures
 
 pub run_new-requires-clause-runs : goal.run_new-requires-clause-runs
-run_new-requires-clause-runs c = (_, c.requires.size, sym c.in-Runs.ensures.verdict)
+run_new-requires-clause-runs c = sym c.in-Runs.ensures.verdict

@@ -5,7 +5,7 @@ use Rattle.nfs_exec.proofs.tables.Tables.run.Given as goal
 
 abbrev pub invariant-loop-item : goal.invariant-loop-item
 invariant-loop-item l =
-    Loop l.limit l.start l.now (record { machine = machine_of l.initial.self; context = l.initial.context; sheet = l.initial.out })
+    Loop l.reply.limit l.reply.sofar (length l.initial.out.bytes) l.now (record { machine = machine_of l.initial.self; context = l.initial.context; sheet = l.initial.out })
     (record { machine = machine_of l.self; context = l.context; sheet = l.out }) l.initial.args l.args l.count
 
 abbrev pub decreases-loop-item : goal.decreases-loop-item

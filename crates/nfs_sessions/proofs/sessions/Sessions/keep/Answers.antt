@@ -1,4 +1,4 @@
-use Rattle.std.proofs.{Common.{◌++◌, List, sym, subst, ◌∙◌, ap}, lemmas.Option.{same_Some, none-some}}
+use Rattle.std.proofs.{Common.{List, sym, subst, ◌∙◌, ap}, lemmas.Option.{same_Some, none-some}}
 use Rattle.nfs_xdr.proofs.Lists.{some_there}
 use Rattle.nfs_slots.specs.Slot.{SlotState}
 use Rattle.nfs_slots.specs.Slot as slots
@@ -8,7 +8,7 @@ use Rattle.nfs_sessions.proofs.sessions.Sessions.keep.Goals as goal
 
 pub keep-requires : goal.keep-requires
 keep-requires c =
-    let MayKeepIn : Session → Type 0 = λ s. MayKeep s c.args.slot c.args.number c.args.uid (c.args.head.now ++ c.args.tail.now) c.args.reply.now in
+    let MayKeepIn : Session → Type 0 = λ s. MayKeep s c.args.slot c.args.number c.args.uid c.args.args.now c.args.reply.now in
     let (s, here, may) = some_there (session_at c.args.self.now c.args.id.now) MayKeepIn c.requires in
     let there = session_there _ _ c.args.id.now _ _ c.self.view_is c.in-Some.ensures.at c.index_mut-session.ensures.value in
     subst MayKeepIn (same_Some _ _ (sym (there ∙ here))) may
@@ -18,7 +18,7 @@ invariant_of-self c =
     let t = c.args.self.now in
     let is : IsSessions t = subst IsSessions c.self.view_is c.self.invariant in
     let change : List SlotState → List SlotState =
-    λ was. slots.keep was c.args.slot c.args.number c.args.uid (c.args.head.now ++ c.args.tail.now) c.args.reply.now in
+    λ was. slots.keep was c.args.slot c.args.number c.args.uid c.args.args.now c.args.reply.now in
     let at = ap (λ (t : SessionTable). place_in t c.args.id.now) c.self.view_is ∙ sym c.in-Some.ensures.at in
     let after = table_written t c.args.id.now c.self.inside.sessions.items c.self.inside.last c.in-Some.place c.index_mut-session.result.now
     c.keep.new.self change is c.self.view_is at c.index_mut-session.ensures.value c.keep.ensures in
@@ -29,13 +29,13 @@ returns-in-Some c =
     let t = c.args.self.now in
     let is : IsSessions t = subst IsSessions c.self.view_is c.self.invariant in
     let change : List SlotState → List SlotState =
-    λ was. slots.keep was c.args.slot c.args.number c.args.uid (c.args.head.now ++ c.args.tail.now) c.args.reply.now in
+    λ was. slots.keep was c.args.slot c.args.number c.args.uid c.args.args.now c.args.reply.now in
     let at = ap (λ (t : SessionTable). place_in t c.args.id.now) c.self.view_is ∙ sym c.in-Some.ensures.at in
     table_written t c.args.id.now c.self.inside.sessions.items c.self.inside.last c.in-Some.place c.index_mut-session.result.now
     c.keep.new.self change is c.self.view_is at c.index_mut-session.ensures.value c.keep.ensures
 
 pub returns-in_default : goal.returns-in_default
 returns-in_default c =
-    let MayKeepIn : Session → Type 0 = λ s. MayKeep s c.args.slot c.args.number c.args.uid (c.args.head.now ++ c.args.tail.now) c.args.reply.now in
+    let MayKeepIn : Session → Type 0 = λ s. MayKeep s c.args.slot c.args.number c.args.uid c.args.args.now c.args.reply.now in
     let (s, here, may) = some_there (session_at c.args.self.now c.args.id.now) MayKeepIn c.requires in
     absurd (none-some s (no_session c.args.self.now c.args.id.now c.in_default.ensures.at ∙ here))

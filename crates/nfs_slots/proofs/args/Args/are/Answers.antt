@@ -1,7 +1,7 @@
 use Rattle.std.proofs.{Common.{ℕ, ◌≡◌, ◌≤◌, ◌++◌, List, [], ◌∷◌, length, take, drop, nat_eq, ap, refl, sym, ◌∙◌, arith}, Math.Bool.and_assoc}
 use Rattle.std.proofs.lemmas.Grind.{common_steps}
 use Rattle.std.specs.Prelude.{◌&&◌, Bool, bytes_eq}
-use Rattle.nfs_slots.proofs.slot.is_joined.Goals as goal
+use Rattle.nfs_slots.proofs.args.Args.are.Goals as goal
 
 -- bytes are two texts joined where their front is the one and what is behind it the other
 joined : (h t xs : List ℕ) → length h ≤ length xs → bytes_eq (h ++ t) xs ≡ (bytes_eq h (take (length h) xs) && bytes_eq t (drop (length h) xs))
@@ -12,7 +12,7 @@ joined (x ∷ h) t (y ∷ xs) le =
     ∙ sym (and_assoc (nat_eq x y) (bytes_eq h (take (length h) xs)) (bytes_eq t (drop (length h) xs)))
 
 pub returns-then-eq : goal.returns-then-eq
-returns-then-eq c = grind (arith, common_steps, joined c.args.head.now c.args.tail.now c.args.bytes.now)
+returns-then-eq c = grind (arith, common_steps, joined c.self.inside.head.now c.self.inside.tail.now c.args.bytes.now, c.self.view_is)
 
 pub returns-else-eq : goal.returns-else-eq
-returns-else-eq c = grind (arith, common_steps, joined c.args.head.now c.args.tail.now c.args.bytes.now)
+returns-else-eq c = grind (arith, common_steps, joined c.self.inside.head.now c.self.inside.tail.now c.args.bytes.now, c.self.view_is)
