@@ -4,8 +4,9 @@ use Rattle.std.proofs.{Common.{inr, nat_eq}, lemmas.Bool.{eq-eqb, ne_eqb, eqb-tr
 use Rattle.std.proofs.lemmas.List.Concat.{flat_map-append}
 use Rattle.nfs_rpc.specs.{RecordMarking.start, Stream.{End, Open, TooLong, IsReading, IsUnfinished}}
 use Rattle.nfs_rpc.proofs.Readings.{reading_then, part_unfinished}
-use Rattle.nfs_serve.specs.{Script.Entry, Run.{Streams, with_stream, all_closed, Brings, TakesPiece, TakesAll, StreamEvent, Arrives, overflow, events_of}}
-use Rattle.nfs_serve.specs.Promises.Laws.{stream_on, call_on, overflow_on, IsClosedBehind, NoneCloses, ConnectionsAreStreams}
+use Rattle.nfs_serve.specs.{Script.Entry, Run.{Streams, with_stream, all_closed, Brings, TakesPiece, TakesAll, StreamEvent, Arrives, overflow}}
+use Rattle.nfs_serve.specs.Promises.Laws.{call_on, overflow_on, IsClosedBehind, ConnectionsAreStreams}
+use Rattle.nfs_serve.proofs.Terms.{events_of, stream_on, NoneCloses}
 use Rattle.nfs_serve.proofs.{Pieces.start_holds, Cutting.still_long}
 
 -- entries one after the other

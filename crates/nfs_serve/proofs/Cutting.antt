@@ -2,7 +2,8 @@
 use Rattle.std.proofs.{Common.{◌≡◌, ℕ, List, ◌++◌, sym, ap, subst, ◌∙◌, append_assoc, append-nil, map}, lemmas.List.map-append}
 use Rattle.nfs_rpc.specs.Stream.{End, Open, TooLong, IsReading}
 use Rattle.nfs_rpc.proofs.Readings.{one_reading, reading_then}
-use Rattle.nfs_serve.specs.{Run.{Brings, Arrives, overflow, events_of}, Promises.Laws.{CutsAnywhere, BringsOnce}}
+use Rattle.nfs_serve.specs.{Run.{Brings, Arrives, overflow}, Promises.Laws.{CutsAnywhere, BringsOnce}}
+use Rattle.nfs_serve.proofs.Terms.{events_of}
 use Rattle.nfs_serve.proofs.Pieces.{AreRecords-behind}
 
 events_of-then : (conn moment : ℕ) (a b : List (List ℕ)) (rest : List ℕ) (end : End)

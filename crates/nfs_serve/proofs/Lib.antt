@@ -1,3 +1,4 @@
+pub mod Terms
 pub mod Parts
 pub mod Entries
 pub mod Moves

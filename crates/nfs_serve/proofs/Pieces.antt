@@ -7,9 +7,10 @@ use Rattle.nfs_rpc.specs.RecordMarking.{Gathered, Begun, Complete, Failed, IsRec
 use Rattle.nfs_rpc.specs.{Stream.{End, Open, TooLong, AreRecords, IsReading, IsUnfinished}, Feeding.{waits, Holds}}
 use Rattle.nfs_rpc.proofs.{Fragments.{IsBytes-append, bytes_behind_front}, Readings.part_unfinished}
 use Rattle.nfs_serve.specs.{declared.form.Form.Form, Step.{ServerState, step}, Ends.AppendsFront, First.TakesUp}
-use Rattle.nfs_serve.specs.Run.{Arrives, Overflows, events_of, Brings, Move, events, after, output, spell_answer, spell_overflow}
+use Rattle.nfs_serve.specs.Run.{Arrives, Overflows, Brings, Move, events, after, output, spell_answer, spell_overflow}
 use Rattle.nfs_serve.specs.Server.{Stands, flow_of, Feeds, FeedsInto}
 use Rattle.nfs_serve.specs.declared.form.Flow.TheVariants as Flow
+use Rattle.nfs_serve.proofs.Terms.{events_of}
 use Rattle.nfs_serve.proofs.Moves.{after-append, output-last, events-append}
 
 -- more bytes behind the records

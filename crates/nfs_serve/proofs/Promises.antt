@@ -1,3 +1,4 @@
+pub mod Terms
 pub mod Accounts
 pub mod Exchanges
 pub mod Whole

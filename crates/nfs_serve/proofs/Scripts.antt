@@ -1,8 +1,9 @@
 -- What the script of some rounds has on one port.
 use Rattle.std.proofs.Common.{◌≡◌, ◌≢◌, ℕ, Bool, true, false, List, [], ◌∷◌, ◌++◌, flat_map, All, refl, sym, ap, ◌∙◌, nat_eq, if◌then◌else◌}
 use Rattle.std.proofs.{lemmas.List.Elements.{All-nil, All-cons, All-append}, lemmas.List.Concat.flat_map-append}
-use Rattle.nfs_serve.specs.{Desk.{Act, Closed, Stepped}, Hub.{Round, Opens, Turns}, Promises.Laws.{stream_on, NoneCloses}, Promises.Account.part_of}
+use Rattle.nfs_serve.specs.{Desk.{Act, Closed, Stepped}, Hub.{Round, Opens, Turns}, Promises.Account.part_of}
 use Rattle.nfs_serve.specs.Promises.Whole.{close, entries_of, script, acts_on}
+use Rattle.nfs_serve.proofs.Terms.{stream_on, NoneCloses}
 
 -- the entries of one port's acts are of that port
 of_port : (port : ℕ) (a : Act) → All (λ e. e.conn ≡ port) (entries_of port a)

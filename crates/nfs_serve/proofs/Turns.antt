@@ -6,7 +6,8 @@ use Rattle.nfs_serve.specs.{declared.form.Form.TheVariants.Plain, Script.{Entry,
 use Rattle.nfs_serve.specs.Run.{Streams, with_stream, TakesAll, StreamEvent, Arrives, overflow, Brings, Move, events, after, after_event, output, output_of}
 use Rattle.nfs_serve.specs.Server.{Stands}
 use Rattle.nfs_serve.specs.Desk.{Desk, closed, leaving, Act, Opened, Over, Unready, Counted, Came, ReadBlocked, Ended, Took, WriteBlocked, Failed, Closed, Stepped, Goes}
-use Rattle.nfs_serve.specs.{Promises.Laws.NoneCloses, Promises.Account.{came, taken, part_of}, Promises.Whole.{close, entries_of, port_of, output_on}}
+use Rattle.nfs_serve.specs.{Promises.Account.{came, taken, part_of}, Promises.Whole.{close, entries_of, port_of, output_on}}
+use Rattle.nfs_serve.proofs.Terms.{NoneCloses}
 use Rattle.nfs_serve.proofs.{Moves.{after-append, output-append, events-append}, Runs.takes_piece}
 
 pub not_served : {A : Type 0} → false ≡ true → A

@@ -25,12 +25,10 @@ abbrev pub overflow : ℕ → End → List StreamEvent
 overflow conn (Open rest) = []
 overflow conn TooLong = Overflows conn ∷ []
 
-abbrev pub events_of : ℕ → ℕ → List (List ℕ) → End → List StreamEvent
-events_of conn moment calls end = map (λ call. Arrives conn moment call) calls ++ overflow conn end
-
 -- what a piece brings on a connection, and the stream that it leaves
 abbrev pub Brings : ℕ → ℕ → End → List ℕ → List StreamEvent → End → Type 0
-Brings conn moment (Open rest) piece events end = (calls : List (List ℕ)) × IsReading (rest ++ piece) calls end × (events ≡ events_of conn moment calls end)
+Brings conn moment (Open rest) piece events end =
+    (calls : List (List ℕ)) × IsReading (rest ++ piece) calls end × (events ≡ map (λ call. Arrives conn moment call) calls ++ overflow conn end)
 Brings conn moment TooLong piece events end = (events ≡ []) × (end ≡ TooLong)
 
 -- an entry of no bytes closes its connection

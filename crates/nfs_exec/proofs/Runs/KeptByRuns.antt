@@ -14,11 +14,10 @@ use Rattle.nfs_opens.proofs.TableLemmas.{table_new}
 use Rattle.nfs_names.specs.{declared.context.Context.Context, declared.node.Node.Node, Checks.current, Context.begins, State.{State, moment}, Ending.staying}
 use Rattle.nfs_names.specs.Outcome.{is_ok}
 use Rattle.nfs_names.proofs.{Untouched.leaves_each, Staying.store_staying, StoreInvariants.store_at_first, Ones.each_of}
-use Rattle.nfs_files.proofs.Outcomes as files
 use Rattle.nfs_files.proofs.{Outcomes.for_each, TreeFiles.{IsWhole, tree_ended, tree_new}, TableSteps.{table_item, table_staying_is}, Steady.{Few, few_files}}
 use Rattle.nfs_names.proofs.Sound as of_names
 use Rattle.nfs_files.proofs.Sound as of_files
-use Rattle.nfs_exec.specs.Step.{Machine.{Machine, starts, HasNoClashes}, Behind.{Step, step, on_store, otherwise}, Parts.without_any_opens}
+use Rattle.nfs_exec.specs.Step.{Machine.{Machine, starts, HasNoClashes}, Behind.{step, on_store, otherwise}, Parts.without_any_opens}
 use Rattle.nfs_exec.specs.Step.{Run.{run, in_room, reserve, is_here, behind_here}, ReclaimComplete.reclaim_complete}
 use Rattle.nfs_exec.specs.Step.{Compound.{renewed, begun}, Laws.{MachineEvent, Expires, Asks, stepped, all_stepped}}
 use Rattle.nfs_exec.specs.{Runs.Ops.{RanOp, ops, ops_by}, Runs.NoClashes.NoneInRuns}

@@ -14,7 +14,7 @@ use Rattle.nfs_results.specs.{Largest.largest, Results.{status_of_result, refusa
 use Rattle.nfs_clients.specs.Roster.{ClientRecord, Roster, client_at, with_changed, is_unconfirmed_of, confirmed_of}
 use Rattle.nfs_clients.specs.ExchangeId.{carries_confirmed, updates, same_verifier, same_user}
 use Rattle.nfs_clients.specs.ExchangeId.{Ask, Case, Refuses, Stays, Adds, has_room, case_by, if_room, case_of, does, client_fault_status}
-use Rattle.nfs_clients.specs.{Marks.has_reclaimed, declared.created.CreateResult.CreateResult, DestroyClientId.destroy_fault}
+use Rattle.nfs_clients.specs.{Marks.has_reclaimed, declared.created.CreateResult.CreateResult}
 use Rattle.nfs_clients.specs.declared.exchange_id.ClientFault.TheVariants as Faults
 use Rattle.nfs_clients.specs.CreateSession as clients
 use Rattle.nfs_clients.specs.declared.created.CreateResult.TheVariants as results
@@ -33,7 +33,7 @@ use Rattle.nfs_files.proofs.Outcomes as files
 use Rattle.nfs_files.proofs.{Outcomes.for_each, Prompt.{IsPrompt, all_pass, first_passes, not_true, first_prompt, current_prompt, names_prompt}}
 use Rattle.nfs_files.proofs.PromptFiles.{files_prompt}
 use Rattle.nfs_exec.specs.Step.{Machine.{Machine, MachineOutcome, or_with_delay, with_refusal as exec_refuses, starts}, Parts.wish_of}
-use Rattle.nfs_exec.specs.Step.Behind.{step, on_store, otherwise}
+use Rattle.nfs_exec.specs.Step.Behind.{step, otherwise}
 use Rattle.nfs_exec.specs.Step.CreateSession.{made_body}
 use Rattle.nfs_exec.specs.{Step.Destroy.{destroy_session, client_fault}, Step.ExchangeId.exchange_id}
 use Rattle.nfs_exec.specs.Step.{ReclaimComplete.reclaim_complete, Run.{in_room, reserve, is_here, behind_here}}

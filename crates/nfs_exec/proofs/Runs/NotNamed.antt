@@ -24,7 +24,6 @@ use Rattle.nfs_exec.specs.Step.CreateSession.{made_body}
 use Rattle.nfs_exec.specs.{Step.Destroy.{destroy_session, client_fault}, Step.Run.{run, is_here, behind_here}}
 use Rattle.nfs_exec.specs.{Step.Compound.{carried_out, first_item, renewed, begun, compound}, Step.Expiry.expired}
 use Rattle.nfs_exec.specs.Runs.Own.{sessions_of, IsAsBefore, has_owner, is_named_in}
-use Rattle.nfs_exec.specs.Step.Sequence as sequence
 use Rattle.nfs_exec.proofs.Step.{InSteps.{exchange_id_is, create_session_is}, Terms.by_fault}
 use Rattle.nfs_exec.specs.Step.Parts.{did_exchange, ask_of, by_number, creates, by_created}
 use Rattle.nfs_exec.proofs.{Runs.ByEvent.by_answered, Step.Behind.{run_leases, run_sessions}, Runs.KeptByRuns.Is}

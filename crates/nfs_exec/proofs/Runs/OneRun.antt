@@ -1,5 +1,5 @@
 -- What an operation that was run came to, by whose operation it is.
-use Rattle.std.proofs.{Common.{◌≡◌, ℕ, ◌+◌, Bool, true, false, ltb, List, None, refl, sym, ◌∙◌, ap, subst, inl, inr}, lemmas.Bool.cases_Bool}
+use Rattle.std.proofs.{Common.{◌≡◌, ℕ, ◌+◌, Bool, true, ltb, List, None, refl, sym, ◌∙◌, ap, subst, inl, inr}, lemmas.Bool.cases_Bool}
 use Rattle.std.specs.Option.{ForSome}
 use Rattle.nfs_xdr.specs.{declared.status.Status.Status, declared.status.Status.TheVariants.RepTooBig}
 use Rattle.nfs_compound.specs.{declared.op.Item.Item, Request.item_number}
@@ -8,7 +8,7 @@ use Rattle.nfs_names.specs.{declared.context.Context.Context, Outcome.is_ok, Sta
 use Rattle.nfs_names.specs.Operation as names
 use Rattle.nfs_files.specs.Operation as table
 use Rattle.nfs_files.proofs.Outcomes.{comes_to, for_each}
-use Rattle.nfs_exec.specs.{Step.Machine.Machine, Step.Behind.{Step, step, refused_step, on_store, otherwise}, Step.Run.{in_room, reserve}}
+use Rattle.nfs_exec.specs.{Step.Machine.Machine, Step.Behind.{Step, step, refused_step, otherwise}, Step.Run.{in_room, reserve}}
 use Rattle.nfs_exec.specs.Runs.Ops.{RanOp, done}
 use Rattle.nfs_exec.proofs.{Step.Behind.by_step, Step.RefusalsFit.refused_status, Runs.KeptByRuns.{Is, otherwise_store}}
 

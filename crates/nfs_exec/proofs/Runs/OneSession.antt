@@ -27,9 +27,8 @@ use Rattle.nfs_sessions.specs.Channel.{granted}
 use Rattle.nfs_lease.specs.Renewals.{has_run_out}
 use Rattle.nfs_names.specs.{declared.context.Context.Context, declared.node.Node.Node, Context.begins, Checks.current, State.moment}
 use Rattle.nfs_names.specs.Outcome.{is_ok}
-use Rattle.nfs_files.proofs.Outcomes as files
 use Rattle.nfs_files.proofs.Outcomes.{for_each}
-use Rattle.nfs_exec.specs.Step.{Machine.{Machine, MachineOutcome, or_with_delay, with_refusal, starts}, Behind.{step, on_store, otherwise}, Place.place_fault}
+use Rattle.nfs_exec.specs.Step.{Machine.{Machine, MachineOutcome, or_with_delay, with_refusal, starts}, Behind.{step, otherwise}, Place.place_fault}
 use Rattle.nfs_exec.specs.Step.{Run.{run, in_room, is_here, behind_here}, ReclaimComplete.reclaim_complete, Parts.{wish_of, without_any_sessions}}
 use Rattle.nfs_exec.specs.Step.ExchangeId.{exchange_id}
 use Rattle.nfs_exec.specs.Step.CreateSession.{confirmed, made_body}

@@ -9,10 +9,9 @@ use Rattle.nfs_compound.specs.declared.op.Op.TheVariants as Op
 use Rattle.nfs_clients.specs.{Roster.{ClientRecord, Roster, client_at, with_changed}, Marks.has_reclaimed}
 use Rattle.nfs_names.specs.{declared.context.Context.Context, declared.node.Node.Node, Checks.current, State.{State, moment}}
 use Rattle.nfs_names.proofs.Untouched.{leaves_each}
-use Rattle.nfs_files.proofs.Outcomes as files
 use Rattle.nfs_files.proofs.{Outcomes.for_each, Effected.same_client, OthersTables.{same, both}, OthersOps.{is_other, item_apart}}
 use Rattle.nfs_results.specs.Largest.{largest}
-use Rattle.nfs_exec.specs.{Step.Machine.Machine, Step.Behind.{step, on_store, otherwise}}
+use Rattle.nfs_exec.specs.{Step.Machine.Machine, Step.Behind.{step, otherwise}}
 use Rattle.nfs_exec.specs.Step.{ReclaimComplete.reclaim_complete, Run.{run, in_room, reserve, is_here, behind_here}}
 use Rattle.nfs_files.specs.Own.{HasAsBefore}
 use Rattle.nfs_exec.proofs.{Step.{Behind.{by_step, follow_kept, other_context}, Terms.{of_one, of_all}}, Runs.KeptByRuns.{Is, whole_room, otherwise_store}}

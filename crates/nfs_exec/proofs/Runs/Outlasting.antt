@@ -1,7 +1,7 @@
 -- A compound that neither renews a client's lease nor begins it leaves it as it was, or ends it.
 use Rattle.std.proofs.Common.{◌≡◌, ◌⊎◌, ℕ, Bool, true, false, cond, eqb, List, [], ◌∷◌, Option, Some, None, Result, Ok, Err, refl, sym, ◌∙◌, subst, inl, inr}
 use Rattle.std.proofs.lemmas.Bool.{cases_Bool, eqb-false, ne_eqb, false≢true}
-use Rattle.std.specs.{Prelude.{◌&&◌, ◌||◌, ◌==◌, bit_and, not, is_some, option_map, ok_or}, Option.option_map_or}
+use Rattle.std.specs.{Prelude.{◌&&◌, ◌||◌, ◌==◌, bit_and, is_some, option_map, ok_or}, Option.option_map_or}
 use Rattle.nfs_xdr.specs.{Caller.Caller, Checks.{first_fault, judged}, declared.status.Status.Status}
 use Rattle.nfs_xdr.specs.declared.status.Status.TheVariants.{Delay, Inval, StaleClientId, MinorVersMismatch}
 use Rattle.nfs_xdr.specs.Numbers.{next_number}
@@ -17,12 +17,12 @@ use Rattle.nfs_lease.specs.Renewals.{Book, with_lease, with_renewal, without_lea
 use Rattle.nfs_names.specs.{Context.begins, Outcome.is_ok}
 use Rattle.nfs_exec.specs.Step.{Machine.{Machine, MachineOutcome, or_with_delay, with_refusal}, Place.place_fault, Parts.without_any_lease}
 use Rattle.nfs_exec.specs.Step.ExchangeId.{exchange_id, exchanged, standing}
-use Rattle.nfs_exec.specs.Step.CreateSession.{create_session, session_checks, kept_again, made}
+use Rattle.nfs_exec.specs.Step.CreateSession.{create_session, kept_again, made}
 use Rattle.nfs_exec.specs.{Step.Destroy.{destroy_session, client_fault}, Step.Sequence.{Sequenced, sequenced}, Step.Run.{is_here, behind_here}}
 use Rattle.nfs_exec.specs.Step.Compound.{carried_out, first_item, renewed, begun, bare, in_session, by_first, compound}
 use Rattle.nfs_exec.specs.{Step.Laws.{Asks, first_runs, if_runs}, Runs.LockHeld.is_of, Runs.Renewing.{adds, is_for, renews_alone, renews_or_begins}}
 use Rattle.nfs_exec.specs.Step.Sequence as sequence
-use Rattle.nfs_exec.proofs.Step.{Behind.run_leases, InSteps.for_client, Terms.{by_fault, or_with_refusal, or_kept_refusal}}
+use Rattle.nfs_exec.proofs.Step.{Behind.run_leases, InSteps.for_client, Terms.{by_fault, or_with_refusal, session_checks, or_kept_refusal}}
 use Rattle.nfs_exec.proofs.Step.Terms.{client_ended}
 
 abbrev pub IsStill : ℕ → Book → Book → Type 0

@@ -11,7 +11,7 @@ use Rattle.nfs_clients.specs.CreateSession as clients
 use Rattle.nfs_slots.specs.Slot.{SlotState}
 use Rattle.nfs_slots.specs.Slot as slots
 use Rattle.nfs_sessions.specs.{Id.id_of, Laws.{is_id, with_slots}, declared.{channel.Wish.Wish, id.SessionId.SessionId, sessions.SessionFault.SessionFault}}
-use Rattle.nfs_sessions.specs.Sessions.{Session, SessionTable, is_session, session_at, create_unless, create_fault, with_session, keep}
+use Rattle.nfs_sessions.specs.Sessions.{Session, SessionTable, is_session, session_at, create_unless, create_fault, with_session}
 use Rattle.nfs_names.specs.{Context.begins, Outcome.is_ok}
 use Rattle.nfs_exec.specs.Step.{Machine.{Machine, MachineOutcome}, Run.{is_here, behind_here}, Parts.{wish_of, without_any_sessions}}
 use Rattle.nfs_exec.specs.{Step.Sequence.compared, Step.Compound.{first_item, renewed, begun, in_session, compound}, Step.Laws.Asks}

@@ -11,13 +11,12 @@ use Rattle.nfs_sessions.specs.Id.{id_of}
 use Rattle.nfs_opens.specs.{declared.locking.Wish.Wish, declared.records.LockState.LockState, Table.{Table, lock_at}}
 use Rattle.nfs_names.specs.{declared.context.Context.Context, Context.begins, State.moment, Outcome.is_ok}
 use Rattle.nfs_names.proofs.Untouched.{leaves_each}
-use Rattle.nfs_files.proofs.Outcomes as files
 use Rattle.nfs_files.proofs.{Outcomes.for_each, Inside.{Locks, Unlocks, Closes}, Effected.same_client}
 use Rattle.nfs_files.proofs.ToldGrants.{IsTold, IsToldClosed, lock_tells, unlock_tells, close_tells, lock_grants_told, lock_refused, told_held, told_is_ok, told_client}
 use Rattle.nfs_files.specs.LockTold.{Names, LockTold, Stands}
 use Rattle.nfs_files.proofs.Inside as inside
 use Rattle.nfs_files.proofs.ToldLocks as told
-use Rattle.nfs_exec.specs.{Step.Machine.Machine, Step.Behind.{step, on_store, otherwise}, Step.Run.{in_room, is_here, behind_here}}
+use Rattle.nfs_exec.specs.{Step.Machine.Machine, Step.Behind.{step, otherwise}, Step.Run.{in_room, is_here, behind_here}}
 use Rattle.nfs_exec.specs.{Step.Compound.{renewed, begun}, Step.Laws.{MachineEvent, Expires, Asks, ran}, Runs.Ops.{RanOp, ops, ops_by}}
 use Rattle.nfs_exec.specs.Runs.LockHeld.{LocksFor, UnlocksFor, ClosesOf, Spares, Tells, is_of, renews}
 use Rattle.nfs_exec.proofs.{Step.Behind.by_step, Runs.ByEvent.by_compound, Runs.OneRun.by_item, Runs.KeptByRuns.{Is, whole_room, in_more, event_ops}}

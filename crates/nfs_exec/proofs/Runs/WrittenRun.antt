@@ -1,5 +1,5 @@
 -- A byte that was told, through the operations of an event.
-use Rattle.std.proofs.Common.{◌≡◌, ℕ, ◌+◌, Bool, true, false, List, ◌∷◌, ◌++◌, get_or, Option, Some, None, refl, sym, ◌∙◌, ap, subst, arith, inl, inr}
+use Rattle.std.proofs.Common.{◌≡◌, ℕ, Bool, true, false, List, ◌∷◌, ◌++◌, get_or, Option, Some, None, refl, sym, ◌∙◌, ap, subst, arith, inl, inr}
 use Rattle.std.proofs.lemmas.Bool.{cases_Bool, cases_eq, eqb-true, eq-eqb, false≢true}
 use Rattle.std.specs.{Prelude.{◌==◌, ◌||◌, is_some, option_map}, Option.option_map_or}
 use Rattle.nfs_xdr.specs.{declared.status.Status.TheVariants.{RepTooBig, Stale}, Spelling.number}

@@ -7,7 +7,6 @@ use Rattle.nfs_xdr.specs.{Caller.Caller, Tables.In}
 use Rattle.nfs_xdr.proofs.Lists.{any_in, in_any, find_in}
 use Rattle.nfs_compound.specs.{declared.op.Item.Item, declared.op.Item.TheVariants.Operation, declared.session_args.CreateSession.CreateSession}
 use Rattle.nfs_compound.specs.declared.op.Op.TheVariants as Op
-use Rattle.nfs_clients.specs.CreateSession as clients
 use Rattle.nfs_clients.specs.{CreateSession.{leaving, is_other_confirmed_of}, Roster.{ClientRecord, Roster, client_at}}
 use Rattle.nfs_sessions.specs.{Sessions.{SessionTable, create}, declared.id.SessionId.SessionId, declared.sessions.SessionFault.SessionFault}
 use Rattle.nfs_names.specs.{State.State, Outcome.is_ok}

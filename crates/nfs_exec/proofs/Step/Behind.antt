@@ -1,6 +1,6 @@
 -- What one operation behind a SEQUENCE leaves as it is.
 use Rattle.std.proofs.Common.{◌≡◌, ℕ, Bool, true, false, eqb, ltb, List, [], ◌∷◌, ◌+◌, ◌≤◌, length, Option, Some, None, Result, Ok, Err, refl, ◌∙◌}
-use Rattle.std.proofs.{Common.{ap, subst, sym, cond, arith, inl, inr}, lemmas.Bool.cases_Bool, lemmas.List.length-append}
+use Rattle.std.proofs.{Common.{ap, subst, sym, arith, inl, inr}, lemmas.Bool.cases_Bool, lemmas.List.length-append}
 use Rattle.std.specs.{Prelude.{IsTrue, IsSomeAnd, ◌||◌}, Option.{ForSome, option_map_or}}
 use Rattle.nfs_xdr.specs.{declared.status.Status.Status, declared.status.Status.TheVariants.{Nfs4Ok, NoFileHandle, Stale}, SheetState.{SheetState, Puts}}
 use Rattle.nfs_compound.specs.{declared.op.Item.Item, declared.op.Item.TheVariants.Operation, declared.op.Op.Op}

@@ -1,5 +1,5 @@
 -- What a repeat is compared by is all but the four bytes of sa_highest_slotid.
-use Rattle.std.proofs.Common.{◌≡◌, ℕ, zero, suc, ◌+◌, ◌≤◌, ◌<◌, ◌^◌, List, [], ◌∷◌, ◌++◌, length, take, drop, Option, Some, None, refl, sym, ap, ◌∙◌, subst, arith, inl, inr, append_assoc}
+use Rattle.std.proofs.Common.{◌≡◌, ℕ, zero, suc, ◌+◌, ◌<◌, ◌^◌, List, [], ◌∷◌, ◌++◌, length, take, drop, Some, None, refl, sym, ap, ◌∙◌, subst, arith, inl, inr, append_assoc}
 use Rattle.std.proofs.{lemmas.Bool.{cases_Bool, eqb-true}, lemmas.Option.same_Some, lemmas.List.{take_at, drop_at}, Math.Seq.drop-append-add}
 use Rattle.std.specs.Prelude.{◌==◌}
 use Rattle.nfs_xdr.specs.Spelling as spelling

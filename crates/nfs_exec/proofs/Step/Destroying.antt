@@ -6,13 +6,12 @@ use Rattle.nfs_xdr.specs.declared.status.Status.TheVariants.{BadSession, StaleCl
 use Rattle.nfs_xdr.proofs.Lists.{filter_all, none_in}
 use Rattle.nfs_sessions.specs.{Id.id_of, declared.id.SessionId.SessionId, Sessions.{SessionTable, is_session, session_at, destroyed as ended}}
 use Rattle.nfs_results.specs.{declared.res.Res.Res, Results.refusal}
-use Rattle.nfs_results.specs.declared.res.Res.TheVariants as Res
 use Rattle.nfs_clients.specs.{declared.destroy.DestroyFault.DestroyFault, declared.destroy.DestroyFault.TheVariants.{Stale, Busy}, Roster.Roster}
 use Rattle.nfs_clients.specs.{DestroyClientId.{destroy_fault, destroy_status}, Calls.{destroyed, without_unless}}
 use Rattle.nfs_lease.specs.Renewals.{Book, without_lease}
 use Rattle.nfs_names.specs.Ending.{has_open}
 use Rattle.nfs_exec.specs.Step.Machine.{Machine, with_result}
-use Rattle.nfs_exec.specs.Step.Destroy.{destroy_session, client_fault, destroy_client}
+use Rattle.nfs_exec.specs.Step.Destroy.{destroy_session, destroy_client}
 use Rattle.nfs_exec.proofs.Step.{LeaseTakenBack.none_of, Terms.{by_fault, is_client}}
 use Rattle.nfs_exec.proofs.Step.Terms.{has_session, client_ended}
 

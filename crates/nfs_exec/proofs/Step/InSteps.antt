@@ -1,7 +1,7 @@
 -- EXCHANGE_ID and CREATE_SESSION as their code takes them, from what the tables of clients and of sessions answer, come to what their steps do.
 use Rattle.std.proofs.Common.{◌≡◌, ℕ, Bool, true, false, [], ◌∷◌, Option, Some, None, refl, sym, ◌∙◌, ap, arith, inl, inr}
 use Rattle.std.proofs.lemmas.Bool.{cases_Bool, eqb-true, ne_eqb}
-use Rattle.std.specs.{Prelude.{◌==◌, not, nat_le, bit_and, bytes_eq, count_by, Result, Ok, ok_or, if◌then◌else◌}, Option.option_map_or}
+use Rattle.std.specs.{Prelude.{◌==◌, nat_le, bit_and, bytes_eq, count_by, Result, Ok, ok_or, if◌then◌else◌}, Option.option_map_or}
 use Rattle.nfs_xdr.specs.{Caller.Caller, Checks.{first_fault, judged}, declared.status.Status.Status}
 use Rattle.nfs_xdr.specs.declared.status.Status.TheVariants as status
 use Rattle.nfs_xdr.specs.Numbers.{next_number}
@@ -18,9 +18,9 @@ use Rattle.nfs_opens.specs.Steps.{require, ◌>>=◌, ◌>>◌}
 use Rattle.nfs_names.specs.Ending.{has_open}
 use Rattle.nfs_exec.specs.Step.{Machine.{Machine, MachineOutcome, with_result, or_with_delay}, Parts.wish_of}
 use Rattle.nfs_exec.specs.Step.ExchangeId.{exchange_id, standing, exchanged, granted}
-use Rattle.nfs_exec.specs.Step.CreateSession.{create_session, kept_again, session_checks, made}
+use Rattle.nfs_exec.specs.Step.CreateSession.{create_session, kept_again, made}
 use Rattle.nfs_exec.specs.Step.Parts.{creates, by_number, created_by, did_exchange, exchanged_by}
-use Rattle.nfs_exec.proofs.Step.Terms.{or_with_refusal, or_kept_refusal}
+use Rattle.nfs_exec.proofs.Step.Terms.{or_with_refusal, session_checks, or_kept_refusal}
 
 -- EXCHANGE_ID
 

@@ -1,16 +1,16 @@
 -- What proofs call parts of definitions by.
-use Rattle.std.specs.{Prelude.{ℕ, Bool, ◌==◌, List, Option, None, Result, Ok, is_some, if◌then◌else◌}, List.list_any, Option.option_map_or}
+use Rattle.std.specs.{Prelude.{ℕ, Bool, ◌==◌, nat_le, List, [], ◌∷◌, count_by, Option, None, Result, Ok, is_some, if◌then◌else◌}, List.list_any, Option.option_map_or}
 use Rattle.nfs_xdr.specs.declared.status.Status.{Status}
-use Rattle.nfs_xdr.specs.declared.status.Status.TheVariants.{CompleteAlready}
+use Rattle.nfs_xdr.specs.declared.status.Status.TheVariants.{CompleteAlready, TooSmall, NoSpc, ServerFault}
 use Rattle.nfs_xdr.specs.Caller.{Caller}
 use Rattle.nfs_compound.specs.{declared.channel_attrs.ChannelAttrs.ChannelAttrs, declared.op.Item.Item, declared.session_args.Sequence.Sequence, Request.Request}
 use Rattle.nfs_compound.specs.declared.session_args.CreateSession.{CreateSession}
 use Rattle.nfs_results.specs.declared.res.Res.TheVariants as Res
 use Rattle.nfs_names.specs.{declared.context.Context.Context, declared.node.Node.Node, Context.begins}
 use Rattle.nfs_lease.specs.Renewals.{Book, has_run_out, without_lease}
-use Rattle.nfs_clients.specs.{Roster.{Roster, client_at, without}, Marks.{has_reclaimed, with_reclaimed}}
+use Rattle.nfs_clients.specs.{Roster.{Roster, client_at, without}, CreateSession.leaving, Marks.{has_reclaimed, with_reclaimed}}
 use Rattle.nfs_opens.specs.Steps.{◌>>◌}
-use Rattle.nfs_sessions.specs.{Id.id_of, Sessions.SessionTable}
+use Rattle.nfs_sessions.specs.{Id.id_of, Channel.is_too_small, Sessions.{SessionTable, most_sessions, last_counter, outlasts}}
 use Rattle.nfs_exec.specs.{Step.Machine.{Machine, MachineOutcome, with_result, with_refusal, or_refused}, Step.Run.{Ran, run}, Step.Compound.begun}
 use Rattle.nfs_exec.specs.{Step.Sequence.{Sequenced, Refuses}, Step.CreateSession.kept_refusal}
 
@@ -36,6 +36,14 @@ or_with_refusal m operation v = or_refused (with_refusal m operation) v
 
 abbrev pub or_refuses : Result Sequenced Status → Sequenced
 or_refuses v = or_refused Refuses v
+
+-- what is asked for of a session
+abbrev pub session_checks : Machine → CreateSession → List (Bool × Status)
+session_checks m c =
+    (is_too_small c.fore_chan_attrs, TooSmall)
+    ∷ (nat_le most_sessions (count_by (outlasts (leaving m.clients c.clientid)) m.sessions.sessions), NoSpc)
+    ∷ (m.sessions.last == last_counter, ServerFault)
+    ∷ []
 
 abbrev pub or_kept_refusal : Machine → CreateSession → Result MachineOutcome Status → MachineOutcome
 or_kept_refusal m c v = or_refused (kept_refusal m c) v

@@ -2,7 +2,7 @@
 -- that answers NFS4_OK and unlocks a byte of it, locks one in another way or closes its open; and the end of its client.
 use Rattle.std.specs.{Prelude.{◌≡◌, ℕ, ◌≤◌, ◌==◌, ◌&&◌, not, Bool, false, List, [], ◌∷◌, Option, Some, Ok, option_map, bytes_eq}, List.list_any}
 use Rattle.std.specs.Option.{option_map_or}
-use Rattle.nfs_xdr.specs.{Caller.Caller, Tables.In}
+use Rattle.nfs_xdr.specs.{Caller.Caller}
 use Rattle.nfs_compound.specs.declared.lock_args.Lock as args
 use Rattle.nfs_compound.specs.{declared.lock_args.LockU.LockU, declared.open_args.Close.Close, declared.op.Item.Item, declared.op.Item.TheVariants.Operation}
 use Rattle.nfs_compound.specs.{declared.session_args.Sequence.Sequence, Request.Request}

@@ -1,7 +1,6 @@
 -- An open that was told, what ends it and what changes its bits: what a client asked and was answered (RFC 8881 sections 8.3, 9.7, 18.2, 18.16 and 18.18).
 -- A CLOSE of it that answers NFS4_OK ends it, and so does the end of its client.
-use Rattle.std.specs.Prelude.{◌≡◌, ℕ, true, List, [], ◌∷◌, Some}
-use Rattle.nfs_xdr.specs.Tables.{In}
+use Rattle.std.specs.Prelude.{◌≡◌, ℕ, true, List, Some}
 use Rattle.nfs_compound.specs.{declared.open_args.Open.Open, declared.op.Item.TheVariants.Operation}
 use Rattle.nfs_compound.specs.declared.op_num.OpNum.TheVariants as Num
 use Rattle.nfs_compound.specs.declared.op.Op.TheVariants as Op

@@ -22,15 +22,12 @@ pub record IsAsBefore (client : ℕ) (before behind : Machine) : Type 0 where
 abbrev pub has_owner : Roster → ℕ → List ℕ → Bool
 has_owner t client owner = option_map_or (λ c. bytes_eq c.owner owner) (client_at t client) false
 
--- the id is the client's, or of another record of its owner
-abbrev pub is_id_of : Roster → ℕ → ℕ → Bool
-is_id_of t client id = (id == client) || option_map_or (λ c. has_owner t client c.owner) (client_at t id) false
-
--- The first item names the client: by a session, its owner, or an id.
+-- The first item names the client: by a session, its owner, or an id; CREATE_SESSION does by that of another record of its owner too.
 abbrev pub is_named_in : ℕ → Roster → List Item → Bool
 is_named_in client t (Operation (Op.Sequence s) ∷ more) = (id_of s.sessionid).client == client
 is_named_in client t (Operation (Op.ExchangeId e) ∷ more) = has_owner t client e.ownerid
-is_named_in client t (Operation (Op.CreateSession c) ∷ more) = is_id_of t client c.clientid
+is_named_in client t (Operation (Op.CreateSession c) ∷ more) =
+    (c.clientid == client) || option_map_or (λ r. has_owner t client r.owner) (client_at t c.clientid) false
 is_named_in client t (Operation (Op.DestroySession sessionid) ∷ more) = (id_of sessionid).client == client
 is_named_in client t (Operation (Op.DestroyClientId id) ∷ more) = id == client
 is_named_in client t items = false

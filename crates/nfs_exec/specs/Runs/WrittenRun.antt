@@ -1,6 +1,6 @@
 -- A byte that was written, before and behind each operation of a compound (RFC 8881 sections 18.16, 18.22, 18.30 and 18.32).
-use Rattle.std.specs.Prelude.{◌≡◌, ℕ, true, List, [], ◌∷◌, ◌++◌, Some}
-use Rattle.nfs_xdr.specs.{Tables.In, declared.status.Status.TheVariants.Stale}
+use Rattle.std.specs.Prelude.{◌≡◌, ℕ, true, List, ◌∷◌, ◌++◌, Some}
+use Rattle.nfs_xdr.specs.{declared.status.Status.TheVariants.Stale}
 use Rattle.nfs_compound.specs.declared.op_num.OpNum.TheVariants as Num
 use Rattle.nfs_compound.specs.{OpNum.op_number, declared.op.Item.TheVariants.Operation}
 use Rattle.nfs_compound.specs.declared.op.Op.TheVariants as Op

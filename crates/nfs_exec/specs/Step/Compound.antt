@@ -1,5 +1,5 @@
 -- A compound (RFC 8881 sections 2.3, 2.10.6.4 and 16.2): what it answers, and the machine behind it.
-use Rattle.std.specs.{Prelude.{◌+◌, ℕ, ◌==◌, Bool, List, [], ◌∷◌, ◌++◌, length, Option, Some, None, if◌then◌else◌}, Option.option_map_or}
+use Rattle.std.specs.{Prelude.{◌+◌, ℕ, ◌==◌, Bool, List, [], ◌∷◌, ◌++◌, length, Option, if◌then◌else◌}, Option.option_map_or}
 use Rattle.nfs_xdr.specs.{declared.status.Status.Status, declared.status.Status.TheVariants.{Nfs4Ok, MinorVersMismatch, NotSupp}, Caller.Caller}
 use Rattle.nfs_compound.specs.{declared.channel_attrs.ChannelAttrs.ChannelAttrs, declared.op.Item.Item, declared.op.Item.TheVariants.Operation, declared.session_args.Sequence.Sequence}
 use Rattle.nfs_compound.specs.{OpNum.op_number, Request.{Request, item_number}}

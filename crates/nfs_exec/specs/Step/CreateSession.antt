@@ -54,14 +54,6 @@ kept_again m (Some (Done body)) = Ok (record { status = Nfs4Ok; result = done_he
 kept_again m (Some (Refused status)) = Err status
 kept_again m None = Err SeqMisordered
 
--- what is asked for: the channel, a place among the sessions that stay, and a counter
-abbrev pub session_checks : Machine → CreateSession → List (Bool × Status)
-session_checks m c =
-    (is_too_small c.fore_chan_attrs, TooSmall)
-    ∷ (nat_le most_sessions (count_by (outlasts (leaving m.clients c.clientid)) m.sessions.sessions), NoSpc)
-    ∷ (m.sessions.last == last_counter, ServerFault)
-    ∷ []
-
 -- the session is made
 abbrev pub made : Machine → (now : ℕ) → CreateSession → MachineOutcome
 made m now c =
@@ -77,7 +69,7 @@ abbrev pub kept_refusal : Machine → CreateSession → Status → MachineOutcom
 kept_refusal m c status =
     with_refusal (record m { clients = with_changed m.clients c.clientid (keeping (Refused status)) }) (op_number Num.CreateSession) status
 
--- A result that is answered again wants no memory.
+-- A result that is answered again wants no memory. What is asked for is the channel, a place among the sessions that stay, and a counter.
 abbrev pub create_session : Machine → Caller → (now : ℕ) → (refused : Bool) → CreateSession → MachineOutcome
 create_session m who now refused c = or_refused (with_refusal m (op_number Num.CreateSession)) (do
   client ← ok_or (client_at m.clients c.clientid) StaleClientId
@@ -85,5 +77,8 @@ create_session m who now refused c = or_refused (with_refusal m (op_number Num.C
     require (c.sequence == client.number) SeqMisordered
     require (client.uid == who.uid) ClidInUse
     Ok (or_with_delay refused m (op_number Num.CreateSession) (or_refused (kept_refusal m c) (do
-      in_order (session_checks m c)
+      in_order ((is_too_small c.fore_chan_attrs, TooSmall)
+          ∷ (nat_le most_sessions (count_by (outlasts (leaving m.clients c.clientid)) m.sessions.sessions), NoSpc)
+          ∷ (m.sessions.last == last_counter, ServerFault)
+          ∷ [])
       Ok (made m now c)))))

@@ -1,5 +1,5 @@
 -- DESTROY_SESSION (RFC 8881 section 18.37) and DESTROY_CLIENTID (section 18.50).
-use Rattle.std.specs.{Prelude.{ℕ, Bool, ◌==◌, ◌||◌, not, List, [], ◌∷◌, Option, is_some, if◌then◌else◌}, List.list_any, Option.option_map_or}
+use Rattle.std.specs.{Prelude.{ℕ, ◌==◌, ◌||◌, not, List, [], ◌∷◌, Option, is_some, if◌then◌else◌}, List.list_any, Option.option_map_or}
 use Rattle.nfs_xdr.specs.{Checks.first_fault, declared.status.Status.Status}
 use Rattle.nfs_xdr.specs.declared.status.Status.TheVariants.{BadSession, StaleClientId, ClientIdBusy}
 use Rattle.nfs_compound.specs.declared.op_num.OpNum.TheVariants as Num

@@ -1,5 +1,5 @@
 -- EXCHANGE_ID (RFC 8881 section 18.35; which of its cases there are is this server's profile): a record that stands is answered, or a new one is added.
-use Rattle.std.specs.Prelude.{ℕ, ◌==◌, not, bit_and, bytes_eq, List, [], ◌∷◌, Bool, true, false, Option, Some, None, Result, Ok, option_map, if◌then◌else◌}
+use Rattle.std.specs.Prelude.{ℕ, ◌==◌, not, bit_and, bytes_eq, [], ◌∷◌, Bool, true, false, Option, Some, None, Result, Ok, option_map, if◌then◌else◌}
 use Rattle.std.specs.Option.{option_map_or}
 use Rattle.nfs_xdr.specs.{Caller.Caller, declared.status.Status.Status}
 use Rattle.nfs_xdr.specs.declared.status.Status.TheVariants.{Inval, NoEnt, NotSame, Perm, ClidInUse, ServerFault}
@@ -16,39 +16,32 @@ use Rattle.nfs_exec.specs.Step.Machine.{Machine, MachineOutcome, with_result, wi
 abbrev pub is_update : ExchangeId → Bool
 is_update e = not (bit_and e.flags 0x4000_0000 == 0)
 
--- an update bears the verifier of the record, and comes from its user
-abbrev pub updated : Caller → ExchangeId → ClientRecord → Result (Option ClientRecord) Status
-updated who e c = do
-  require (bytes_eq c.verifier e.verifier) NotSame
-  require (c.uid == who.uid) Perm
-  Ok (Some c)
-
--- The record that the call leaves, by the owner's confirmed one; none where a new one is to be added. A client that has started again, and another user where
--- no open of the client stands, get a new one.
+-- The record that the call leaves, by the owner's confirmed one; none where a new one is to be added. An update bears the verifier of the record, and comes
+-- from its user. A client that has started again, and another user where no open of the client stands, get a new one.
 abbrev pub standing : Machine → Caller → ExchangeId → Option ClientRecord → Result (Option ClientRecord) Status
 standing m who e None = do
   require (not (is_update e)) NoEnt
   Ok None
 standing m who e (Some c) =
-    if is_update e then updated who e c
+    if is_update e then (do
+      require (bytes_eq c.verifier e.verifier) NotSame
+      require (c.uid == who.uid) Perm
+      Ok (Some c))
     else if c.uid == who.uid then Ok (if bytes_eq c.verifier e.verifier then Some c else None)
     else do
       require (not (has_open m.store c.id)) ClidInUse
       Ok None
 
--- the text `nfs41d`, by which the server names itself and its scope
-abbrev pub server_name : List ℕ
-server_name = 110 ∷ 102 ∷ 115 ∷ 52 ∷ 49 ∷ 100 ∷ []
-
 -- The answer, with no state protection and no implementation named: EXCHGID4_FLAG_USE_NON_PNFS, and EXCHGID4_FLAG_CONFIRMED_R where the record is confirmed.
+-- The server names itself and its scope by the text `nfs41d`.
 abbrev pub granted : (client number : ℕ) → (confirmed : Bool) → ExchangeIdOk
-granted client number confirmed = record {
+granted client number confirmed = let name = 110 ∷ 102 ∷ 115 ∷ 52 ∷ 49 ∷ 100 ∷ [] in record {
   clientid = client;
   sequenceid = number;
   flags = if confirmed then 0x8001_0000 else 0x0001_0000;
   minor_id = 0;
-  major_id = server_name;
-  server_scope = server_name;
+  major_id = name;
+  server_scope = name;
 }
 
 -- A new record begins its lease. The owner's unconfirmed one, which it replaces, loses its own.

@@ -6,12 +6,13 @@ use Rattle.nfs_rpc.proofs.Readings.{one_reading, part_unfinished}
 use Rattle.nfs_serve.specs.{declared.fault.Stop.Stop, declared.fault.ReplayFault.ReplayFault, declared.form.Form.Form, declared.form.Flow.Flow}
 use Rattle.nfs_serve.specs.{declared.moving.WriteFailed.WriteFailed, declared.form.Form.TheVariants.{Tagged, Plain}, declared.talking.Talk.Talk}
 use Rattle.nfs_serve.specs.{Script.{Entry, spell_entry}, Step.{ServerState, step}}
-use Rattle.nfs_serve.specs.Run.{Streams, with_stream, all_closed, Brings, TakesPiece, TakesAll, StreamEvent, Arrives, Overflows, events_of, Move, events, after, after_event, output, Runs, RunsInto}
+use Rattle.nfs_serve.specs.Run.{Streams, with_stream, all_closed, Brings, TakesPiece, TakesAll, StreamEvent, Arrives, Overflows, Move, events, after, after_event, output, Runs, RunsInto}
 use Rattle.nfs_serve.specs.{Server.{Stands, FeedsOr}, Replay.{Replayed, ReplaysFault}, Talk.SpeaksUntil, Hub.at}
 use Rattle.nfs_serve.specs.{Promises.Endpoint.{Answer, Server, Arrival, stepped, ran}, Promises.Seen.server, Promises.Points.state_after_all}
 use Rattle.nfs_serve.specs.Promises.Forms.{record_of, records_of, LeavesOf, AllRun, FrontRuns, RunUpTo, EachFormRunsRecords}
 use Rattle.nfs_serve.specs.declared.fault.Stop.TheVariants as stops
 use Rattle.nfs_serve.specs.declared.talking.Talk.TheVariants as talks
+use Rattle.nfs_serve.proofs.Terms.{events_of}
 use Rattle.nfs_serve.proofs.{Moves.{events-append, after-append, output-last, TakesAll-more}, Pieces.start_holds, Runs.takes_piece, Promises.Whole.runs_script}
 
 -- the state behind moves is that of their records

@@ -30,7 +30,8 @@ use Rattle.nfs_exec.specs.Step.Sequence as sequence
 use Rattle.nfs_exec.proofs.{Runs.{SlotNumbers.IsHeld, SessionsBehind.{ran_in, quiet_compound, told_compound}}, Step.Terms.or_refuses}
 use Rattle.nfs_serve.specs.Promises.Endpoint.{Place, Heading, Answer}
 use Rattle.nfs_serve.specs.Step.{asked_of, ServerState, Stepped, refused, answered, with_arguments, by_procedure, reply_to, step}
-use Rattle.nfs_serve.specs.Promises.Seen.{ReplyReader, IsSequenced, Bears, slot_in, ticked, executes_by, heading_of, heading_in, heading_by, heading, seen, server}
+use Rattle.nfs_serve.specs.Promises.Seen.{ReplyReader, IsSequenced, Bears, slot_in, ticked, executes_by, heading_of, heading_by, heading, seen, server}
+use Rattle.nfs_serve.proofs.Promises.Terms.{heading_in}
 use Rattle.nfs_serve.proofs.{Promises.ServerLaws.{Runs, Repeats as RepeatsOn, IsElsewhere, KeepsSlots}, Promises.Ticking.step_is}
 use Rattle.nfs_serve.proofs.Promises.SlotsLeft.{slot_at, IsGiven, IsLeft, Stays, stands_given, held_sessions, held_given, held_slot, kept_slot, fewer_leaves, keep_there}
 use Rattle.nfs_serve.proofs.{Promises.Reader.sequenced, Promises.Spelled.{IsBad, front_spelled}}

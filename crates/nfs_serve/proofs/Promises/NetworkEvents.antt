@@ -3,8 +3,9 @@ use Rattle.std.proofs.Common.{◌≡◌, ◌⊎◌, inl, inr, ℕ, Bool, true, f
 use Rattle.std.proofs.lemmas.Bool.{true≢false}
 use Rattle.nfs_xdr.specs.{Text.IsBytes, Tables.In}
 use Rattle.nfs_serve.specs.Promises.Endpoint.{Place, Compound, Heading, Answer, SlotNumber, Stepped, Server, Arrival, stepped, ran}
-use Rattle.nfs_serve.specs.Promises.Network.{Callers, Packet, Reply, RanCompound, Line, Network, NetworkEvent, Sends, Resends, Arrives, Asks, Intrudes, Accepts, IsLast, with_line, sending, resending, accepting, executing, result_of, with_reply, with_packet, arriving, after, ended, IsUnused, no_line, begins, IsExact}
+use Rattle.nfs_serve.specs.Promises.Network.{Callers, Packet, Reply, RanCompound, Line, Network, NetworkEvent, Sends, Resends, Arrives, Asks, Intrudes, Accepts, IsLast, with_line, sending, resending, accepting, executing, result_of, with_reply, with_packet, arriving, after, ended, IsUnused, begins, IsExact}
 use Rattle.nfs_serve.specs.Promises.Numbered.{CanSend, CanAccept, Can, Happens, ExactlyOnceByNumber}
+use Rattle.nfs_serve.proofs.Promises.Terms.{no_line}
 use Rattle.nfs_serve.proofs.{Promises.ServerLaws.{KeepsSlots, Runs, IsElsewhere}, Promises.NetworkLists.{In-front, In-last, In-push, counted_once}}
 use Rattle.nfs_serve.proofs.Promises.NetworkLines.{updated, Stands, Idle, IsLine, executed_first, accepted_first, line_more, line_leaves, line_sends, line_resends, line_runs, line_accepts, kept_is_executed}
 

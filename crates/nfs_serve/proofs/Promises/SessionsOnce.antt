@@ -8,7 +8,8 @@ use Rattle.nfs_exec.proofs.Runs.SessionNumbers.{After, ToldBy, more, tells_more,
 use Rattle.nfs_exec.proofs.Runs.OneSession.{IsMadeBy, first_bytes, event_after, event_carried, event_tells, given_after, given_again, given_next, gives_made, gives_one}
 use Rattle.nfs_serve.specs.{Step.{ServerState, new_state}, Promises.Endpoint.Arrival}
 use Rattle.nfs_serve.specs.Promises.Points.{state_after, state_after_all, reached, taken, before, asked_by}
-use Rattle.nfs_serve.specs.Promises.SessionsOnce.{asks_by, asked, GivesIn, WasMade, EachMakesOne, EachWasMade, RepeatsMakeNone, NextMakesOne}
+use Rattle.nfs_serve.specs.Promises.SessionsOnce.{asked, GivesIn, WasMade, EachMakesOne, EachWasMade, RepeatsMakeNone, NextMakesOne}
+use Rattle.nfs_serve.proofs.Promises.Terms.{asks_by}
 use Rattle.nfs_serve.proofs.{Promises.Points.{left, for_asked, next_is}, Promises.Outlived.{machine_before, machine_all}}
 
 -- The client's number, from one record to the next.

@@ -6,9 +6,10 @@ use Rattle.nfs_rpc.specs.{RecordMarking.start, Stream.{Open, IsReading}}
 use Rattle.nfs_rpc.proofs.Readings.{part_unfinished}
 use Rattle.nfs_serve.specs.{declared.form.Form.TheVariants.Plain, Script.{Entry, Fits, last_connection}, Step.ServerState}
 use Rattle.nfs_serve.specs.Run.{Streams, with_stream, all_closed, TakesAll, StreamEvent, Move, events, after, after_event, output_of}
-use Rattle.nfs_serve.specs.{Desk.{opened, Act, Goes}, Hub.{Desks, none_live, Round, Opens, Turns, OthersStay, Turning}, Promises.Laws.{call_on, NoneCloses}}
+use Rattle.nfs_serve.specs.{Desk.{opened, Act, Goes}, Hub.{Desks, none_live, Round, Opens, Turns, OthersStay, Turning}, Promises.Laws.call_on}
 use Rattle.nfs_serve.specs.Promises.Account.{came, taken, part_of}
 use Rattle.nfs_serve.specs.Promises.Whole.{close, entries_of, script, RunsScript, HubRunsScript, acts_on, port_of, output_on, LosesNothing, NothingIsLostInARun, TurningInto, NothingIsLostInATurn}
+use Rattle.nfs_serve.proofs.Terms.{NoneCloses}
 use Rattle.nfs_serve.proofs.{Moves.{after-append, events-append}, Pieces.{start_holds, no_bytes}, Connections.stretch, Scripts.{others_open, stream_script}}
 use Rattle.nfs_serve.proofs.Turns.{not_served, output_own, output_other, stream_same, stream_other, Holds, flows_on, Flow, Ran, ran}
 

@@ -21,10 +21,6 @@ abbrev pub BringsOnce : Type 0
 BringsOnce = (conn moment : ℕ) (before : End) (piece : List ℕ) (first other : List StreamEvent) (end last : End)
     → Brings conn moment before piece first end → Brings conn moment before piece other last → (first ≡ other) × (end ≡ last)
 
--- the bytes that come on a connection by these entries, one piece behind the other
-abbrev pub stream_on : ℕ → List Entry → List ℕ
-stream_on conn entries = flat_map (λ e. if nat_eq e.conn conn then e.piece else []) entries
-
 abbrev pub call_on : ℕ → StreamEvent → List (List ℕ)
 call_on conn (Arrives c moment call) = if nat_eq c conn then call ∷ [] else []
 call_on conn (Overflows c) = []
@@ -39,9 +35,6 @@ IsClosedBehind conn entries = All (λ e. e.conn ≢ conn) entries
     ⊎ ((before : List Entry) × (close : Entry) × (others : List Entry) × (entries ≡ before ++ close ∷ others)
     × (close.conn ≡ conn) × (close.piece ≡ []) × All (λ e. e.conn ≢ conn) others)
 
-abbrev pub NoneCloses : ℕ → List Entry → Type 0
-NoneCloses conn entries = All (λ e. e.conn ≡ conn → e.piece ≢ []) entries
-
 -- What a script brings by a stretch of its entries: the records that arrive on the connection are those of the stream of
 -- its pieces there, and where that stream becomes too long this is reported once.
 pub record BringsStream (conn : ℕ) (front stretch back : List Entry) (brought : List StreamEvent) (end : Streams) : Type 0 where
@@ -54,11 +47,12 @@ pub record BringsStream (conn : ℕ) (front stretch back : List Entry) (brought 
   pub reads_front : TakesAll all_closed front before from
   pub reads_stretch : TakesAll from stretch here to
   pub reads_back : TakesAll to back later end
-  pub stream : IsReading (stream_on conn stretch) (flat_map (call_on conn) here) (to conn)
+  pub stream : IsReading (flat_map (λ e. if nat_eq e.conn conn then e.piece else []) stretch) (flat_map (call_on conn) here) (to conn)
   pub overflows : flat_map (overflow_on conn) here ≡ overflow conn (to conn)
 
 -- Entries of many connections in any order: on each connection the pieces since its last close form one stream.
 abbrev pub ConnectionsAreStreams : Type 0
 ConnectionsAreStreams = (conn : ℕ) (front stretch back : List Entry) (brought : List StreamEvent) (end : Streams)
-    → TakesAll all_closed (front ++ (stretch ++ back)) brought end → IsClosedBehind conn front → NoneCloses conn stretch
+    → TakesAll all_closed (front ++ (stretch ++ back)) brought end → IsClosedBehind conn front
+    → All (λ e. e.conn ≡ conn → e.piece ≢ []) stretch
     → BringsStream conn front stretch back brought end

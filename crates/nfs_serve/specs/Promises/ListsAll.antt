@@ -41,17 +41,13 @@ ArePages directory cookie p (q ∷ more) = IsPage directory cookie p × ArePages
 abbrev pub entries_of : List Page → List Entry
 entries_of pages = flat_map (λ (p : Page). p.told.entries) pages
 
--- how many entries have the name
-abbrev pub times_listed : List ℕ → List Page → ℕ
-times_listed name pages = count_by (λ (e : Entry). bytes_eq e.name name) (entries_of pages)
-
 -- what the READDIR of a page has to say of a row: its name, its cookie, and of its object the attributes that are asked for, as they are before that READDIR
 abbrev pub entry_in : Page → Row → Entry
 entry_in p r = entry_of p.op.before.store (mask_of p.asked.attr_request) (listed r)
 
 -- one entry has the row's name, and it is that of the row
 pub record IsListedOnce (r : Row) (pages : List Page) : Type 0 where
-  pub once : times_listed r.name pages ≡ 1
+  pub once : count_by (λ (e : Entry). bytes_eq e.name r.name) (entries_of pages) ≡ 1
   pub entry : (p : Page) (e : Entry) → In p pages → In e p.told.entries → e.name ≡ r.name → e ≡ entry_in p r
 
 -- In every run of a server, from its start on: a row that stands before each READDIR of a listing is listed once.

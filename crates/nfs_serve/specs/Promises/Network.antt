@@ -187,11 +187,9 @@ ended callers net (e ∷ more) = ended callers (after callers net e) more
 abbrev pub IsUnused : (s : Server) → s.State → Place → Type 0
 IsUnused s m p = (x : SlotState) × (s.slot_at m p ≡ Some x) × (x.number ≡ 0) × (x.used ≡ false)
 
-abbrev pub no_line : Line
-no_line = record { sent = []; given_up = 0; executed = []; accepted = []; xids = [] }
-
 abbrev pub begins : (s : Server) → s.State → Network s
-begins s m = record { machine = m; lines = λ p. no_line; packets = []; replies = [] }
+begins s m =
+    record { machine = m; lines = λ p. record { sent = []; given_up = 0; executed = []; accepted = []; xids = [] }; packets = []; replies = [] }
 
 -- The promise.
 

@@ -6,16 +6,12 @@ use Rattle.nfs_xdr.specs.{Text.IsBytes, Tables.In}
 use Rattle.nfs_serve.specs.Promises.Endpoint.{Place, Heading, Compound, Answer, Server, Arrival, ran}
 use Rattle.nfs_serve.specs.Promises.Network.{Callers, Packet, Network, NetworkEvent, Sends, Resends, Arrives, Asks, Intrudes, Accepts, after, IsNext, IsLast, IsForeign, Schedule, IsUnused, begins, ended, IsExact}
 
--- The slot took no request yet, at the beginning or by now.
-abbrev pub IsReady : (s : Server) → s.State → Network s → Place → Type 0
-IsReady s start net p = IsUnused s start p ⊎ IsUnused s net.machine p
-
--- A caller sends a compound on a slot, under a number below 2^32, and the first one only on a slot that is ready.
+-- A caller sends a compound on a slot, under a number below 2^32, and the first one only on a slot that took no request yet, at the beginning or by now.
 pub record CanSend (s : Server) (callers : Callers) (start : s.State) (net : Network s) (p : Packet) : Type 0 where
   pub bytes : IsBytes p.bytes
   pub reads : s.heading p.bytes ≡ Some p.heading
   pub place : In p.heading.place callers.places
-  pub ready : (net.lines p.heading.place).sent ≡ [] → IsReady s start net p.heading.place
+  pub ready : (net.lines p.heading.place).sent ≡ [] → IsUnused s start p.heading.place ⊎ IsUnused s net.machine p.heading.place
   pub next : IsNext (net.lines p.heading.place) p.heading.compound
   pub small : p.heading.compound.number < 2 ^ 32
 

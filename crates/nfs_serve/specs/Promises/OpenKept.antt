@@ -10,20 +10,15 @@ use Rattle.nfs_exec.specs.{Runs.Ops.RanOp, Runs.OpenHeld.{the_open, OpenWhile, N
 use Rattle.nfs_serve.specs.{Step.ServerState, Promises.Endpoint.Arrival, Promises.Points.{state_after, reached, taken, ops_of}}
 use Rattle.nfs_serve.specs.Promises.LockKept.{StaysFor, InTimeFor}
 
--- The open stands here with these bits, and stays through these records, with the bits that it has by then, while none of their operations closes it: no OPEN
--- there that it forbids is answered NFS4_OK.
-abbrev pub StaysOpen : OpenTold → Bits → (lease last : ℕ) → ServerState → List Arrival → Type 0
-StaysOpen k b lease last s records = StaysFor (the_open k) k.client lease last b s records
-
 -- In every run of a server whose leases last so many seconds, from its start on: an OPEN in the record's compound told the open, and these operations are
 -- behind it there. The open stands before each of them while none closes it; and if none does, it stays through whatever records come, from the moment of
--- this record on, which renewed its client's lease.
+-- this record on, which renewed its client's lease, with the bits that it has by then: no OPEN there that it forbids is answered NFS4_OK.
 abbrev pub OpenKept : Type 0
 OpenKept = (mode instance lease : ℕ) (earlier : List Arrival) (c : Arrival) (k : OpenTold) (b : Bits) (front : List RanOp) (told : RanOp) (back : List RanOp)
     → (let s = reached mode instance lease earlier in
     ops_of s c ≡ front ++ told ∷ back → TellsOpen k b told
     → OpenWhile k b back
-    × (NoneCloses k back → (more : List Arrival) → StaysOpen k (bits_left k.number b back) lease (taken s c) (state_after s c) more))
+    × (NoneCloses k back → (more : List Arrival) → StaysFor (the_open k) k.client lease (taken s c) (bits_left k.number b back) (state_after s c) more))
 
 -- Whatever OPEN is answered NFS4_OK and a stateid told an open.
 abbrev pub EachOpenIsTold : Type 0

@@ -52,12 +52,9 @@ heading_of call r s = record {
   highest = s.highest_slotid;
 }
 
-abbrev pub heading_in : Call → Request → Option Heading
-heading_in call r = option_map (heading_of call r) (requests.sequence_of r)
-
 abbrev pub heading_by : Called → Option Heading
 heading_by (Refused refusal) = None
-heading_by (Accepted call) = option_and_then (heading_in call) (asked_of call call.procedure)
+heading_by (Accepted call) = option_and_then (λ r. option_map (heading_of call r) (requests.sequence_of r)) (asked_of call call.procedure)
 
 -- what a record says that is a compound on a slot
 abbrev pub heading : List ℕ → Option Heading

@@ -28,15 +28,13 @@ pub data IsBadSession (id : SessionId) (s : ServerState) (c : Arrival) : Type 0 
       → asked_of call call.procedure ≡ Some r → r.left ≡ Operation (Op.DestroySession sessionid) ∷ more → id_of sessionid ≡ id
       → SaysFirst Num.DestroySession BadSession s c → IsBadSession id s c
 
--- The record comes when the lease has run out of the client that last renewed it at moment `last`; or it ends the session, or puts another id in its client's place.
-abbrev pub EndsAt : SessionId → (lease last : ℕ) → ServerState → Arrival → Type 0
-EndsAt id lease last s c = (last + lease < taken s c) ⊎ ((ends_by id s c ≡ true) ⊎ (replaces_by id.client s c ≡ true))
-
--- One of these records does so, where `last` is the moment of the client's last renewal before them; or the lease has run out when the last record comes.
+-- One of these records comes when the lease has run out of the client that last renewed it at moment `last`, ends the session, or puts another id in its
+-- client's place; or the lease has run out when the last record comes.
 abbrev pub HasEnded : SessionId → (lease last : ℕ) → ServerState → List Arrival → Arrival → Type 0
 HasEnded id lease last s [] d = last + lease < taken s d
 HasEnded id lease last s (c ∷ more) d =
-    EndsAt id lease last s c ⊎ HasEnded id lease (if renews_by id.client s c then taken s c else last) (state_after s c) more d
+    ((last + lease < taken s c) ⊎ ((ends_by id s c ≡ true) ⊎ (replaces_by id.client s c ≡ true)))
+    ⊎ HasEnded id lease (if renews_by id.client s c then taken s c else last) (state_after s c) more d
 
 -- A CREATE_SESSION made the session: it was answered NFS4_OK and the session's id, which named no session before. The first one that is answered an id makes the session
 -- (`EachWasMade` of SessionsOnce). Or a request of the record ran in it.

@@ -1,18 +1,14 @@
 -- One session a CREATE_SESSION, in whole runs (RFC 8881 section 18.36.4).
-use Rattle.std.specs.{Prelude.{◌≡◌, ◌⊎◌, ℕ, ◌+◌, ◌*◌, ◌-◌, ◌<◌, ◌^◌, Bool, false, List, [], ◌∷◌, ◌++◌, Some, if◌then◌else◌}, Option.option_map_or}
+use Rattle.std.specs.{Prelude.{◌≡◌, ◌⊎◌, ℕ, ◌+◌, ◌*◌, ◌-◌, ◌<◌, ◌^◌, false, List, [], ◌∷◌, ◌++◌, Some, if◌then◌else◌}, Option.option_map_or}
 use Rattle.nfs_xdr.specs.Numbers.{next_number}
 use Rattle.nfs_exec.specs.{Step.Laws.MachineEvent, Runs.OneSession.{asks_session, Gives, MakesOne}}
 use Rattle.nfs_serve.specs.{Step.{ServerState, new_state}, Promises.Endpoint.Arrival, Promises.Points.{state_after, state_after_all, reached, before, asked_by}}
 use Rattle.nfs_serve.specs.{Promises.Exchanges.words, Promises.LostReply.{exchange_id, create_session}, Promises.HeldLock.came}
 
--- the record asks for a session of the client
-abbrev pub asks_by : ℕ → ServerState → Arrival → Bool
-asks_by client s c = option_map_or (asks_session client) (asked_by s c) false
-
--- how many of these records do
+-- how many of these records ask for a session of the client
 abbrev pub asked : ℕ → ServerState → List Arrival → ℕ
 asked client s [] = 0
-asked client s (c ∷ more) = (if asks_by client s c then 1 else 0) + asked client (state_after s c) more
+asked client s (c ∷ more) = (if option_map_or (asks_session client) (asked_by s c) false then 1 else 0) + asked client (state_after s c) more
 
 -- it is a CREATE_SESSION of the client with this number, and is answered NFS4_OK and this session id
 pub record GivesIn (client number : ℕ) (id : List ℕ) (s : ServerState) (c : Arrival) : Type 0 where
