@@ -13,8 +13,8 @@ ghost use Rattle.nfs_names.specs.StoreInvariants.{IsStore};
 ghost use Rattle.nfs_names.specs.Outcome.{is_delay};
 ghost use Rattle.nfs_exec.specs.Step.Machine.{IsMachine, machine_of};
 ghost use Rattle.nfs_exec.specs.Step.Sequence.{Runs, sequenced};
-ghost use Rattle.nfs_exec.specs.Step.Compound.{compound, first_item, in_session, by_first};
-ghost use Rattle.nfs_exec.specs.Step.View.{Does, AreTables, MayRun, RanIn, CanBear, IsOpened, HasReplyRoom, HasLoneRoom, Answers};
+ghost use Rattle.nfs_exec.specs.Step.Compound.{compound, first_item, by_first};
+ghost use Rattle.nfs_exec.specs.Step.View.{Does, AreTables, MayRun, RanIn, RunsNew, CanBear, IsOpened, HasReplyRoom, HasLoneRoom, Answers};
 
 use crate::place::{place_fault, sequence_in};
 use crate::receipt::Receipt;
@@ -186,8 +186,7 @@ impl Tables {
         requires store { IsStore (machine_of self.old).store }
         requires latest { IsLatest (machine_of self.old).leases receipt.now.moment }
         requires room { HasReplyRoom out.old }
-        ensures answer { (choice : Option ℕ)
-            × Answers (in_session (machine_of self.old) args.old (caller receipt.now.who.now) receipt.now.moment choice asked.now args.old.left (Runs channel.now)) out.old out.new (machine_of self.new) }
+        ensures answer { RunsNew (machine_of self.old) args.old (caller receipt.now.who.now) receipt.now.moment asked.now channel.now (machine_of self.new) out.old out.new }
         ensures store { IsStore (machine_of self.new).store }
     {
         let id = SessionId::from_bytes(&asked.sessionid);

@@ -7,3 +7,4 @@ pub mod HeadCodec
 pub mod CallHead
 pub mod View
 pub mod Reply
+pub mod Laws

@@ -1,6 +1,6 @@
 -- What the structs of a call are as values, wherever their bytes lie in memory.
 use Rattle.std.specs.Prelude.{◌≡◌, Result, Ok, Err}
-use Rattle.nfs_xdr.specs.Caller.{caller}
+use Rattle.nfs_xdr.specs.{Caller.{Caller, caller}, declared.who.Who.Who}
 use Rattle.nfs_rpc.specs.declared.call.Call as rust_call
 use Rattle.nfs_rpc.specs.declared.call.OpaqueAuth as rust_opaque_auth
 use Rattle.nfs_rpc.specs.declared.call.Header as rust_header
@@ -27,3 +27,8 @@ call c = record { xid = c.xid; procedure = c.procedure; who = caller c.who; args
 abbrev pub IsCalled : Result rust_call.Call Refusal → Called → Type 0
 IsCalled (Ok c) called = called ≡ Accepted (call c)
 IsCalled (Err refusal) called = called ≡ Refused refusal
+
+-- who calls, or why nobody does
+abbrev pub IsCaller : Result Who Refusal → Result Caller Refusal → Type 0
+IsCaller (Ok w) called = called ≡ Ok (caller w)
+IsCaller (Err refusal) called = called ≡ Err refusal

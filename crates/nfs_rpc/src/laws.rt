@@ -9,6 +9,7 @@ ghost use Rattle.nfs_xdr.specs.Caller.{Caller};
 ghost use Rattle.nfs_rpc.specs.CallHead.{named_by, caller_of, Call, Accepted, behind_header, call_of};
 ghost use Rattle.nfs_rpc.specs.HeadCodec.{message_at, header_at, auth_sys_at};
 ghost use Rattle.nfs_rpc.specs.Wire.{Header, call_body, rpc_msg, call};
+ghost use Rattle.nfs_rpc.specs.Laws.{HasHead, Names};
 ghost use Rattle.nfs_xdr.specs.AuthSys.{AuthSys};
 ghost use Rattle.nfs_xdr.specs.Text.{IsBytes, Leads};
 ghost use Rattle.nfs_xdr.specs.Wire.{authsys_parms};
@@ -46,12 +47,12 @@ pub fn heads()
     ensures message { (bytes : List ℕ) (x : (ℕ × ℕ) × List ℕ) → IsBytes bytes → message_at bytes ≡ Some x ↔ Leads rpc_msg bytes x }
     ensures header { (bytes : List ℕ) (x : Header × List ℕ) → IsBytes bytes → header_at bytes ≡ Some x ↔ Leads call_body bytes x }
     ensures judged { (xid : ℕ) (h : Header) (args : List ℕ) → (call xid h).Fits → call_of ((call xid h).bytes ++ args) ≡ behind_header xid h args }
-    ensures accepted { (bytes : List ℕ) (c : Call) → IsBytes bytes → call_of bytes ≡ Accepted c → (h : Header) × Leads (call c.xid) bytes (h, c.args) × (behind_header c.xid h c.args ≡ Accepted c) }
+    ensures accepted { (bytes : List ℕ) (c : Call) → IsBytes bytes → call_of bytes ≡ Accepted c → HasHead bytes c }
 {}
 
 /// The parameters of AUTH_SYS are read as the wire's text has them, and a body names a caller exactly where it is that text.
 pub fn auth_sys_bodies()
     ensures read { (bytes : List ℕ) (x : AuthSys × List ℕ) → IsBytes bytes → auth_sys_at bytes ≡ Some x ↔ Leads authsys_parms bytes x }
     ensures named { (s : AuthSys) → (authsys_parms s).Fits → caller_of (authsys_parms s).bytes ≡ Some (named_by s) }
-    ensures taken { (body : List ℕ) (who : Caller) → IsBytes body → caller_of body ≡ Some who → (s : AuthSys) × (authsys_parms s).Fits × (body ≡ (authsys_parms s).bytes) × (who ≡ named_by s) }
+    ensures taken { (body : List ℕ) (who : Caller) → IsBytes body → caller_of body ≡ Some who → Names body who }
 {}

@@ -1,13 +1,13 @@
 //! Reading the head of a call (RFC 5531 sections 8.2 and 9, appendix A).
 
-ghost use Rattle.std.specs.Prelude.{◌≡◌, ◌≤◌, length, IfOk, MatchResult, Some, None, Ok, Err};
+ghost use Rattle.std.specs.Prelude.{◌≡◌, ◌≤◌, length, IfOk, MatchResult, Some, None};
 ghost use Rattle.nfs_xdr.specs.Readers.{ReadsPartBy};
 ghost use Rattle.nfs_xdr.specs.Checks.{first_fault};
 ghost use Rattle.nfs_xdr.specs.Caller as calling;
 ghost use Rattle.nfs_rpc.specs.HeadCodec as codec;
 ghost use Rattle.nfs_rpc.specs.CallHead.{call_of, behind_header, caller_of, caller_by, checks, Refused};
 ghost use Rattle.nfs_rpc.specs.View as view;
-ghost use Rattle.nfs_rpc.specs.View.{IsCalled};
+ghost use Rattle.nfs_rpc.specs.View.{IsCalled, IsCaller};
 
 use crate::call::{Call, Header, OpaqueAuth, Procedure};
 use crate::numbers::{CALL, COMPOUND, MAX_AUTH, NULL, PROGRAM, RPC_VERSION, VERSION};
@@ -113,7 +113,7 @@ fn judge<'a>(xid: u32, header: &Header<'a>, args: &'a [u8]) -> Result<Call<'a>, 
 
 /// Who calls by a credential of AUTH_NONE, whose body is not looked at, or of AUTH_SYS.
 fn caller<'a>(xid: u32, credential: &OpaqueAuth<'a>) -> Result<Who<'a>, Refusal>
-    ensures caller { MatchResult result (λ w. caller_by xid (view.opaque_auth credential.now) ≡ Ok (calling.caller w)) (λ refusal. caller_by xid (view.opaque_auth credential.now) ≡ Err refusal) }
+    ensures caller { IsCaller result (caller_by xid (view.opaque_auth credential.now)) }
     ensures groups { IfOk result (λ w. length w.groups.now ≤ 16) }
 {
     let refusal = |stat| Refusal::Auth { xid, stat };

@@ -1,17 +1,22 @@
 -- What contracts see of the part of the server that steps records and keeps their replies on a sheet; private contracts
 -- alone speak of it.
-use Rattle.std.specs.Prelude.{◌≡◌, ℕ, List, [], drop, Some, None}
+use Rattle.std.specs.Prelude.{◌≡◌, ℕ, List, [], drop, Option, Some, None}
 use Rattle.nfs_xdr.specs.SheetState.{SheetState, Puts}
 use Rattle.nfs_rpc.specs.declared.refusal.Refusal.{Refusal}
 use Rattle.nfs_rpc.specs.declared.refusal.Refusal.TheVariants as Refusals
 use Rattle.nfs_serve.specs.{declared.form.Form.Form, declared.form.Form.TheVariants.{Tagged, Plain}, declared.form.Outcome.Outcome}
-use Rattle.nfs_serve.specs.{declared.form.Outcome.TheVariants.{Reply, Silent}, Step.{ServerState, Stepped}, Run.spell_reply, Server.{KeptServer, state_of}}
+use Rattle.nfs_serve.specs.{declared.form.Outcome.TheVariants.{Reply, Silent}, Step.{ServerState, Stepped, step}, Run.spell_reply, Server.{KeptServer, state_of, IsAnswer}}
 use Rattle.nfs_exec.specs.Step.Machine.{KeptTables}
 
 -- what lasts from one record to the next, and the reply that is lent
 pub record EngineModel : Type 0 where
   pub kept : KeptServer
   pub reply : List ℕ
+
+-- The record was stepped: for some choice, the reply that is lent and the state are the step's.
+abbrev pub StepsCall : Outcome → (old new : EngineModel) → (call : List ℕ) → (now : ℕ) → Type 0
+StepsCall outcome old new call now = (choice : Option ℕ) × IsAnswer outcome (step (state_of old.kept) call now choice).reply new.reply
+    × (state_of new.kept ≡ (step (state_of old.kept) call now choice).state)
 
 -- the state that tables are at a moment
 abbrev pub at_moment : KeptTables → ℕ → ServerState

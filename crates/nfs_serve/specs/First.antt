@@ -3,8 +3,12 @@ use Rattle.std.specs.Prelude.{◌≡◌, ℕ, ◌<◌, ◌≤◌, List, ◌++◌
 use Rattle.nfs_xdr.specs.Text.{IsBytes}
 use Rattle.nfs_rpc.specs.{RecordMarking.{Gathered, Complete, Failed, is_too_long}, Feeding.{waits, Holds}}
 use Rattle.nfs_serve.specs.{declared.connection.First.First, declared.connection.First.TheVariants.{Nothing, Record, TooLong}, Step.{ServerState, step}}
-use Rattle.nfs_serve.specs.Engine.{EngineModel}
+use Rattle.nfs_serve.specs.{Engine.EngineModel, Desk.TakesPart}
 use Rattle.nfs_serve.specs.{Server.{fresh, IsAnswer, FeedsOr, state_of}, declared.form.{Flow.Flow, Form.Form}, declared.script.Entry.Entry}
+
+-- a part of a stream that ends no more than one record was stepped, and its output stands behind what was owed
+abbrev pub TakesOnto : (conn : ℕ) → ServerState → Gathered → (moment : ℕ) → (part : List ℕ) → ServerState → Gathered → (owed owes : List ℕ) → Type 0
+TakesOnto conn s was moment part t is owed owes = (out : List ℕ) × TakesPart conn s was moment part t is out × (owes ≡ owed ++ out)
 
 -- with these bytes what is held comes to this
 abbrev pub TakesUp : Gathered → List ℕ → Gathered → Type 0

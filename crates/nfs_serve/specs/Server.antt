@@ -92,3 +92,8 @@ abbrev pub FeedsOr : {E : Type 0} → Result Flow E → ServerState → ServerSt
 FeedsOr (Ok flow) old new was is conn moment piece form h0 h1 failed =
     Feeds old new was is conn moment piece form h0 h1 × (flow ≡ flow_of is) × (failed ≡ false)
 FeedsOr (Err e) old new was is conn moment piece form h0 h1 failed = FeedsInto old new was conn moment piece form h0 h1 × (failed ≡ true)
+
+-- the same on a connection of a server
+abbrev pub FeedsOn : {E : Type 0} → Result Flow E → (old new : ServerModel) → (conn moment : ℕ) → (piece : List ℕ) → Form
+    → Option (List ℕ) → Option (List ℕ) → Bool → Type 0
+FeedsOn result old new conn = FeedsOr result (state_of old.kept) (state_of new.kept) (held_on old.held conn) (held_on new.held conn) conn

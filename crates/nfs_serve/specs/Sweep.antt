@@ -1,7 +1,7 @@
 -- What comes of a sweep in the midst, and of who begins before it; private contracts alone speak of it.
 use Rattle.std.specs.Prelude.{◌≡◌, ◌⊎◌, ℕ, ◌<◌, ◌≤◌, List, [], ◌∷◌, flat_map, Bool, true, false, Option}
-use Rattle.nfs_serve.specs.{Step.ServerState, Script.{last_connection, connection_count}, Told.{Told, Logs}, Desk.{Desk, opened, HasMore, Opened}}
-use Rattle.nfs_serve.specs.Deeds.{Deed, over}
+use Rattle.nfs_serve.specs.{Step.ServerState, Script.{last_connection, connection_count}, Told.{Told, Logs}, Desk.{opened, HasMore, Opened}, Server.{KeptServer, state_of}}
+use Rattle.nfs_serve.specs.{Deeds.{Deed, over}, Lane.desks_of, declared.lane.Lane.Lane}
 use Rattle.nfs_serve.specs.Hub.{Desks, at, Round, OthersStay, Turning, InOrder, HasTurn, IsServed, shown_in, asked_in}
 
 -- the ports below one had their turns
@@ -16,8 +16,8 @@ pub record SweepsBelow (to : ℕ) (s : ServerState) (old : Desks) (t : ServerSta
   pub clock : Logs c0 c1 (flat_map asked_in sweep)
 
 -- all ports had them
-abbrev pub SweepsAll : ServerState → List Desk → ServerState → List Desk → Option (List Deed) → Option (List Deed) → Option (List Told) → Option (List Told) → Type 0
-SweepsAll s old t new = SweepsBelow connection_count s (at old) t (at new)
+abbrev pub SweepsAll : KeptServer → List Lane → KeptServer → List Lane → Option (List Deed) → Option (List Deed) → Option (List Told) → Option (List Told) → Type 0
+SweepsAll s old t new = SweepsBelow connection_count (state_of s) (at (desks_of old)) (state_of t) (at (desks_of new))
 
 -- nobody begins, or a connection on one port; or no connection is left
 abbrev pub Begins : Bool → Desks → Desks → Option (List Deed) → Option (List Deed) → Type 0

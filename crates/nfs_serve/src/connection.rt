@@ -1,6 +1,6 @@
 //! A connection: what is held of its stream, and what its pieces come to (RFC 5531 section 11).
 
-ghost use Rattle.std.specs.Prelude.{◌≡◌, ◌≤◌, ◌<◌, ◌++◌, ℕ, List, [], length, take, IfOk, OnOk, OnErr, false};
+ghost use Rattle.std.specs.Prelude.{◌≡◌, ◌≤◌, ◌<◌, ◌++◌, [], length, take, IfOk, OnOk, OnErr, false};
 ghost use Rattle.nfs_xdr.specs.Text.{IsBytes};
 ghost use Rattle.nfs_xdr.specs.Spelling.{number};
 ghost use Rattle.nfs_rpc.specs.Feeding.{waits};
@@ -9,8 +9,8 @@ ghost use Rattle.nfs_serve.specs.Ends.{Writes};
 ghost use Rattle.nfs_serve.specs.Run.{spell_overflow};
 ghost use Rattle.nfs_serve.specs.Server.{fresh, state_of};
 ghost use Rattle.nfs_serve.specs.Script.{last_moment};
-ghost use Rattle.nfs_serve.specs.First.{TakesFirst, FeedsEntry};
-ghost use Rattle.nfs_serve.specs.Desk.{TakesPart, most_owed};
+ghost use Rattle.nfs_serve.specs.First.{TakesOnto, TakesFirst, FeedsEntry};
+ghost use Rattle.nfs_serve.specs.Desk.{most_owed};
 
 use crate::Sink;
 use crate::engine::Engine;
@@ -94,7 +94,7 @@ impl Connection {
         requires moment { now ≤ last_moment }
         requires room { owed.old.laid ≤ most_owed }
         ensures used { (0 < result) × (result ≤ length piece.now) }
-        ensures taken { (out : List ℕ) × TakesPart conn (state_of engine.old.kept) self.old now (take result piece.now) (state_of engine.new.kept) self.new out × (owed.new.bytes ≡ owed.old.bytes ++ out) }
+        ensures taken { TakesOnto conn (state_of engine.old.kept) self.old now (take result piece.now) (state_of engine.new.kept) self.new owed.old.bytes owed.new.bytes }
     {
         // A record that stands whole in the piece is stepped where it stands.
         if let Some(call) = self.records.whole(piece) {

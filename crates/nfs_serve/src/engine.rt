@@ -3,16 +3,16 @@
 ghost use Rattle.std.specs.Prelude.{◌≡◌, ◌≤◌, ◌+◌, ◌++◌, ℕ, [], length, drop, max, Option, IfOk, false};
 ghost use Rattle.nfs_xdr.specs.Spelling.{number};
 ghost use Rattle.nfs_rpc.specs.View as view;
-ghost use Rattle.nfs_compound.specs.ReadRequest.{request_at};
 ghost use Rattle.nfs_exec.specs.Step.Expiry.{expired};
 ghost use Rattle.nfs_exec.specs.Step.Held.{held};
 ghost use Rattle.nfs_exec.specs.Step.Machine.{IsMachine, HasNoClashes, machine_of};
 ghost use Rattle.nfs_rpc.specs.CallHead.{call_of};
-ghost use Rattle.nfs_serve.specs.Step.{step, new_state, reply_to, by_procedure, with_arguments};
+ghost use Rattle.nfs_rpc.specs.declared.call.Procedure.TheVariants as procedure;
+ghost use Rattle.nfs_serve.specs.Step.{step, new_state, reply_to, by_procedure};
 ghost use Rattle.nfs_serve.specs.Run.{one_fragment, spell_reply};
-ghost use Rattle.nfs_serve.specs.Server.{IsAnswer, state_of};
+ghost use Rattle.nfs_serve.specs.Server.{state_of};
 ghost use Rattle.nfs_lease.specs.Queue.{IsLatest};
-ghost use Rattle.nfs_serve.specs.Engine.{PutsReply, PutsAnswer, at_moment, outcome_of, in_form, spell_lent};
+ghost use Rattle.nfs_serve.specs.Engine.{StepsCall, PutsReply, PutsAnswer, at_moment, outcome_of, in_form, spell_lent};
 ghost use Rattle.nfs_serve.specs.Ends.{Writes};
 ghost use Rattle.nfs_serve.specs.Script.{last_moment};
 
@@ -77,7 +77,7 @@ impl Engine {
     /// Steps a record at a moment. A reply is lent by `reply`.
     pub(crate) fn record(&mut self, alloc: Global, call: &[u8], now: u64) -> Outcome
         requires { now ≤ last_moment }
-        ensures { (choice : Option ℕ) × IsAnswer result (step (state_of self.old.kept) call.now now choice).reply self.new.reply × ((state_of self.new.kept) ≡ (step (state_of self.old.kept) call.now now choice).state) }
+        ensures { StepsCall result self.old self.new call.now now }
     {
         self.pass(now);
         self.sheet.cut(FRONT);
@@ -232,7 +232,7 @@ fn put_compound(
     requires now { now ≤ last_moment }
     requires latest { IsLatest (machine_of world.old).leases now }
     requires room { length out.old.bytes + 70000 ≤ out.old.room }
-    ensures answer { (choice : Option ℕ) × PutsReply (with_arguments (at_moment world.old now) (view.call call.entry) size choice (request_at call.entry.args.now)) out.old out.new (at_moment world.new now) }
+    ensures answer { (choice : Option ℕ) × PutsReply (by_procedure (at_moment world.old now) (view.call call.entry) size choice procedure.Compound) out.old out.new (at_moment world.new now) }
     ensures latest { IsLatest (machine_of world.new).leases now }
 {
     match Compound::open(call.args) {

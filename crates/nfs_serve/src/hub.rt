@@ -170,7 +170,7 @@ fn sweep<P: Ports, C: Clock>(
 )
     requires ports { length lanes.old ≡ connection_count }
     ensures length { length lanes.new ≡ connection_count }
-    ensures sweeps { SweepsAll (state_of engine.old.kept) (desks_of lanes.old) (state_of engine.new.kept) (desks_of lanes.new) (P.log ports.old) (P.log ports.new) (C.told clock.old) (C.told clock.new) }
+    ensures sweeps { SweepsAll engine.old.kept lanes.old engine.new.kept lanes.new (P.log ports.old) (P.log ports.new) (C.told clock.old) (C.told clock.new) }
 {
     for port in 0..PORTS {
         lanes[port].visit(alloc, engine, port as u32, ports, clock);

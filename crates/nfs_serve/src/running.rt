@@ -3,10 +3,9 @@ ghost use Rattle.std.specs.Prelude.{◌≡◌, ◌≤◌, ℕ, List, false, leng
 ghost use Rattle.std.specs.Io.KnownBytes.{Consumes};
 ghost use Rattle.nfs_xdr.specs.Text.{IsBytes};
 ghost use Rattle.nfs_serve.specs.Run.{all_closed};
-ghost use Rattle.nfs_serve.specs.Reading as reading;
 ghost use Rattle.nfs_serve.specs.Server.{fresh, held_on, state_of};
 ghost use Rattle.nfs_serve.specs.Replay.{AllStand, Replays, Reports};
-ghost use Rattle.nfs_serve.specs.Running.{RunsEntryOr, EndsBehind};
+ghost use Rattle.nfs_serve.specs.Running.{RunsEntryOn, EndsBehind};
 ghost use Rattle.nfs_serve.specs.Script.{last_moment, last_connection, connection_count, most_piece};
 
 use crate::connection::Connection;
@@ -93,7 +92,7 @@ fn run_entry<W: Sink>(
     requires moment { entry.now.moment ≤ last_moment }
     requires bytes { IsBytes entry.now.piece.now }
     requires write { W.has_failed w.old ≡ false }
-    ensures ran { RunsEntryOr result (state_of engine.old.kept) (state_of engine.new.kept) connections.old connections.new (reading.entry entry.now) (W.held w.old) (W.held w.new) (W.has_failed w.new) }
+    ensures ran { RunsEntryOn result engine.old.kept engine.new.kept connections.old connections.new entry.now (W.held w.old) (W.held w.new) (W.has_failed w.new) }
     ensures length { length connections.new ≡ connection_count }
 {
     let conn = entry.conn as usize;

@@ -3,7 +3,7 @@
 ghost use Rattle.std.specs.Prelude.{◌≡◌, ◌≢◌, ◌≤◌, [], false, IfOk, OnErr, replicate};
 ghost use Rattle.nfs_exec.specs.Step.Held.{held};
 ghost use Rattle.nfs_exec.specs.Step.Machine.{IsMachine, HasNoClashes};
-ghost use Rattle.nfs_serve.specs.Server.{fresh, held_on, IsWith, Steps, FeedsOr, Closes, IsNew, state_of};
+ghost use Rattle.nfs_serve.specs.Server.{fresh, held_on, IsWith, Steps, FeedsOn, Closes, IsNew, state_of};
 ghost use Rattle.nfs_serve.specs.Replay.{IsReplay};
 ghost use Rattle.nfs_serve.specs.Talk.{Talks, TalkReports};
 ghost use Rattle.nfs_serve.specs.Hub.{Serves};
@@ -134,7 +134,7 @@ impl Server {
         requires conn { conn ≤ last_connection }
         requires now { now ≤ last_moment }
         requires out { W.has_failed out.old ≡ false }
-        ensures fed { FeedsOr result (state_of self.old.kept) (state_of self.new.kept) (held_on self.old.held conn) (held_on self.new.held conn) conn now piece.now form (W.held out.old) (W.held out.new) (W.has_failed out.new) }
+        ensures fed { FeedsOn result self.old self.new conn now piece.now form (W.held out.old) (W.held out.new) (W.has_failed out.new) }
         ensures closed { OnErr result (held_on self.new.held conn ≡ fresh) }
         ensures others { IsWith self.new.held self.old.held conn (held_on self.new.held conn) }
         ensures empty { piece.now ≡ [] → self.new ≡ self.old }

@@ -10,7 +10,7 @@ use Rattle.nfs_clients.specs.{Roster.without, declared.exchange_id.Exchanged.Exc
 use Rattle.nfs_sessions.specs.{SessionTables.IsGranted, Channel.rpc_head}
 use Rattle.nfs_sessions.specs.Sessions as sessions
 use Rattle.nfs_exec.specs.{declared.tables.Tables.Tables, declared.sequence.Sequenced.{Sequenced as Code}}
-use Rattle.nfs_exec.specs.{Step.Machine.{Machine, IsMachine, MachineOutcome, machine_of}, Step.Behind.Step, Step.Compound.{answers, runs_behind, Answered}}
+use Rattle.nfs_exec.specs.{Step.Machine.{Machine, IsMachine, MachineOutcome, machine_of}, Step.Behind.Step, Step.Compound.{answers, runs_behind, in_session, Answered}}
 use Rattle.nfs_exec.specs.{Step.Run.Ran, Step.Parts.{without_any_sessions, without_any_lease, without_any_opens}}
 use Rattle.nfs_exec.specs.Step.Sequence.{Sequenced, Refuses, Repeats, Runs}
 use Rattle.nfs_exec.specs.declared.sequence.Sequenced.TheVariants as code
@@ -88,6 +88,10 @@ pub record RanIn (m : Machine) (r : Request) (who : Caller) (now : ℕ) (s : Seq
   pub fits : length new.bytes + rpc_head ≤ length old.bytes + channel.maxresponsesize
   pub same : behind ≡ record r { left = behind.left }
   pub store : IsStore left.store
+
+-- A new request ran in a session of this channel: for some choice its answer was put, and this machine was left.
+abbrev pub RunsNew : Machine → Request → Caller → (now : ℕ) → Sequence → ChannelAttrs → (left : Machine) → (old new : SheetState) → Type 0
+RunsNew m r who now s channel left old new = (choice : Option ℕ) × Answers (in_session m r who now choice s r.left (Runs channel)) old new left
 
 -- a client goes with its sessions, its lease, its opens and its locks
 abbrev pub without_client : Machine → ℕ → Machine
