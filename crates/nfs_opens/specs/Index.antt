@@ -1,5 +1,5 @@
 -- Which states belong to what: each stands in an index as a pair of what it belongs to, a file (RFC 8881 section 9.7) or a client (section 8.3), and its number.
-use Rattle.std.specs.Prelude.{◌≡◌, ◌≢◌, ◌⊎◌, ℕ, ◌<◌, ◌≤◌, ◌==◌, nat_lt, ◌&&◌, ◌||◌, Bool, List, [], ◌∷◌, Option, Some, None}
+use Rattle.std.specs.Prelude.{◌≡◌, ◌≢◌, ◌⊎◌, ℕ, ◌<◌, ◌≤◌, ◌==◌, nat_lt, ◌&&◌, ◌||◌, Bool, List, [], ◌∷◌, find, Option, Some, None}
 use Rattle.nfs_xdr.specs.Tables.{In}
 use Rattle.nfs_opens.specs.declared.index.Pair.{Pair}
 
@@ -23,6 +23,10 @@ is_before of number too p = nat_lt p.of of || ((p.of == of) && (nat_lt p.number 
 abbrev pub IsNext : List Pair → ℕ → ℕ → Option ℕ → Type 0
 IsNext ps of after (Some n) = In (pair_of of n) ps × (after < n) × ((p : Pair) → In p ps → p.of ≡ of → after < p.number → n ≤ p.number)
 IsNext ps of after None = (p : Pair) → In p ps → p.of ≡ of → p.number ≤ after
+
+-- of states in rising order of their numbers, the first behind a number of those that belong to a file or a client
+abbrev pub first_behind : {X : Type 0} → (of number : X → ℕ) → (key after : ℕ) → List X → Option X
+first_behind of number key after states = find (λ x. (of x == key) && nat_lt after (number x)) states
 
 -- one more pair
 pub record HasPut (ps : List Pair) (new : Pair) (qs : List Pair) : Type 0 where

@@ -1,9 +1,9 @@
 //! States by their numbers.
 
-ghost use Rattle.std.specs.Prelude.{◌≡◌, ◌==◌, ◌&&◌, ◌<◌, ◌++◌, ◌∷◌, [], true, not, length, filter, find, map, if◌then◌else◌, OnOk, ℕ, nat_lt, min};
+ghost use Rattle.std.specs.Prelude.{◌≡◌, ◌==◌, ◌<◌, ◌++◌, ◌∷◌, [], true, not, length, filter, find, map, if◌then◌else◌, OnOk, ℕ, min};
 ghost use Rattle.std.specs.Option.{option_copied};
 ghost use Rattle.nfs_xdr.specs.Tables.{In};
-ghost use Rattle.nfs_opens.specs.Index.{IsIndex};
+ghost use Rattle.nfs_opens.specs.Index.{IsIndex, first_behind};
 ghost use Rattle.nfs_opens.specs.TableInvariants.{Rises};
 ghost use Rattle.nfs_opens.specs.StateId.{last_number};
 
@@ -90,7 +90,7 @@ impl<T: State> ByNumber<T> {
         of: &S,
         after: u64,
     ) -> Option<&T>
-        ensures next { (f : T → ℕ) → IsIndex f T.number self.now.items index.now.items → option_copied result ≡ find (λ x. (f x == S.of of.now) && nat_lt after (T.number x)) self.now.items }
+        ensures next { (f : T → ℕ) → IsIndex f T.number self.now.items index.now.items → option_copied result ≡ first_behind f T.number (S.of of.now) after self.now.items }
         ensures first { (f : T → ℕ) → IsIndex f T.number self.now.items index.now.items → after ≡ 0 → option_copied result ≡ find (λ x. f x == S.of of.now) self.now.items }
     {
         self.kept();

@@ -111,10 +111,14 @@ rename_checks t m =
 abbrev pub with_both_changed : ℕ → ℕ → Time → List Stored → List Stored
 with_both_changed a b now objects = if a == b then with_entries_changed a now objects else with_entries_changed b now (with_entries_changed a now objects)
 
+-- an object's entry comes to the new name, under this cookie; the entry that has the new name goes
+abbrev pub with_moved_row : List Row → Move → (object cookie : ℕ) → List Row
+with_moved_row rows m = with_row (without_entry m.source m.old (without_entry m.target m.name rows)) m.target m.name
+
 -- the moved object does not change; one that is replaced loses a row; the new row has a new cookie
 abbrev pub with_moved : Files → Move → Time → Files
 with_moved t m now = record t {
   objects = with_both_changed m.source m.target now (with_links_changed (replaced_object t m) now t.objects);
-  rows = with_row (without_entry m.source m.old (without_entry m.target m.name t.rows)) m.target m.name (moved_object t m) (t.last_cookie + 1);
+  rows = with_moved_row t.rows m (moved_object t m) (t.last_cookie + 1);
   last_cookie = t.last_cookie + 1;
 }
