@@ -37,17 +37,17 @@ abbrev pub another : List ℕ
 another = words (7 ∷ 0 ∷ 0 ∷ 3 ∷ [])
 
 -- a name of one byte in the root, which leads to the file
-abbrev pub named : ℕ → KnownName
-named byte = record { place = record { directory = root; name = byte ∷ [] }; object = given }
+abbrev pub in_root : ℕ → KnownName
+in_root byte = record { place = record { directory = root; name = byte ∷ [] }; object = given }
 
 abbrev pub f : KnownName
-f = named 0x66
+f = in_root 0x66
 
 abbrev pub g : KnownName
-g = named 0x67
+g = in_root 0x67
 
 abbrev pub h : KnownName
-h = named 0x68
+h = in_root 0x68
 
 -- the names that are known behind each of the three
 pub record IsKnown : Type 0 where
