@@ -1,4 +1,5 @@
 pub mod Nothing
+pub mod AtOnce
 pub mod Numbers
 pub mod Lengths
 pub mod Heads

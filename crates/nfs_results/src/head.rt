@@ -1,6 +1,6 @@
 //! The head of a compound's result.
 
-ghost use Rattle.std.specs.Prelude.{◌≤◌, length};
+ghost use Rattle.std.specs.Prelude.{◌≤◌, [], length};
 ghost use Rattle.nfs_xdr.specs.SheetState.{HasRoom, Puts};
 ghost use Rattle.nfs_xdr.specs.declared.status.Status.TheVariants.{Nfs4Ok};
 ghost use Rattle.nfs_xdr.specs.Limits.{opaque_limit};
@@ -52,7 +52,21 @@ pub fn write_compound_head(status: Status, tag: &[u8], count: u32, out: &mut She
     requires room { HasRoom out.old (spell_compound_head status tag.now count) }
     ensures { Puts out.old out.new (spell_compound_head status tag.now count) }
 {
-    out.put_u32(status.number());
-    out.put_opaque(tag);
-    out.put_u32(count);
+    if tag.is_empty() {
+        put_untagged(status, count, out);
+    } else {
+        out.put_u32(status.number());
+        out.put_opaque(tag);
+        out.put_u32(count);
+    }
+}
+
+/// Puts the head where the tag is empty, at once.
+#[tactic(auto, unfolding(nfs_xdr::specs::Spelling::number))]
+fn put_untagged(status: Status, count: u32, out: &mut Sheet)
+    requires room { HasRoom out.old (spell_compound_head status [] count) }
+    ensures { Puts out.old out.new (spell_compound_head status [] count) }
+{
+    let words = [status.number().to_be_bytes(), [0; 4], count.to_be_bytes()];
+    out.put_bytes(words.as_flattened());
 }

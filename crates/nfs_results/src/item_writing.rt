@@ -273,11 +273,23 @@ pub(crate) fn put_sequence(s: &SequenceOk, out: &mut Sheet)
     ensures { Puts out.old out.new (table.sequence.spell s.now) }
 {
     out.put_fixed(&s.sessionid);
-    out.put_u32(s.sequenceid);
-    out.put_u32(s.slotid);
-    out.put_u32(s.highest_slotid);
-    out.put_u32(s.target_highest_slotid);
-    out.put_u32(s.status_flags);
+    put_slot(s, out);
+}
+
+/// Puts what stands behind the session id, at once.
+#[tactic(auto, unfolding(nfs_xdr::specs::Spelling::number))]
+fn put_slot(s: &SequenceOk, out: &mut Sheet)
+    requires room { HasRoom out.old (spelling.number s.now.sequenceid ++ (spelling.number s.now.slotid ++ (spelling.number s.now.highest_slotid ++ (spelling.number s.now.target_highest_slotid ++ spelling.number s.now.status_flags)))) }
+    ensures { Puts out.old out.new (spelling.number s.now.sequenceid ++ (spelling.number s.now.slotid ++ (spelling.number s.now.highest_slotid ++ (spelling.number s.now.target_highest_slotid ++ spelling.number s.now.status_flags)))) }
+{
+    let words = [
+        s.sequenceid.to_be_bytes(),
+        s.slotid.to_be_bytes(),
+        s.highest_slotid.to_be_bytes(),
+        s.target_highest_slotid.to_be_bytes(),
+        s.status_flags.to_be_bytes(),
+    ];
+    out.put_bytes(words.as_flattened());
 }
 
 /// Puts a count and that many numbers.

@@ -29,14 +29,15 @@ pub fn write(res: &Res<'_>, out: &mut Sheet)
     put_behind(res, out);
 }
 
-#[tactic(auto, using(nfs_xdr::proofs::Putting::putting))]
+/// Puts both words at once, so that the room is looked at once.
+#[tactic(auto, unfolding(nfs_xdr::specs::Spelling::number))]
 #[inline(always)]
 pub(crate) fn put_head(operation: u32, status: Status, out: &mut Sheet)
     requires room { HasRoom out.old (head operation status) }
     ensures { Puts out.old out.new (head operation status) }
 {
-    out.put_u32(operation);
-    out.put_u32(status.number());
+    let words = [operation.to_be_bytes(), status.number().to_be_bytes()];
+    out.put_bytes(words.as_flattened());
 }
 
 /// Looks at the arrays, which are as long as their types say.
