@@ -1,5 +1,6 @@
 -- What holds of the table of attributes as a whole.
-use Rattle.std.specs.Prelude.{ℕ, ◌/◌, ◌%◌, ◌^◌, ◌+◌, ◌==◌, List, [], ◌∷◌, Bool, false, map, filter, if◌then◌else◌}
+use Rattle.std.specs.Prelude.{◌≡◌, ℕ, ◌/◌, ◌%◌, ◌^◌, ◌+◌, ◌==◌, List, [], ◌∷◌, Bool, false, map, filter, if◌then◌else◌}
+use Rattle.nfs_xdr.specs.Text.{Text}
 use Rattle.nfs_attrs.specs.{Attributes.{Attribute, attributes}, declared.mask.Mask.Mask}
 
 -- word w of the mask of these numbers, each of which stands there once
@@ -12,3 +13,7 @@ mask_of_numbers ns = record { words = word_of 0 ns ∷ word_of 1 ns ∷ word_of 
 
 abbrev pub mask_of_lines : (Attribute → Bool) → Mask
 mask_of_lines test = mask_of_numbers (map (λ line. line.number) (filter test attributes))
+
+-- bytes that are this text and no more, and it fits
+abbrev pub AreText : List ℕ → Text → Type 0
+AreText bytes text = (bytes ≡ text.bytes) × text.Fits

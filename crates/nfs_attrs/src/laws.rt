@@ -6,7 +6,7 @@ ghost use Rattle.nfs_xdr.specs.Tables.{IsRising};
 ghost use Rattle.nfs_tree.specs.declared.object.Object.{Object};
 ghost use Rattle.nfs_attrs.specs.Attributes as table;
 ghost use Rattle.nfs_attrs.specs.Handle.{handle_of};
-ghost use Rattle.nfs_attrs.specs.Laws.{mask_of_lines};
+ghost use Rattle.nfs_attrs.specs.Laws.{mask_of_lines, AreText};
 ghost use Rattle.nfs_attrs.specs.SetTime.{set_time_at};
 ghost use Rattle.nfs_attrs.specs.SettingsCodec.{settings_of};
 ghost use Rattle.nfs_attrs.specs.Wire.{nfs_fh4, settime4};
@@ -27,9 +27,9 @@ pub fn masks()
 /// The readers give what the wire's text has: of a filehandle, of a time that is set, and of all values that a request sets, of which each is
 /// there where its mask has it.
 pub fn spellings()
-    ensures handles { (bytes : List ℕ) (h : Handle) → IsBytes bytes → handle_of bytes ≡ Some h ↔ (bytes ≡ (nfs_fh4 h).bytes) × (nfs_fh4 h).Fits }
+    ensures handles { (bytes : List ℕ) (h : Handle) → IsBytes bytes → handle_of bytes ≡ Some h ↔ AreText bytes (nfs_fh4 h) }
     ensures times { (bytes : List ℕ) (x : SetTime × List ℕ) → IsBytes bytes → set_time_at bytes ≡ Some x ↔ Leads settime4 bytes x }
-    ensures settings { (given : Mask) (bytes : List ℕ) (s : table.Settings) → IsBytes bytes → settings_of given bytes ≡ Some s ↔ (bytes ≡ (table.settings4 given s).bytes) × (table.settings4 given s).Fits }
+    ensures settings { (given : Mask) (bytes : List ℕ) (s : table.Settings) → IsBytes bytes → settings_of given bytes ≡ Some s ↔ AreText bytes (table.settings4 given s) }
 {}
 
 /// Attributes fit into 632 bytes, whatever is asked: with an operation number and a status they are within 640.
