@@ -1,11 +1,10 @@
 -- The numbers that a mask asks for, and their values.
-use Rattle.std.proofs.Common.{◌≡◌, ℕ, suc, ◌<◌, ◌≤◌, ◌+◌, Bool, true, false, cond, List, [], ◌∷◌, ◌++◌, length, take, drop, get_or, refl, sym, ap, ◌∙◌, add-one, arith}
-use Rattle.std.proofs.lemmas.List.{length-append}
+use Rattle.std.proofs.Common.{◌≡◌, ℕ, Bool, true, false, cond, List, [], ◌∷◌, ◌++◌, refl, sym, ap, ◌∙◌}
 use Rattle.std.specs.List.{flat_map, filter}
 use Rattle.nfs_tree.specs.declared.object.Object.{Object}
 use Rattle.nfs_attrs.specs.{Attributes.{attributes, values, value_at}, Asked.{asked_numbers, values_of}, Mask.has, declared.about.About.About}
 use Rattle.nfs_attrs.specs.declared.mask.Mask.{Mask}
-use Rattle.nfs_attrs.proofs.{Fronts.{one_more, split_at}, Values.{numbers, values_by_number}}
+use Rattle.nfs_attrs.proofs.{Values.{numbers, values_by_number}}
 
 pub asked_of_table : (asked : Mask) → asked_numbers asked ≡ filter (has asked) numbers
 unfolding asked_numbers attributes
@@ -25,14 +24,3 @@ pub values_of_asked : (asked : Mask) (a : About) (o : Object) → values_of (ask
 values_of_asked asked a o =
     let f = λ (n : ℕ). value_at attributes n a o in
     ap (flat_map f) (asked_of_table asked) ∙ texts_of_passed (has asked) f numbers ∙ sym (values_by_number asked a o)
-
--- the texts of one more number
-pub one_more_of : (f : ℕ → List ℕ) (ns : List ℕ) (i : ℕ) → i < length ns → flat_map f (take (i + 1) ns) ≡ flat_map f (take i ns) ++ f (get_or ns i 0)
-one_more_of f ns i lt = rw add-one (one_more f ns i 0 lt)
-
-pub next_of_fits : (f : ℕ → List ℕ) (ns : List ℕ) (i : ℕ) → i < length ns
-    → length (flat_map f (take i ns)) + length (f (get_or ns i 0)) ≤ length (flat_map f ns)
-next_of_fits f ns i lt =
-    let here = f (get_or ns i 0) in
-    let later = flat_map f (drop (suc i) ns) in
-    omega (arith, ap length (split_at f ns i 0 lt), length-append (flat_map f (take i ns)) (here ++ later), length-append here later)

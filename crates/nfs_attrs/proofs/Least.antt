@@ -1,12 +1,11 @@
 -- The least attribute of a mask, and the mask without it.
-use Rattle.std.proofs.Common.{◌≡◌, ◌≢◌, ℕ, zero, suc, ◌<◌, ◌≤◌, ◌+◌, ◌*◌, ◌/◌, ◌%◌, ◌^◌, ◌&&◌, Bool, true, false, cond, List, [], ◌∷◌, ◌++◌, length, get_or, set, refl, sym, ap, ◌∙◌, arith, inl, inr, eqb, min}
-use Rattle.std.proofs.lemmas.{Bool.{cases_lt, cases_eq}, List.{get_or-set_same, get_or-set_other, length-append}}
-use Rattle.nfs_xdr.proofs.Lists.{length_filter}
+use Rattle.std.proofs.Common.{◌≡◌, ◌≢◌, ℕ, zero, suc, ◌<◌, ◌≤◌, ◌+◌, ◌*◌, ◌/◌, ◌%◌, ◌^◌, ◌&&◌, Bool, true, false, cond, List, [], ◌∷◌, length, get_or, set, refl, sym, ap, ◌∙◌, arith, inl, inr, eqb, min}
+use Rattle.std.proofs.lemmas.{Bool.{cases_lt, cases_eq}, List.{get_or-set_same, get_or-set_other}}
 use Rattle.std.proofs.lemmas.Nat.Bits.{bit_at_and, bit_at-zero, bit_at-lt, bit_at-trailing_zeros, bit_at_clear_same, bit_at_clear_other}
 use Rattle.std.specs.{Prelude.bit_and, Int.{w32, bit_at, bit_not, trailing_zeros}, List.{filter, range_with_len}}
 use Rattle.nfs_attrs.specs.Mask.{has, common, numbers_of}
 use Rattle.nfs_attrs.specs.{Asked.asked_numbers, Attributes.supported, declared.mask.Mask.Mask}
-use Rattle.nfs_attrs.proofs.{Values.numbers, Asking.asked_of_table}
+use Rattle.nfs_attrs.proofs.{Asking.asked_of_table}
 
 -- where no number passes, none is left
 none_passes : (p : ℕ → Bool) (a k : ℕ) → ((i : ℕ) → i < a + k → p i ≡ false) → filter p (range_with_len a k) ≡ []
@@ -78,6 +77,14 @@ least_of m j w here few there empty some fits =
     ] in
     first_passes (has m) (has m') n 0 96 n (omega arith) (omega arith) on off before others
 
+-- the same of the first word
+pub least_of_first : (m : Mask) (w : ℕ) → get_or m.words 0 0 ≡ w → 0 < length m.words → 0 < w → w < 2 ^ 32
+    → numbers_of m ≡ trailing_zeros w32 w ∷ numbers_of (record m { words = set m.words 0 (bit_and w (bit_not w32 (1 * 2 ^ trailing_zeros w32 w % 2 ^ 32))) })
+least_of_first m w here there some fits =
+    let same : 32 * 0 + trailing_zeros w32 w ≡ trailing_zeros w32 w = omega arith in
+    least_of m 0 w here (omega arith) there (λ i l. absurd (omega arith)) some fits
+    ∙ ap (λ (n : ℕ). n ∷ numbers_of (record m { words = set m.words 0 (bit_and w (bit_not w32 (1 * 2 ^ trailing_zeros w32 w % 2 ^ 32))) })) same
+
 -- what passes two tests
 both_pass : (p q : ℕ → Bool) (ns : List ℕ) → filter (λ n. p n && q n) ns ≡ filter p (filter q ns)
 both_pass p q [] = refl
@@ -126,8 +133,3 @@ unfolding numbers_of
 numbers_of_supported asked =
     same_pass (has (common asked supported)) (λ i. has asked i && has supported i) 0 96 (λ i l h. has_both asked supported i (omega arith))
     ∙ both_pass (has asked) (has supported) (range_with_len 0 96) ∙ sym (asked_of_table asked)
-
--- One more number that is asked for has room among 31.
-pub has_room : (asked : Mask) (front later : List ℕ) (n : ℕ) → front ++ (n ∷ later) ≡ asked_numbers asked → length front < 31
-has_room asked front later n all =
-    omega (arith, ap length all, ap length (asked_of_table asked), length_filter (has asked) numbers, length-append front (n ∷ later))

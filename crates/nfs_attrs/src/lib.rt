@@ -26,6 +26,7 @@ mod owner;
 mod permission;
 mod set_time;
 mod setting;
+mod spelled;
 #[cfg(test)]
 mod tests;
 mod value;

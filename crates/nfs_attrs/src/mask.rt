@@ -1,7 +1,7 @@
 //! Which attributes are asked for, set or reported: `bitmap4` (RFC 8881 sections 3.3.7 and 5).
 
-ghost use Rattle.std.specs.Prelude.{◌≡◌, ◌≤◌, ◌%◌, ◌==◌, ◌++◌, ◌∷◌, [], ℕ, map, take, drop, length, not, get_or, bit_and, MatchOption};
-ghost use Rattle.std.specs.Int.{w32, from_be_bytes};
+ghost use Rattle.std.specs.Prelude.{◌≡◌, ◌≤◌, ◌<◌, ◌*◌, ◌^◌, ◌%◌, ◌==◌, ◌++◌, ◌∷◌, [], ℕ, map, take, drop, length, not, get_or, bit_and, MatchOption};
+ghost use Rattle.std.specs.Int.{w32, from_be_bytes, bit_not, trailing_zeros};
 ghost use Rattle.std.specs.List.{list_any, flat_map};
 ghost use Rattle.nfs_xdr.specs.SheetState.{HasRoom, Puts};
 ghost use Rattle.nfs_xdr.specs.Spelling.{number};
@@ -10,7 +10,8 @@ ghost use Rattle.nfs_attrs.specs.Mask.{mask_of, has, asks_set_only, trimmed_word
 
 use crate::attribute;
 use crate::following::{number_follows, numbers_follow};
-use nfs_xdr::{Cursor, Sheet};
+use crate::spelled::Spelled;
+use nfs_xdr::Cursor;
 
 /// A set of attributes by their numbers: attribute n is bit n mod 32 of word n / 32.
 #[derive(Clone, Copy, Debug, PartialEq, Eq)]
@@ -37,6 +38,14 @@ fn any_beyond(words: &[[u8; 4]]) -> bool
         .map(|word| u32::from_be_bytes(*word))
         .skip(3)
         .any(|word| word != 0)
+}
+
+/// A word that is not zero, without its lowest one.
+fn without_least(word: u32) -> u32
+    requires { 0 < word }
+    ensures { result ≡ bit_and word (bit_not w32 (1 * 2 ^ trailing_zeros w32 word % 2 ^ 32)) }
+{
+    word & !(1 << word.trailing_zeros())
 }
 
 /// Words as they are written.
@@ -144,28 +153,33 @@ impl Mask {
             (numbers_of self.old ≡ [])
             (λ n. numbers_of self.old ≡ n ∷ numbers_of self.new) }
     {
-        let index = match self.words {
-            [0, 0, 0] => return None,
-            [0, 0, _] => 2,
-            [0, _, _] => 1,
-            _ => 0,
-        };
-        let word = self.words[index];
-        let bit = word.trailing_zeros();
-        self.words[index] = word & !(1 << bit);
-        Some(32 * index as u32 + bit)
+        match self.words {
+            [0, 0, 0] => None,
+            [0, 0, word] => {
+                self.words[2] = without_least(word);
+                Some(64 + word.trailing_zeros())
+            }
+            [0, word, _] => {
+                self.words[1] = without_least(word);
+                Some(32 + word.trailing_zeros())
+            }
+            [word, _, _] => {
+                self.words[0] = without_least(word);
+                Some(word.trailing_zeros())
+            }
+        }
     }
 
     /// Puts the mask: how many words, and the words.
     #[tactic(auto, using(nfs_xdr::proofs::Putting::putting))]
-    pub fn put(&self, sheet: &mut Sheet)
-        requires room { HasRoom sheet.old (spell_mask self.now) }
-        ensures { Puts sheet.old sheet.new (spell_mask self.now) }
+    pub(crate) fn put(&self, out: &mut Spelled)
+        requires room { HasRoom out.old (spell_mask self.now) }
+        ensures { Puts out.old out.new (spell_mask self.now) }
     {
         let words = self.trimmed_words();
-        sheet.put_u32(words.len() as u32);
+        out.put_u32(words.len() as u32);
         for word in words {
-            sheet.put_u32(*word);
+            out.put_u32(*word);
         }
     }
 

@@ -5,6 +5,7 @@ ghost use Rattle.nfs_xdr.specs.SheetState.{HasRoom, Puts};
 ghost use Rattle.nfs_attrs.specs.Asked.{values_of};
 ghost use Rattle.nfs_attrs.specs.Following.{Follows};
 ghost use Rattle.nfs_attrs.specs.Value.{spell_value, spell_found, asked_at};
+ghost use Rattle.nfs_attrs.specs.Mask.{numbers_of};
 ghost use Rattle.nfs_attrs.specs.Attributes as table;
 
 use crate::about::About;
@@ -13,6 +14,7 @@ use crate::attribute;
 use crate::following::{hyper_follows, number_follows, opaque_follows, time_follows};
 use crate::handle::Handle;
 use crate::mask::{Mask, SETTABLE, SUPPORTED};
+use crate::spelled::Spelled;
 use itoa::Buffer;
 use nfs_tree::{FileType, Object, Tree};
 use nfs_xdr::{Cursor, MAX_TRANSFER, Sheet, Time};
@@ -34,23 +36,23 @@ pub(crate) enum Value {
 impl Value {
     /// Puts the value, which is whole words.
     #[tactic(auto, using(nfs_xdr::proofs::Putting::putting, crate::proofs::Lengths::measuring), unfolding(nfs_xdr::specs::Time::time))]
-    pub(crate) fn put(self, sheet: &mut Sheet)
-        requires room { HasRoom sheet.old (spell_value self) }
-        ensures put { Puts sheet.old sheet.new (spell_value self) }
+    pub(crate) fn put(self, out: &mut Spelled)
+        requires room { HasRoom out.old (spell_value self) }
+        ensures put { Puts out.old out.new (spell_value self) }
         ensures words { length (spell_value self) % 4 ≡ 0 }
     {
         match self {
-            Value::Number(n) => sheet.put_u32(n),
-            Value::Hyper(n) => sheet.put_u64(n),
-            Value::Flag(b) => sheet.put_flag(b),
+            Value::Number(n) => out.put_u32(n),
+            Value::Hyper(n) => out.put_u64(n),
+            Value::Flag(b) => out.put_flag(b),
             Value::FsId(major, minor) => {
-                sheet.put_u64(major);
-                sheet.put_u64(minor);
+                out.put_u64(major);
+                out.put_u64(minor);
             }
-            Value::Handle(handle) => sheet.put_opaque(&handle.bytes()),
-            Value::Owner(number) => sheet.put_opaque(Buffer::new().format(number).as_bytes()),
-            Value::Mask(mask) => mask.put(sheet),
-            Value::Time(time) => sheet.put_time(time),
+            Value::Handle(handle) => out.put_opaque(&handle.bytes()),
+            Value::Owner(number) => out.put_opaque(Buffer::new().format(number).as_bytes()),
+            Value::Mask(mask) => mask.put(out),
+            Value::Time(time) => out.put_time(time),
         }
     }
 
@@ -110,13 +112,13 @@ fn asked_len(number: u32, asked: &Mask, object: &Object, about: &About) -> usize
 }
 
 /// Puts the value of the attribute of this number, where it can be read.
-fn put_value(number: u32, object: &Object, about: &About, sheet: &mut Sheet)
-    requires room { HasRoom sheet.old (table.value_at table.attributes number about.now object.now) }
-    ensures put { Puts sheet.old sheet.new (table.value_at table.attributes number about.now object.now) }
+fn put_value(number: u32, object: &Object, about: &About, out: &mut Spelled)
+    requires room { HasRoom out.old (table.value_at table.attributes number about.now object.now) }
+    ensures put { Puts out.old out.new (table.value_at table.attributes number about.now object.now) }
     ensures words { length (table.value_at table.attributes number about.now object.now) % 4 ≡ 0 }
 {
     if let Some(value) = value_of(number, object, about) {
-        value.put(sheet);
+        value.put(out);
     }
 }
 
@@ -153,24 +155,27 @@ pub(crate) fn values_len(asked: &Mask, object: &Object, about: &About) -> usize
     length
 }
 
-/// Puts the values of the attributes of these numbers, one behind the other.
-fn put_each(numbers: &[u32], object: &Object, about: &About, sheet: &mut Sheet)
-    requires room { HasRoom sheet.old (values_of numbers.now about.now object.now) }
-    ensures put { Puts sheet.old sheet.new (values_of numbers.now about.now object.now) }
-    ensures words { length (values_of numbers.now about.now object.now) % 4 ≡ 0 }
+/// Puts the values of these attributes, one behind the other. It looks at no attribute that is not asked for.
+fn put_each(asked: Mask, object: &Object, about: &About, out: &mut Spelled)
+    requires room { HasRoom out.old (values_of (numbers_of asked) about.now object.now) }
+    ensures put { Puts out.old out.new (values_of (numbers_of asked) about.now object.now) }
+    ensures words { length (values_of (numbers_of asked) about.now object.now) % 4 ≡ 0 }
 {
-    for number in numbers {
-        put_value(*number, object, about, sheet);
+    let mut left = asked;
+    while let Some(number) = left.take_least() {
+        put_value(number, object, about, out);
     }
 }
 
-/// Puts the values that are asked for, one behind the other.
+/// Puts the values that are asked for, one behind the other. The sheet takes them at once.
 pub(crate) fn put_values(asked: &Asked, object: &Object, about: &About, sheet: &mut Sheet)
     requires room { HasRoom sheet.old (table.values asked.now about.now object.now) }
     ensures put { Puts sheet.old sheet.new (table.values asked.now about.now object.now) }
     ensures words { length (table.values asked.now about.now object.now) % 4 ≡ 0 }
 {
-    put_each(asked.numbers(), object, about, sheet);
+    let mut values = Spelled::new();
+    put_each(asked.mask().common(&SUPPORTED), object, about, &mut values);
+    sheet.put_bytes(values.bytes());
 }
 
 /// Whether the values that are asked for stand at the cursor, which is then behind them.

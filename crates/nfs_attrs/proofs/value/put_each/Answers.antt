@@ -1,28 +1,45 @@
-use Rattle.std.proofs.{Common.{ℕ, ◌∙◌, ap, arith, get_or, length, take}, lemmas.List.length-append}
-use Rattle.std.specs.List.{flat_map}
-use Rattle.nfs_xdr.proofs.Putting.{puts_then}
-use Rattle.nfs_attrs.specs.Attributes.{attributes, value_at}
-use Rattle.nfs_attrs.proofs.{Room.room_within, Asking.{one_more_of, next_of_fits}}
+use Rattle.std.proofs.{Common.{◌≡◌, ◌++◌, ◌∙◌, ℕ, List, length, ap, append_assoc, refl, sym, arith}, lemmas.List.{length-append}}
+use Rattle.nfs_attrs.specs.{Asked.values_of, Attributes.{attributes, value_at}, Mask.numbers_of}
 use Rattle.nfs_attrs.proofs.value.put_each.Goals as goal
+
+pub loop-number-init : goal.loop-number-init
+loop-number-init c = record { put = record { bytes = refl; room = refl }; words = refl }
 
 pub put_value-requires : goal.put_value-requires
 put_value-requires c =
-    let f = λ (n : ℕ). value_at attributes n c.args.about.now c.args.object.now in
-    let numbers = c.args.numbers.now in
-    let i = c.loop-number.number-index in
+    let a = c.args.about.now in
+    let o = c.args.object.now in
+    let here = value_at attributes c.in-Some.number a o in
+    let later = values_of (numbers_of c.take_least.new.self) a o in
+    let all = values_of (numbers_of c.args.asked) a o in
+    let next : values_of (numbers_of c.loop-number.left) a o ≡ here ++ later = ap (λ (ns : List ℕ). values_of ns a o) c.in-Some.ensures in
     record {
-      room = room_within c.args.sheet.now c.loop-number.sheet _ (f (get_or numbers i 0)) (flat_map f numbers) c.loop-number.invariant.put
-          (next_of_fits f numbers i c.loop-number-test.true) c.requires.room;
+      room = omega (
+        arith,
+        c.requires.room,
+        c.loop-number.invariant.put.room,
+        ap length c.loop-number.invariant.put.bytes,
+        length-append c.args.out.now.bytes all,
+        ap length next,
+        length-append here later,
+        length-append c.loop-number.out.bytes (values_of (numbers_of c.loop-number.left) a o),
+      );
     }
 
 pub loop-number-preserved : goal.loop-number-preserved
 loop-number-preserved c =
-    let f = λ (n : ℕ). value_at attributes n c.args.about.now c.args.object.now in
-    let numbers = c.args.numbers.now in
-    let i = c.loop-number.number-index in
-    let one = one_more_of f numbers i c.loop-number-test.true in
-    let more = ap length one ∙ length-append (flat_map f (take i numbers)) _ in
+    let a = c.args.about.now in
+    let o = c.args.object.now in
+    let here = value_at attributes c.in-Some.number a o in
+    let later = values_of (numbers_of c.take_least.new.self) a o in
+    let before = c.loop-number.out.bytes in
+    let next : values_of (numbers_of c.loop-number.left) a o ≡ here ++ later = ap (λ (ns : List ℕ). values_of ns a o) c.in-Some.ensures in
+    let one = c.put_value.ensures.put in
     record {
-      put = rw one (puts_then c.loop-number.invariant.put c.put_value.ensures.put);
-      words = omega (arith, more, c.loop-number.invariant.words, c.put_value.ensures.words);
+      put = record {
+        bytes = ap (λ (w : List ℕ). w ++ later) one.bytes ∙ append_assoc before here later ∙ ap (λ (w : List ℕ). before ++ w) (sym next)
+            ∙ c.loop-number.invariant.put.bytes;
+        room = one.room ∙ c.loop-number.invariant.put.room;
+      };
+      words = omega (arith, ap length one.bytes, length-append before here, c.put_value.ensures.words, c.loop-number.invariant.words);
     }

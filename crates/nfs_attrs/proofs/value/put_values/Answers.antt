@@ -1,26 +1,45 @@
-use Rattle.std.proofs.Common.{◌≡◌, ◌%◌, ℕ, List, length, sym, ap, subst, ◌∙◌}
-use Rattle.nfs_xdr.specs.SheetState.{HasRoom, Puts}
-use Rattle.nfs_attrs.specs.{Asked.values_of, Attributes.values}
-use Rattle.nfs_attrs.proofs.Asking.{values_of_asked}
+use Rattle.std.proofs.Common.{◌≡◌, ◌%◌, ◌++◌, ℕ, List, length, sym, ap, subst, ◌∙◌, arith}
+use Rattle.nfs_xdr.specs.SheetState.{SheetState, HasRoom, Puts}
+use Rattle.nfs_tree.specs.declared.object.Object.{Object}
+use Rattle.nfs_attrs.specs.{Asked.values_of, Attributes.{values, supported}, Mask.{common, numbers_of}, declared.about.About.About, declared.mask.Mask.Mask}
+use Rattle.nfs_attrs.proofs.{Asking.values_of_asked, Least.numbers_of_supported, Bounds.attributes_within}
 use Rattle.nfs_attrs.proofs.value.put_values.Goals as goal
+
+same_values : (asked shown : Mask) (a : About) (o : Object) → shown ≡ common asked supported → values_of (numbers_of shown) a o ≡ values asked a o
+same_values asked shown a o e = ap (λ (m : Mask). values_of (numbers_of m) a o) e
+    ∙ ap (λ (ns : List ℕ). values_of ns a o) (numbers_of_supported asked) ∙ values_of_asked asked a o
 
 pub put_each-requires : goal.put_each-requires
 put_each-requires c =
     let a = c.args.about.now in
     let o = c.args.object.now in
-    let same : values_of c.numbers.result.now a o ≡ values c.args.asked.now a o = ap (λ (ns : List ℕ). values_of ns a o) c.numbers.ensures ∙ values_of_asked c.args.asked.now a o in
-    record { room = subst (HasRoom c.args.sheet.now) (sym same) c.requires.room }
+    let same : values_of (numbers_of c.common.result) a o ≡ values c.args.asked.now a o = same_values c.args.asked.now c.common.result a o (c.common.ensures ∙ ap (λ (m : Mask). common m supported) c.mask.ensures) in
+    let few = attributes_within c.args.asked.now a o in
+    record {
+      room = subst (λ (s : SheetState). HasRoom s (values_of (numbers_of c.common.result) a o)) (sym c.new-values.ensures) (omega (arith, few, ap length same));
+    }
+
+pub put_bytes-requires : goal.put_bytes-requires
+put_bytes-requires c =
+    let a = c.args.about.now in
+    let o = c.args.object.now in
+    let same : values_of (numbers_of c.common.result) a o ≡ values c.args.asked.now a o = same_values c.args.asked.now c.common.result a o (c.common.ensures ∙ ap (λ (m : Mask). common m supported) c.mask.ensures) in
+    let text : c.bytes.result.now ≡ values c.args.asked.now a o = c.bytes.ensures ∙ c.put_each.ensures.put.bytes
+    ∙ ap (λ (s : SheetState). s.bytes ++ values_of (numbers_of c.common.result) a o) c.new-values.ensures ∙ same in
+    record { room = subst (HasRoom c.args.sheet.now) (sym text) c.requires.room }
 
 pub returns-clause-put : goal.returns-clause-put
 returns-clause-put c =
     let a = c.args.about.now in
     let o = c.args.object.now in
-    let same : values_of c.numbers.result.now a o ≡ values c.args.asked.now a o = ap (λ (ns : List ℕ). values_of ns a o) c.numbers.ensures ∙ values_of_asked c.args.asked.now a o in
-    subst (Puts c.args.sheet.now c.put_each.new.sheet) same c.put_each.ensures.put
+    let same : values_of (numbers_of c.common.result) a o ≡ values c.args.asked.now a o = same_values c.args.asked.now c.common.result a o (c.common.ensures ∙ ap (λ (m : Mask). common m supported) c.mask.ensures) in
+    let text : c.bytes.result.now ≡ values c.args.asked.now a o = c.bytes.ensures ∙ c.put_each.ensures.put.bytes
+    ∙ ap (λ (s : SheetState). s.bytes ++ values_of (numbers_of c.common.result) a o) c.new-values.ensures ∙ same in
+    subst (Puts c.args.sheet.now c.put_bytes.new.self) text c.put_bytes.ensures
 
 pub returns-clause-words : goal.returns-clause-words
 returns-clause-words c =
     let a = c.args.about.now in
     let o = c.args.object.now in
-    let same : values_of c.numbers.result.now a o ≡ values c.args.asked.now a o = ap (λ (ns : List ℕ). values_of ns a o) c.numbers.ensures ∙ values_of_asked c.args.asked.now a o in
+    let same : values_of (numbers_of c.common.result) a o ≡ values c.args.asked.now a o = same_values c.args.asked.now c.common.result a o (c.common.ensures ∙ ap (λ (m : Mask). common m supported) c.mask.ensures) in
     subst (λ (text : List ℕ). length text % 4 ≡ 0) same c.put_each.ensures.words

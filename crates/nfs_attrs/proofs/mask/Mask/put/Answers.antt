@@ -24,4 +24,4 @@ put_u32-requires-in-loop-word c =
       length-append (number (length words)) (flat_map number part),
       length-append (number (length (trimmed_words c.args.self.now))) (flat_map number (trimmed_words c.args.self.now)),
     ) in
-    record { room = room_within c.args.sheet.now c.loop-word.sheet _ _ _ c.loop-word.invariant short c.requires.room }
+    record { room = room_within c.args.out.now c.loop-word.out _ _ _ c.loop-word.invariant short c.requires.room }
