@@ -96,15 +96,12 @@ impl Value {
     }
 }
 
-/// How many bytes of the attribute of this number are asked for.
-fn asked_len(number: u32, asked: &Mask, object: &Object, about: &About) -> usize
-    ensures exact { result ≡ length (asked_at asked.now about.now object.now number) }
+/// How many bytes the value of the attribute of this number has, where it can be read.
+fn value_len(number: u32, object: &Object, about: &About) -> usize
+    ensures exact { result ≡ length (table.value_at table.attributes number about.now object.now) }
     ensures small { result ≤ 20 }
     ensures words { result % 4 ≡ 0 }
 {
-    if !asked.has(number) {
-        return 0;
-    }
     match value_of(number, object, about) {
         Some(value) => value.len(),
         None => 0,
@@ -148,9 +145,10 @@ pub(crate) fn values_len(asked: &Mask, object: &Object, about: &About) -> usize
     ensures small { result ≤ 620 }
     ensures words { result % 4 ≡ 0 }
 {
+    let mut left = asked.common(&SUPPORTED);
     let mut length = 0;
-    for number in attribute::ALL {
-        length += asked_len(number, asked, object, about);
+    while let Some(number) = left.take_least() {
+        length += value_len(number, object, about);
     }
     length
 }

@@ -1,13 +1,8 @@
 use Rattle.std.proofs.Common.{◌≡◌, ◌%◌, ◌++◌, ℕ, List, length, sym, ap, subst, ◌∙◌, arith}
 use Rattle.nfs_xdr.specs.SheetState.{SheetState, HasRoom, Puts}
-use Rattle.nfs_tree.specs.declared.object.Object.{Object}
-use Rattle.nfs_attrs.specs.{Asked.values_of, Attributes.{values, supported}, Mask.{common, numbers_of}, declared.about.About.About, declared.mask.Mask.Mask}
-use Rattle.nfs_attrs.proofs.{Asking.values_of_asked, Least.numbers_of_supported, Bounds.attributes_within}
+use Rattle.nfs_attrs.specs.{Asked.values_of, Attributes.{values, supported}, Mask.{common, numbers_of}, declared.mask.Mask.Mask}
+use Rattle.nfs_attrs.proofs.{Least.same_values, Bounds.attributes_within}
 use Rattle.nfs_attrs.proofs.value.put_values.Goals as goal
-
-same_values : (asked shown : Mask) (a : About) (o : Object) → shown ≡ common asked supported → values_of (numbers_of shown) a o ≡ values asked a o
-same_values asked shown a o e = ap (λ (m : Mask). values_of (numbers_of m) a o) e
-    ∙ ap (λ (ns : List ℕ). values_of ns a o) (numbers_of_supported asked) ∙ values_of_asked asked a o
 
 pub put_each-requires : goal.put_each-requires
 put_each-requires c =

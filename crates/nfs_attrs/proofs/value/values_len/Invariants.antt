@@ -1,12 +1,12 @@
-use Rattle.std.proofs.Common.{◌≡◌, ◌≤◌, ◌*◌, ◌%◌, length, take}
-use Rattle.std.specs.List.{flat_map}
-use Rattle.nfs_attrs.specs.Value.{asked_at}
+use Rattle.std.proofs.Common.{◌≡◌, ◌+◌, ◌%◌, length}
+use Rattle.nfs_attrs.specs.{Asked.values_of, Attributes.values, Mask.numbers_of}
 use Rattle.nfs_attrs.proofs.value.values_len.Given as goal
 
 abbrev pub invariant-loop-number : goal.invariant-loop-number
 invariant-loop-number l = record {
-  exact : l.length ≡ length (flat_map (asked_at l.asked l.about l.object)
-      (take l.number-index l.number-items));
-  small : l.length ≤ 20 * l.number-index;
+  exact : l.length + length (values_of (numbers_of l.left) l.about l.object) ≡ length (values l.asked l.about l.object);
   words : l.length % 4 ≡ 0;
 }
+
+abbrev pub decreases-loop-number : goal.decreases-loop-number
+decreases-loop-number l = length (numbers_of l.left)
