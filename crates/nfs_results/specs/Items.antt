@@ -96,6 +96,13 @@ create_session = as_type
 unfoldable pub flavors : Codec (List ℕ)
 flavors = pieces 4 (from_be_bytes w32) number
 
+-- what stands behind the session id in SEQUENCE's result
+abbrev pub slot : Codec (ℕ × (ℕ × (ℕ × (ℕ × ℕ))))
+slot = number then number then number then number then number
+
+abbrev pub slot_of : SequenceOk → ℕ × (ℕ × (ℕ × (ℕ × ℕ)))
+slot_of s = (s.sequenceid, (s.slotid, (s.highest_slotid, (s.target_highest_slotid, s.status_flags))))
+
 unfoldable pub sequence : Codec SequenceOk
 sequence = as_type
     (λ (sessionid, (sequenceid, (slotid, (highest_slotid, (target_highest_slotid, status_flags))))). record {
@@ -106,8 +113,8 @@ sequence = as_type
       target_highest_slotid = target_highest_slotid;
       status_flags = status_flags;
     })
-    (λ s. (s.sessionid, (s.sequenceid, (s.slotid, (s.highest_slotid, (s.target_highest_slotid, s.status_flags))))))
-    (fixed 16 then number then number then number then number then number)
+    (λ s. (s.sessionid, slot_of s))
+    (fixed 16 then slot)
 
 -- the numbers of statuses
 abbrev pub are_statuses : List ℕ → Bool

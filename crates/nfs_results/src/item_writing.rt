@@ -279,8 +279,8 @@ pub(crate) fn put_sequence(s: &SequenceOk, out: &mut Sheet)
 /// Puts what stands behind the session id, at once.
 #[tactic(auto, unfolding(nfs_xdr::specs::Spelling::number))]
 fn put_slot(s: &SequenceOk, out: &mut Sheet)
-    requires room { HasRoom out.old (spelling.number s.now.sequenceid ++ (spelling.number s.now.slotid ++ (spelling.number s.now.highest_slotid ++ (spelling.number s.now.target_highest_slotid ++ spelling.number s.now.status_flags)))) }
-    ensures { Puts out.old out.new (spelling.number s.now.sequenceid ++ (spelling.number s.now.slotid ++ (spelling.number s.now.highest_slotid ++ (spelling.number s.now.target_highest_slotid ++ spelling.number s.now.status_flags)))) }
+    requires room { HasRoom out.old (table.slot.spell (table.slot_of s.now)) }
+    ensures { Puts out.old out.new (table.slot.spell (table.slot_of s.now)) }
 {
     let words = [
         s.sequenceid.to_be_bytes(),
