@@ -1,13 +1,9 @@
 -- A count that is written in its place when what it counts has been put.
-use Rattle.std.proofs.Common.{◌≡◌, ℕ, ◌+◌, ◌≤◌, ◌%◌, List, ◌++◌, length, take, drop, append_assoc, sym, ap, ◌∙◌, arith}
-use Rattle.std.proofs.lemmas.List.{length-append, take_at, drop_at, drop-drop}
+use Rattle.std.proofs.Common.{◌≡◌, ℕ, ◌+◌, ◌≤◌, ◌%◌, List, ◌++◌, length, take, drop, append_assoc, refl, sym, ap, ◌∙◌, arith}
+use Rattle.std.proofs.lemmas.List.{length-append, length-take-le, length-drop, take_at, take-append-le, take-append-drop, drop_at, drop-drop, drop-append-le}
 use Rattle.nfs_xdr.specs.{SheetState.{SheetState, Puts}, Spelling.{number, opaque}}
 use Rattle.nfs_xdr.proofs.Putting.{length_number}
-use Rattle.nfs_attrs.proofs.{Lengths.measuring, Whole.opaque_of_words}
-
--- an opaque has at least its count and its bytes
-pub length_opaque_more : (text : List ℕ) → 4 + length text ≤ length (opaque text)
-length_opaque_more text = simp measuring (omega arith)
+use Rattle.nfs_attrs.proofs.{Whole.opaque_of_words}
 
 -- the count over the empty one
 set_front : (front empty count text : List ℕ) (at : ℕ) → length front ≡ at → length empty ≡ 4
@@ -29,23 +25,35 @@ counted old mid now text at count first rest whole here size =
       room = rest.room ∙ first.room;
     }
 
--- a sheet with more
-abbrev pub with_more : SheetState → List ℕ → SheetState
-with_more sheet more = record { bytes = sheet.bytes ++ more; room = sheet.room }
+-- sheets of the same bytes and room
+pub same_sheet : {bytes bytes' : List ℕ} {room room' : ℕ} → bytes ≡ bytes' → room ≡ room'
+    → (let old : SheetState = record { bytes = bytes; room = room } in let new : SheetState = record { bytes = bytes'; room = room' } in old ≡ new)
+same_sheet p q = rw (p, q) refl
 
--- the second of two texts that were put at once
-pub second_put : (old now : SheetState) (first second both : List ℕ) → Puts old now both → both ≡ first ++ second → Puts (with_more old first) now second
-second_put old now first second both put are = record {
-  bytes = put.bytes ∙ ap (λ (w : List ℕ). old.bytes ++ w) are ∙ sym (append_assoc old.bytes first second);
-  room = put.room;
-}
+-- a count that is written into bytes of which the first are in use
+written_behind : (used rest count : List ℕ) (at : ℕ) → at + 4 ≤ length used → length count ≡ 4
+    → take (length used) (take at (used ++ rest) ++ (count ++ drop (at + 4) (used ++ rest))) ≡ take at used ++ (count ++ drop (at + 4) used)
+written_behind used rest count at within four =
+    let front = take at used in
+    let later = drop (at + 4) used in
+    let whole : front ++ (count ++ (later ++ rest)) ≡ (front ++ (count ++ later)) ++ rest =
+    ap (λ (w : List ℕ). front ++ w) (sym (append_assoc count later rest)) ∙ sym (append_assoc front (count ++ later) rest) in
+    let size : length (front ++ (count ++ later)) ≡ length used = omega (
+      arith,
+      within,
+      four,
+      length-append front (count ++ later),
+      length-append count later,
+      length-take-le at used (omega (arith, within)),
+      length-drop (at + 4) used,
+    ) in
+    rw (take-append-le at used rest (omega (arith, within)), drop-append-le (at + 4) used rest within, whole)
+    (take_at (front ++ (count ++ later)) rest (length used) size)
 
--- how many bytes there are behind a text and an empty count
-pub length_front : (old now : SheetState) (first both : List ℕ) → Puts old now both → both ≡ first ++ number 0
-    → length now.bytes ≡ length old.bytes + length first + 4
-length_front old now first both put are = omega (
-  arith,
-  ap length put.bytes ∙ length-append old.bytes both,
-  ap length are ∙ length-append first (number 0),
-  length_number 0,
-)
+pub written : (bytes count : List ℕ) (len at : ℕ) → at + 4 ≤ len → len ≤ length bytes → length count ≡ 4
+    → take len (take at bytes ++ (count ++ drop (at + 4) bytes)) ≡ take at (take len bytes) ++ (count ++ drop (at + 4) (take len bytes))
+written bytes count len at within fits four =
+    let size : length (take len bytes) ≡ len = length-take-le len bytes fits in
+    ap (λ (w : List ℕ). take len (take at w ++ (count ++ drop (at + 4) w))) (sym (take-append-drop len bytes))
+    ∙ ap (λ (n : ℕ). take n (take at (take len bytes ++ drop len bytes) ++ (count ++ drop (at + 4) (take len bytes ++ drop len bytes)))) (sym size)
+    ∙ written_behind (take len bytes) (drop len bytes) count at (omega (arith, size, within)) four

@@ -1,26 +1,30 @@
 //! What is asked for of one object after another.
 
-ghost use Rattle.std.specs.Prelude.{◌≡◌, ◌++◌};
-ghost use Rattle.nfs_xdr.specs.Spelling.{number};
+ghost use Rattle.std.specs.Prelude.{◌≡◌, ◌≤◌, take, length};
+ghost use Rattle.nfs_xdr.specs.SheetState.{HasRoom, Puts};
 ghost use Rattle.nfs_attrs.specs.Mask.{common, spell_mask};
-ghost use Rattle.nfs_attrs.specs.Attributes.{readable};
+ghost use Rattle.nfs_attrs.specs.Attributes.{readable, spell_attrs};
 
+use crate::about::About;
 use crate::mask::{Mask, READABLE};
+use crate::spelled::Spelled;
+use crate::value::put_values;
+use nfs_tree::Object;
+use nfs_xdr::Sheet;
 use std::marker::Model;
 
 /// The attributes that are asked for, decoded once for many objects. Contracts see their mask.
 #[derive(Drop)]
 pub struct Asked {
     mask: Mask,
-    /// What stands in front of the values: so many words as `words`.
-    front: [[u8; 4]; 5],
-    words: usize,
+    /// The attributes of the last object as they are spelled, so that those of the next need no room of their own.
+    text: Spelled,
+    /// How many bytes of the text are its mask, which is that of each object.
+    front: usize,
 }
 
 impl Model for Asked {
-    ghost use Rattle.std.specs.Prelude.{◌≡◌, ◌≤◌, ◌++◌, take};
-    ghost use Rattle.std.specs.List.{flat_map};
-    ghost use Rattle.nfs_xdr.specs.Spelling.{number};
+    ghost use Rattle.std.specs.Prelude.{◌≡◌, ◌≤◌, take, length};
     ghost use Rattle.nfs_attrs.specs.declared.mask.Mask.{Mask};
     ghost use Rattle.nfs_attrs.specs.Mask.{common, spell_mask};
     ghost use Rattle.nfs_attrs.specs.Attributes.{readable};
@@ -29,7 +33,23 @@ impl Model for Asked {
 
     ghost view = { λ a. a.mask };
 
-    ghost invariant = { λ a. (flat_map (λ w. w) (take a.words a.front) ≡ spell_mask (common a.mask readable) ++ number 0) × (a.words ≤ 5) };
+    ghost invariant = { λ a. (take a.front a.text.bytes ≡ spell_mask (common a.mask readable)) × (a.front ≤ length a.text.bytes) × (a.text.room ≡ 376) };
+}
+
+/// Spells the attributes of an object behind their mask, which is the first bytes of the text. The count of the values'
+/// bytes is known when they are spelled, and is then written in its place.
+fn spell(mask: &Mask, front: usize, object: &Object, about: &About, text: &mut Spelled)
+    requires mask { take front text.old.bytes ≡ spell_mask (common mask.now readable) }
+    requires within { front ≤ length text.old.bytes }
+    requires room { text.old.room ≡ 376 }
+    ensures { text.new ≡ record text.old { bytes = spell_attrs mask.now about.now object.now } }
+{
+    text.cut(front);
+    text.put_u32(0);
+    let before = text.len();
+    put_values(mask, object, about, text);
+    let count = text.len() - before;
+    text.set_u32(front, count as u32);
 }
 
 impl Asked {
@@ -37,8 +57,14 @@ impl Asked {
     pub fn new(mask: Mask) -> Asked
         ensures { result ≡ mask }
     {
-        let (front, words) = mask.common(&READABLE).front();
-        Asked { mask, front, words }
+        let mut asked = Asked {
+            mask,
+            text: Spelled::new(),
+            front: 0,
+        };
+        mask.common(&READABLE).put(&mut asked.text);
+        asked.front = asked.text.len();
+        asked
     }
 
     /// The mask.
@@ -48,11 +74,13 @@ impl Asked {
         self.mask
     }
 
-    /// What stands in front of the values: the mask of those that can be read, and an empty word for the count of the
-    /// values' bytes.
-    pub(crate) fn front(&self) -> &[u8]
-        ensures { result.now ≡ spell_mask (common self.now readable) ++ number 0 }
+    /// Puts the attributes of an object. The sheet takes them at once.
+    pub(crate) fn put(&mut self, object: &Object, about: &About, sheet: &mut Sheet)
+        requires room { HasRoom sheet.old (spell_attrs self.old about.now object.now) }
+        ensures put { Puts sheet.old sheet.new (spell_attrs self.old about.now object.now) }
+        ensures same { self.new ≡ self.old }
     {
-        self.front[..self.words].as_flattened()
+        spell(&self.mask, self.front, object, about, &mut self.text);
+        sheet.put_bytes(self.text.bytes());
     }
 }

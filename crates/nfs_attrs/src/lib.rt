@@ -7,7 +7,7 @@
 //! ```text
 //! let asked = Mask::new(words);
 //! write_attrs(object, &about, asked, &mut sheet);       // GETATTR
-//! write_asked(object, &about, &asked_once, &mut sheet); // READDIR
+//! write_asked(object, &about, &mut asked_once, &mut sheet); // READDIR
 //! let wanted = read_attrs(given, values)?;              // SETATTR, CREATE, OPEN
 //! may_set(object, &wanted, &who)?;
 //! ```

@@ -1,10 +1,9 @@
 //! Which attributes are asked for, set or reported: `bitmap4` (RFC 8881 sections 3.3.7 and 5).
 
-ghost use Rattle.std.specs.Prelude.{◌≡◌, ◌≤◌, ◌<◌, ◌*◌, ◌^◌, ◌%◌, ◌==◌, ◌++◌, ◌∷◌, [], ℕ, map, take, drop, length, not, get_or, bit_and, MatchOption};
+ghost use Rattle.std.specs.Prelude.{◌≡◌, ◌≤◌, ◌<◌, ◌*◌, ◌^◌, ◌%◌, ◌==◌, ◌∷◌, [], ℕ, map, take, drop, length, not, get_or, bit_and, MatchOption};
 ghost use Rattle.std.specs.Int.{w32, from_be_bytes, bit_not, trailing_zeros};
-ghost use Rattle.std.specs.List.{list_any, flat_map};
+ghost use Rattle.std.specs.List.{list_any};
 ghost use Rattle.nfs_xdr.specs.SheetState.{HasRoom, Puts};
-ghost use Rattle.nfs_xdr.specs.Spelling.{number};
 ghost use Rattle.nfs_attrs.specs.Following.{Follows};
 ghost use Rattle.nfs_attrs.specs.Mask.{mask_of, has, asks_set_only, trimmed_words, spell_mask, common, within, numbers_of};
 
@@ -46,14 +45,6 @@ fn without_least(word: u32) -> u32
     ensures { result ≡ bit_and word (bit_not w32 (1 * 2 ^ trailing_zeros w32 word % 2 ^ 32)) }
 {
     word & !(1 << word.trailing_zeros())
-}
-
-/// Words as they are written.
-#[tactic(auto, unfolding(nfs_xdr::specs::Spelling::number))]
-fn each_spelled(words: [u32; 5]) -> [[u8; 4]; 5]
-    ensures { result ≡ map number words }
-{
-    words.map(u32::to_be_bytes)
 }
 
 /// The attributes that the server has.
@@ -180,21 +171,6 @@ impl Mask {
         out.put_u32(words.len() as u32);
         for word in words {
             out.put_u32(*word);
-        }
-    }
-
-    /// What stands in front of the values of these attributes: the words in which the mask is written, and an empty one for
-    /// the count of the values' bytes. They are so many as the number beside them.
-    #[tactic(auto, unfolding(nfs_xdr::specs::Spelling::number))]
-    pub(crate) fn front(&self) -> ([[u8; 4]; 5], usize)
-        ensures words { flat_map (λ w. w) (take result.1 result.0) ≡ spell_mask self.now ++ number 0 }
-        ensures few { result.1 ≤ 5 }
-    {
-        match self.words {
-            [0, 0, 0] => (each_spelled([0, 0, 0, 0, 0]), 2),
-            [a, 0, 0] => (each_spelled([1, a, 0, 0, 0]), 3),
-            [a, b, 0] => (each_spelled([2, a, b, 0, 0]), 4),
-            [a, b, c] => (each_spelled([3, a, b, c, 0]), 5),
         }
     }
 

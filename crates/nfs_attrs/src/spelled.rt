@@ -1,6 +1,6 @@
-//! Values of attributes before they are put.
+//! Attributes before they are put.
 
-ghost use Rattle.std.specs.Prelude.{◌≡◌, ◌<◌, ◌^◌, [], length, replicate};
+ghost use Rattle.std.specs.Prelude.{◌≡◌, ◌+◌, ◌≤◌, ◌<◌, ◌^◌, ◌++◌, [], length, take, drop, replicate};
 ghost use Rattle.nfs_xdr.specs.SheetState.{HasRoom, Puts};
 ghost use Rattle.nfs_xdr.specs.Codec as codec;
 ghost use Rattle.nfs_xdr.specs.Time.{time};
@@ -9,11 +9,11 @@ ghost use Rattle.nfs_xdr.specs.Spelling.{number, hyper, flag, opaque, padding};
 use nfs_xdr::Time;
 use std::marker::Model;
 
-/// Values as they are spelled, one behind the other, so that a sheet takes them at once. There is room for those of all
-/// attributes. Contracts see them as a sheet.
+/// Attributes as they are spelled, so that a sheet takes them at once. There is room for all that the server has.
+/// Contracts see them as a sheet.
 #[derive(Drop)]
 pub(crate) struct Spelled {
-    bytes: [u8; 356],
+    bytes: [u8; 376],
     len: usize,
 }
 
@@ -23,18 +23,18 @@ impl Model for Spelled {
 
     ghost Value = { SheetState };
 
-    ghost view = { λ v. record { bytes = take v.len v.bytes; room = 356 } };
+    ghost view = { λ v. record { bytes = take v.len v.bytes; room = 376 } };
 
-    ghost invariant = { λ v. v.len ≤ 356 };
+    ghost invariant = { λ v. v.len ≤ 376 };
 }
 
 impl Spelled {
     /// None yet.
     pub(crate) fn new() -> Spelled
-        ensures { result ≡ record { bytes = []; room = 356 } }
+        ensures { result ≡ record { bytes = []; room = 376 } }
     {
         Spelled {
-            bytes: [0; 356],
+            bytes: [0; 376],
             len: 0,
         }
     }
@@ -44,6 +44,31 @@ impl Spelled {
         ensures { result.now ≡ self.now.bytes }
     {
         &self.bytes[..self.len]
+    }
+
+    /// How many bytes they have.
+    pub(crate) fn len(&self) -> usize
+        ensures { result ≡ length self.now.bytes }
+    {
+        self.len
+    }
+
+    /// Takes back all but the first `len` bytes.
+    pub(crate) fn cut(&mut self, len: usize)
+        requires { len ≤ length self.old.bytes }
+        ensures { self.new ≡ record self.old { bytes = take len self.old.bytes } }
+    {
+        self.len = len;
+    }
+
+    /// Writes a number over the four bytes from `at` on.
+    #[tactic(auto, unfolding(nfs_xdr::specs::Spelling::number))]
+    pub(crate) fn set_u32(&mut self, at: usize, value: u32)
+        requires within { at + 4 ≤ length self.old.bytes }
+        ensures { self.new ≡ record self.old { bytes = take at self.old.bytes ++ number value ++ drop (at + 4) self.old.bytes } }
+    {
+        let bytes = &mut self.bytes;
+        bytes[at..at + 4].copy_from_slice(&value.to_be_bytes());
     }
 
     /// Puts bytes as they are.

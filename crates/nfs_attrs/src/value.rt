@@ -9,7 +9,6 @@ ghost use Rattle.nfs_attrs.specs.Mask.{numbers_of};
 ghost use Rattle.nfs_attrs.specs.Attributes as table;
 
 use crate::about::About;
-use crate::asked::Asked;
 use crate::attribute;
 use crate::following::{hyper_follows, number_follows, opaque_follows, time_follows};
 use crate::handle::Handle;
@@ -17,7 +16,7 @@ use crate::mask::{Mask, SETTABLE, SUPPORTED};
 use crate::spelled::Spelled;
 use itoa::Buffer;
 use nfs_tree::{FileType, Object, Tree};
-use nfs_xdr::{Cursor, MAX_TRANSFER, Sheet, Time};
+use nfs_xdr::{Cursor, MAX_TRANSFER, Time};
 
 /// The value of an attribute, by the kind of its spelling.
 #[derive(Clone, Copy, Debug, PartialEq, Eq)]
@@ -165,15 +164,13 @@ fn put_each(asked: Mask, object: &Object, about: &About, out: &mut Spelled)
     }
 }
 
-/// Puts the values that are asked for, one behind the other. The sheet takes them at once.
-pub(crate) fn put_values(asked: &Asked, object: &Object, about: &About, sheet: &mut Sheet)
-    requires room { HasRoom sheet.old (table.values asked.now about.now object.now) }
-    ensures put { Puts sheet.old sheet.new (table.values asked.now about.now object.now) }
+/// Puts the values that are asked for, one behind the other.
+pub(crate) fn put_values(asked: &Mask, object: &Object, about: &About, out: &mut Spelled)
+    requires room { HasRoom out.old (table.values asked.now about.now object.now) }
+    ensures put { Puts out.old out.new (table.values asked.now about.now object.now) }
     ensures words { length (table.values asked.now about.now object.now) % 4 ≡ 0 }
 {
-    let mut values = Spelled::new();
-    put_each(asked.mask().common(&SUPPORTED), object, about, &mut values);
-    sheet.put_bytes(values.bytes());
+    put_each(asked.common(&SUPPORTED), object, about, out);
 }
 
 /// Whether the values that are asked for stand at the cursor, which is then behind them.

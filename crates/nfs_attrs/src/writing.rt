@@ -10,7 +10,7 @@ use crate::about::About;
 use crate::asked::Asked;
 use crate::attribute;
 use crate::mask::{Mask, READABLE, SUPPORTED};
-use crate::value::{put_values, values_follow, values_len};
+use crate::value::{values_follow, values_len};
 use crate::wanted::AttrFault;
 use nfs_tree::Object;
 use nfs_xdr::{Cursor, Sheet};
@@ -34,20 +34,16 @@ pub fn write_attrs(object: &Object, about: &About, asked: Mask, sheet: &mut Shee
     requires room { HasRoom sheet.old (table.spell_attrs asked about.now object.now) }
     ensures { Puts sheet.old sheet.new (table.spell_attrs asked about.now object.now) }
 {
-    write_asked(object, about, &Asked::new(asked), sheet);
+    write_asked(object, about, &mut Asked::new(asked), sheet);
 }
 
-/// Puts what [`write_attrs`] puts, where the mask was decoded before. The count of the values' bytes is known when they
-/// are put, and is then written in its place.
-pub fn write_asked(object: &Object, about: &About, asked: &Asked, sheet: &mut Sheet)
-    requires room { HasRoom sheet.old (table.spell_attrs asked.now about.now object.now) }
-    ensures { Puts sheet.old sheet.new (table.spell_attrs asked.now about.now object.now) }
+/// Puts what [`write_attrs`] puts, where the mask was decoded before. `asked` stays what it is.
+pub fn write_asked(object: &Object, about: &About, asked: &mut Asked, sheet: &mut Sheet)
+    requires room { HasRoom sheet.old (table.spell_attrs asked.old about.now object.now) }
+    ensures put { Puts sheet.old sheet.new (table.spell_attrs asked.old about.now object.now) }
+    ensures same { asked.new ≡ asked.old }
 {
-    sheet.put_bytes(asked.front());
-    let at = sheet.len();
-    put_values(asked, object, about, sheet);
-    let count = sheet.len() - at;
-    sheet.set_u32(at - 4, count as u32);
+    asked.put(object, about, sheet);
 }
 
 /// Whether the bytes are the values that are asked for, as the server itself writes them.

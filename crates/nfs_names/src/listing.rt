@@ -114,7 +114,7 @@ fn put_entry(
     entry: &Entry<'_>,
     object: &Object,
     size: u64,
-    asked: &Asked,
+    asked: &mut Asked,
     room: usize,
     out: &mut Sheet,
 ) -> bool
@@ -122,7 +122,8 @@ fn put_entry(
     requires size { size ≡ length (data_at store.now.tree entry.now.number) }
     requires few { room ≤ most_transfer }
     requires room { length out.old.bytes + room ≤ out.old.room }
-    ensures { PutsWithin result room out.old out.new (entry_text (of_read_dir.entry_of (state_of store.now) asked.now (listed_of entry.now))) }
+    ensures put { PutsWithin result room out.old out.new (entry_text (of_read_dir.entry_of (state_of store.now) asked.old (listed_of entry.now))) }
+    ensures same { asked.new ≡ asked.old }
 {
     let node = Node {
         number: entry.number,
@@ -145,7 +146,7 @@ fn put_entries(store: &Store, place: &Node, asked: &ReadDir<'_>, out: &mut Sheet
     ensures all { result ≡ (length (of_read_dir.fitting (state_of store.now) asked.now place.now) == length (of_read_dir.left (state_of store.now) asked.now place.now)) }
 {
     store.tree.kept();
-    let wanted = Asked::new(mask_in(&asked.attr_request));
+    let mut wanted = Asked::new(mask_in(&asked.attr_request));
     let mut room = given(asked.maxcount) as usize - 16;
     let mut objects = store.tree.in_turn(place.number);
     let mut listing = store.tree.list(place.number, asked.cookie);
@@ -154,7 +155,7 @@ fn put_entries(store: &Store, place: &Node, asked: &ReadDir<'_>, out: &mut Sheet
             return false;
         };
         let before = out.len();
-        if !put_entry(store, &entry, object, size, &wanted, room, out) {
+        if !put_entry(store, &entry, object, size, &mut wanted, room, out) {
             return false;
         }
         room -= out.len() - before;

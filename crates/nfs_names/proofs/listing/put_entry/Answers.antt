@@ -14,7 +14,7 @@ returns-then-not-fits c =
     let told = told_as_asked (state_of c.args.store.now) c.mask.result c.args.asked.now
     (record { number = c.args.entry.now.number; object = c.args.object.now }) c.about-about.result c.mask.ensures c.about-about.ensures in
     let size = entry_length (state_of c.args.store.now) c.args.asked.now e c.args.object.now c.about-about.result c.requires.there told in
-    (omega (arith, size, leb-false _ _ (sym c.fits.ensures ∙ c.if-not-fits.true)), refl)
+    record { put = (omega (arith, size, leb-false _ _ (sym c.fits.ensures ∙ c.if-not-fits.true)), refl); same = refl }
 
 pub write_entry-requires : goal.write_entry-requires
 write_entry-requires c =
@@ -43,8 +43,12 @@ returns c =
     let a = c.about-about.result in
     let told = told_as_asked (state_of c.args.store.now) c.mask.result c.args.asked.now
     (record { number = c.args.entry.now.number; object = c.args.object.now }) c.about-about.result c.mask.ensures c.about-about.ensures in
-    let size = entry_length s c.args.asked.now e o a c.requires.there told in (
-      omega (arith, size, leb-true _ _ (sym c.fits.ensures ∙ c.if-not-fits.false)),
-      subst (λ (text : List ℕ). Puts c.args.out.now c.write_asked.new.sheet text)
-          (sym (entry_parts s c.args.asked.now e o a c.requires.there told)) (puts_then c.write_entry.ensures c.write_asked.ensures),
-    )
+    let size = entry_length s c.args.asked.now e o a c.requires.there told in
+    record {
+      put = (
+        omega (arith, size, leb-true _ _ (sym c.fits.ensures ∙ c.if-not-fits.false)),
+        subst (λ (text : List ℕ). Puts c.args.out.now c.write_asked.new.sheet text)
+            (sym (entry_parts s c.args.asked.now e o a c.requires.there told)) (puts_then c.write_entry.ensures c.write_asked.ensures.put),
+      );
+      same = c.write_asked.ensures.same;
+    }
