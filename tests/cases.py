@@ -90,7 +90,7 @@ def main(text, cases, needs_program=True):
 def main_at_random(text, cases):
     """The same of a part that draws at random: by the seed that it is given, or by one that it tells."""
     part = Part(text)
-    part.words.add_argument("--seed", type=int, help="what is drawn at random, as an earlier run told it")
+    part.words.add_argument("--seed", type=int, help="what is drawn at random, as an earlier run printed it")
     given = part.parsed()
     part.chosen(named(cases))
     seed = random.randrange(2**32) if given.seed is None else given.seed

@@ -5,6 +5,7 @@ import os
 import re
 import shutil
 import subprocess
+import sys
 from pathlib import Path
 from typing import NamedTuple
 
@@ -132,3 +133,11 @@ def of_git(top, *words):
     except OSError:
         return None
     return ran.stdout.strip() if ran.returncode == 0 else None
+
+
+if __name__ == "__main__":
+    # (what tools/install asks: of what the program was built, or why there is none)
+    found = Build()
+    if why := found.why_old():
+        sys.exit(f"the program is not that of these sources ({why}): ./nfs41d build builds it")
+    print(found.told(), end="")

@@ -1,4 +1,5 @@
 """Scripts of `nfs41d replay` and captures: what a capture has of the connections to a server, and a capture of a script and its output."""
+import collections
 import io
 
 import nfs4
@@ -11,24 +12,24 @@ class Connections:
     def __init__(self):
         self.script, self.replied, self.instance = [], [], None
         self.numbers, self.sides, self.records = {}, {}, {}
-        self.gaps = 0
+        self.free, self.gaps = collections.deque(range(nfs4.MOST_CONNECTIONS)), 0
 
     def close(self, moment, client):
         """Ends a connection; a side of it that lacks bytes is counted."""
         if client in self.numbers:
-            self.script.append(nfs4.entry(moment, self.numbers.pop(client), b""))
+            self.free.append(self.numbers.pop(client))
+            self.script.append(nfs4.entry(moment, self.free[-1], b""))
         for key in (client, False), (client, True):
             side = self.sides.pop(key, None)
             self.gaps += bool(side and side.lacks())
         self.records.pop(client, None)
 
     def number(self, client):
-        """The number of a client's connection: the least that is free when its first bytes come."""
+        """The number of a client's connection: the least that no other had, and if all were in use, the one that has been free for longest."""
         if client not in self.numbers:
-            free = set(range(nfs4.MOST_CONNECTIONS)) - set(self.numbers.values())
-            if not free:
+            if not self.free:
                 raise nfs4.Unreadable(f"more than {nfs4.MOST_CONNECTIONS} connections at once")
-            self.numbers[client] = min(free)
+            self.numbers[client] = self.free.popleft()
         return self.numbers[client]
 
     def take(self, moment, client, from_server, flags, number, data):
@@ -83,10 +84,13 @@ def instance_of(reply):
 
 
 def to_capture(script, output, port):
-    """A capture of each piece as it comes, and of each reply after the piece that made its call whole."""
+    """A capture of each piece as it comes, and of the replies to each call after the piece that made it whole."""
     out = io.BytesIO()
     made = pcap.Written(out, port)
-    answers, at = list(nfs4.replies(output)), 0
+    calls, others = nfs4.answered(script, output)
+    if lost := sum(reply is not None for _, reply in others):
+        raise nfs4.Unreadable(f"{lost} replies of the output answer no call of the script")
+    replies = (call[3] for call in calls if call[2] is not None)
     streams = {}
     for moment, connection, piece in nfs4.entries(script):
         if not piece:
@@ -95,12 +99,8 @@ def to_capture(script, output, port):
             continue
         client = made.on(moment, connection)
         made.sent(moment, client, True, piece)
-        for call in streams.setdefault(connection, nfs4.Records()).feed(piece):
-            if at < len(answers) and answers[at][0] == connection and answers[at][1] and answers[at][1][:4] == call[:4]:
-                made.sent(moment, client, False, nfs4.record(answers[at][1]))
-                at += 1
-        while at < len(answers) and answers[at][1] is None:
-            at += 1
-    if at < len(answers):
-        raise nfs4.Unreadable(f"{len(answers) - at} replies of the output answer no call of the script")
+        for _ in streams.setdefault(connection, nfs4.Records()).feed(piece):
+            for _, reply in next(replies):
+                if reply is not None:
+                    made.sent(moment, client, False, nfs4.record(reply))
     return out.getvalue()

@@ -36,13 +36,13 @@ STATUSES = {0: "NFS4_OK"} | {number: "NFS4ERR_" + name for name, number in re.fi
 
 STATUS_NUMBERS = {word: number for number, word in STATUSES.items()}
 
-# Attributes: the number, tshark's word, and how the value is spelled: b bool, n number, N long number, o bytes, M mask, f fsid, t time,
-# s time that is set.
+# Attributes: the number, tshark's word, and how the value is spelled: b bool, n number, m number in octal, N long number, o bytes, M mask,
+# f fsid, t time, s time that is set.
 ATTRIBUTES = {int(number): (name, kind) for number, name, kind in re.findall(
     r"(\d+) (\w+) (\w)",
     "0 Supported_Attrs M 1 Type n 2 FH_Expire_Type n 3 Change N 4 Size N 5 Link_Support b 6 Symlink_Support b 7 Named_Attr b 8 FSID f "
     "9 Unique_Handles b 10 Lease_Time n 11 RDAttr_Error n 19 Filehandle o 20 FileId N 27 MaxFileSize N 28 MaxLink n 29 MaxName n "
-    "30 MaxRead N 31 MaxWrite N 33 Mode n 35 NumLinks n 36 Owner o 37 Owner_Group o 45 Space_Used N 47 Time_Access t 48 Time_Access_Set s "
+    "30 MaxRead N 31 MaxWrite N 33 Mode m 35 NumLinks n 36 Owner o 37 Owner_Group o 45 Space_Used N 47 Time_Access t 48 Time_Access_Set s "
     "52 Time_Metadata t 53 Time_Modify t 54 Time_Modify_Set s 55 Mounted_on_FileId N 75 Suppattr_ExclCreat M")}
 # Those that other servers have beside them, where their values can be spelled: d two numbers, A an array of numbers.
 ATTRIBUTES |= {int(number): (name, kind) for number, name, kind in re.findall(
@@ -59,7 +59,7 @@ OTHERS = {int(number): name for number, name in re.findall(
     "77 Clone_Block_Size 78 Space_Freed 79 Change_Attr_Type 80 Security_Label 81 Mode_Umask 82 Xattr_Support 83 Offline 84 Time_Deleg_Access "
     "85 Time_Deleg_Modify")}
 # The numbers of a value's kind, as struct has them.
-FORMS = {"n": ">I", "b": ">I", "N": ">Q", "d": ">II", "f": ">QQ", "t": ">QI", "s": ">QI"}
+FORMS = {"n": ">I", "m": ">I", "b": ">I", "N": ">Q", "d": ">II", "f": ">QQ", "t": ">QI", "s": ">QI"}
 WORDS = OTHERS | {number: name for number, (name, _) in ATTRIBUTES.items()}
 ATTRIBUTE_NUMBERS = {name: number for number, name in WORDS.items()}
 
@@ -211,6 +211,8 @@ class Reader:
         first, *rest = struct.unpack(FORMS[kind], self.take(struct.calcsize(FORMS[kind])))
         if kind == "b" and first > 1:
             raise Unreadable("no bool")
+        if kind == "m":
+            return f"0{first:o}" if first else "0"
         if kind in "st":
             return f"{first}.{rest[0]:09}" if rest[0] < 10**9 else f"{first}+{rest[0]}"
         return ".".join(map(str, [first, *rest]))
@@ -307,7 +309,7 @@ class Writer:
         elif kind == "s" and text == "now":
             self.data += u32(0)
         else:
-            is_octal = kind in "nb" and text.startswith("0") and text.isdigit()
+            is_octal = kind in "nbm" and text.startswith("0") and text.isdigit()
             words = [f"0o{text}" if is_octal else text]
             if len(FORMS[kind]) > 2:
                 pair = re.fullmatch(r"([0-9]+)[.+]([0-9]+)", text)
@@ -587,11 +589,11 @@ def compound_results(results):
 
 class Call:
     """A call: its head, the place of its arguments, and its operations as far as they can be read, with the places at which they begin; `fault`
-    says why they end early."""
+    says why they end early, and `unread` is the name of the operation at which they do."""
 
     def __init__(self, data, most=None):
         c = Reader(data, most=most)
-        self.data, self.operations, self.places, self.fault = data, [], [], None
+        self.data, self.operations, self.places, self.fault, self.unread = data, [], [], None, None
         self.xid, self.uid, self.gid, self.gids, self.tag, self.minor, self.procedure = c.number(), None, None, [], b"", None, None
         if c.number() != 0:
             raise Unreadable("no call")
@@ -622,6 +624,8 @@ class Call:
                 raise Unreadable("bytes behind the last operation")
         except Unreadable as fault:
             self.fault = str(fault)
+            if len(self.operations) < self.declared:
+                self.unread = OPERATIONS.get(int.from_bytes(data[place:place + 4], "big"))
 
 
 class Reply:
@@ -720,3 +724,26 @@ def replies(output):
             raise Unreadable("the output ends inside a reply")
         yield connection, output[at + 8:at + 8 + size] if mark else None
         at += 8 + size
+
+
+def answered(script, output):
+    """Each call and close of a script as [moment, connection, record or none, the replies to it], and the replies of the output that answer no call.
+    A reply is that to the latest sending of its xid on its connection that still waits, looked at from the end; one more is a second reply to it. A
+    stream that became too long is with the reply before it."""
+    calls, waiting, taken, others, ended = [[*it, []] for it in whole_calls(script)], {}, {}, [], []
+    for call in calls:
+        if call[2] is not None:
+            waiting.setdefault((call[1], call[2][:4]), []).append(call)
+    for answer in reversed(list(replies(output))):
+        if answer[1] is None:
+            ended.append(answer)
+            continue
+        key = answer[0], answer[1][:4]
+        if waiting.get(key):
+            taken[key] = waiting[key].pop()
+        (taken[key][3] if key in taken else others).extend([*ended, answer])
+        ended = []
+    others += ended
+    for found in (others, *(call[3] for call in calls)):
+        found.reverse()
+    return calls, others

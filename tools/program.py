@@ -14,7 +14,8 @@ import time
 from pathlib import Path
 
 TOP = Path(__file__).resolve().parent.parent
-PROGRAM = TOP / "crates/nfs41d/out/nfs41d"
+# (an absolute path: scripts go to folders of their own)
+PROGRAM = Path(os.environ.get("NFS41D") or TOP / "crates/nfs41d/out/nfs41d").absolute()
 HERE = "127.0.0.1"
 SECONDS = 60
 LISTENING = re.compile(rb"nfs41d: listening on 127\.0\.0\.1:(\d+)\n")

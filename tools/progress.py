@@ -2,6 +2,8 @@
 that bench/gate measured of each crate, at the pace that this run has shown."""
 
 import csv
+import functools
+import heapq
 import os
 import sys
 import threading
@@ -76,47 +78,81 @@ class Minutes:
 
 
 def measured():
-    """Returns the minutes of processors that the proof of each crate took, and the minutes by the clock of one of them, with as many processors as
-    are here; nothing where it was not measured."""
+    """Returns the minutes of processors that the proof of each crate took, the minutes by the clock of all of them, and on how many processors that
+    was; nothing where it was not measured."""
     try:
         with open(RESULTS / "gate_by_crate.tsv", encoding="utf-8", newline="") as table:
             rows = [it for it in csv.DictReader(table, delimiter="\t") if (it["run"], it["work"]) == ("program", "proofs")]
         with open(RESULTS / "gate.tsv", encoding="utf-8", newline="") as table:
             clock = next(it for it in csv.DictReader(table, delimiter="\t") if (it["run"], it["measure"]) == ("program", "by the clock"))
-        of = {it["crate"]: float(it["minutes"]) for it in rows}
-        # (more processors than in the measured run help little: the last crates stand on each other)
-        fewer = max(1.0, int(clock["processors"]) / len(os.sched_getaffinity(0)))
-        return of, float(clock["minutes"]) / sum(of.values()) * fewer
-    except (OSError, KeyError, ValueError, StopIteration, ZeroDivisionError):
-        return {}, 0.0
+        return {it["crate"]: float(it["minutes"]) for it in rows}, float(clock["minutes"]), int(clock["processors"])
+    except (OSError, KeyError, ValueError, StopIteration):
+        return {}, 0.0, 1
 
 
-def minutes_left(of, pace, wanted, took, running, since):
-    """Returns about how many minutes the proofs of the wanted crates still take by the clock: `took` has the minutes of processors of those that
-    have ended, `running` the minutes by the clock since each of the others began, and `since` those since the first began."""
-    # (what an earlier run proved takes nothing, and tells nothing of the pace)
-    worked = sum(of.get(it, 1.0) for it in took if took[it] > of.get(it, 1.0) / 10)
-    begun = {it: min(0.9 * of.get(it, 1.0), running[it]) for it in running}
-    worked += sum(begun.values())
-    left = sum(of.get(it, 1.0) for it in wanted if it not in took) - sum(begun.values())
-    return left * (since / worked if worked >= ENOUGH else pace)
+def spans(of, below, processors):
+    """Returns when the proof of each crate begins and ends, in minutes: a crate waits for those below it, so many are proved at once, and those
+    with the longest chain above them go first."""
+    @functools.cache
+    def chain(name):
+        return of[name] + max((chain(other) for other in below if name in below[other]), default=0.0)
+
+    waiting, running, ended, now, found = sorted(below, key=chain, reverse=True), [], set(), 0.0, {}
+    while waiting or running:
+        for name in [it for it in waiting if ended.issuperset(below[it])][:processors - len(running)]:
+            waiting.remove(name)
+            found[name] = now, now + of[name]
+            heapq.heappush(running, (now + of[name], name))
+        now, name = heapq.heappop(running)
+        ended.add(name)
+    return found
 
 
-def said(of, pace, wanted, took, running, since):
-    """Returns a line that says how far it is."""
-    now = ", ".join(f"{it} ({minutes:.0f} min)" for it, minutes in running.items())
-    text = f"{len(took)} of {len(wanted)} crates proved, "
-    if of:
-        left = minutes_left(of, pace, wanted, took, running, since)
-        text += f"about {left:.0f} minutes left" if left >= 1.5 else "about a minute left"
-    else:
-        text += f"{since:.0f} minutes"
-    return text + (f"; now {now}" if now else "")
+def reached(table, worked):
+    """Returns the minute at which so many minutes of processors are worked off."""
+    low, high = 0.0, max(end for _, end in table.values())
+    for _ in range(40):
+        middle = (low + high) / 2
+        done = sum(min(max(middle - begin, 0.0), end - begin) for begin, end in table.values())
+        low, high = (middle, high) if done < worked else (low, middle)
+    return high
 
 
-def tell(minutes, wanted):
+class Estimate:
+    """How long proofs still take: of each crate what is below it, and what was measured."""
+
+    def __init__(self, below, of, clock, processors):
+        self.below, self.is_measured = below, bool(of)
+        self.of = {name: of.get(name, 1.0) for name in below}
+        self.stretch = clock / max(end for _, end in spans(self.of, below, processors).values()) if of else 1.0
+
+    def minutes_left(self, took, running, since, processors):
+        """Returns about how many minutes are left by the clock: `took` has the minutes of processors of the crates that have ended, `running` the
+        minutes by the clock since each of the others began, and `since` those since the first began."""
+        # (what an earlier run proved takes nothing, and tells nothing of the pace)
+        of = {name: 0.0 if took.get(name, minutes) < minutes / 10 else minutes for name, minutes in self.of.items()}
+        table, pace = spans(of, self.below, processors), self.stretch
+        for _ in range(5):
+            worked = sum(of[it] for it in took) + sum(min(0.9 * of[it], running[it] / pace) for it in running)
+            at = reached(table, worked)
+            pace = since / at if worked >= ENOUGH and at else self.stretch
+        return pace * (max(end for _, end in table.values()) - at)
+
+    def said(self, took, running, since, processors):
+        """Returns a line that says how far it is."""
+        now = ", ".join(f"{it} ({minutes:.0f} min)" for it, minutes in running.items())
+        text = f"{len(took)} of {len(self.below)} crates proved, "
+        if self.is_measured:
+            left = self.minutes_left(took, running, since, processors)
+            text += f"about {left:.0f} minutes left" if left >= 1.5 else "about a minute left"
+        else:
+            text += f"{since:.0f} minutes"
+        return text + (f"; now {now}" if now else "")
+
+
+def tell(minutes, below):
     """Says on standard error, each quarter of a minute and as long as the program runs, how far the proofs of the crates are."""
-    of, pace = measured()
+    estimate, processors = Estimate(below, *measured()), len(os.sched_getaffinity(0))
 
     def ever():
         while True:
@@ -124,7 +160,7 @@ def tell(minutes, wanted):
             now = time.monotonic()
             took = {name: minutes.seconds[name]["proof"] / 60 for name in [*minutes.ended]}
             running = {name: (now - began) / 60 for (name, *_), began in sorted([*minutes.running.items()], key=lambda it: it[1])}
-            print(f"nfs41d: {said(of, pace, wanted, took, running, (now - minutes.began) / 60)}", file=sys.stderr, flush=True)
+            print(f"nfs41d: {estimate.said(took, running, (now - minutes.began) / 60, processors)}", file=sys.stderr, flush=True)
 
     threading.Thread(target=ever, daemon=True).start()
 
@@ -137,7 +173,7 @@ def program_alone(rt, in_lanes, minutes):
     """Returns what runs of a run's tasks the proofs of the programs, and of what they stand on, and then ends the run."""
     def run(tasks):
         crates = rt.rtlib.crates_below(os.getcwd())
-        wanted = {below.name for it in crates if it.is_program for below in [it, *it.below()]}
+        wanted = {one.name: {other.name for other in one.below()} for it in crates if it.is_program for one in [it, *it.below()]}
         tell(minutes, wanted)
         raise Ended(all(in_lanes({key: it for key, it in tasks.items() if key[1] == "proof" and key[0] in wanted}).values()))
 

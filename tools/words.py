@@ -23,7 +23,7 @@ class Words(argparse.ArgumentParser):
         return super().parse_args(words, namespace)
 
     def error(self, message):
-        self.exit(2, f"{self.prog}: {' '.join(message.split())}; --help tells the words\n")
+        self.exit(2, f"{self.prog}: {' '.join(message.split())}; --help lists the options\n")
 
 
 def number(least, most, what="number"):

@@ -2,7 +2,7 @@
 import re
 
 import common
-from svg import CEILING, FAINT, INK, OURS, PAPER, Drawing
+from svg import FAINT, INK, OURS, PAPER, Drawing
 
 # What a client keeps, whose change attribute shows that it is still true, and the law.
 KEPT = [
@@ -10,17 +10,17 @@ KEPT = [
     ("its attributes: size, mode, owner, times", "file", "attributes_are_alike"),
     ("the object of a name", "directory", "names_are_alike"),
     ("that a name is not there", "directory", "names_are_alike"),
-    ("its own copy, after its own CREATE or REMOVE", "directory", "reports_are_true"),
+    ("a directory, after its own CREATE or REMOVE", "directory", "reports_are_true"),
 ]
 SEEN = "changes_are_new"
 
 
 def laws():
-    """The laws that the picture names, which all stand in nfs_serve."""
-    text = (common.TOP / "crates/nfs_serve/src/laws.rt").read_text(encoding="utf-8")
-    there = set(re.findall(r"^pub fn (\w+)", text, re.MULTILINE))
+    """The laws that the picture names, which all stand in nfs_promises."""
+    rooms = (common.TOP / "crates/nfs_promises/src/laws").glob("*.rt")
+    there = {law for it in rooms for law in re.findall(r"^pub fn (\w+)", it.read_text(encoding="utf-8"), re.MULTILINE)}
     if lacking := {SEEN, *(law for _, _, law in KEPT)} - there:
-        raise common.Fault(f"nfs_serve has no law {', '.join(sorted(lacking))}")
+        raise common.Fault(f"nfs_promises has no law {', '.join(sorted(lacking))}")
 
 
 def rows(picture):
@@ -35,14 +35,12 @@ def rows(picture):
 
 def question(picture):
     """The one question, and the two answers."""
-    picture.box(760, 86, 210, 62, ["server", "any client may change it"], "proved")
     picture.box(36, 318, 210, 44, ["client", "about to use what it kept"], "outside")
-    picture.box(760, 318, 210, 44, ["server", "reports the change"], "proved")
+    picture.box(760, 306, 210, 68, ["server", "reports the change,", "whoever changed the object"], "proved")
     picture.line(246, 330, 760, 330, INK, 1.6, arrow=True)
     picture.text(503, 322, "GETATTR, attribute 3 (change)", 12, "middle")
     picture.line(760, 352, 246, 352, INK, 1.6, arrow=True)
     picture.text(503, 368, "the change now", 12, "middle")
-    picture.line(865, 148, 865, 318, CEILING, 1, "3 4")
     picture.text(36, 404, "The same as when it was kept:", 13, weight="bold")
     picture.text(276, 404, "it is still true, whatever came between and from whom.", 13)
     picture.text(36, 430, "Greater:", 13, weight="bold")

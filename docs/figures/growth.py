@@ -29,10 +29,12 @@ def line(picture, y, name, points):
 
 def draw():
     facts, found = series()
-    order = sorted(found.items(), key=lambda item: item[1][-1][1] / item[1][0][1])
+    ratios = {name: points[-1][1] / points[0][1] for name, points in found.items()}
+    order = sorted((it for it in found.items() if ratios[it[0]] >= GROWS), key=lambda item: ratios[item[0]])
+    others = [ratio for ratio in ratios.values() if ratio < GROWS]
     counts = sorted({count for points in found.values() for count, _ in points})
-    picture = Drawing(1000, 120 + STEP * len(order), "Cost of an operation against the number of objects",
-                      "A row for each operation, those that grow least first: instructions among few and many objects, and how many times as many the last are.")
+    picture = Drawing(1000, 144 + STEP * len(order), "Cost of an operation against the number of objects",
+                      "A row for each operation that grows much: instructions among few and many objects, and how many times as many the last are; then how much all others grow at most.")
     picture.text(20, 30, "Instructions of one operation, among so many objects", 16, weight="bold")
     for i, count in enumerate(counts):
         picture.text(670 + 100 * i, 58, f"{count:,}", 12, "end", FAINT)
@@ -40,6 +42,8 @@ def draw():
     for i, (name, points) in enumerate(order):
         line(picture, 82 + STEP * i, name, points)
     bottom = 82 + STEP * len(order)
-    picture.line(20, bottom - 12, 980, bottom - 12, INK, 0.5)
-    picture.notes(bottom + 6, f"{facts['how'].capitalize()}. Each curve is the cost relative to that among the fewest.", common.told(facts))
+    picture.text(20, bottom, f"each of the {len(others)} other operations", 12)
+    picture.text(980, bottom, f"at most {max(others):.2f}", 12, "end", OURS)
+    picture.line(20, bottom + STEP - 12, 980, bottom + STEP - 12, INK, 0.5)
+    picture.notes(bottom + STEP + 6, f"{facts['how'].capitalize()}. The curve is the cost relative to that among the fewest.", common.told(facts))
     return picture.svg()

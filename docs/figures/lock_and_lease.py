@@ -1,8 +1,8 @@
-"""A lock and its lease on a time line: the calls of the row a_lock_kept_by_renewals."""
+"""A lock and its lease on a time line: the calls of the row worked/a_lock_kept_by_renewals."""
 import common
 from svg import FAINT, GOOD, INK, ON_COLOUR, OTHER, OURS, RULE, WRONG, Drawing, scale
 
-ROW, LEASE = "a_lock_kept_by_renewals", 90
+ROW, LEASE = "worked/a_lock_kept_by_renewals", 90
 
 
 def deeds():

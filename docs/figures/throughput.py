@@ -47,5 +47,5 @@ def draw():
             title, rows = panels[2 * row + column]
             bottom = panel(picture, 210 + 375 * column, top, rows, at, title)
         top = bottom + 40
-    picture.notes(top - 8, f"Best of the rounds. {facts['how'].capitalize()}.", common.told(facts), facts.get("servers", ""))
+    picture.notes(top - 8, f"{facts['how'].capitalize()}.", common.told(facts), facts.get("servers", ""))
     return picture.svg()

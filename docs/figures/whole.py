@@ -20,8 +20,8 @@ def draw():
         raise common.Fault(f"docs/figures/whole.tsv has no box for {', '.join(sorted(lacking))}")
     picture = Drawing(1200, 490, "The way of a record through the server",
                       "A client's call comes over TCP to nfs41d, and goes through nfs_rpc and nfs_compound to nfs_exec, which runs its operations "
-                      "over the tables; nfs_results and nfs_rpc put the reply. All within nfs_serve is proved; the program around it is tested; the "
-                      "operating system and the toolchain are trusted.")
+                      "over the tables; nfs_results and nfs_rpc put the reply. All within nfs_serve is proved, and of the program around it the "
+                      "settings, the exit status and who has a place; the rest of it is tested. The operating system and the toolchain are trusted.")
     for kind, *words in rows:
         if kind == "text":
             picture.text(int(words[0]), int(words[1]), words[2], 12, "middle", style="italic")

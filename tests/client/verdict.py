@@ -1,7 +1,12 @@
 """The verdict on the client of tests/client/linux: what tools/judge finds in the capture of each machine, and what of that is known of Linux."""
+from wire import TOP
 from judging import telling
 from judging.judge import Judge
 from judging.reading import Capture
+from judging.rules import read_known
+
+# what Linux does in all parts
+EVER = read_known((TOP / "tools/judging/linux.known").read_text(encoding="utf-8"))
 
 # What Linux does in a part, by docs/CLIENTS.md: rules that it may break there.
 KNOWN = {
@@ -14,9 +19,8 @@ KNOWN = {
 
 
 def is_known(finding, part):
-    """Whether a finding is one that Linux is known for: in a part, or in all of them that it uses a stateid while a reply with its next seqid is on the
-    way."""
-    return finding.rule in KNOWN.get(part, ()) or finding.rule == "old-seqid"
+    """Whether a finding is one that Linux is known for: in a part, or in all of them."""
+    return finding.rule in KNOWN.get(part, ()) or any(it.expects(finding) for it in EVER)
 
 
 class Verdict:

@@ -1,28 +1,33 @@
-"""The contract of each public function of each crate, and which of these functions only tests call. `tests/gate/believed` stands on it.
+"""The contract of each public function of each crate, and which of these functions only tests call.
+`tests/gate/believed` stands on it.
 
-tests/gate/contracts.tsv has a line for each, which `tests/gate/believed --write` makes: the crate, the function, how many clauses ask for something and how
-many state something, and a sum of those clauses and of all that they lean on. So no contract changes without a line of it. tests/gate/uncalled.tsv
-names the functions that nothing but tests calls, each with the reason for which it is there."""
+`tests/gate/believed --lists FOLDER` writes a line for each: the crate, the function, how many clauses ask for something
+and how many state something, and a sum of those clauses and of all that they lean on. docs/BELIEVED.md has a sum of all
+lines, so no contract changes without a change of it. tests/gate/uncalled.tsv names the functions that nothing but tests
+calls, each with the reason for which it is there."""
 
 import re
 
 import rattle
 from edits import public
-from pinned import TESTS, bodies, differs
+from pinned import TESTS, bodies
 
 CALL = re.compile(r"(?:(\w+)(?:::<[^>]*>)?::|(\.)\s*|\b)(\w+)(?=\s*(?:::<|[(),;}]))")
-HEAD = "# The contract of each public function (tests/gate/believed --write): crate, function, clauses that ask, clauses that state, sum of what they lean on.\n"
+HEAD = """# The contract of each public function (tests/gate/believed --lists): crate, function, clauses that ask, clauses
+# that state, sum of what they lean on.
+"""
 
 
 def page(top, promises):
-    """The lines of tests/gate/contracts.tsv."""
+    """A line for each contract."""
     lines = []
     for folder in rattle.crates(top):
         places = {it: folder / file for file, (source, _) in rattle.tree(folder).items() for it in source.functions}
         for path, it in sorted(public(folder).items()):
             asks = sum(clause.kind != "ensures" for clause in it.clauses)
-            needed, _, types = promises.behind({one for clause in it.clauses for one in promises.all.cited_in(places[it], clause)})
-            said = [f"{clause.kind}: {' '.join(clause.text.split())}" for clause in it.clauses]
+            needed, _, types = promises.behind({one for clause in it.clauses
+                                                for one in promises.all.cited_in(places[it], clause)})
+            said = [line for clause in it.clauses for line in promises.all.meaning_in(places[it], clause)]
             summed = rattle.sum_of([" ".join(it.takes.split()), *said, *promises.all.text_of(needed, types)])[:10]
             lines.append(f"{folder.name}\t{path}\t{asks}\t{len(it.clauses) - asks}\t{summed}\n")
     return HEAD + "".join(lines)
@@ -36,29 +41,35 @@ def uncalled(top):
         for call in CALL.finditer(source.plain, it.opens, it.closes):
             called.setdefault(call[3], set()).add((it, call[1] or call[2] or ""))
     for folder in rattle.crates(top):
-        for path, it in public(folder).items() if (folder / "src/lib.rt").is_file() and folder.name not in TESTS else ():
+        is_library = (folder / "src/lib.rt").is_file() and folder.name not in TESTS
+        for path, it in public(folder).items() if is_library else ():
             owner = it.owner.name if it.owner else ""
             is_method = re.search(r"\(\s*(?:&\s*)?(?:'\w+\s+)?(?:mut\s+)?self\b", it.takes)
-            fits = (".", owner, "Self") if is_method else (owner, "Self") if owner else ("", path.split("::")[-2] if "::" in path else "", folder.name)
-            if it.sees == "pub" and not path.startswith("laws::") and not any(who is not it and front in fits for who, front in called.get(it.name, ())):
+            fits = (".", owner, "Self") if is_method else (owner, "Self") if owner else (
+                "", path.split("::")[-2] if "::" in path else "", folder.name)
+            if it.sees == "pub" and not path.startswith("laws::") and not any(
+                who is not it and front in fits for who, front in called.get(it.name, ())):
                 yield f"{folder.name}\t{path}"
 
 
-def faults(top, promises, rows):
-    """Where the page is not what is there, and where a function that only tests call has no reason."""
-    was, now = rattle.text_of(top / "tests/gate/contracts.tsv").splitlines(), page(top, promises).splitlines()
-    found = [f"tests/gate/contracts.tsv is not what tests/gate/believed --write makes: {it}" for some in differs(was, now) for it in some]
+def faults(top, rows):
+    """Where a function that only tests call has no reason."""
     told, there = {"\t".join(it[:2]): it[2:] for it in rows}, {*uncalled(top)}
-    found += [f"{' '.join(it.split())}: only tests call it, and tests/gate/uncalled.tsv has no reason for it" for it in sorted(there - told.keys())]
-    found += [f"tests/gate/uncalled.tsv: {' '.join(it.split())}: it is called, or it is not there" for it in sorted(told.keys() - there)]
-    return found + [f"tests/gate/uncalled.tsv: it gives no reason for {it}" for it in told if len(" ".join(told[it]).split()) < 3], len(now) - 1
+    found = [f"{' '.join(it.split())}: only tests call it, and tests/gate/uncalled.tsv has no reason for it"
+              for it in sorted(there - told.keys())]
+    found += [f"tests/gate/uncalled.tsv: {' '.join(it.split())}: it is called, or it is not there"
+              for it in sorted(told.keys() - there)]
+    return found + [f"tests/gate/uncalled.tsv: it gives no reason for {it}" for it in told
+                    if len(" ".join(told[it]).split()) < 3]
 
 
 def proved(top):
-    """How many functions of the libraries that were built have in the toolchain's own words the contract that is read here, and which have not:
-    a library has its sources' heads and clauses as the checker took them, below out/rlib/NAME.rlib/lang/src."""
+    """How many functions of the libraries that were built have in the toolchain's own words the contract that is read
+    here, and which have not: a library has its sources' heads and clauses as the checker took them, below
+    out/rlib/NAME.rlib/lang/src."""
     same, found = 0, []
-    clauses_of = lambda source: {(it.owner.holder if it.owner else "", it.name): [(one.kind, "".join(one.text.split())) for one in it.clauses]
+    clauses_of = lambda source: {(it.owner.holder if it.owner else "", it.name): [
+        (one.kind, "".join(one.text.split())) for one in it.clauses]
                                  for it in source.functions if not it.is_test}
     for folder in rattle.crates(top):
         built = folder / f"out/rlib/{folder.name}.rlib/lang"
@@ -68,6 +79,8 @@ def proved(top):
             mine = {} if is_test else clauses_of(source)
             told = clauses_of(rattle.read(built / file)) if (built / file).is_file() else {}
             wrong = [it for it in mine if told.get(it) != mine[it]]
-            found += [f"{folder.name} {file}: {'::'.join(filter(None, it))}: the checker took {told.get(it, 'no such function')}, and not {mine[it]}" for it in wrong]
+            for it in wrong:
+                took = f"the checker took {told.get(it, 'no such function')}, and not {mine[it]}"
+                found.append(f"{folder.name} {file}: {'::'.join(filter(None, it))}: {took}")
             same += len(mine) - len(wrong)
     return same, found

@@ -1,5 +1,5 @@
-"""Reads the imports of definitions and proofs (`crates/*/specs/**/*.antt` and `crates/*/proofs/**/*.antt`), and finds names that a file passes on
-(`pub use`) to nobody. `tests/gate/definitions.py` and `tests/gate/believed` stand on it.
+"""Reads the imports of definitions and proofs (`crates/*/specs/**/*.antt` and `crates/*/proofs/**/*.antt`), and finds
+names that a file passes on (`pub use`) to nobody. `tests/gate/definitions.py` and `tests/gate/believed` stand on it.
 
 A line may bring names of many modules, as `use Rattle.low.specs.{Grid.{area, side as edge}, Lines.all}` does."""
 
@@ -14,7 +14,8 @@ IN_FULL = re.compile(r"(?<![\w.])Rattle\.\w+\.[^\s(){},;\[\]⟦⟧]+")
 
 
 class Import(namedtuple("Import", "path name other is_passed")):
-    """What an import brings: the path of a module, the name that is taken of it, if any, by which name, and whether it is passed on."""
+    """What an import brings: the path of a module, the name that is taken of it, if any, by which name, and whether it
+    is passed on."""
 
     @property
     def is_all(self):
@@ -70,11 +71,13 @@ def unused(top):
     for path in sorted(top.glob("crates/*/src/**/*.rt")):
         source = rattle.read(path)
         taken |= taken_by(source.plain, [it for said in source.ghost_uses for it in brought(said)])
-    return [f"{path.relative_to(top / 'crates')}: it passes {name.rpartition('.')[2]} on, and no file takes that" for name, path in passed.items() if name not in taken]
+    return [f"{path.relative_to(top / 'crates')}: it passes {name.rpartition('.')[2]} on, and no file takes that"
+            for name, path in passed.items() if name not in taken]
 
 
 def taken_by(text, some):
-    """The paths of names that a file takes of modules: by its imports, in full, and behind the name of a module that it brings in whole."""
+    """The paths of names that a file takes of modules: by its imports, in full, and behind the name of a module that it
+    brings in whole."""
     behind = {it.other: it.path for it in some if not it.name}
     found = {str(it) for it in some if it.name} | {it.rstrip(".") for it in IN_FULL.findall(text)}
     for other, path in behind.items():

@@ -5,10 +5,15 @@ import re
 import textwrap
 from pathlib import Path
 
+import contracts
+from pinned import wrong_bodies
 from promises import CALLS, WORKED
-from rattle import sections_of, text_of
+from rattle import sections_of, sum_of, text_of
 
 RFC = re.compile(r"RFC (\d+)(?: (?:sections?|appendix) [A-Z\d][\d.]*(?:(?:, (?:and )?| and | to )\d[\d.]*)*(?<![.,]))?")
+# the lists that are made on demand (tests/gate/believed --lists), by their files
+LISTS = {"definitions.md": "definitions, by the promises that rest on them",
+         "contracts.tsv": "contracts of public functions", "edits.txt": "must-fail edits"}
 ROW = re.compile(r"^\| (.*?) \| ([\d,]+) \| ([\d,]+) \| ([\d,]+) \| ([\d,]+) \| `(\w+)` \|$", re.M)
 
 TEXTS = sections_of(Path(__file__).with_name("page.txt"))
@@ -43,44 +48,78 @@ class Page:
             self.rows.append((it, it.needed - seen))
             seen |= it.needed
         self.believed = {it.file for it in seen}
+        contract_lines = contracts.page(self.all.top, promises)
+        self.contracts = sum(not it.startswith("#") for it in contract_lines.splitlines())
+        edits = "".join(f"{it}\n" for it in wrong_bodies(self.all.top))
+        self.made = {"definitions.md": self.definitions(), "contracts.tsv": contract_lines, "edits.txt": edits}
 
     def totals(self):
-        """What the table at the top says of each promise: its title, lines, new lines, lines of its files, types, and sum."""
+        """What the table at the top says of each promise: its title, lines, new lines, lines of its files, types, and
+        sum."""
         whole, lines = self.promises.whole(), lambda some: sum(len(one.lines) for one in some)
         files = lambda some: sum(self.whole[file] for file in {one.file for one in some})
         rows = [*self.rows[:-1], (whole, whole.needed), self.rows[-1]]
-        return [(it.title, lines(it.needed), lines(new), files(it.needed), len(it.types), it.sum(self.all)) for it, new in rows]
+        return [(it.title, lines(it.needed), lines(new), files(it.needed), len(it.types), it.sum(self.all)) for it,
+                new in rows]
 
     def text(self):
+        """The page: what each promise leans on, in numbers and sums, and the sums of the lists that are made on demand."""
+        parts = [TEXTS["head"] + "\n", self.table(), *self.pins_and_premises(), TEXTS["lists"] + "\n"]
+        lists = ["| List | Lines | Sum |", "|---|---|---|", *self.listed_rows()]
+        return "\n".join(it for it in [*parts, "\n".join(lists) + "\n"] if it)
+
+    def pins_and_premises(self):
+        """Definitions that a law pins, and premises that no worked example meets."""
+        pins = [f"`{pin}` by `laws::{pin.law}`" for pin in self.promises.pinned.values()]
+        unmet = [f"`{it}`: {', '.join(f'`{law}`' for law in laws)}" for it, laws in self.promises.unmet().items()]
+        return listed("pins", pins), listed("unmet", unmet)
+
+    def lists(self):
+        """The lists that are made on demand, each by the name of its file."""
+        return self.made
+
+    def listed_rows(self):
+        """A row for each list: how many lines it has, and its sum."""
+        for name, text in self.made.items():
+            lines = [it for it in text.splitlines() if not it.startswith("#")]
+            yield f"| {LISTS[name]} | {len(lines):,} | `{sum_of(lines)[:12]}` |"
+
+    def definitions(self):
+        """The list of the definitions: of each promise what states it, and its definitions by their files."""
         # (a file that only passes names on says nothing)
         files = self.in_order({it for it in self.all.files if self.all.names[it]} - self.believed)
         rest = grouped((crate, f"`{name}` {self.whole[crate, name]}") for crate, name in files)
-        parts = [TEXTS["head"] + "\n", self.table(), *(self.section(it, new) for it, new in self.rows)]
-        parts += [listed("pins", [f"`{pin}` by `laws::{pin.law}`" for pin in self.promises.pinned.values()])]
-        parts += [listed("unmet", [f"`{it}`: {', '.join(f'`{law}`' for law in laws)}" for it, laws in self.promises.unmet().items()])]
-        parts += [listed("rest", [f"`{crate}`: {', '.join(some)}" for crate, some in rest.items()]), listed("ghosts", self.ghosts())]
+        parts = [TEXTS["definitions"] + "\n", *(self.section(it, new) for it, new in self.rows)]
+        parts += [listed("rest", [f"`{crate}`: {', '.join(some)}" for crate, some in rest.items()]),
+                  listed("ghosts", self.ghosts())]
         text = "\n".join(it for it in parts if it)
-        return text + "".join(["\n", *(f"[{label}]: {to}\n" for label, to in sorted(self.links.items()))] if self.links else [])
+        return text + "".join(["\n", *(f"[{label}]: {to}\n" for label, to in sorted(self.links.items()))] if self.links
+                              else [])
 
     def table(self):
-        lines = ["| Promise | Lines of meaning | New | Lines of their files | Rust types | Sum |", "|---|---|---|---|---|---|"]
-        return "\n".join([*lines, *(f"| {title} | {' | '.join(f'{it:,}' for it in told)} | `{sum_of}` |" for title, *told, sum_of in self.totals())]) + "\n"
+        lines = ["| Promise | Lines of meaning | New | Lines of their files | Rust types | Sum |",
+                 "|---|---|---|---|---|---|"]
+        return "\n".join([*lines, *(f"| {title} | {' | '.join(f'{it:,}' for it in told)} | `{sum_of}` |" for title,
+                                    *told, sum_of in self.totals())]) + "\n"
 
     def section(self, promise, new):
         lines = [f"## {promise.title}", "", *self.stated(promise), ""]
-        files = {file: [it for it in dict.fromkeys(self.all.names[file].values()) if it in new] for file in self.in_order({it.file for it in new})}
+        files = {file: [it for it in dict.fromkeys(self.all.names[file].values()) if it in new]
+                 for file in self.in_order({it.file for it in new})}
         for crate, entries in grouped((file[0], self.entry(file, some)) for file, some in files.items()).items():
             lines += [f"### {promise.title}: {crate}", "", *entries, ""]
         types = grouped((crate, f"`{path[0]}`") for crate, path in sorted(promise.types))
         if types:
-            lines.append(wrapped("Rust types: " + "; ".join(f"`{crate}` {', '.join(some)}" for crate, some in types.items()) + "."))
+            lines.append(wrapped("Rust types: " + "; ".join(
+                f"`{crate}` {', '.join(some)}" for crate, some in types.items()) + "."))
         return "\n".join(lines).rstrip("\n") + "\n"
 
     def stated(self, promise):
         """What states a promise: the calls of the program alone, or laws, each with what it says."""
         if promise.title == CALLS:
             said = grouped((crate, f"`{name}`") for crate, name in promise.stated)
-            return [wrapped(f"Stated by the contracts of {'; '.join(f'`{crate}`: ' + ', '.join(some) for crate, some in said.items())}.")]
+            told = "; ".join(f"`{crate}`: " + ", ".join(some) for crate, some in said.items())
+            return [wrapped(f"Stated by the contracts of {told}.")]
         lines = ["Stated by", ""] if promise.stated else ["There are none."]
         for crate, name in promise.stated:
             if (crate, name) not in self.promises.laws:
@@ -95,7 +134,8 @@ class Page:
     def entry(self, file, some):
         path = self.all.files[file]
         first_lines = itertools.takewhile(lambda line: line.startswith("--"), text_of(path).splitlines())
-        against = ", ".join(self.link(it[0]) for it in RFC.finditer(" ".join(line.lstrip("- ") for line in first_lines)))
+        against = ", ".join(self.link(it[0]) for it in RFC.finditer(
+            " ".join(line.lstrip("- ") for line in first_lines)))
         few, told = sum(len(it.lines) for it in some), ", ".join(f"`{it.name}` {len(it.lines)}" for it in some)
         link = f"[`{file[1]}`](../{path.relative_to(self.all.top)})"
         return wrapped(f"- {link} {few} of {self.whole[file]}{f' ({against})' if against else ''}: {told}", "  ")
@@ -114,12 +154,14 @@ class Page:
         crates, found = [*self.promises.order], []
 
         def visit(file, above):
-            used = {home for some in self.all.imports[file].values() for home, _ in some if home[0] == file[0] and home in self.all.files}
+            used = {home for some in self.all.imports[file].values() for home,
+                    _ in some if home[0] == file[0] and home in self.all.files}
             for it in sorted(used - above - {*found}):
                 visit(it, above | {it})
             found.extend({file} - {*found})
 
-        for file in sorted(self.all.files, key=lambda it: (crates.index(it[0]) if it[0] in crates else len(crates), it)):
+        for file in sorted(self.all.files, key=lambda it: (
+            crates.index(it[0]) if it[0] in crates else len(crates), it)):
             visit(file, {file})
         return [it for it in found if it in files]
 
@@ -131,7 +173,8 @@ class Page:
             for it in self.all.clauses[path][0]:
                 count = len([line for line in it.text.splitlines() if line.strip()])
                 if it.kind == "ghost":
-                    found.append((crate, (f"`{it.owner}` in `src/{'/'.join(place)}`", it.name if count == 1 else f"{it.name} {count}")))
+                    found.append((crate, (f"`{it.owner}` in `src/{'/'.join(place)}`",
+                                          it.name if count == 1 else f"{it.name} {count}")))
         for crate, some in grouped(found).items():
             yield f"`{crate}`: " + "; ".join(f"{it} ({', '.join(names)})" for it, names in grouped(some).items())
 

@@ -1,6 +1,6 @@
-"""What tests/gate/believed has to turn red: laws, pages, pins, names and counts that show nothing, each planted in a repository of one crate,
-`tried`. tests/gate/planted.txt has the files of that repository and other texts, and tests/gate/planted.tsv the bugs. `tests/gate/selftest` stands
-on it."""
+"""What tests/gate/believed has to turn red: laws, pages, pins, names and counts that show nothing, each planted in a
+repository of one crate, `tried`. tests/gate/planted.txt has the files of that repository and other texts, and
+tests/gate/planted.tsv the bugs. `tests/gate/selftest` stands on it."""
 
 import contextlib
 import functools
@@ -19,8 +19,11 @@ TESTS = Path(__file__).resolve().parents[1]
 BELIEVE = rattle.script(TESTS / "gate/believed")
 TEXTS = rattle.sections_of(TESTS / "gate/planted.txt")
 # what the repository has beside its edit, and what more it has where bugs of laws are planted
-FILES = {name: text for name, text in TEXTS.items() if "/" in name or name in ("HANDLES", "crates.txt")}
-FIRST = ("src/lib.rt", "auto)]\n", f"auto)]\n\n{TEXTS['shows']}\n", "src/laws.rt", "", TEXTS["laws"], "specs/Words.antt", "", TEXTS["words"])
+OTHERS = ("both ", "tried.rlib/")
+FILES = {name: text for name, text in TEXTS.items() if "/" in name and not name.startswith(OTHERS)
+         or name in ("HANDLES", "crates.txt")}
+FIRST = ("src/lib.rt", "auto)]\n", f"auto)]\n\n{TEXTS['shows']}\n", "src/laws.rt", "", TEXTS["laws"],
+         *(it for name in ("Words", "Other", "Turned") for it in (f"specs/{name}.antt", "", TEXTS[name.lower()])))
 UNMET = "- `tried Words.Met`: `tried laws::quotients`"
 
 
@@ -50,6 +53,9 @@ class Repository:
             was = rattle.text_of(self.top / path)
             if old == "-":
                 (self.top / path).unlink()
+            elif old == "x":
+                self.write(path, new)
+                (self.top / path).chmod(0o644)
             elif old in ("", "+"):
                 self.write(path, f"{was}\n{new}" if old else new)
             elif old in was:
@@ -64,10 +70,12 @@ class Repository:
         path.chmod(0o755 if text.startswith("#!") else 0o644)
 
     def ran(self, *words):
-        how = {"stdin": subprocess.DEVNULL, "stdout": subprocess.PIPE, "stderr": subprocess.STDOUT, "text": True, "errors": "replace"}
+        how = {"stdin": subprocess.DEVNULL, "stdout": subprocess.PIPE, "stderr": subprocess.STDOUT, "text": True,
+               "errors": "replace"}
         # (what it proves is kept for nobody)
         with tempfile.TemporaryDirectory(prefix="rt-kept-") as cache:
-            return subprocess.run([str(TESTS / words[0]), *words[1:]], cwd=self.top, env={**os.environ, "XDG_CACHE_HOME": cache}, **how)
+            return subprocess.run([str(TESTS / words[0]), *words[1:]], cwd=self.top,
+                                  env={**os.environ, "XDG_CACHE_HOME": cache}, **how)
 
 
 def said(repository, *flags):
@@ -78,7 +86,8 @@ def said(repository, *flags):
 
 
 def looked(changes, anew):
-    """The same of a repository in which these changes are made after its page, and of which the page is made again if it is so asked; and the page."""
+    """The same of a repository in which these changes are made after its page, and of which the page is made again if
+    it is so asked; and the page."""
     with tempfile.TemporaryDirectory(prefix="rt-tried-") as room:
         repository = Repository(room, *FIRST)
         said(repository, "--write")
@@ -89,7 +98,8 @@ def looked(changes, anew):
 
 
 def planted(case):
-    """The bugs of a case: the check fails and says so or, where all is right, passes and has the calls of the program lean on so many lines."""
+    """The bugs of a case: the check fails and says so or, where all is right, passes and has the calls of the program
+    lean on so many lines."""
     for what, ends, why, *changes in rows(case):
         status, text, page = looked(changes, ends != "stale")
         is_right, _, leans = ends.partition(" ")
@@ -102,5 +112,6 @@ def premises_that_are_met():
     told("a premise that no worked example meets", found == [True, False])
 
 
-NAMES = ("statements", "pages", "contracts", "examples", "imports", "passed_on", "hidden", "ghosts", "pins", "fields", "counts", "libraries")
+NAMES = ("statements", "pages", "contracts", "examples", "imports", "names", "meaning", "passed_on", "hidden",
+         "ghosts", "pins", "fields", "counts", "spare", "libraries")
 CASES = {**{name: functools.partial(planted, name) for name in NAMES}, "premises_that_are_met": premises_that_are_met}

@@ -1,10 +1,12 @@
 """What each promise of docs/PROMISES.md leans on. `tests/gate/believed` stands on it.
 
-The first promise is of the calls that the program makes: the contracts of all that the crates which it stands on show. Each further one is of
-the laws that a section of docs/PROMISES.md names in code, as `laws::exactly_once`, and of the calls that its paragraph "Where" names, as
-`Server::replay` or `nfs_names::name_op`. A law is that of the crate that is named with it, as `nfs_serve::laws::exactly_once`, or in code last
-before it in its section, as "`nfs_serve`: `laws::exactly_once`", if that has it; else there has to be one crate that has it. Laws that no section
-names come last, and then the worked examples of tests/gate/worked.tsv: they are told with the section that names them and count for none."""
+The first promise is of the calls that the program makes: the contracts of all that the crates which it stands on show.
+Each further one is of the laws that a section of docs/PROMISES.md names in code, as `laws::exactly_once`, and of the
+calls that its paragraph "Where" names, as `Server::replay` or `nfs_names::name_op`. A law is that of the crate that is
+named with it, as `nfs_serve::laws::exactly_once`, or in code last before it in its section, as "`nfs_promises`:
+`laws::exactly_once`", if that has it; else there has to be one crate that has it. Laws that no section names come last,
+and then the worked examples of tests/gate/worked.tsv: they are told with the section that names them and count for
+none."""
 
 import re
 from collections import Counter
@@ -28,13 +30,15 @@ WHERE = re.compile(r"^- \*\*Where\.\*\*.*?(?=^- \*\*|\Z)", re.M | re.S)
 
 
 class Promise:
-    """A promise: its title, the laws or calls that state it, as (crate, name), the texts of their clauses, and what these name."""
+    """A promise: its title, the laws or calls that state it, as (crate, name), the texts of their clauses, and what
+    these name."""
 
     def __init__(self, title):
         self.title, self.stated, self.texts, self.cited, self.needed, self.types = title, [], [], set(), set(), set()
 
     def sum(self, definitions):
-        """A sum of all that the promise says: of its clauses, of what they lean on, and of the Rust types that these name."""
+        """A sum of all that the promise says: of its clauses, of what they lean on, and of the Rust types that these
+        name."""
         return rattle.sum_of([*sorted(self.texts), *definitions.text_of(self.needed, self.types)])[:12]
 
 
@@ -62,12 +66,15 @@ class Promises:
         self.all, self.faults, self.top = Definitions(top), [], top
         self.statements = Statements(self.all)
         # (the crates of crates.txt with what each stands on, in its order)
-        self.order = {name.strip(): rest.split() for name, rest in re.findall(r"^([^#:\n][^:\n]*):(.*)$", text_of(top / "crates.txt"), re.M)}
-        self.laws, self.pinned, self.judged = {}, {}, 0  # (each law's source and clauses; pins by their definitions; how many clauses were judged)
+        self.order = {name.strip(): rest.split() for name,
+                      rest in re.findall(r"^([^#:\n][^:\n]*):(.*)$", text_of(top / "crates.txt"), re.M)}
+        # (each law's source and clauses; pins by their definitions; how many clauses were judged)
+        self.laws, self.pinned, self.judged = {}, {}, 0
         for folder in crates(top):
             self.find_laws(folder.name)
         self.worked = [(crate, law.removeprefix("laws::")) for crate, law in rows_of(top / "tests/gate/worked.tsv")]
-        self.faults += [f"tests/gate/worked.tsv: {crate} has no laws::{name}" for crate, name in self.worked if (crate, name) not in self.laws]
+        self.faults += [f"tests/gate/worked.tsv: {crate} has no laws::{name}" for crate,
+                        name in self.worked if (crate, name) not in self.laws]
         for it in rows_of(top / "tests/gate/pins.tsv"):
             self.pin(Pin(*it))
         self.promises = [self.of_calls(), *self.of_sections(text_of(top / "docs/PROMISES.md"))]
@@ -75,13 +82,15 @@ class Promises:
         self.promises.append(self.take_laws(Promise(OTHERS), [it for it in self.laws if it not in told]))
         self.promises.append(self.take_laws(Promise(WORKED), [it for it in self.worked if it in self.laws]))
         asked = [self.lean(it) for it in self.promises]
-        self.faults += [f"{it}: a part of it is true of everything, or of nothing that there is" for it in sorted(self.whole().needed, key=str) if self.statements.is_hollow(it)]
+        self.faults += [f"{it}: a part of it is true of everything, or of nothing that there is"
+                        for it in sorted(self.whole().needed, key=str) if self.statements.is_hollow(it)]
         self.judge_pins(asked)
 
     # Laws, and whether they state anything.
 
     def find_laws(self, crate):
-        """A law takes nothing, asks for nothing and answers nothing, each of its clauses states something, and no other law of its crate has its words."""
+        """A law takes nothing, asks for nothing and answers nothing, each of its clauses states something, and no other
+        law of its crate has its words."""
         first = {}
         for path in self.all.sources(crate):
             is_of_laws = rattle.module_of(str(path.relative_to(self.top / "crates" / crate)))[:1] == ["laws"]
@@ -89,7 +98,8 @@ class Promises:
                 some, what = [one for one in it.clauses if one.kind == "ensures"], f"{crate} laws::{it.name}"
                 self.laws[crate, it.name] = path, some
                 self.faults += [f"{what}: it ensures nothing"] * (not some)
-                self.faults += [f"{what}: a law takes and answers nothing, and asks for nothing"] * ("".join(it.takes.split()) != "()" or some != it.clauses)
+                if "".join(it.takes.split()) != "()" or some != it.clauses:
+                    self.faults.append(f"{what}: a law takes and answers nothing, and asks for nothing")
                 self.must_state(path, some, what)
                 other = first.setdefault(tuple(sorted(" ".join(one.text.split()) for one in some)), it.name)
                 self.faults += [f"{what}: it states what laws::{other} does"] * (other != it.name)
@@ -104,7 +114,8 @@ class Promises:
     # What states a promise.
 
     def of_calls(self):
-        """The promise of the calls of the program: all that its own modules show and the crates on which it stands or, without one, all crates."""
+        """The promise of the calls of the program: all that its own modules show and the crates on which it stands or,
+        without one, all crates."""
         made = Promise(CALLS)
         programs = [it for it in self.order if self.is_program(it)]
         some = {below for it in programs for below in (*self.order[it], it)} or self.order
@@ -114,23 +125,29 @@ class Promises:
             for path in self.all.sources(crate):
                 names = shown.get(path)
                 # (a type's block may stand in any source)
-                is_shown = lambda it: it.owner in types or names is not None and (not names or (it.owner or it.name) in names)
+                is_shown = lambda it: it.owner in types or names is not None and (
+                    not names or (it.owner or it.name) in names)
                 clauses = [it for it in self.all.read_source(path)[0] if it.is_public and is_shown(it)]
                 self.take(made, crate, path, clauses)
                 made.stated += [(crate, it) for it in dict.fromkeys(str(it) for it in clauses if it.kind != "ghost")]
                 for it in (it for it in clauses if it.kind == "ensures"):
                     self.must_state(path, [it], f"{crate} {it}")
+                for it in (it for it in clauses if it.kind == "ghost"):
+                    if self.statements.is_of_nothing(it.text, *self.all.read_source(path)[1:]):
+                        self.faults.append(f"{crate} {it}: there is no ghost value of {it.text.strip()}")
         self.take_held(made)
         return made
 
     def take_held(self, made):
-        """Has the views of types that are shown nowhere state the promise too, where a type that is shown holds them: its own view goes by
-        theirs. What only has to hold of them is proved, and states nothing here."""
+        """Has the views of types that are shown nowhere state the promise too, where a type that is shown holds them:
+        its own view goes by theirs. What only has to hold of them is proved, and states nothing here."""
         sources = [(folder.name, path) for folder in crates(self.top) for path in self.all.sources(folder.name)]
-        ghosts = [(crate, path, it) for crate, path in sources for it in self.all.read_source(path)[0] if it.kind == "ghost"]
+        ghosts = [(crate, path, it) for crate, path in sources for it in self.all.read_source(path)[0]
+                  if it.kind == "ghost"]
         # (the names in the declarations of all types of one name)
         held = {}
-        for source, it in ((source, it) for source in (rattle.read(path) for _, path in sources) for it in source.types):
+        for source, it in ((source, it) for source in (rattle.read(path) for _, path in sources)
+                           for it in source.types):
             held.setdefault(it.name, set()).update(re.findall(r"\w+", source.declaration(it)))
         told = {it.partition(" ghost: ")[0] for it in made.texts}
         reached, due = set(), [it.owner for crate, _, it in ghosts if f"{crate} {it}" in told]
@@ -146,23 +163,22 @@ class Promises:
         return (self.top / "crates" / crate / "src/main.rt").is_file()
 
     def shown(self, crate):
-        """The sources from which a crate shows something, but its laws, and the names that it shows of each; all of them where it shows the
-        module itself, as a program does to itself."""
+        """The sources from which a crate shows something, but its laws, and the names that it shows of each; all of
+        them where it shows the module itself, as a program does to itself."""
         src, found = self.top / "crates" / crate / "src", {}
         if self.is_program(crate):
             return {it: set() for it in self.all.sources(crate) if it.stem != "main"}
-        read = rattle.source_of(text_of(src / "lib.rt"))
-        for use in [use for sees, use, _ in read.uses if sees == "pub"]:
-            name, _, rest = re.sub(r"^(?:crate|self)::", "", use).partition("::")
-            if not (src / f"{name}.rt").is_file() or not re.fullmatch(r"[\w ]+|\{[\w ,\s]*\}", rest):
-                self.faults.append(f"{crate}: it cannot be seen what this shows: pub use {use}")
-                continue
-            names = [it.partition(" as ")[0].strip() for it in rest.strip("{}").split(",")]
-            found.setdefault(src / f"{name}.rt", set()).update(filter(None, names))
-        for name in [name for sees, name, *_ in read.modules if sees == "pub" and name != "laws"]:
-            found.update({it: set() for it in [src / f"{name}.rt", *sorted((src / name).glob("**/*.rt"))]})
+        shown, lost = rattle.shown(rattle.source_of(text_of(src / "lib.rt")))
+        self.faults += [f"{crate}: it cannot be seen what this shows: pub use {use}" for use in lost]
+        for name, names in shown.items():
+            if names and not (src / f"{name}.rt").is_file():
+                self.faults.append(f"{crate}: it cannot be seen what this shows: pub use {name}")
+            elif name != "laws":
+                whole = [] if names else (src / name).glob("**/*.rt")
+                found.update({it: names for it in [src / f"{name}.rt", *sorted(whole)]})
         for path in found:
-            said = [whole for sees, word, _, whole, owner, _ in rattle.read(path).others if (sees, word, owner) == ("pub", "type", None)]
+            said = [whole for sees, word, _, whole, owner,
+                    _ in rattle.read(path).others if (sees, word, owner) == ("pub", "type", None)]
             self.faults += [f"{crate}: it cannot be seen what this shows: {it}" for it in said]
         return {**found, src / "lib.rt": set()}
 
@@ -196,11 +212,13 @@ class Promises:
             self.take(made, crate, place, it.clauses)
 
     def state_by(self, made, own, last, name):
-        """Has the law of this name state the promise: that of its own crate, where one is named with it, or of the one named last."""
+        """Has the law of this name state the promise: that of its own crate, where one is named with it, or of the one
+        named last."""
         some = [it for it, law in self.laws if law == name and own in (None, it)]
         some = [last] if last in some else some
         if len(some) != 1:
-            why = f"{', '.join(some)} have such a law: name the crate in front of it" if some else "no crate has such a law"
+            several = f"{', '.join(some)} have such a law: name the crate in front of it"
+            why = several if some else "no crate has such a law"
             self.faults.append(f"docs/PROMISES.md: laws::{name}: {why}")
         else:
             self.take_laws(made, [(some[0], name)])
@@ -216,7 +234,7 @@ class Promises:
     def take(self, made, crate, path, clauses):
         """Has these clauses state the promise."""
         made.cited |= {one for it in clauses for one in self.all.cited_in(path, it)}
-        made.texts += [f"{crate} {it} {it.kind}: {' '.join(it.text.split())}" for it in clauses]
+        made.texts += [f"{crate} {it} {said}" for it in clauses for said in self.all.meaning_in(path, it)]
 
     def whole(self):
         """All that the promises say, as one."""
@@ -240,13 +258,15 @@ class Promises:
             premises, (path, clauses) = set(), self.laws[crate, name]
             imports = self.all.read_source(path)[1]
             for it in clauses:
-                self.premises_in(tokens_of(it.text), lambda word: self.statements.found(imports, None, word), set(), premises)
+                self.premises_in(tokens_of(it.text), lambda word: self.statements.found(imports, None, word), set(),
+                                 premises)
             for one in premises - met:
                 found.setdefault(str(one), []).append(f"{crate} laws::{name}")
         return {it: sorted(found[it]) for it in sorted(found)}
 
     def premises_in(self, tokens, named, seen, premises):
-        """Adds the definitions that the premises of a statement begin with, and those of the definitions that it states."""
+        """Adds the definitions that the premises of a statement begin with, and those of the definitions that it
+        states."""
         _, front, last = premises_of(tokens)
         premises.update(one for it in map(groups, front) if it and len(it[0]) == 1 and (one := named(it[0][0])))
         parts, words = next((some for sign in "×⊎" if len(some := split(last, sign)) > 1), []), groups(last)
@@ -262,7 +282,8 @@ class Promises:
     # What is leaned on.
 
     def lean(self, made):
-        """Finds what a promise leans on. A pin counts for it where it asks for no field that the pin's law leaves open; returns those that do not."""
+        """Finds what a promise leans on. A pin counts for it where it asks for no field that the pin's law leaves open;
+        returns those that do not."""
         asked, new = {}, True
         while new:
             made.needed, made.passed, made.types = self.behind(made.cited, asked)
@@ -271,7 +292,8 @@ class Promises:
         return asked
 
     def behind(self, cited, asked=()):
-        """These definitions and what they name in turn, with what a law names in place of those that it pins; the pinned ones; and the types."""
+        """These definitions and what they name in turn, with what a law names in place of those that it pins; the
+        pinned ones; and the types."""
         due, seen, passed, types = set(cited), set(), set(), set()
         while due:
             file, _ = cited = due.pop()
@@ -287,7 +309,8 @@ class Promises:
 
     def pin(self, pin):
         """Takes the words that a law has in a definition's place, if it pins it."""
-        one, (path, clauses) = self.all.at(((pin.crate, pin.file), pin.name)), self.laws.get((pin.crate, pin.law), (None, ()))
+        one = self.all.at(((pin.crate, pin.file), pin.name))
+        path, clauses = self.laws.get((pin.crate, pin.law), (None, ()))
         if not one or not path:
             self.faults.append(f"{pin}: there is no such definition, or no public laws::{pin.law}")
             return
@@ -297,9 +320,11 @@ class Promises:
             fields.add(field)
             beside |= {(it.file, it.name) for it in stated}
             for text in words:
-                leant |= self.all.named_in(stated[-1], text) if stated else self.all.cited(text, imports, None, self.all.place(path))
+                leant |= self.all.named_in(stated[-1], text) if stated else self.all.cited(
+                    text, *self.all.scope_of(path))
         if not fields:
-            self.faults.append(f"{pin}: laws::{pin.law} is no equation or equivalence of it with other words, for every argument")
+            why = "is no equation or equivalence of it with other words, for every argument"
+            self.faults.append(f"{pin}: laws::{pin.law} {why}")
         elif one in {self.all.at(it) for it in leant} | self.behind(leant)[0]:
             self.faults.append(f"{pin}: the words that laws::{pin.law} has in its place lean on it")
         else:
@@ -307,22 +332,26 @@ class Promises:
             self.pinned[one] = pin
 
     def judge_pins(self, asked):
-        """Each pin counts for a promise, and its law leans on no other that is pinned. `asked` has what each promise asks of pins that leave it open."""
+        """Each pin counts for a promise, and its law leans on no other that is pinned. `asked` has what each promise
+        asks of pins that leave it open."""
         passed = set().union(*(it.passed for it in self.promises if it.title not in (OTHERS, WORKED)))
         for one, pin in self.pinned.items():
             whys = [it[one] for it in asked if one in it]
-            self.faults += [f"{pin}: {whys[0] if whys else 'a law pins it, and no promise leans on it'}"] * (one not in passed)
+            if one not in passed:
+                self.faults.append(f"{pin}: {whys[0] if whys else 'a law pins it, and no promise leans on it'}")
             others = {self.all.at(it) for it in pin.cited if self.all.at(it) in self.pinned} | self.behind(pin.cited)[1]
             self.faults += [f"{pin}: its law leans on {it}, which is pinned too" for it in others - {one}]
 
     def asked_of(self, one, needed):
-        """What of these definitions asks for a field that a pin's law leaves open, by naming the definition or the record that it gives, if any."""
+        """What of these definitions asks for a field that a pin's law leaves open, by naming the definition or the
+        record that it gives, if any."""
         pin = self.pinned[one]
         if "" in pin.fields:
             return None
         kind = one.lines[0].split()[-1]
         record = next((it for it in self.all.names[one.file].values() if it.name == kind and it.is_record), None)
-        ask = [it for it in needed if {one, record} & {self.all.at(cited) for cited in self.all.cited_by((it.file, it.name))}]
+        ask = [it for it in needed if {one, record} & {
+            self.all.at(cited) for cited in self.all.cited_by((it.file, it.name))}]
         for field in sorted(set(parts_of_record(record)[1]) - pin.fields) if record else ["value"]:
             asked = [it for it in ask if not record or re.search(rf"\.{re.escape(field)}\b", " ".join(it.lines))]
             if asked:

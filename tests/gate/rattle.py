@@ -1,7 +1,9 @@
-"""Reads Rattle: the text of a source without its comments, and its items, functions and clauses. All readings of sources in the gate go by this.
+"""Reads Rattle: the text of a source without its comments, and its items, functions and clauses. All readings of
+sources in the gate go by this.
 
-Comments are Rust's, and within the braces of a clause or a ghost antt's; blocks of both kinds nest. They, and what stands in strings outside of
-clauses, are blanks in `Source.plain`, which is as long as the text. An item under `#[cfg(test)]` or `#[test]` is one of tests."""
+Comments are Rust's, and within the braces of a clause or a ghost antt's; blocks of both kinds nest. They, and what
+stands in strings outside of clauses, are blanks in `Source.plain`, which is as long as the text. An item under
+`#[cfg(test)]` or `#[test]` is one of tests."""
 
 import functools
 import hashlib
@@ -13,13 +15,20 @@ from collections import namedtuple
 from pathlib import Path
 
 # words, strings and signs that matter outside of clauses; a clause's head may go on over comments up to its brace
-RUST = re.compile(r"//[^\n]*|/\*|[bc]?\"(?:\\.|[^\"\\])*\"|[bc]?r(#*)\".*?\"\1|b?'(?:\\[^\n']*.|[^\\'\n])'|\b(?:requires|ensures|ghost)\b|[\w*:=]+|\s+|.", re.S)
+RUST = re.compile(r"//[^\n]*|/\*|[bc]?\"(?:\\.|[^\"\\])*\"|[bc]?r(#*)\".*?\"\1|b?'(?:\\[^\n']*.|[^\\'\n])'|"
+                  r"\b(?:requires|ensures|ghost)\b|[\w*:=]+|\s+|.", re.S)
 ANTT = re.compile(r"(?<![^\s(){}])--[^\n]*|\{-|\"(?:\\.|[^\"\\])*\"|[{}]")
-HEAD = re.compile(r"(?P<pub>pub(?:\s*\([^)]*\))?\s+)?(?:(?:const|unsafe)\s+(?=(?:const|unsafe|fn|impl|trait|extern)\b))*(?P<word>ghost\s+use|[\w!]+)(?:\s+(?P<name>\w+))?")
+HEAD = re.compile(r"(?P<pub>pub(?:\s*\([^)]*\))?\s+)?"
+                  r"(?:(?:const|unsafe)\s+(?=(?:const|unsafe|fn|impl|trait|extern)\b))*"
+                  r"(?P<word>ghost\s+use|[\w!]+)(?:\s+(?P<name>\w+))?")
 CLAUSE = re.compile(r"(requires|ensures|ghost)\s*\*?(?:\s*(\w+))?(?:\s*:(?:\s*\w+)?)?\s*(?=\{)")
 # (the toolchain gives a block of a trait a name of its own, behind `as`)
-IMPL = re.compile(r"impl\s*(?P<own><(?:->|[^<>]|<(?:[^<>]|<[^<>]*>)*>)*>)?\s+(?:(?P<trait>[^{]+?)\s+for\s+)?(?P<type>[^{]+?)(?:\s+as\s+\w+)?\s*(?:\bwhere\b[^{]*)?\Z", re.S)
+IMPL = re.compile(r"impl\s*(?P<own><(?:->|[^<>]|<(?:[^<>]|<[^<>]*>)*>)*>)?\s+(?:(?P<trait>[^{]+?)\s+for\s+)?"
+                  r"(?P<type>[^{]+?)(?:\s+as\s+\w+)?\s*(?:\bwhere\b[^{]*)?\Z", re.S)
 TYPES = ("struct", "enum", "union")
+# words of antt, and words and brackets
+WORD = re.compile(r"[^\s(){}\[\],;⟦⟧«»]+")
+TOKEN = re.compile(rf"[(){{}}\[\],;⟦⟧]|{WORD.pattern}")
 
 
 def text_of(path):
@@ -34,7 +43,8 @@ def rows_of(path):
 
 def sections_of(path):
     """The sections of a text by their names, each behind a line `== NAME`."""
-    return {name: text.strip("\n") for name, text in re.findall(r"^== ([^\n]+)\n(.*?)(?=^== |\Z)", text_of(path), re.M | re.S)}
+    return {name: text.strip("\n") for name, text in re.findall(
+        r"^== ([^\n]+)\n(.*?)(?=^== |\Z)", text_of(path), re.M | re.S)}
 
 
 def crates(top):
@@ -67,7 +77,8 @@ def blank(text):
 
 
 def without_comments(text, at=0, in_braces=False):
-    """A text of antt without its comments, as long as it was; in braces up to where those close that are open there, and that place."""
+    """A text of antt without its comments, as long as it was; in braces up to where those close that are open there,
+    and that place."""
     parts, depth, begun, ends = [], 1, at, len(text)
     while it := ANTT.search(text, at):
         at = it.end()
@@ -102,14 +113,15 @@ def plain_of(text):
         else:
             parts.append(word)
             is_ghost = word == "ghost" or is_ghost and word not in ("requires", "ensures")
-            is_head = word in ("requires", "ensures", "ghost") or is_head and (word.isspace() or bool(re.fullmatch(r"[\w*:=]+", word)))
+            is_head = word in ("requires", "ensures", "ghost") or is_head and (
+                word.isspace() or bool(re.fullmatch(r"[\w*:=]+", word)))
         at = end
     return "".join(parts)
 
 
 class Clause(namedtuple("Clause", "kind text name owner is_public")):
-    """A clause of a contract, or a ghost: what it is, its text, the name of its function, or its own, the type or trait that has that, if any,
-    and whether it is public."""
+    """A clause of a contract, or a ghost: what it is, its text, the name of its function, or its own, the type or trait
+    that has that, if any, and whether it is public."""
 
     def __str__(self):
         return f"{self.owner}::{self.name}" if self.owner else self.name
@@ -122,19 +134,21 @@ class Block:
         it = IMPL.match(head) if kind == "impl" else None
         self.own, self.trait, self.type = (it["own"] or "", it["trait"], it["type"]) if it else ("", None, name)
         named = it and re.match(r"(?:\w+::)*(\w+)", self.type.lstrip("&' "))
-        self.kind, self.name, self.at, self.opens, self.closes, self.is_test = kind, named[1] if named else name, at, opens, closes, is_test
+        self.kind, self.name, self.is_test = kind, named[1] if named else name, is_test
+        self.at, self.opens, self.closes = at, opens, closes
 
     @property
     def holder(self):
-        """What the prover calls an impl block: the words of its type, of its trait and of that one's arguments, without its own parameters."""
+        """What the prover calls an impl block: the words of its type, of its trait and of that one's arguments, without
+        its own parameters."""
         own = [re.sub(r"^const ", "", it.strip()).partition(":")[0].strip() for it in self.own.strip("<>").split(",")]
         words = re.findall(r"[\w:]+", re.sub(r"'\w+", "", re.sub(r"\s*::\s*", "::", f"{self.type} {self.trait or ''}")))
         return "".join(it.rpartition("::")[2] for it in words if it not in own)
 
 
 class Function:
-    """A function: its name, its visibility, the block that has it, its attributes, its text between its name and its clauses, those, and where its
-    body stands; -1 where it has none."""
+    """A function: its name, its visibility, the block that has it, its attributes, its text between its name and its
+    clauses, those, and where its body stands; -1 where it has none."""
 
     def __init__(self, name, sees, owner, attributes, is_test):
         self.name, self.sees, self.owner, self.attributes, self.is_test = name, sees, owner, attributes, is_test
@@ -150,7 +164,8 @@ class Source:
 
     def __init__(self, text):
         self.text, self.plain = text, plain_of(text)
-        self.functions, self.blocks, self.uses, self.ghost_uses, self.modules, self.ghosts, self.others, self.attributes = ([] for _ in range(8))
+        self.functions, self.blocks, self.uses, self.ghost_uses = [], [], [], []
+        self.modules, self.ghosts, self.others, self.attributes = [], [], [], []
         opened, self.pairs = [], {}
         for it in re.finditer(r"[(){}\[\]]", self.plain):
             if it[0] in "({[":
@@ -172,7 +187,7 @@ class Source:
         while (at := self.behind(at)) < end:
             begun, attributes = at, []
             while self.plain.startswith("#", at) and (opens := self.plain.find("[", at)) >= 0:
-                attributes.append(self.plain[opens + 1 : self.end_of(opens)])
+                attributes.append(self.plain[opens + 1 : self.end_of(opens)].strip())
                 at = self.behind(self.end_of(opens) + 1)
             self.attributes += attributes
             is_tests = is_test or any(re.fullmatch(r"cfg\s*\(\s*test\s*\)|test", it) for it in attributes)
@@ -261,9 +276,11 @@ class Source:
         return " ".join(self.plain[block.at : block.closes].split())
 
 
-def hidden(source, is_root):
-    """Yields what a source has that these readings do not follow."""
-    for sees, use, _ in source.uses:
+def hidden(source, name):
+    """Yields what a source of this name has that these readings do not follow. Laws are read in each file below `laws`,
+    so `laws.rt` may pass them on."""
+    rooms, is_root = {it for _, it, *_ in source.modules if name == "laws.rt"}, name == "lib.rt"
+    for sees, use, _ in (it for it in source.uses if it[1].partition("::")[0] not in rooms):
         if sees and not is_root:
             yield f"names that are passed on: {sees} use {use}"
         elif sees and "*" in use:
@@ -274,7 +291,21 @@ def hidden(source, is_root):
         *(f"{word} {name}" for _, word, name, *_ in source.others if word in ("macro_rules!", "include!")),
     ):
         yield f"text that stands elsewhere, or a module written into a source: {it}"
-    yield from (f"the trait's default {it.name} is no function of a type" for it in source.functions if it.opens >= 0 and it.owner and it.owner.kind == "trait")
+    yield from (f"the trait's default {it.name} is no function of a type" for it in source.functions if it.opens >= 0
+                and it.owner and it.owner.kind == "trait")
+
+
+def shown(source):
+    """What the root of a crate shows: the names of each module, none where it shows all of it; and each use that cannot
+    be followed."""
+    found, lost = {}, []
+    for use in (use for sees, use, _ in source.uses if sees == "pub"):
+        name, _, rest = re.sub(r"^(?:crate|self)::", "", use).partition("::")
+        lost += [] if re.fullmatch(r"[\w ]+|\{[\w ,\s]*\}", rest) else [use]
+        names = {it.partition(" as ")[0].strip() for it in rest.strip("{}").split(",")}
+        found.setdefault(name, set()).update(names - {""})
+    found.update({name: set() for sees, name, *_ in source.modules if sees == "pub"})
+    return found, lost
 
 
 source_of = functools.cache(Source)
@@ -292,7 +323,8 @@ def tree_of(folder, _sums):
         file, place, is_test = due.pop()
         source = found[file] = (read(f"{folder}/{file}"), is_test)
         for _, name, is_block, is_tests, _ in source[0].modules:
-            below = next((it for it in (f"{place}/{name}.rt", f"{place}/{name}/mod.rt") if os.path.isfile(f"{folder}/{it}")), None)
+            below = next((it for it in (f"{place}/{name}.rt", f"{place}/{name}/mod.rt")
+                          if os.path.isfile(f"{folder}/{it}")), None)
             if below and not is_block and below not in found:
                 due.append((below, f"{place}/{name}", is_test or is_tests))
     return dict(sorted(found.items()))
@@ -300,7 +332,8 @@ def tree_of(folder, _sums):
 
 def tree(folder):
     """The sources of a crate that its modules lead to, by their files, each with whether it is one of tests."""
-    files = sorted(f"{above}/{it}" for above, _, names in os.walk(f"{folder}/src") for it in names if it.endswith(".rt"))
+    files = sorted(f"{above}/{it}" for above, _, names in os.walk(f"{folder}/src") for it in names
+                   if it.endswith(".rt"))
     return tree_of(str(folder), tuple((it, os.stat(it).st_mtime_ns) for it in files))
 
 
@@ -314,9 +347,11 @@ def path_of(function, file, folder):
     block = function.owner
     if not block:
         return "::".join([*module_of(file), function.name])
-    # a method has the module before it that declares its type, wherever its block stands, if one alone does; one of a trait has the block's
+    # a method has the module before it that declares its type, wherever its block stands, if one alone does; one of a
+    # trait has the block's
     is_here = block.trait or block.kind == "trait"
-    homes = [] if is_here else [it for it, (source, _) in tree(folder).items() if any(one.name == block.name for one in source.blocks if one.kind in TYPES)]
+    homes = [] if is_here else [it for it, (source, _) in tree(folder).items()
+                                if any(one.name == block.name for one in source.blocks if one.kind in TYPES)]
     home = file if is_here or file in homes else homes[0] if len(homes) == 1 else None
     return "::".join([*module_of(home), block.holder, function.name]) if home else None
 

@@ -1,18 +1,19 @@
 """Has the toolchain's script do no work twice in a run, and judges must-fail edits as tests/run_ci says.
 
-- Edits of a crate are tried in rounds: one check of the crate with several edits, no two of which change the same function. It reads only
-  the functions that its edits change and what those call. An edit that is not seen to be refused there is tried again alone, as `rt ci` would.
-  Rounds run side by side, and what each came to is kept as soon as it ends.
-- What is proved of a library is proved once. It is built from nothing, as always, and holds all that its check wrote, where that of `rt ci`
-  holds its statements; the rounds of its edits are made from that.
-- Tests are run under the toolchain's run-time checks (`rt try --test`), which takes minutes where their proofs take an hour. Plain `rt ci` proves
-  them too: what that adds is that the tests' own code is safe and returns.
+- Edits of a crate are tried in rounds: one check of the crate with several edits, no two of which change the same
+  function. It reads only the functions that its edits change and what those call. An edit that is not seen to be
+  refused there is tried again alone, as `rt ci` would. Rounds run side by side, and what each came to is kept as soon
+  as it ends.
+- What is proved of a library is proved once. It is built from nothing, as always, and holds all that its check wrote,
+  where that of `rt ci` holds its statements; the rounds of its edits are made from that.
+- Tests are run under the toolchain's run-time checks (`rt try --test`), which takes minutes where their proofs take an
+  hour. Plain `rt ci` proves them too: what that adds is that the tests' own code is safe and returns.
 - tests/gate/kept.py keeps what was proved and what these rounds came to, for later runs on this machine.
 
-The closing lines tell how many minutes of processors the proofs, the tests and the edits of each crate took (tools/progress.py)."""
+The closing lines tell how many minutes of processors the proofs, the tests and the edits of each crate took
+(tools/progress.py)."""
 
 import contextlib
-import hashlib
 import os
 import re
 import shutil
@@ -26,7 +27,7 @@ import kept as for_later
 import pinned
 import progress
 from built import Build
-from edits import Said, changed, listed
+from edits import BY_PREMISE, Said, changed, listed, wanted
 from progress import spent
 from rattle import text_of
 
@@ -38,22 +39,26 @@ class Rounds:
     """Tries the edits of a crate."""
 
     def __init__(self, rt, kept, is_this_run, unpacked=None):
-        """`kept` has the folders of what was kept of crates, by their names; `unpacked` makes that of a crate whose proof an earlier run kept."""
-        self.rt, self.must_fail, self.kept, self.is_this_run, self.unpacked = rt, rt.must_fail, kept, is_this_run, unpacked
-        # what the last check of this thread said; of each crate, whether a function that no edit of a check changes was seen to be proved in
-        # it, what its rounds begin with, and who makes that
+        """`kept` has the folders of what was kept of crates, by their names; `unpacked` makes that of a crate whose
+        proof an earlier run kept."""
+        self.rt, self.must_fail, self.unpacked = rt, rt.must_fail, unpacked
+        self.kept, self.is_this_run = kept, is_this_run
+        # what the last check of this thread said; of each crate, whether a function that no edit of a check changes
+        # was seen to be proved in it, what its rounds begin with, and who makes that
         self.last, self.unchanged, self.starts, self.alone_in = threading.local(), {}, {}, defaultdict(threading.Lock)
         rt.checked = self.checked
 
     def checked(self, crate, texts, flags, kept, only=()):
-        """Checks a copy of the crate with these texts in place of its own, over what kept holds where it is given, and returns how that
-        ended. A library is built, which is checked just so, but offers no files for the proofs that are left open: a third of the time.
-        Where it is given, no function is read but those of only and what they call."""
+        """Checks a copy of the crate with these texts in place of its own, over what kept holds where it is given, and
+        returns how that ended. A library is built, which is checked just so, but offers no files for the proofs that
+        are left open: a third of the time. Where it is given, no function is read but those of only and what they
+        call."""
         rtlib = self.rt.rtlib
         with laid_out(crate.folder, rtlib.PARTS, texts) as room:
             verb, to = ("check", []) if crate.is_program or only else ("build", ["-o", f"{room}/{crate.name}.rlib"])
             to += [word for function in sorted(only) for word in ("--only", function)]
-            words = [rtlib.RATTLE, verb, *crate.words(flags, keeps=False), *(["--incremental", kept] if kept else []), *to]
+            words = [rtlib.RATTLE, verb, *crate.words(flags, keeps=False), *(["--incremental", kept] if kept else []),
+                     *to]
             ran = ran_in(room, [*rtlib.guarded(), *words])
         ran.stdout = re.sub(r"^rattle build: nothing was built, .*\n\Z", "", ran.stdout, flags=re.MULTILINE)
         self.last.output = ran.stdout
@@ -72,23 +77,26 @@ class Rounds:
         return is_well, text
 
     def judged(self, crate, edit, functions, with_it, said):
-        """Returns whether the functions of an edit are refused in a check of that edit with others, which change the functions with_it."""
+        """Returns whether the functions of an edit are refused in a check of that edit with others, which change the
+        functions with_it."""
         label = f"must-fail {crate.name}/{os.path.basename(edit)}"
-        refused, others = [it for it in functions if said.refuses(it)], said.others(with_it)
+        by, others = {it: said.refuses(it) for it in functions}, said.others(with_it)
+        refused = [it for it in functions if by[it] == wanted(edit, it)]
         if others:
-            return False, f"{label}: SHOWS NOTHING: the prover also refuses {', '.join(others)}, which it does not change"
+            beside = ", ".join(others)
+            return False, f"{label}: SHOWS NOTHING: the prover also refuses {beside}, which it does not change"
         if not refused or listed(edit) and len(refused) < len(functions):
-            rest = ", ".join(it for it in functions if it not in refused)
-            return False, f"{label}: NOT REFUSED in {rest}, or only because a proof names a step that is gone: change a value and keep the names"
+            return False, f"{label}: " + "; ".join(why_not(it, by[it]) for it in functions if it not in refused)
         self.unchanged[crate.name] = self.unchanged.get(crate.name, False) or said.proves_beside(with_it)
         return True, f"{label}: refused, as it must be, in {', '.join(refused)}"
 
     def rounds_of(self, crate, edits):
-        """Returns the edits in rounds, each with the texts that its edits together make. Those that change most come first, so that a later
-        round has few."""
+        """Returns the edits in rounds, each with the texts that its edits together make. Those that change most come
+        first, so that a later round has few."""
         rounds, of_each = [], {it: set(changed(self.rt, it, crate.folder)[0]) for it in edits}
         for edit, functions in sorted(of_each.items(), key=lambda it: -len(it[1])):
-            if not any(it["functions"].isdisjoint(functions) and self.join(crate, it, edit, functions) for it in rounds):
+            if not any(it["functions"].isdisjoint(functions) and self.join(crate, it, edit, functions)
+                       for it in rounds):
                 rounds.append({"edits": [], "functions": set(), "texts": {}})
                 self.join(crate, rounds[-1], edit, functions)
         return [(it["edits"], it["texts"]) for it in rounds]
@@ -108,9 +116,10 @@ class Rounds:
         """Tries the edits of a round together, and again alone those that are not seen to be refused there."""
         of_each = {it: changed(self.rt, it, crate.folder)[0] for it in edits}
         with_it, before = set().union(*of_each.values()), spent()
-        with copied(kept) as copy:
+        with self.over(crate, kept) as copy:
             ran = self.checked(crate, texts, flags, copy, with_it)
-        print(f"a round of {crate.name}: {len(edits)} edits, {len(with_it)} functions, {(spent() - before) / 60:.1f} minutes of processors", flush=True)
+        took = f"{(spent() - before) / 60:.1f} minutes of processors"
+        print(f"a round of {crate.name}: {len(edits)} edits, {len(with_it)} functions, {took}", flush=True)
         lines = ran.stdout.rstrip("\n").split("\n")
         is_read = ran.returncode == 1 and lines[-1].startswith("only=") and not self.rt.rtlib.STALE.search(ran.stdout)
         is_read = is_read and not any(self.rt.unread(it, texts) for it in lines)
@@ -121,22 +130,31 @@ class Rounds:
                 print("tried", text[:200], flush=True)
                 tried.append((True, text))
             else:
-                with copied(kept) as copy:
+                with self.over(crate, kept) as copy:
                     tried.append(self.alone(crate, edit, flags, copy))
         return tried
 
+    @contextlib.contextmanager
+    def over(self, crate, kept):
+        """Gives what a check begins with: of a library a copy, so that each begins alike. Of a program nothing was
+        kept, so its checks come one after another over one folder: a later one reads no more than what an earlier one
+        did not check."""
+        with self.alone_in[crate.name] if crate.is_program else copied(kept) as copy:
+            yield kept if crate.is_program else copy
+
     def planned(self, crate, edits):
-        """Returns the edits of a crate in rounds, by their numbers, with how many turns each has. Those that cannot be applied are with the
-        first."""
+        """Returns the edits of a crate in rounds, by their numbers, with how many turns each has. Those that cannot be
+        applied are with the first."""
         unfit = [it for it in edits if changed(self.rt, it, crate.folder)[1]]
         first, *others = [some for some, _ in self.rounds_of(crate, [it for it in edits if it not in unfit])] or [[]]
         turns = lambda some: sum(text_of(it).count("\nold: ") for it in some)
         return [([edits.index(it) for it in some], turns(some)) for some in [[*first, *unfit], *others] if some]
 
     def all_of(self, crate, edits, flags):
-        """Tries edits of a crate in rounds, each over a copy of what was kept, where the crate itself is proved over that: a check without
-        any edit shows it or, over what this run kept, the functions that an edit's check proves beside those that it refuses. What was not
-        refused so is tried again from nothing, as is every edit where the crate is not proved so."""
+        """Tries edits of a crate in rounds, each over a copy of what was kept, where the crate itself is proved over
+        that: a check without any edit shows it or, over what this run kept, the functions that an edit's check proves
+        beside those that it refuses. What was not refused so is tried again from nothing, as is every edit where the
+        crate is not proved so."""
         tried, able = {}, [it for it in edits if not changed(self.rt, it, crate.folder)[1]]
         kept, is_shown = self.start_of(crate, flags) if able else ("", False)
         if is_shown:
@@ -147,8 +165,8 @@ class Rounds:
         return [tried[it] if it in tried and tried[it][0] else self.alone(crate, it, flags) for it in edits]
 
     def start_of(self, crate, flags):
-        """Returns the folder that a crate's rounds begin with, and whether the crate is proved over that: a check without any edit showed it, or
-        the rounds over what this run kept show it themselves."""
+        """Returns the folder that a crate's rounds begin with, and whether the crate is proved over that: a check
+        without any edit showed it, or the rounds over what this run kept show it themselves."""
         with self.alone_in[crate.name]:
             if self.is_this_run and crate.name not in self.kept:
                 self.kept[crate.name] = self.unpacked(crate)
@@ -164,15 +182,29 @@ class Rounds:
         self.kept.pop(crate.name, None)
 
     def is_unchanged(self, crate, flags, kept):
-        """Returns whether the crate is proved over what this run kept: a round showed it, or a check without any edit does, once."""
+        """Returns whether the crate is proved over what this run kept: a round showed it, or a check without any edit
+        does, once."""
         with self.alone_in[crate.name]:
-            self.unchanged[crate.name] = self.unchanged.get(crate.name) or not self.checked(crate, {}, flags, kept).returncode
+            self.unchanged[crate.name] = self.unchanged.get(crate.name) or not self.checked(
+                crate, {}, flags, kept).returncode
             return self.unchanged[crate.name]
+
+
+def why_not(function, by):
+    """Returns why a function does not count as refused, which the prover refuses by this."""
+    if by == "premise":
+        own = f"{BY_PREMISE}{function}"
+        return f"ONLY A PREMISE of a call is refused in {function}: change a value, or let its list say '{own}'"
+    if by:
+        return f"its list says that only a premise of a call is refused in {function}, and its contract is"
+    gone = "or only because a proof names a step that is gone: change a value and keep the names"
+    return f"NOT REFUSED in {function}, {gone}"
 
 
 @contextlib.contextmanager
 def laid_out(folder, parts, texts):
-    """Gives a copy of these parts of a crate's folder with these texts in place of its own, for as long as it is wanted."""
+    """Gives a copy of these parts of a crate's folder with these texts in place of its own, for as long as it is
+    wanted."""
     with tempfile.TemporaryDirectory(prefix="rt-edit-") as room:
         for part in (it for it in parts if os.path.isdir(f"{folder}/{it}")):
             shutil.copytree(f"{folder}/{part}", f"{room}/{part}")
@@ -183,7 +215,8 @@ def laid_out(folder, parts, texts):
 
 def ran_in(folder, words):
     """A command that has ended, with all that it said."""
-    return subprocess.run(words, cwd=folder, stdin=subprocess.DEVNULL, stdout=subprocess.PIPE, stderr=subprocess.STDOUT, errors="replace")
+    return subprocess.run(words, cwd=folder, stdin=subprocess.DEVNULL, stdout=subprocess.PIPE,
+                          stderr=subprocess.STDOUT, errors="replace")
 
 
 @contextlib.contextmanager
@@ -193,49 +226,58 @@ def copied(kept):
         yield shutil.copytree(kept, f"{room}/kept", copy_function=os.link)
 
 
-def keep_all(rt, room, own):
-    """Has each proof of a library in a run keep all that it wrote, in new folders of the room; returns those folders by the crates' names. That of a
-    program stays empty, since no check both keeps its work and makes what two compilers build: a round of its edits reads all anew, and is
-    mostly the only one. Where the run has a store of its own, a proof that this has is put in place."""
-    kept, ci = {}, rt.Crate.ci
+def keep_all(rt, room, store):
+    """Has each proof of a library in a run keep all that it wrote, in new folders of the room; returns those folders by
+    the crates' names. That of a program begins empty, since no check both keeps its work and makes what two compilers
+    build. A proof that the store has is put in place."""
+    kept, ci, keeps = {}, rt.Crate.ci, hasattr(rt, "Kept")
 
     def ci_and_keep(crate, flags, tests):
         path = f"{room}/{crate.name}"
         shutil.rmtree(path, ignore_errors=True)
-        if own and own.restored(crate):
-            rt.say(f"{crate.name} is kept: an earlier run on this machine proved it, and nothing that it reads has changed", crate.out)
+        # (a script that keeps something asks the store itself)
+        if not keeps and store.give(crate):
+            rt.say(f"{crate.name} is kept: an earlier run proved it, and nothing that it reads has changed", crate.out)
             return 0
         os.mkdir(path)
-        status = ci(crate, flags, tests) if crate.is_program else prove_once(rt, crate, flags, path)
+        status = ci(crate, flags, tests) if crate.is_program else prove_once(rt, crate, flags, path, store)
         if not status and (crate.is_program or os.listdir(path)):
             kept[crate.name] = path
-        if not status and own:
-            own.keep_proof(crate)
+        if not status and not keeps:
+            store.keep(crate)
         return status
 
     rt.Crate.ci = ci_and_keep
     return kept
 
 
-def prove_once(rt, crate, flags, path):
-    """Builds a library from nothing, to hold all that its check wrote and not its statements alone, and unpacks that into the folder too."""
-    shutil.rmtree(os.path.dirname(crate.rlib), ignore_errors=True)
-    os.makedirs(os.path.dirname(crate.rlib))
-    status = crate.prove(["build", *crate.words(flags, keeps=False), "-o", crate.rlib])
-    if not status:
-        unpacked(rt, crate, path)
+def prove_once(rt, crate, flags, path, store):
+    """Builds a library, to hold all that its check wrote and not its statements alone, and unpacks that into the folder
+    too. It is built from nothing, or over what was proved last of the same text over the same statements."""
+    like = store.like(crate)
+    if like:
+        rt.say(f"{crate.name}: since it was proved only bodies below have changed: over what was kept", crate.out)
+        unpacked(rt, crate, path, like)
+    for over in [path, None] if like else [None]:
+        shutil.rmtree(os.path.dirname(crate.rlib), ignore_errors=True)
+        os.makedirs(os.path.dirname(crate.rlib))
+        words = ["--incremental", over] if over else []
+        status = crate.prove(["build", *crate.words(flags, keeps=False), *words, "-o", crate.rlib])
+        if not status:
+            shutil.rmtree(path)
+            unpacked(rt, crate, path)
+            break
     return status
 
 
-def unpacked(rt, crate, path):
-    """Unpacks what the check of a library that was built wrote into a folder for kept work, as the prover would have it there, and returns the
-    folder; that of a program stays empty. A later check looks at each module whether it is that of the text as it stands; where a kit packs them
-    otherwise, it finds none and proves them again."""
+def unpacked(rt, crate, path, rlib=None):
+    """Unpacks what the check of a library that was built wrote into a folder for kept work, as the prover would have it
+    there, and returns the folder; that of a program stays empty. A later check looks at each module whether it is that
+    of the text as it stands; where a kit packs them otherwise, it finds none and proves them again."""
     os.makedirs(path, exist_ok=True)
     if crate.is_program:
         return path
-    archive = f"{crate.rlib}/toolchain/checked.a"
-    pack = [f"{rt.KIT}/toolchain/bin/llvm-ar"]
+    archive, pack = f"{rlib or crate.rlib}/toolchain/checked.a", [f"{rt.KIT}/toolchain/bin/llvm-ar"]
     names = [it for it in ran_in(path, [*pack, "t", archive]).stdout.splitlines() if "/" not in it]
     build = re.search(r"^--@ kernel (\S+)$", ran_in(path, [*pack, "p", archive, *names[:1]]).stdout, re.MULTILINE)
     if names and build:
@@ -245,9 +287,15 @@ def unpacked(rt, crate, path):
     return path
 
 
+def over_kept(verdict):
+    """Returns the form of a verdict that may say that it rests on what an earlier check kept."""
+    return re.compile(verdict.pattern.replace(r"\n\Z", r"( incremental=trusted)?\n\Z"), re.MULTILINE)
+
+
 def in_order(rt, tasks, store):
-    """Returns the tasks of a run so that tests are run under run-time checks, and edits wait for the proof of their crate and not for its tests:
-    they are tried whether or not these pass, and where they do not, the run fails for that."""
+    """Returns the tasks of a run so that tests are run under run-time checks, and edits wait for the proof of their
+    crate and not for its tests: they are tried whether or not these pass, and where they do not, the run fails for
+    that."""
     crates = {it.name: it for it in rt.rtlib.crates_below(os.getcwd())}
     ordered = {}
     for key, (waits, lines, needs, call) in tasks.items():
@@ -262,30 +310,31 @@ def in_order(rt, tasks, store):
 
 
 def tests_of(rt, crate, store):
-    """Returns the call that runs a crate's tests under run-time checks, unless an earlier run on this machine saw the same ones pass."""
+    """Returns the call that runs a crate's tests under run-time checks, unless an earlier run on this machine saw the
+    same ones pass."""
     def passed(given, jobs):
         if not crate.has_tests():
             return True
-        kept = store()
-        sum = rt.stamp_of(crate, {}) if hasattr(rt, "stamp_of") else kept.key(crate)
-        name = hashlib.sha256(f"tests of {crate.name} under run-time checks: {sum}".encode()).hexdigest()
-        if kept and kept.tried(name):
-            rt.say(f"{crate.name}: its tests passed in an earlier run on this machine, and nothing that they read has changed")
+        name = for_later.sum_of(f"tests of {crate.name} under run-time checks", store.whole(crate))
+        if store.tried(name):
+            rt.say(f"{crate.name}: its tests passed in an earlier run, and nothing that they read has changed")
             return True
         ran = ran_in(crate.folder, [f"{rt.KIT}/bin/rt", "try", "--test"])
         ended = re.search(r"^test result: ok\. ([1-9]\d*) passed; 0 failed", ran.stdout, re.MULTILINE)
         # (a test that the reader of the sources finds and the runner does not is none, and the other way round)
         is_well = ran.returncode == 0 and ended is not None and int(ended[1]) == pinned.tests_of(crate.folder)
-        print(f"== {crate.name}: its tests under run-time checks\n" + (ended[0] if is_well else ran.stdout[-4000:]), flush=True)
-        if is_well and kept:
-            kept.keep_tried(name, rt.REFUSED, ended[0])
+        print(f"== {crate.name}: its tests under run-time checks\n" + (ended[0] if is_well else ran.stdout[-4000:]),
+              flush=True)
+        if is_well:
+            store.keep_tried(name, rt.REFUSED, ended[0])
         return is_well
 
     return passed
 
 
 def of_some(rt, words):
-    """Has a script that takes no names for `ci` run it of the crates that are named and of those below them; returns the words that it takes."""
+    """Has a script that takes no names for `ci` run it of the crates that are named and of those below them; returns
+    the words that it takes."""
     names, crates_of, look = words[1:], rt.crates_of, rt.rtlib.stop_on_unread
     if words[0] != "ci" or not names:
         return words
@@ -303,31 +352,33 @@ def of_some(rt, words):
 
 
 def run(rt, words):
-    """Runs the toolchain's command with these words, and returns its status. The word `program` in the place of `ci` has the program proved and
-    built, and nothing beside it."""
+    """Runs the toolchain's command with these words, and returns its status. The word `program` in the place of `ci`
+    has the program proved and built, and nothing beside it."""
     progress.count_processors(rt)
-    is_program = words[0] == "program"
-    minutes, in_lanes, store = progress.Minutes(), rt.in_lanes, {}
+    is_program, is_ci, keeps = words[0] == "program", words[0] != "must-fail", hasattr(rt, "Kept")
+    minutes, in_lanes = progress.Minutes(), rt.in_lanes
     in_lanes = progress.program_alone(rt, in_lanes, minutes) if is_program else in_lanes
-    own = None
-    # (a script that keeps nothing for later runs has no `Kept`)
-    if not hasattr(rt, "Kept"):
-        own = store["kept"] = for_later.Store(rt, for_later.in_cache(), "--anew" not in words)
+    store = for_later.Store(rt, for_later.place(getattr(rt, "STORE", None)), "--anew" not in words)
+    if store.is_taken:
+        rt.rtlib.VERDICT = over_kept(rt.rtlib.VERDICT)
+    if not keeps:
         words = of_some(rt, [it for it in words if it != "--anew"])
-    tasks_of = lambda tasks: in_order(rt, tasks, lambda: store.get("kept"))
-    timed = lambda tasks: in_lanes({key: (*task[:3], minutes.timed(key, task[3])) for key, task in tasks_of(tasks).items()})
+    tasks_of = lambda tasks: in_order(rt, tasks, store)
+    timed = lambda tasks: in_lanes({key: (*task[:3], minutes.timed(key, task[3])) for key,
+                                    task in tasks_of(tasks).items()})
     build = Build(os.getcwd())
     sources, mark = build.sources(), build.mark()
     # (by this name the toolchain's script removes the folder of a run that was killed)
     with tempfile.TemporaryDirectory(prefix=f"rt-copy-{os.getpid()}-") as room:
-        is_ci = words[0] != "must-fail"
         # (to try edits alone, what the developer's own checks of these crates kept)
-        tried = [] if is_ci else [it for it in rt.rtlib.crates_below(os.getcwd()) if not words[1:] or it.name in words[1:]]
+        tried = [] if is_ci else [it for it in rt.rtlib.crates_below(os.getcwd()) if not words[1:]
+                                  or it.name in words[1:]]
         own_of = {it.name: f"{it.folder}/out/incremental" for it in tried}
-        kept = keep_all(rt, room, own) if is_ci else {name: shutil.copytree(it, f"{room}/{name}") for name, it in own_of.items() if os.path.isdir(it)}
+        kept = keep_all(rt, room, store) if is_ci else {
+            name: shutil.copytree(it, f"{room}/{name}") for name, it in own_of.items() if os.path.isdir(it)}
         rounds = Rounds(rt, kept, is_ci, lambda crate: unpacked(rt, crate, f"{room}/{crate.name}"))
         tries = for_later.Tries(rt, rounds, store)
-        rt.in_lanes = for_later.with_rounds(rt, tries, own, timed) if own else timed
+        rt.in_lanes = timed if keeps else tries.with_rounds(timed)
         try:
             status = rt.main(["ci", *words[1:]] if is_program else words)
         except progress.Ended as ended:

@@ -1,15 +1,19 @@
-"""Whether a clause of a contract states anything, and whether a law pins a definition. `tests/gate/believed` stands on it.
+"""Whether a clause of a contract states anything, and whether a law pins a definition. `tests/gate/believed` stands on
+it.
 
-A clause states something if, with the names in it unfolded, something is left that could be false: not `Unit {0}`, not an equation of one
-text with itself, no sum that is at least a part of it, nothing that is a premise of the clause itself, and no equation in which only std and the
-clause's own variables have a word; and if no premise of it is one that nothing meets, as a length below 0 or a member of the empty list.
+A clause states something if, with the names in it unfolded, something is left that could be false: not `Unit {0}`, not
+an equation of one text with itself, no sum that is at least a part of it, nothing that is a premise of the clause
+itself, and no equation in which only std and the clause's own variables have a word; and if no premise of it is one
+that nothing meets, as a length below 0 or a member of the empty list.
 
-A law pins a definition if a clause of it is, for all arguments and without a premise but `IsBytes`, an equation or an equivalence of the
-definition at these arguments with words that do not lean on it. Where a definition gives a record, clauses of the law may pin it field by field."""
+A law pins a definition if a clause of it is, for all arguments and without a premise but `IsBytes`, an equation or an
+equivalence of the definition at these arguments with words that do not lean on it. Where a definition gives a record,
+clauses of the law may pin it field by field."""
 
 import re
 
-TOKEN = re.compile(r"[(){}\[\],;⟦⟧]|[^\s(){}\[\],;⟦⟧]+")
+from rattle import TOKEN
+
 OPENS, CLOSES = {"(": ")", "{": "}", "[": "]", "⟦": "⟧"}, {")", "}", "]", "⟧"}
 
 # types that hold values, and state nothing by having one
@@ -52,17 +56,17 @@ def groups(tokens):
 
 def bare(tokens):
     """The text without brackets round the whole of it."""
-    while len(tokens) > 1 and tokens[0] == "(" and tokens[-1] == ")" and len(groups(tokens)) == 1 and not split(tokens[1:-1], ",")[1:]:
-        if is_binder(tokens):
-            break
-        tokens = tokens[1:-1]
-    return tokens
+    is_in_brackets = len(tokens) > 1 and tokens[0] == "(" and tokens[-1] == ")" and len(groups(tokens)) == 1
+    if not is_in_brackets or split(tokens[1:-1], ",")[1:] or is_binder(tokens):
+        return tokens
+    return bare(tokens[1:-1])
 
 
 def is_binder(part):
     """Whether a part of a type only gives names to values, as `(x y : A)` does."""
     found = groups(part)
-    return bool(found) and all(it[0] in ("(", "{") and it[-1] in (")", "}") and len(split(it[1:-1], ":")) == 2 for it in found)
+    return bool(found) and all(it[0] in ("(", "{") and it[-1] in (")", "}") and len(split(it[1:-1], ":")) == 2
+                               for it in found)
 
 
 def bound(part):
@@ -98,7 +102,8 @@ def is_absurd(tokens):
     """Whether a relation says that something is above itself."""
     sign, left, right = relation(tokens, "≡≢<≤")
     is_more = lambda more, less: more[:-1] == [*less, "+"] and bool(re.fullmatch("[1-9]\\d*", more[-1]))
-    return bool(sign) and (sign in "≢<" and left == right or sign in "≡<≤" and is_more(left, right) or sign == "≡" and is_more(right, left))
+    return bool(sign) and (sign in "≢<" and left == right or sign in "≡<≤" and is_more(left, right) or sign == "≡"
+                           and is_more(right, left))
 
 
 def equations(one):
@@ -125,7 +130,8 @@ def parts_of_record(one):
 def constructors(one):
     """The types of a data type's constructors."""
     rest = " ".join(one.lines).partition(" where")[2]
-    found = re.split(r"(?:^|\s)\|?\s*([^\s(){}:]+) :(?=\s)", re.sub(r"\([^()]*:[^()]*\)", lambda it: it[0].replace(" : ", " ∶ "), rest))
+    found = re.split(r"(?:^|\s)\|?\s*([^\s(){}:]+) :(?=\s)",
+                     re.sub(r"\([^()]*:[^()]*\)", lambda it: it[0].replace(" : ", " ∶ "), rest))
     return [tokens_of(it.replace(" ∶ ", " : ")) for it in found[2::2]]
 
 
@@ -139,7 +145,14 @@ class Statements:
 
     def states(self, text, imports, std):
         """Whether a clause of a source states anything."""
-        return self.says(tokens_of(text), (lambda word: self.found(imports, None, word), std, frozenset()), (), ())
+        return self.says(tokens_of(text), self.scope_of(imports, std), (), ())
+
+    def is_of_nothing(self, text, imports, std):
+        """Whether a clause is for every ghost value of a type that has none."""
+        return self.is_never(tokens_of(text), self.scope_of(imports, std), ())
+
+    def scope_of(self, imports, std):
+        return lambda word: self.found(imports, None, word), std, frozenset()
 
     def found(self, imports, own, word):
         """The definition that a word stands for, if any."""
@@ -157,7 +170,9 @@ class Statements:
     @staticmethod
     def types_in(one):
         """The types of a record's fields or of a data type's constructors, or the texts of a definition's equations."""
-        return [*parts_of_record(one)[1].values()] if one.is_record else constructors(one) if one.is_data else [right for _, right in equations(one)]
+        if one.is_record:
+            return [*parts_of_record(one)[1].values()]
+        return constructors(one) if one.is_data else [right for _, right in equations(one)]
 
     def says(self, tokens, scope, seen, known):
         """Whether a type can be empty as far as its text tells, where these are known to hold."""
@@ -167,24 +182,28 @@ class Statements:
             return self.says(tokens[ends + 1 :], scope, seen, known)
         if tokens[:1] == ["let"] and "in" in tokens:
             return self.says(tokens[tokens.index("in") + 1 :], scope, seen, known)
-        if tokens[:1] == ["if"] and len(some := split([";" if it in ("then", "else") else it for it in tokens], ";")) == 3:
+        if tokens[:1] == ["if"] and len(some := split([";" if it in ("then", "else") else it for it in tokens],
+                                                      ";")) == 3:
             return any(self.says(it, scope, seen, known) for it in some[1:])
         names, premises, last = premises_of(tokens)
         if premises or len(split(tokens, "→")) > 1:
             within = (*scope[:2], scope[2] | set(names))
-            return not any(self.is_never(it, scope, ()) for it in premises) and self.says(last, within, seen, (*known, *premises))
+            return not any(self.is_never(it, scope, ()) for it in premises) and self.says(
+                last, within, seen, (*known, *premises))
         if tokens in known or not tokens:
             return False
         if len(some := split(tokens, "⊎")) > 1:
             return all(self.says(it, scope, seen, known) for it in some)
         if len(parts := split(tokens, "×")) > 1:
-            return any(self.says(it, scope, seen, known) for it in parts if not is_binder(it))
+            within = (*scope[:2], scope[2] | {name for it in parts if is_binder(it) for name in bound(it)})
+            return any(self.says(it, within, seen, known) for it in parts if not is_binder(it))
         if relation(tokens, REFLEXIVE)[0]:
             return not is_always(tokens) and not self.is_closed(tokens, (*scope[:2], () if known else scope[2]))
         return self.applies(tokens, scope, seen, known)
 
     def is_closed(self, tokens, scope):
-        """Whether only std, and variables that the clause binds, have a word in a text: it is proved, or refuted, whatever the project says."""
+        """Whether only std, and variables that the clause binds, have a word in a text: it is proved, or refuted,
+        whatever the project says."""
         words = [it for it in tokens if re.match(r"[^\W\d]|‹|«", it) and it.split(".")[0] not in scope[1]]
         return not any((it not in VALUES and it not in scope[2]) or scope[0](it) for it in words)
 
@@ -192,9 +211,12 @@ class Statements:
         """Whether a premise is one that nothing meets, as far as its text tells."""
         names, _, last = premises_of(tokens)
         tokens = bare(tokens)
-        if last in ([it] for it in names) or tokens == ["⊥"] or tokens[:1] == ["In"] and ["[", "]"] in (tokens[-2:], tokens[1:3]):
+        is_empty = tokens[:1] == ["In"] and ["[", "]"] in (tokens[-2:], tokens[1:3])
+        if is_empty or last in ([it] for it in names) or tokens == ["⊥"]:
             return True
-        if tokens[-2:] in (["<", "0"], ["<", "zero"]) or is_absurd(tokens) or any(it in tokens for it in RELATIONS) and self.is_closed(tokens, (*scope[:2], ())):
+        if tokens[-2:] in (["<", "0"], ["<", "zero"]) or is_absurd(tokens):
+            return True
+        if any(it in tokens for it in RELATIONS) and self.is_closed(tokens, (*scope[:2], ())):
             return True
         if len(parts := split(tokens, "×")) > 1:
             return any(self.is_never(it, scope, seen) for it in parts if not is_binder(it))
@@ -204,7 +226,8 @@ class Statements:
         some = self.types_in(one)
         if one.is_data:
             return not some
-        return (one.is_record or len(some) == 1) and any(self.is_never(it, self.scope(one.file), (*seen, one)) for it in some)
+        return (one.is_record or len(some) == 1) and any(
+            self.is_never(it, self.scope(one.file), (*seen, one)) for it in some)
 
     def is_hollow(self, one):
         """Whether a part of a definition is true of everything, or has a premise that nothing meets."""
@@ -212,8 +235,11 @@ class Statements:
 
     def has_hollow(self, tokens, scope):
         _, premises, last = premises_of(tokens)
-        parts = [it for sign in "×⊎" for some in [split(last, sign)] if len(some) > 1 for it in some if not is_binder(it)]
-        return any(self.is_never(it, scope, ()) for it in premises) or any(self.has_hollow(it, scope) for it in parts) or not parts and is_always(last)
+        parts = [it for sign in "×⊎" for some in [split(last, sign)] if len(some) > 1 for it in some
+                 if not is_binder(it)]
+        if any(self.is_never(it, scope, ()) for it in premises) or any(self.has_hollow(it, scope) for it in parts):
+            return True
+        return not parts and is_always(last)
 
     def applies(self, tokens, scope, seen, known):
         """The same of a name with its arguments."""
@@ -235,14 +261,16 @@ class Statements:
             names, fields = parts_of_record(one)
             return any(self.says(put(it, dict(zip(names, given))), scope, seen, ()) for it in fields.values())
         if one.is_data:
-            names = bound([it for some in groups(tokens_of(" ".join(one.lines).partition(" where")[0])) if is_binder(some) for it in some])
+            names = bound([it for some in groups(tokens_of(" ".join(one.lines).partition(" where")[0]))
+                           if is_binder(some) for it in some])
             return all(self.asks(put(it, dict(zip(names, given))), scope, seen) for it in constructors(one))
         # (what the names of an equation stand for at these arguments)
         names = lambda left: {it[0]: arg for it, arg in zip((it for it in left if it[0] != "{"), given) if len(it) == 1}
         return any(self.says(put(right, names(left)), scope, seen, ()) for left, right in equations(one))
 
     def asks(self, tokens, scope, seen):
-        """Whether a constructor can only be of some values: it has a premise that states something, or is of special arguments."""
+        """Whether a constructor can only be of some values: it has a premise that states something, or is of special
+        arguments."""
         names, premises, last = premises_of(tokens)
         arguments = [it for it in groups(last)[1:] if it[0] != "{"]
         free = [it[0] for it in arguments if len(it) == 1 and (it[0] in names or it[0].startswith("‹"))]
@@ -251,10 +279,12 @@ class Statements:
     # Whether a law pins a definition.
 
     def pinned_by(self, one, text, imports):
-        """What a clause of a law pins of a definition, or none: the name of a field, or "" for the whole; the words in its place; and the definitions
-        that state it, by their names, of which the last has the words in its file: in the law's own source where there is none."""
+        """What a clause of a law pins of a definition, or none: the name of a field, or "" for the whole; the words in
+        its place; and the definitions that state it, by their names, of which the last has the words in its file: in
+        the law's own source where there is none."""
         statements, tokens, named = [], tokens_of(text), lambda word: self.found(imports, None, word)
-        while len(alone := groups(bare(tokens))) == 1 and len(alone[0]) == 1 and (said := named(alone[0][0])) and said != one:
+        alone = lambda: groups(bare(tokens))
+        while [len(it) for it in alone()] == [1] and (said := named(alone()[0][0])) and said != one:
             some = [*equations(said)]
             if len(some) != 1 or some[0][0] or said.is_record or said.is_data or said in statements:
                 return None
@@ -262,14 +292,16 @@ class Statements:
             tokens, named = some[0][1], self.scope(said.file)[0]
         names, premises, last = premises_of(tokens)
         # (a law may be of fewer arguments than a definition that has more in front of these)
-        is_whole = "{" not in one.lines[0] and not one.depth and all(self.is_domain(it, named, names) for it in premises)
+        is_whole = "{" not in one.lines[0] and not one.within and all(
+            self.is_domain(it, named, names) for it in premises)
         sign, *sides = relation(last, "↔≡")
         for subject, other in (sides, sides[::-1]) if sign and is_whole else ():
             field = self.is_at_all(one, subject, named, names)
             if field is None and sign == "↔":
                 field = self.is_equation_of(one, subject, named, names)
             if field is not None:
-                return field, [" ".join(other), " ".join(word for part in split(bare(tokens), "→")[:-1] for word in part)], statements
+                return field, [" ".join(other), " ".join(
+                    word for part in split(bare(tokens), "→")[:-1] for word in part)], statements
         return None
 
     def is_domain(self, premise, named, names):
@@ -277,17 +309,20 @@ class Statements:
         return len(premise) == 2 and premise[1] in names and bool(it) and (*it.file, it.name) in DOMAINS
 
     def is_at_all(self, one, side, named, names):
-        """The field, or "" for the whole, where a side is the definition at arguments that are bound names, each another; else None."""
+        """The field, or "" for the whole, where a side is the definition at arguments that are bound names, each
+        another; else None."""
         found, field = groups(side), ""
-        if len(found) == 1 and len(found[0]) > 2 and found[0][0] == "(" and found[0][-2] == ")" and re.fullmatch(r"\.\w+", found[0][-1]):
-            field, found = found[0][-1][1:], groups(found[0][1:-2])
+        it = found[0] if len(found) == 1 else []
+        if len(it) > 2 and it[0] == "(" and it[-2] == ")" and re.fullmatch(r"\.\w+", it[-1]):
+            field, found = it[-1][1:], groups(it[1:-2])
         head, *arguments = found
         is_it = len(head) == 1 and "." not in head[0] and named(head[0]) is one
         variables = [it[0] for it in arguments if len(it) == 1 and it[0] in names]
         return field if is_it and len(variables) == len(arguments) == len(set(variables)) else None
 
     def is_equation_of(self, one, side, named, names):
-        """The same where a side says that the definition's value is one that is bound too, bare or behind a constructor."""
+        """The same where a side says that the definition's value is one that is bound too, bare or behind a
+        constructor."""
         sign, *sides = relation(side, "≡")
         for subject, value in (sides, sides[::-1]) if sign else ():
             field, (*constructor, last) = self.is_at_all(one, subject, named, names), value

@@ -1,5 +1,5 @@
-"""Which libraries of the kit are trusted: what crates.txt and the sources say, and whether the documents say so. `tests/gate/believed` stands on
-it."""
+"""Which libraries of the kit are trusted: what crates.txt and the sources say, and whether the documents say so.
+`tests/gate/believed` stands on it."""
 
 import re
 
@@ -15,7 +15,8 @@ def named(top, crate):
     found = set()
     for path in sorted((top / "crates" / crate / "src").glob("**/*.rt")):
         source = rattle.read(path)
-        modules = {it.stem for it in path.parent.glob("*.rt")} | {it.name for it in path.parent.iterdir() if it.is_dir()}
+        modules = {it.stem for it in path.parent.glob("*.rt")} | {
+            it.name for it in path.parent.iterdir() if it.is_dir()} | {name for _, name, *_ in source.modules}
         derived = [it for said in source.attributes if said.startswith("derive") for it in re.findall(r"(\w+)::", said)]
         used = [it[1] for _, use, _ in source.uses if (it := re.match(r"([a-z_]\w*)(?:::|$)", use))]
         ghosts = [it[1] for use in source.ghost_uses if (it := re.match(r"Rattle\.(\w+)\.", use))]
@@ -29,7 +30,8 @@ def faults(top, order):
     found = [f"crates.txt: it has no line for {it}" for it in sorted(crates - set(order))]
     used = {crate: named(top, crate) for crate in sorted(crates & set(order))}
     for crate in used:
-        found += [f"crates.txt: the sources of {crate} name {it}, and its line does not" for it in sorted(used[crate] - set(order[crate]))]
+        found += [f"crates.txt: the sources of {crate} name {it}, and its line does not"
+                  for it in sorted(used[crate] - set(order[crate]))]
     libraries = {it for below in (*order.values(), *used.values()) for it in below} - crates
     found += [f"crates.txt: no source names {it}" for it in sorted(libraries - set().union(*used.values()))]
     for name in ("README.md", "docs/PROMISES.md") if libraries else ():

@@ -44,10 +44,10 @@ class Talk:
         return self.given[kind]
 
     def send(self, connection, operations, uid=0, xid=None):
-        """Sends a call of operations (name, fields)."""
+        """Sends a call of operations (name, fields); no fields are those of one that nobody here can read."""
         if xid is None:
             xid = self.xid = self.xid + 1
-        made = [nfs4.op(name, **fields) for name, fields in operations]
+        made = [nfs4.u32(nfs4.NUMBERS[name]) + bytes(24) if fields is None else nfs4.op(name, **fields) for name, fields in operations]
         self.made.sent(self.moment, connection, True, nfs4.record(nfs4.compound(xid, made, uid)))
         return Pending(connection, xid, operations)
 

@@ -20,7 +20,7 @@ def found(name):
 
 def least():
     """How many cases each part passes by tests/least.tsv, the fewest and the most, and how many tests and asserts the crates have."""
-    return {name: number.split("-") for name, number, *_ in rattle.rows_of(TOP / "tests/least.tsv")}
+    return {name: re.findall(r"\d+", number) for name, number, *_ in rattle.rows_of(TOP / "tests/least.tsv")}
 
 
 def most(part):
@@ -43,7 +43,7 @@ def seeds(script):
 
 
 def rows():
-    return sorted(found("INDEX.tsv").parent.glob("*.script"))
+    return sorted(found("INDEX.tsv").parent.rglob("*.script"))
 
 
 def replies():
@@ -52,9 +52,9 @@ def replies():
 
 
 def wrong_servers():
-    """Lines of the tables of docs/WRONG_SERVERS.md."""
-    text = (TOP / "docs/WRONG_SERVERS.md").read_text(encoding="utf-8")
-    return sum(1 for line in text.splitlines() if line.startswith("|") and not line.startswith(("|---", "| Wrong server ")))
+    """The servers that docs/PROMISES.md lists as refused: the items below each "refuses a server that"."""
+    text = (TOP / "docs/PROMISES.md").read_text(encoding="utf-8")
+    return sum(it.count("\n  - ") for it in re.findall(r"efuses(?:\*\*)? a server that((?:\n  .*)+)", text))
 
 
 def wrong_clients():

@@ -172,7 +172,7 @@ in_calls("write late", "WRITE puts its bytes one later", {"WRITE"}, add("offset"
 in_calls("old stateids", "READ and WRITE take stateids of any seqid", {"READ", "WRITE"}, seqid(0))
 in_calls("guarded is unchecked", "a guarded create of what is there succeeds", {"OPEN"}, lambda f: f.update(create_mode="0") if f.get("create_mode") == "1" else None)
 in_calls("umask", "CREATE and OPEN take bits from the mode given", {"CREATE", "OPEN"},
-         lambda f: f.update(attrs=in_word(f["attrs"], "Mode", lambda mode: str(int(mode) & ~0o022))) if "attrs" in f else None)
+         lambda f: f.update(attrs=in_word(f["attrs"], "Mode", lambda mode: f"0{int(mode, 8) & ~0o022:o}")) if "attrs" in f else None)
 in_calls("readdir begins anew", "READDIR does not look at the cookie", {"READDIR"}, put(cookie="0"))
 in_calls("names without case", "names differ by case no more", {"LOOKUP", "CREATE", "OPEN", "REMOVE"},
          lambda f: f.update(name=nfs4.shown(nfs4.meant(f["name"]).lower())) if "name" in f else None)
@@ -330,7 +330,7 @@ in_replies("wrong number of session", "CREATE_SESSION names another sequence id"
 in_replies("open to be confirmed", "OPEN wants OPEN_CONFIRM", {"OPEN"}, lambda f: f.update(result_flags=str(int(f["result_flags"]) | 2)))
 attributes("size one more", "the size of an object is told one too high", {"GETATTR"}, "Size", lambda word: str(int(word) + 1))
 attributes("one link", "each object has one name", {"GETATTR", "READDIR"}, "NumLinks", lambda word: "1")
-attributes("nine bits", "the mode has nine bits", {"GETATTR"}, "Mode", lambda word: str(int(word) & 0o777))
+attributes("nine bits", "the mode has nine bits", {"GETATTR"}, "Mode", lambda word: f"0{int(word, 8) & 0o777:o}")
 attributes("all is root's", "each object is root's", {"GETATTR"}, "Owner", lambda word: "0")
 attributes("one fileid", "all objects have one number", {"GETATTR", "READDIR"}, "FileId", lambda word: "5")
 attributes("change stays", "the change attribute stays", {"GETATTR", "READDIR"}, "Change", lambda word: "1")

@@ -1,1 +1,1 @@
-"""A proxy between a client of NFS version 4.1 and its server, which does faults on purpose (tools/faults, docs/FAULTS.md)."""
+"""A proxy between a client of NFS version 4.1 and its server, which does faults on purpose (tools/faults, docs/CLIENTS.md)."""

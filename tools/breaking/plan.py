@@ -1,4 +1,4 @@
-"""Plans of faults: text, a rule a line (docs/FAULTS.md). A rule says which call it takes, how often, and what is done to it."""
+"""Plans of faults: text, a rule a line (docs/CLIENTS.md). A rule says which call it takes, how often, and what is done to it."""
 import random
 from typing import NamedTuple
 
@@ -107,6 +107,23 @@ def fields_of(operation):
     return sorted(set(found))
 
 
+def as_shown(operation, field, value):
+    """How the operation's field is shown if it has this value, in whichever of its forms has the field."""
+    why = nfs4.Unreadable(f"{field}={value} fits no form of {operation}")
+    for chosen in range(7):
+        c = nfs4.Writer([(field, value)])
+        c.uint = lambda name, size=4, default=0, style=None, c=c, chosen=chosen: nfs4.Writer.uint(c, name, size, default if name == field else chosen, style)
+        try:
+            nfs4.ARGUMENTS[operation](c)
+            reader = nfs4.Reader(c.data)
+            nfs4.ARGUMENTS[operation](reader)
+            if not c.given:
+                return dict(reader.fields)[field]
+        except (nfs4.Unreadable, ValueError) as fault:
+            why = fault if field in c.names and not c.given else why
+    raise why
+
+
 class Words:
     """The words of a line, taken one behind the other."""
 
@@ -170,8 +187,19 @@ def read_fields(words, operation):
             raise Wrong(f"behind `with` comes FIELD=VALUE, and not {name!r}")
         if name not in known:
             raise Wrong(f"{operation} has no field {name!r}{nearest(name, known)}; its fields: {', '.join(known) or 'none'}")
-        found.append((name, value))
+        found.append((name, read_value(operation, name, value)))
     return found
+
+
+def read_value(operation, name, value):
+    """A value that the operation's field can have, written as tools/show prints it."""
+    try:
+        shown = as_shown(operation, name, value)
+    except (nfs4.Unreadable, ValueError) as fault:
+        raise Wrong(f"{operation} never has {name}={value}: {fault}") from None
+    if shown != value:
+        raise Wrong(f"{operation} never has {name}={value}: that is shown as {name}={shown}")
+    return value
 
 
 def read_times(words, rule):

@@ -120,12 +120,8 @@ def recorded(path, port):
 def of_script(script, reference):
     """The same of a script of replay, whose replies are the reference's."""
     output = subprocess.run(reference.command[:-2], input=script, capture_output=True, check=False).stdout
-    answers = {reply[:4]: reply for _, reply in nfs4.replies(output) if reply}
-    found = []
-    for moment, conn, call in nfs4.whole_calls(script):
-        if call is not None and call[:4] in answers:
-            found.append([float(moment), float(moment), conn, call, answers[call[:4]]])
-    return found
+    calls, _ = nfs4.answered(script, output)
+    return [[float(moment), float(moment), conn, call, replies[0][1]] for moment, conn, call, replies in calls if replies and replies[0][1]]
 
 
 def lifted_calls(calls):
@@ -175,7 +171,7 @@ class Judged(Play):
             for at in range(len(parts)):
                 control = self.reference.control
                 control.in_session([("PUTFH", [("FileHandle", self.reference.base)]), *(("LOOKUP", [("name", part)]) for part in parts[:at]),
-                                    ("CREATE", [("type", "2"), ("name", parts[at]), ("attrs", "{Mode:511}")])])
+                                    ("CREATE", [("type", "2"), ("name", parts[at]), ("attrs", "{Mode:0777}")])])
         self.bind_base(self.reference.base, self.first_handle())
         return "", ""
 

@@ -3,7 +3,7 @@ import nfs4
 
 from .differences import When
 from .reference import LEASE, T0
-from .symbols import State, Turn, compares_a_time
+from .symbols import ANONYMOUS, BYPASS, State, Turn, compares_a_time
 
 ALONE = {"EXCHANGE_ID", "CREATE_SESSION", "DESTROY_SESSION", "DESTROY_CLIENTID"}
 
@@ -53,6 +53,8 @@ class Circumstances:
             return When.SIZE_OF_NO_FILE
         if a == "BADCHAR" and b not in ("NOENT", "INVAL", "BADNAME") and any(b"\0" in nfs4.meant(op.get(word, "0x")) for word in ("name", "newname")):
             return When.ZERO_BYTE
+        if op.name in ("READ", "WRITE") and b == "BAD_STATEID" and op.get("StateID", ANONYMOUS) not in (ANONYMOUS, BYPASS):
+            return None if self.looks.told(sent, cursor.here, "Type") == "1" else When.NO_FILE
         if a == "LOCKED" and b == "OK" and "0" in (op.get("count"), str(len(nfs4.meant(op.get("data", "0x61"))))):
             return When.NO_BYTES
         return None
@@ -83,7 +85,7 @@ class Circumstances:
         if op.name == "OPEN" and b == "SHARE_DENIED" and self.own_deny(step, op):
             return When.OWN_DENY
         if op.name == "OPEN" and op.get("open_type") == "1" and int(op.get("create_mode", "0"), 0) >= 2:
-            if b in ("INVAL", "ATTRNOTSUPP") and op.get("attrs", "{}") not in ("{}", "{Mode:420}"):
+            if b in ("INVAL", "ATTRNOTSUPP") and op.get("attrs", "{}") not in ("{}", "{Mode:0644}"):
                 return When.EXCLUSIVE_ATTRIBUTES
             if "EXIST" in (a, b):
                 return When.EXCLUSIVE_AGAIN

@@ -20,6 +20,7 @@ class When(Enum):
     SIZE_OF_NO_FILE = "size of no file"
     ZERO_BYTE = "a zero byte in a name"
     NO_BYTES = "no bytes"
+    NO_FILE = "no file"
     ANOTHER_USER = "another user"
     OWNER_OF_THE_FILE = "owner of the file"
     MODE_NOT_GIVEN = "mode not given"

@@ -50,6 +50,8 @@ class Outcome:
     counts: dict = field(default_factory=dict)
     stopped: str = ""
     skipped: int = 0
+    history: list = field(default_factory=list)  # what the reference was given
+    binds: dict = field(default_factory=dict)
 
 
 class Play(Flights, Wording):
@@ -76,6 +78,7 @@ class Play(Flights, Wording):
             while not self.outcome.stopped and (group := self.source.next()):
                 self.group(group)
         finally:
+            self.outcome.history, self.outcome.binds = list(self.reference.history), self.binds
             self.end(name, handle)
         return self.outcome
 

@@ -5,15 +5,14 @@ import select
 import shlex
 import subprocess
 import tempfile
-from pathlib import Path
 
 import nfs4
+from program import PROGRAM
 
 from .server import Answer, Client
 
 T0 = 1_000_000_000  # the moment of step k is T0 + k, so a time that is read tells the step that set it
 LEASE = 86_400
-PROGRAM = Path(__file__).resolve().parents[2] / "crates/nfs41d/out/nfs41d"
 FILLING = 15        # the connection of the calls that fill the program's buffer
 FILLERS = 64        # so many replies of more than 1,024 bytes are more than it holds
 FILLER = 0xf0000000  # their xid; that of the first of each batch is counted from here
@@ -38,7 +37,7 @@ class Reference:
         self.control = Client(lambda conn, record: self.call(record, self.now))
         self.control.open()
         self.base = self.control.base("base")
-        self.spare = {"dir": self.control.base("spare"), "file": self.made("OPEN", share_access="3", owner="spare", open_type="1", attrs="{Mode:511}", name="file"),
+        self.spare = {"dir": self.control.base("spare"), "file": self.made("OPEN", share_access="3", owner="spare", open_type="1", attrs="{Mode:0777}", name="file"),
                       "link": self.made("CREATE", type="5", linkdata="text", name="link")}
         self.begun = list(self.history), self.control.number, self.control.xid
 

@@ -37,15 +37,20 @@ REPAIRS = {
     "create": Repair({"create_mode": "0", "verifier": None}, set()),
 }
 WITH_SAVED = ("LINK", "RENAME")
+# What the saved object of a LINK has a part in.
+OF_SAVED = {"ISDIR", "MLINK", "XDEV", "STALE", "WRONG_TYPE"}
+# Operations that may be refused for want of a right which the reference does not ask for, and the bits of ACCESS that they may want.
+RIGHTS = {"LOCK": 1 | 4, "LOCKT": 1 | 4, "LOCKU": 1 | 4, "COMMIT": 4}
 
 
 class Asked(NamedTuple):
-    """A call that the reference refused at operation `at`, in plain words."""
+    """A call that the reference refused at operation `at`, where `here` was the current filehandle, in plain words."""
     xid: int
     user: tuple
     operations: list
     at: int
     moment: int
+    here: str
 
 
 def repaired(asked, parts, spare):
@@ -61,9 +66,10 @@ def repaired(asked, parts, spare):
     operations[asked.at] = name, fields
     for part in parts:
         if part in spare:
-            put = [("PUTFH", [("FileHandle", spare[part])])]
-            operations[asked.at:asked.at] = put + ([("SAVEFH", [])] if name in WITH_SAVED else [])
-            hidden |= set(nfs4_words()) - ARGUMENTS
+            put = [("PUTFH", [("FileHandle", spare[part])])] + ([("SAVEFH", [])] if name in WITH_SAVED else [])
+            is_link = name == "LINK" and asked.here
+            operations[asked.at:asked.at] = put + ([("PUTFH", [("FileHandle", asked.here)])] if is_link else [])
+            hidden |= OF_SAVED if is_link else set(nfs4_words()) - ARGUMENTS
     return user, operations, hidden
 
 
@@ -80,8 +86,11 @@ def parts_of(asked, spare):
 
 def also_fails(reference, asked, status):
     """Whether the reference would answer this status for the call too, had its other faults been mended."""
-    if status == "DENIED" and asked.operations[asked.at][0] == "LOCK":
+    name = asked.operations[asked.at][0]
+    if status == "DENIED" and name == "LOCK":
         return is_denied(reference, asked)
+    if status == "ACCESS" and name in RIGHTS:
+        return lacks_a_right(reference, asked, RIGHTS[name])
     parts = parts_of(asked, reference.spare)
     for size in (1, 2, 3):
         for chosen in combinations(parts, size):
@@ -102,12 +111,25 @@ def is_denied(reference, asked):
     return answered(reference, asked, asked.user, operations) == "DENIED"
 
 
+def lacks_a_right(reference, asked, bits):
+    """Whether the user lacks one of these rights on the object, by ACCESS."""
+    operations = [*asked.operations[:asked.at], ("ACCESS", [("access", str(bits))])]
+    _, status, fields = result(reference, asked, asked.user, operations) or (None, None, [])
+    return status == "OK" and int(dict(fields)["access_rights"]) != bits
+
+
 def answered(reference, asked, user, operations):
     """The status of the repaired operation, or None."""
+    found = result(reference, asked, user, operations)
+    return found and found[1]
+
+
+def result(reference, asked, user, operations):
+    """The result of the repaired operation, or None."""
     try:
         made = [nfs4.write_operation(name, fields) for name, fields in operations]
     except (nfs4.Unreadable, ValueError):
         return None
     told = Answer(reference.ask(nfs4.compound(asked.xid, made, *user), asked.moment, without_last=True))
     at = asked.at + len(operations) - len(asked.operations)
-    return told.results[at][1] if len(told.results) > at else None
+    return told.results[at] if len(told.results) > at else None

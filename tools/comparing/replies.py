@@ -106,18 +106,19 @@ class Replies:
             name = "COMPOUND"
         difference = Difference(name, "status", a, b, self.step.id, at, when=Circumstances(self.play).of(self.sent, op, a, b, cursor))
         rules.verdict(difference)
-        if difference.verdict == "deviation" and b not in ("OK", "none") and a != "OK" and at and not self.step.again and self.also_fails(at, b):
+        refused = b not in ("OK", "none") and (a != "OK" or name in repairs.RIGHTS)
+        if difference.verdict == "deviation" and refused and at and not self.step.again and self.also_fails(at, b, cursor.here):
             difference.verdict, difference.section = "allowed", "15.1"
             difference.why, difference.looked_up = "another check that fails as well, by the reference; the order of checks is open", False
         self.found(difference)
         self.together(at, a, b, difference)
 
-    def also_fails(self, at, status):
+    def also_fails(self, at, status, here):
         step = self.step
         plain = [(op.name, self.lowered_then(op)) for op in self.sent.operations[:at + 1]]
         if any(name == "bytes" for name, _ in plain):
             return False
-        asked = repairs.Asked(self.sent.xid, (step.uid, step.gid, step.gids), plain, at, self.sent.moment)
+        asked = repairs.Asked(self.sent.xid, (step.uid, step.gid, step.gids), plain, at, self.sent.moment, here)
         return repairs.also_fails(self.play.reference, asked, status)
 
     def lowered_then(self, op):

@@ -346,7 +346,7 @@ class Results:
     def is_below_setgid(self, handle):
         """Does a directory in which it was made, or that one in turn, have the bit that may be handed down?"""
         while handle := self.twin.homes.get(handle):
-            if int(self.play.looks.attribute_of(handle, "Mode") or "0") & SETGID:
+            if int(self.play.looks.attribute_of(handle, "Mode") or "0", 8) & SETGID:
                 return True
         return False
 

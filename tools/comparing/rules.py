@@ -122,6 +122,7 @@ ALLOWED = [Row(*words) for words in (
     ("CLOSE", "status", "OK", "LOCKS_HELD", "18.2.3", "a server may refuse to close while locks are held"),
     ("READ", "status", "OPENMODE", "OK|LOCKED", "9.1.2", "a server may let an open for writing read, where no other open denies it"),
     ("WRITE|SETATTR|READ", "status", "LOCKED|ACCESS", "ACCESS|LOCKED|OPENMODE", "9.1.2", "the order of the checks"),
+    ("READ|WRITE", "status", "ISDIR|SYMLINK|INVAL|WRONG_TYPE", "BAD_STATEID", "15.1", "no file, and so no open of it: the order of the checks", When.NO_FILE),
     ("READ|WRITE|SETATTR|OPEN_DOWNGRADE|LOCK|LOCKU|CLOSE", "status", "OK", "ACCESS|PERM|WRONG_CRED", "18.22.4",
      "permission may be judged anew for the user of each request", When.ANOTHER_USER),
     ("READ|WRITE|SETATTR", "status", "ACCESS", "OK", "18.22.4", "a server may let the owner of a file read and write it", When.OWNER_OF_THE_FILE),
@@ -175,7 +176,7 @@ ALLOWED = [Row(*words) for words in (
 
 # Where this project's profile departs from RFC 8881, and the reference is not to be believed (docs/PROTOCOL.md, docs/DECISIONS.md).
 OURS = [Row(*words) for words in (
-    ("OPEN", "status", ".*", "INVAL", "18.16.3", "the profile looks at the two low bits of the access alone", When.NO_MEANING),
+    ("OPEN", "status", ".*", "INVAL|BADXDR", "18.16.3", "the profile looks at the two low bits of the access alone", When.NO_MEANING),
     ("OPEN", "status", ".*", "SHARE_DENIED", "9.7", "the RFC excepts no open of the same owner, the profile does", When.OWN_DENY),
     ("OPEN_DOWNGRADE", "status", "OK", "INVAL", "18.18.3", "the RFC asks for what some of the owner's OPENs gave, the profile for a part of the bits"),
     ("OPEN|LOCK", "status", ".*", "GRACE", "18.51.3", "the RFC wants RECLAIM_COMPLETE first, the profile does not", When.BEFORE_RECLAIM_COMPLETE),

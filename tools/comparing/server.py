@@ -189,12 +189,12 @@ class Client:
 
     def base(self, name):
         """A new directory that all may change: its filehandle."""
-        mode = [("attrs", "{Mode:511}")]
+        mode = [("attrs", "{Mode:0777}")]
         answer = self.in_session([*self.home, ("CREATE", [("type", "2"), ("name", name), *mode]),
                                   ("SETATTR", [("StateID", ANONYMOUS), *mode]), ("GETFH", [])])
         last, status, fields = answer.results[-1] if answer.results else ("the call", answer.status or answer.kind, [])
         if answer.status != "OK" or "FileHandle" not in dict(fields):
-            raise Gone(f"no directory can be made where PATH is: {last} is answered by {status}; docs/COMPARE.md says what the server has to export")
+            raise Gone(f"no directory can be made where PATH is: {last} is answered by {status}; docs/CLIENTS.md says what the server has to export")
         return dict(fields)["FileHandle"]
 
     def sweep(self, handle, name=None):

@@ -19,6 +19,7 @@ class Shrinker:
     def __init__(self, server, reference, want, seconds):
         self.server, self.reference, self.want = server, reference, want
         self.until, self.tries = time.monotonic() + seconds, 0
+        self.outcome = None  # of the last play that showed it
 
     def shows(self, script):
         if time.monotonic() > self.until:
@@ -28,22 +29,36 @@ class Shrinker:
             outcome = Play(self.server, self.reference, Given(script), self.want, steer=False).run()
         except (nfs4.Unreadable, ValueError, KeyError):
             return False  # a call that cannot be written
-        return any(difference.key == self.want.key and rules.is_as_strong(difference, self.want.verdict) for difference in outcome.differences)
+        found = any(difference.key == self.want.key and rules.is_as_strong(difference, self.want.verdict) for difference in outcome.differences)
+        self.outcome = outcome if found else self.outcome
+        return found
 
     def shrink(self, script, last):
-        """The smallest script that was found; `last` is the step at which the difference was seen."""
+        """Makes the script as small as it can be; `last` is the step at which the difference was seen. The outcome of the smallest, if it came again."""
         steps = script.steps
         at = next((i for i, step in enumerate(steps) if step.id == last), len(steps) - 1)
         steps = steps[:at + 1]
         if not self.shows(script.with_steps(steps)):
-            return script, False
+            return None
         size = None
         while size != (size := weight(steps)) and time.monotonic() < self.until:
             steps = fewer(steps, lambda trial: self.shows(script.with_steps(trial)))
+            steps = self.one_session(script, steps)
             steps = self.fewer_operations(script, steps)
         steps = self.plainer_steps(script, steps)
         steps = self.plainer_operations(script, steps)
-        return script.with_steps(fewer(steps, lambda trial: self.shows(script.with_steps(trial)))), True
+        fewer(steps, lambda trial: self.shows(script.with_steps(trial)))
+        return self.outcome
+
+    def one_session(self, script, steps):
+        """The steps with the first session, and its client, in place of each other; what made the others can then go."""
+        made = {kind: [sym for step in steps for op in step.ops if (sym := script.binds.get((op.id, kind)))] for kind in ("sessionid", "clientid")}
+        for kind, syms in made.items():
+            for other in dict.fromkeys(syms[1:]):
+                of = lambda op, other=other, first=syms[0], kind=kind: op.with_(**{kind: first}) if op.get(kind) == other else op
+                trial = [step.with_(ops=[*map(of, step.ops)]) if not step.again else step for step in steps]
+                steps = trial if self.shows(script.with_steps(trial)) else steps
+        return steps
 
     def with_step(self, script, steps, at, step):
         """The steps with one changed, where the difference stays, else as they are."""

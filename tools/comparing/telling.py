@@ -43,12 +43,13 @@ def reply_lines(answer, label):
     return lines + [f"      {name} {status}{fields_of(name, fields)}" for name, status, fields in answer.results]
 
 
-def case_text(finding, outcome, binds):
-    """A finding with its calls, and both replies of those that differ."""
+def case_text(finding, outcome):
+    """A finding with its calls up to the one that differs, and both replies of those that do."""
     lines, numbers = [], {sent.step.id: number for number, sent in enumerate(outcome.log, 1)}
     differing = {difference.step for difference in outcome.differences if difference.key == finding.key}
-    for number, sent in enumerate(outcome.log, 1):
-        lines += call_lines(sent, binds, number, numbers)
+    last = max((number for number, sent in enumerate(outcome.log, 1) if sent.step.id in differing), default=len(outcome.log))
+    for number, sent in enumerate(outcome.log[:last], 1):
+        lines += call_lines(sent, outcome.binds, number, numbers)
         if sent.step.id in differing:
             lines += reply_lines(sent.reference, "reference") + (reply_lines(sent.server, "server") if sent.server else ["  server: no reply"])
     return lines
@@ -76,12 +77,12 @@ def file_name(key):
     return "-".join(re.sub(r"\W+", "_", part)[:32].strip("_") for part in key)
 
 
-def keep(folder, finding, outcome, history, binds):
+def keep(folder, finding, outcome):
     """The case as NAME.script, NAME.txt and NAME.pcap."""
     folder.mkdir(parents=True, exist_ok=True)
     name = file_name(finding.key)
-    (folder / f"{name}.script").write_bytes(b"".join(history))
-    (folder / f"{name}.txt").write_text("\n".join([headline(finding), f"known as: {known_line(finding.key)}", *case_text(finding, outcome, binds)]) + "\n")
+    (folder / f"{name}.script").write_bytes(b"".join(outcome.history))
+    (folder / f"{name}.txt").write_text("\n".join([headline(finding), f"known as: {known_line(finding.key)}", *case_text(finding, outcome)]) + "\n")
     with (folder / f"{name}.pcap").open("wb") as out:
         write_capture(out, outcome.log)
 

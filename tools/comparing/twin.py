@@ -55,7 +55,15 @@ class Twin:
 
 
 def values_of(word):
-    """A dictionary of the attributes of a word, or None where they cannot be read."""
+    """A dictionary of the attributes of a word, or None where they cannot be read. A mask may have more words of zero at its end than it needs."""
+    if word.startswith("raw:"):
+        _, mask, _, values = word.split(":")
+        shortest = nfs4.Writer([])
+        shortest.put_mask(nfs4.meant_mask(mask))
+        shortest.put_bytes(nfs4.meant(values))
+        reader = nfs4.Reader(shortest.data)
+        reader.attributes("attrs")
+        [(_, word)] = reader.fields
     pairs = nfs4.values_of(word)
     return None if pairs is None else dict(pairs)
 

@@ -37,7 +37,7 @@ class Client:
         # the number of CREATE_SESSION that is next, if it is known, and the one that was sent last
         self.number = self.making = None
         self.stateids = Stateids(self)
-        self.lacking, self.calls = {}, 0
+        self.calls = 0
 
     def say(self, rule, frames, text, place=""):
         self.found(rule, self.name, place, frames, text)
@@ -78,18 +78,6 @@ class Client:
         if not self.has_reclaimed:
             self.say("reclaim-complete", (frame,), f"{name} is sent before RECLAIM_COMPLETE")
             self.has_reclaimed = True
-
-    # operations that the server does not have
-
-    def calls_op(self, name, frame):
-        if name in self.lacking:
-            first, status, told = self.lacking[name]
-            if not told:
-                self.say("unsupported", (first, frame), f"{name} is called again, which was answered {status}")
-                self.lacking[name] = first, status, True
-
-    def lacks(self, name, status, frame):
-        self.lacking.setdefault(name, (frame, status, False))
 
     # its sessions' numbers
 

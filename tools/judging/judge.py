@@ -6,10 +6,13 @@ import nfs4
 from .clients import Client, Session
 from .rules import RULES, Finding
 from .slots import Sent
+from .stateids import Current
 
 # how many bytes of a name or of data are kept as words
 CUT = 32
 ALONE = ("EXCHANGE_ID", "CREATE_SESSION", "DESTROY_SESSION", "DESTROY_CLIENTID", "BIND_CONN_TO_SESSION")
+# fields that choose between things of which a server may have one and not another
+CHOICES = ("claim_type", "open_type", "create_mode", "type", "reclaim", "style")
 GONE = ("NFS4ERR_BADSESSION", "NFS4ERR_DEADSESSION")
 LACKING = ("NFS4ERR_NOTSUPP", "NFS4ERR_OP_ILLEGAL")
 CONFIRMED = 0x8000_0000
@@ -27,19 +30,23 @@ class Alone:
 class Connection:
     """What waits on a connection, by xid; the sessions that were used on it; whether bytes of it are lacking."""
 
-    def __init__(self):
-        self.waiting, self.sessions, self.has_ended, self.has_hole = collections.defaultdict(list), set(), False, False
+    def __init__(self, number):
+        self.number, self.waiting, self.sessions = number, collections.defaultdict(list), set()
+        self.has_ended = self.has_hole = False
 
 
 class Judge:
     """Takes records in the order in which the client's side had them: `record`, `ended` and `hole` for a connection, `finish` at the end. A place is the
-    number of a frame. `watch` is called with each finding as it comes."""
+    number of a frame. `watch` is called with each finding as it comes. What `known` expects is counted beside the findings."""
 
-    def __init__(self, lease=None, watch=None):
-        self.lease, self.told_lease, self.watch = lease, lease is not None, watch
+    def __init__(self, lease=None, watch=None, known=()):
+        self.lease, self.told_lease, self.watch, self.known = lease, lease is not None, watch, known
         self.connections, self.sessions, self.clients, self.owners = {}, {}, {}, {}
         self.xids = {}
+        # of what the server answered that it does not have: the frame, the status, and whether it was said that it was called again
+        self.lacking = {}
         self.found, self.counts, self.broken = [], collections.Counter(), {}
+        self.expected = collections.Counter()
         self.seen = collections.Counter()
         self.begun = self.moment = self.place = None
         # what the server calls itself
@@ -51,7 +58,7 @@ class Judge:
         """A whole record, without its mark: a call, or a reply to the client."""
         self.at(moment, place)
         self.seen["connections"] += connection not in self.connections
-        link = self.connections.setdefault(connection, Connection())
+        link = self.connections.setdefault(connection, Connection(len(self.connections) + 1))
         try:
             if to_server:
                 self.call(moment, connection, link, nfs4.Call(data, CUT), place)
@@ -72,7 +79,7 @@ class Judge:
         """Bytes of a connection are lacking here, or what was before."""
         self.at(moment, place)
         self.seen["begun before" if is_beginning else "holes"] += 1
-        link = self.connections.setdefault(connection, Connection())
+        link = self.connections.setdefault(connection, Connection(len(self.connections) + 1))
         link.has_hole = True
         link.waiting.clear()
         for session in link.sessions:
@@ -111,6 +118,8 @@ class Judge:
             self.compound(moment, connection, link, Sent(call, connection, place, moment), place)
             return
         link.waiting[call.xid].append(Alone(call, place, moment))
+        if call.minor == 1:
+            self.calls_again(call, self.caller(link, call), place)
         if first is None:
             self.seen["not judged"] += call.procedure != 0
             return
@@ -167,11 +176,25 @@ class Judge:
         if len(self.xids) > MOST_XIDS:
             self.xids.clear()
 
+    def caller(self, link, call):
+        """The name of the client of a call that is no compound on a slot, as far as it can be told."""
+        fields = dict(call.operations[0][1]) if call.operations else {}
+        session = self.sessions.get(fields.get("sessionid")) or next(iter(link.sessions), None)
+        return session.client.name if session else fields.get("clientid", f"of connection {link.number}")
+
+    def calls_again(self, call, client, place):
+        """A call is sent for the first time: whether the server does not have something of it."""
+        for name in asked_of(call):
+            first, status, is_told = self.lacking.get((client, name), (None, None, True))
+            if not is_told:
+                self.say("unsupported", client, "", (first, place), f"{name} is called again, which was answered {status}")
+                self.lacking[client, name] = first, status, True
+
     def asks(self, client, new, place):
         """What the operations of a new compound ask for."""
+        self.calls_again(new.call, client.name, place)
         for name, fields in new.call.operations[1:]:
             client.stateids.use(name, fields, place, lambda other: any(other in one.stateids.given for one in self.clients.values()))
-            client.calls_op(name, place)
             words = dict(fields)
             if name == "RECLAIM_COMPLETE" and words["one_fs"] == "0":
                 client.reclaims(place)
@@ -193,6 +216,7 @@ class Judge:
         waiting.remove(asked)
         if not waiting:
             del link.waiting[reply.xid]
+        self.lacks(asked, reply.results, link, place)
         if isinstance(asked, Alone):
             self.results(None, asked, reply.results, moment, place)
         elif first is None or first[0] != "SEQUENCE":
@@ -222,18 +246,25 @@ class Judge:
             if all(one.is_lost or one.destroyed for one in mine):
                 client.ends("the server did not know its session any more", moment, place)
 
+    def lacks(self, asked, results, link, place):
+        """Notes what the server answers that it does not have, which is at the last result."""
+        names = asked_of(asked.call) if asked.call and results and results[-1][1] in LACKING else []
+        if names and len(results) <= len(names):
+            name = names[len(results) - 1]
+            client = self.sessions[asked.session].client.name if isinstance(asked, Sent) else self.caller(link, asked.call)
+            self.lacking.setdefault((client, name), (place, results[-1][1], False))
+            self.seen["lacking " + name] += 1
+
     def results(self, client, sent, results, moment, place, first=0):
         """The results of a compound that was answered for the first time, from that of operation `first` on."""
-        operations = sent.call.operations
+        operations, current = sent.call.operations, Current()
         for at, (name, status, told) in enumerate(results, first):
             asked = operations[at][1] if at < len(operations) and operations[at][0] == name else None
-            if status in LACKING and client:
-                called = operations[at][0] if at < len(operations) else name
-                client.lacks(called, status, place)
-                self.seen["lacking " + called] += 1
             if status != "NFS4_OK" or asked is None:
                 continue
             if client:
+                asked = current.meant(asked)
+                current.move(name, dict(told))
                 client.stateids.answer(name, asked, told, place, sent)
                 if name == "RECLAIM_COMPLETE" and dict(asked)["one_fs"] == "0":
                     client.reclaimed = place
@@ -277,9 +308,12 @@ class Judge:
 
     def say(self, rule, client, place, frames, text):
         finding = Finding(rule, client, place, frames, text)
-        self.counts[rule, client] += 1
         if RULES[rule].premise_of:
             self.broken.setdefault((rule, client, place), finding)
+        if expected := next((it for it in self.known if it.expects(finding)), None):
+            self.expected[client, expected] += 1
+            return
+        self.counts[rule, client] += 1
         if self.counts[rule, client] <= MOST_FOUND:
             self.found.append(finding)
         if self.watch:
@@ -292,6 +326,13 @@ ANSWERS = {"EXCHANGE_ID": Judge.exchanged, "CREATE_SESSION": Judge.created, "DES
 
 def is_answer(sent, result):
     return result[0] == "SEQUENCE" and result[1] == "NFS4_OK" and sent.is_answer(result)
+
+
+def asked_of(call):
+    """What the operations of a call ask a server to have: their names, with what they choose by a field; and the name of one that cannot be read."""
+    named = [" ".join([name, *(f"{field}={word}" for field, word in fields if field in CHOICES and word != "0")]) for name, fields in call.operations]
+    behind = " after SEQUENCE" if named[:1] == ["SEQUENCE"] else ""
+    return [name + behind if name.partition(" ")[0] in ALONE else name for name in [*named, *([call.unread] if call.unread else [])]]
 
 
 def link_name(link):

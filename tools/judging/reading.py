@@ -161,21 +161,20 @@ def lacking(link, segment):
 
 
 def read_script(judge, script, output):
-    """A script and its output: a place is the number of a call."""
-    answers, at, place, ends = list(nfs4.replies(output)), 0, 0, collections.Counter()
-    for moment, connection, data in nfs4.whole_calls(script):
+    """A script and its output: a place is the number of a call. How many replies answer none."""
+    calls, others = nfs4.answered(script, output)
+    place, ends = 0, collections.Counter()
+    for moment, connection, data, replies in calls:
         # a connection that was closed is another one the next time
         name = connection, ends[connection]
-        while at < len(answers) and answers[at][1] is None:
-            at += 1
         if data is None:
             judge.ended(moment, name, place)
             ends[connection] += 1
             continue
         place += 1
         judge.record(moment, name, True, data, place)
-        if at < len(answers) and answers[at][0] == connection and answers[at][1] and answers[at][1][:4] == data[:4]:
-            judge.record(moment, name, False, answers[at][1], place)
-            at += 1
+        for _, reply in replies:
+            if reply is not None:
+                judge.record(moment, name, False, reply, place)
     judge.finish()
-    return len(answers) - at
+    return sum(reply is not None for _, reply in others)

@@ -2,6 +2,8 @@
 at hand. And it has the promises of docs/PROMISES.md of which it is a premise: where it is broken, these say nothing."""
 from typing import NamedTuple
 
+from words import nearest
+
 ONCE = ("Exactly once over a network", "As if over a perfect wire", "Atomic, and in real time")
 KEPT = ("A granted lock is kept", "A granted open is kept", "Nobody else touches what is yours")
 MADE = ("One session a CREATE_SESSION",)
@@ -58,3 +60,29 @@ class Finding(NamedTuple):
     place: str
     frames: tuple
     text: str
+
+
+class Known(NamedTuple):
+    """What is expected of a client: findings of a rule with these words in their text, and why."""
+    rule: str
+    words: str
+    reason: str
+
+    def expects(self, finding):
+        return finding.rule == self.rule and self.words in finding.text
+
+
+def read_known(text):
+    """The expected findings that a text names, in lines of a rule, words, and behind # the reason."""
+    found = []
+    for number, line in enumerate(text.splitlines(), 1):
+        told, _, reason = line.partition("#")
+        rule, _, words = told.strip().partition(" ")
+        if rule and rule not in RULES:
+            raise ValueError(f"line {number}: there is no rule {rule!r}{nearest(rule, RULES)}")
+        if rule and not reason.strip():
+            raise ValueError(f"line {number}: no reason is behind a #")
+        found += [Known(rule, words.strip(), reason.strip())] if rule else []
+    if not found:
+        raise ValueError("no line names a rule")
+    return found

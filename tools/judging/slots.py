@@ -5,6 +5,10 @@ import repeats
 HAS_RUN = ("NFS4ERR_SEQ_FALSE_RETRY", "NFS4ERR_RETRY_UNCACHED_REP")
 # how repeats.differences begins with what may be another one
 MAY_DIFFER = ("xid ", "gid ", "gids ", "high_slot_id of SEQUENCE ")
+# SEQUENCE's refusals after which a smaller compound is the way on, and by what it is smaller
+SMALLER = {"NFS4ERR_TOO_MANY_OPS": lambda call: call.declared, "NFS4ERR_REQ_TOO_BIG": lambda call: len(call.data)}
+# and those after which one with another reply is
+OTHER_REPLY = ("NFS4ERR_REP_TOO_BIG", "NFS4ERR_REP_TOO_BIG_TO_CACHE")
 ROUND = 1 << 32
 MISORDERED = "NFS4ERR_SEQ_MISORDERED"
 # how many compounds are kept that were refused and passed over: a client that asks for them does so at once
@@ -122,6 +126,8 @@ class Slot:
         is_same = repeats.compared(new.call) == repeats.compared(last.call)
         if is_same and new.user == last.user:
             return self.sent_again(last, new, has_ended, frames)
+        if last.refused in OTHER_REPLY or (size := SMALLER.get(last.refused)) and size(new.call) < size(last.call):
+            return self.take(new)
         if last.refused and last.answered is None:
             self.say("refused-number", frames, f"{new.name} is another compound; the first was refused with {last.refused}")
         elif last.answered is None and not new.xids & last.xids:

@@ -6,7 +6,31 @@ it has sent the next compound on the slot of that reply: by then it has taken it
 SPECIAL = ("0x" + "00" * 12, "0x" + "ff" * 12)
 # operations that use a stateid, but for TEST_STATEID, which may ask for any
 USING = ("CLOSE", "LOCK", "LOCKU", "OPEN_DOWNGRADE", "READ", "WRITE", "SETATTR", "FREE_STATEID")
+# operations after which there is another current stateid, or none
+MOVING = ("OPEN", "OPEN_DOWNGRADE", "LOCK", "LOCKU", "PUTFH", "PUTROOTFH", "PUTPUBFH", "LOOKUP", "LOOKUPP", "CREATE")
 TO_END = 2**64 - 1
+
+
+class Current:
+    """The current and the saved stateid of a compound that runs (RFC 8881 section 16.2.3.1.2)."""
+
+    MEANT = "0x" + "00000001" + "00" * 12
+
+    def __init__(self):
+        self.stateid = self.saved = None
+
+    def meant(self, asked):
+        """Fields of an operation with the stateid that they mean."""
+        return [(name, self.stateid if (name, word) == ("StateID", self.MEANT) and self.stateid else word) for name, word in asked]
+
+    def move(self, name, told):
+        """An operation has succeeded, with these results."""
+        if name == "SAVEFH":
+            self.saved = self.stateid
+        elif name == "RESTOREFH":
+            self.stateid = self.saved
+        elif name in MOVING:
+            self.stateid = told.get("StateID")
 
 
 class Given:
@@ -62,7 +86,7 @@ class Stateids:
         elif given.has_ended():
             rule = "after-free" if given.ended[0] == "FREE_STATEID" else "after-close"
             if name != "FREE_STATEID" or rule == "after-free":
-                self.say(rule, (given.ended[1], frame), other, f"{name} uses it after {given.ended[0]}")
+                self.say(rule, (given.ended[1], frame), other, f"{name} uses seqid {seqid} of it after {given.ended[0]}")
         elif seqid and seqid < given.known():
             self.say("old-seqid", (frame,), other, f"{name} uses seqid {seqid}, and a reply gave {given.taken}")
         elif seqid > given.seqid and self.client.is_whole:

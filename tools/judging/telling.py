@@ -49,7 +49,13 @@ def of_client(judge, client, unit, has_all):
             lines += ["    " + line(finding, unit) for finding in shown]
             if (more := judge.counts[name, client] - len(shown)) > 0:
                 lines.append(f"    and {more} more{'' if has_all else '; --all shows them'}")
+    for (_, known), count in ((key, count) for key, count in judge.expected.items() if key[0] == client):
+        lines.append(f"  expected of it: {known.rule}, {times(count)}: {known.reason}")
     return lines
+
+
+def times(count):
+    return "once" if count == 1 else f"{count} times"
 
 
 def places(broken, unit, has_all):
@@ -119,18 +125,15 @@ def text(judge, name, unit, notes, has_all=False):
     seen, seconds = judge.seen, (judge.moment or 0) - (judge.begun or 0)
     lines = [f"{name}: {seen['calls']} calls and {seen['replies']} replies on {seen['connections']} connection{'s' * (seen['connections'] != 1)} in {seconds:.1f} s"]
     lines += [f"  note: {note}" for note in limits(judge, notes)]
-    told = set()
-    for client in judge.clients.values():
-        if client.calls or any(finding.client == client.name for finding in judge.found):
-            lines += [client_line(judge, client), *of_client(judge, client.name, unit, has_all)]
-            told.add(client.name)
-    for other in dict.fromkeys(finding.client for finding in judge.found if finding.client not in told):
-        lines += [f"client {other}", *of_client(judge, other, unit, has_all)]
+    found = dict.fromkeys([*(finding.client for finding in judge.found), *(name for name, _ in judge.expected)])
+    known = {client.name: client for client in judge.clients.values() if client.calls or client.name in found}
+    for name in known | found:
+        lines += [client_line(judge, known[name]) if name in known else f"client {name}", *of_client(judge, name, unit, has_all)]
     lacking = {key[8:]: times for key, times in seen.items() if key.startswith("lacking ")}
     if lacking:
         lines.append("The server answered that it does not have: " + ", ".join(f"{name} ({times} times)" for name, times in lacking.items()))
-    total = sum(judge.counts.values())
-    lines.append(f"{total or 'no'} finding{'s' * (total != 1)}")
+    total, expected = sum(judge.counts.values()), sum(judge.expected.values())
+    lines.append(f"{total or 'no'} finding{'s' * (total != 1)}" + (f", and {expected} that {'is' if expected == 1 else 'are'} expected" if expected else ""))
     return lines + promises(judge, unit, has_all)
 
 

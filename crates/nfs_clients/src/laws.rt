@@ -4,6 +4,7 @@ ghost use Rattle.nfs_clients.specs.Laws.{IdsAreGivenOnce, TablesAreInOrder};
 
 /// A client id that was given and names no record names none ever after, whatever the table goes
 /// through: ids are never used again (RFC 8881 section 2.4).
+#[tactic(auto, using(crate::proofs::Once::given_once))]
 pub fn ids_are_given_once()
     ensures { IdsAreGivenOnce }
 {}

@@ -1,14 +1,8 @@
 pub mod Ops
 pub mod Kept
 pub mod LockHeld
-pub mod AttributesTold
-pub mod SessionLasts
-pub mod OpenHeld
 pub mod Own
 pub mod Ended
-pub mod Renewing
 pub mod NoClashes
 pub mod WrittenRun
 pub mod OneSession
-pub mod Handles
-pub mod LockOwners

@@ -12,6 +12,7 @@ ghost use Rattle.nfs_exec.specs.Runs.OneSession.{GivesOne};
 ghost use Rattle.nfs_exec.specs.Runs.WrittenRun.{StandsInRuns};
 
 /// A request that is repeated is answered with the reply that was kept, byte for byte, and changes nothing.
+#[tactic(auto, using(crate::proofs::Step::Repeating::repeats))]
 pub fn repeats_change_nothing()
     ensures { RepeatsChangeNothing }
 {}
@@ -24,12 +25,14 @@ pub fn compares_all_but_highest()
 {}
 
 /// A SEQUENCE that is refused changes nothing: the slot, its kept reply and the lease are as they were.
+#[tactic(auto, using(crate::proofs::Step::Repeating::refusals))]
 pub fn refusals_change_nothing()
     ensures { RefusalsChangeNothing }
 {}
 
 /// The number behind a slot's last one runs, whatever became of the reply to that, where the slots and sizes of the session allow it. And what is refused as a
 /// false retry is one: the slot took another request under that number.
+#[tactic(auto, using(crate::proofs::Step::Sequencing::next_runs, crate::proofs::Step::Sequencing::false_retries_are_true))]
 pub fn numbers_are_judged_truly()
     ensures next { NextNumberRuns }
     ensures false_retries { FalseRetriesAreTrue }
@@ -41,6 +44,7 @@ pub fn never_runs_again()
 {}
 
 /// Expiry ends all that a client has whose lease has run out, and leaves every other client what it has; a byte that is held then is held by a lock state that stays.
+#[tactic(auto, using(crate::proofs::Runs::Ended::what_runs_out_ends))]
 pub fn what_runs_out_ends()
     ensures { WhatRunsOutEnds }
 {}
@@ -57,16 +61,19 @@ pub fn expiry_finds_nothing()
 
 /// Memory refused at a place of a compound makes no difference, or the operation there answers NFS4ERR_DELAY: then its results and the machine behind it are
 /// those of the same compound cut in front of that operation, but for the last result and for what its slot keeps.
+#[tactic(auto, using(crate::proofs::Step::Delayed::is_a_cut))]
 pub fn delay_is_a_cut()
     ensures { DelayIsACut }
 {}
 
 /// Where memory is not refused no operation answers NFS4ERR_DELAY, in whatever state a server reaches.
+#[tactic(auto, using(crate::proofs::Runs::NoDelays::nothing_delays))]
 pub fn nothing_delays()
     ensures { NothingDelays }
 {}
 
 /// An OPEN that gets no memory, its number again and the next one, computed to their worked answers.
+#[tactic(auto, using(crate::proofs::Step::DelayedOpen::is_worked))]
 pub fn a_delayed_open()
     ensures { IsWorked }
 {}
@@ -83,6 +90,7 @@ pub fn ops_are_run_in()
 {}
 
 /// A request that runs is answered with NFS4_OK of its SEQUENCE and the results of its operations, one after the other.
+#[tactic(auto, using(crate::proofs::Runs::OpsRun::answers_are_theirs))]
 pub fn answers_are_theirs()
     ensures { AnswersAreTheirs }
 {}

@@ -7,7 +7,7 @@ ghost use Rattle.nfs_exec.specs.Step.Machine.{starts, machine_of};
 
 use nfs_clients::Clients;
 use nfs_lease::Leases;
-use nfs_names::Store;
+use nfs_names::{Start, Store};
 use nfs_sessions::Sessions;
 use nfs_xdr::Time;
 use std::alloc::{AllocError, Global};
@@ -28,22 +28,16 @@ const FIRST: Time = Time {
 };
 
 impl Tables {
-    /// The tables of a new server, whose leases last `lease` seconds and whose root has the mode `root_mode` and the first
-    /// moment as its times. `AllocError` where there is no memory for the root and the ends of the queue of leases.
-    pub(crate) fn new(
-        alloc: Global,
-        instance: u32,
-        lease: u32,
-        root_mode: u32,
-    ) -> Result<Tables, AllocError>
-        ensures machine { IfOk result (λ t. machine_of t ≡ starts root_mode instance lease) }
+    /// The tables of a new server, whose root has the first moment as its times. `AllocError` where there is no memory for the root and the ends of the queue of leases.
+    pub(crate) fn new(alloc: Global, start: Start) -> Result<Tables, AllocError>
+        ensures machine { IfOk result (λ t. machine_of t ≡ starts start) }
         ensures store { IfOk result (λ t. IsStore (state_of t.store)) }
     {
         Ok(Tables {
-            clients: Clients::new(alloc, instance),
+            clients: Clients::new(alloc, start.instance),
             sessions: Sessions::new(alloc),
             leases: Leases::new(alloc)?,
-            store: Store::new(alloc, root_mode, FIRST, instance, lease)?,
+            store: Store::new(alloc, start, FIRST)?,
         })
     }
 }

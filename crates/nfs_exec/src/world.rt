@@ -12,6 +12,7 @@ ghost use Rattle.nfs_exec.specs.Step.Held.{held};
 use crate::held::Held;
 use crate::tables::Tables;
 use nfs_compound::Compound;
+use nfs_names::Start;
 use nfs_sessions::Sessions;
 use nfs_xdr::{Sheet, Who};
 use std::alloc::{AllocError, Global};
@@ -35,17 +36,11 @@ impl Model for World {
 }
 
 impl World {
-    /// The world of a new server. `instance` marks it off from other starts of the server, and begins each client id; a lease
-    /// lasts `lease` seconds, and the root has the mode `root_mode`. `AllocError` where memory is refused.
-    pub fn new(
-        alloc: Global,
-        instance: u32,
-        lease: u32,
-        root_mode: u32,
-    ) -> Result<World, AllocError>
-        ensures { IfOk result (λ w. machine_of w ≡ starts root_mode instance lease) }
+    /// The world of a server that is started so. `AllocError` where memory is refused.
+    pub fn new(alloc: Global, start: Start) -> Result<World, AllocError>
+        ensures { IfOk result (λ w. machine_of w ≡ starts start) }
     {
-        let tables = Tables::new(alloc, instance, lease, root_mode)?;
+        let tables = Tables::new(alloc, start)?;
         Ok(World { tables })
     }
 

@@ -9,7 +9,3 @@ pub by_found : {A : Type 0} (P : State → Context → Type 0) (s : State) (x : 
     → ((a : A) → v ≡ Ok a → P (f a).state (f a).context) → P (answers s x op v f).state (answers s x op v f).context
 by_found P s x op (Err status) f same done = same
 by_found P s x op (Ok a) f same done = done a refl
-
-pub by_answers : {A : Type 0} (P : State → Context → Type 0) (s : State) (x : Context) (op : OpNum) (v : Result A Status) (f : A → Outcome) → P s x
-    → ((a : A) → P (f a).state (f a).context) → P (answers s x op v f).state (answers s x op v f).context
-by_answers P s x op v f same done = by_found P s x op v f same (λ a e. done a)

@@ -52,7 +52,7 @@ pub record Theirs (n : ℕ) (t u : Files) (info : ChangeInfo) : Type 0 where
 was_raised : (n : ℕ) (t u : Files) → At n u.objects (change_of t n + 1) → Theirs n t u (change_info (raised t n))
 was_raised n t u at = record { atomic = refl; before = refl; after = sym (change_is u n (change_of t n + 1) at) }
 
-some_same : (o : Option ℕ) (m n : ℕ) → o ≡ Some m → o ≡ Some n → m ≡ n
+pub some_same : (o : Option ℕ) (m n : ℕ) → o ≡ Some m → o ≡ Some n → m ≡ n
 some_same o m n e f = (let same : Some m ≡ Some n = sym e ∙ f in cc)
 
 raises : (k : ℕ) → k < k + 1

@@ -1,5 +1,5 @@
 -- A file is as its image says, through each operation.
-use Rattle.std.proofs.Common.{◌≡◌, ℕ, ◌+◌, Bool, true, false, cond, eqb, List, [], Option, Some, None, refl, sym, ◌∙◌, ap, subst, arith, inl, inr}
+use Rattle.std.proofs.Common.{◌≡◌, ℕ, ◌+◌, Bool, true, false, cond, List, [], Option, Some, None, refl, sym, ◌∙◌, ap, subst, arith, inl, inr}
 use Rattle.std.proofs.lemmas.Bool.{cases_Bool, cases_eq, eq-eqb, ne_eqb, not-false, false≢true}
 use Rattle.std.specs.{Prelude.{◌==◌, ◌&&◌, Result, Ok, Err, is_some, option_map, unwrap_or, map, replicate, if◌then◌else◌}, Option.{option_map_or, ForSome}}
 use Rattle.nfs_xdr.specs.{declared.time.Time.Time, declared.status.Status.Status, declared.status.Status.TheVariants.{Inval, Delay}}
@@ -13,7 +13,6 @@ use Rattle.nfs_compound.specs.{declared.open_args.OpenDowngrade.OpenDowngrade, d
 use Rattle.nfs_compound.specs.{declared.op.Op.Op, declared.op.Item.Item, declared.op.Item.TheVariants.{Operation, Fault}}
 use Rattle.nfs_compound.specs.declared.lock_args.Lock as locks
 use Rattle.nfs_compound.specs.declared.op_num.OpNum.TheVariants as Num
-use Rattle.nfs_results.specs.declared.res.Res.TheVariants as Res
 use Rattle.nfs_results.specs.Results.{status_of_result, refusal}
 use Rattle.nfs_ranges.specs.declared.Held.{Held}
 use Rattle.nfs_tree.specs.{declared.object.Object.Object, declared.stored.Stored.Stored, declared.sets.Sets.Sets, Object.{is_directory, modified, no_sets}}
@@ -29,6 +28,7 @@ use Rattle.nfs_names.specs.Operation as names
 use Rattle.nfs_names.proofs.{Found.{came, ok_is, checked_ok, current_is}, NameLaws.current_refuses, Ones.{by_delay, each_of}}
 use Rattle.nfs_names.proofs.{Refusing.{IsRefusal, Refuses, refuses_checked}, Effected.kept_item}
 use Rattle.nfs_names.proofs.Effects as names_effects
+use Rattle.nfs_names.proofs.Faulted.{status_of_refusal}
 use Rattle.nfs_files.specs.{declared.opening.Found.Found, declared.opening.Found.TheVariants.{There, Absent}, declared.setting.Setting.Setting, Parts.writable}
 use Rattle.nfs_files.specs.{Operation.grows, Close.close, FreeStateid.free_stateid, LockU.lock_u}
 use Rattle.nfs_files.specs.{Open.{makes, access_of, there_checks, cuts}, OpenDowngrade.open_downgrade}
@@ -69,10 +69,6 @@ found : {A : Type 0} (P : State → Type 0) (s : State) (x : Context) (op : OpNu
     → P s → ((a : A) → v ≡ Ok a → P (f a).state) → P (answers s x op v f).state
 found P s x op (Err status) f same each = same
 found P s x op (Ok a) f same each = each a refl
-
-status_of_refusal : (n : ℕ) (status : Status) → status_of_result (refusal n status) ≡ status
-status_of_refusal n status =
-    elim (eqb n 34) as (λ b. status_of_result (cond b (Res.SetAttr status []) (Res.Refused n status)) ≡ status) [ true ↦ refl | false ↦ refl ]
 
 refused_left : (n : ℕ) (img : Image) (s : State) (x : Context) (i : Item) (op : OpNum) (status : Status) → is_ok status ≡ false → Has n img s.tree
     → LeftBy n img s x i (refuses s x op status)

@@ -43,11 +43,12 @@ pub mod TreeFiles
 pub mod OthersOps
 pub mod Prompt
 pub mod PromptFiles
-pub mod WrittenTrees
 pub mod WrittenOps
 pub mod WrittenTold
 pub mod FileImages
+pub mod WrittenImages
 pub mod FileOps
+pub mod WrittenSpared
 pub mod ChangesAt
 pub mod ChangesTold
 pub mod OpenRows

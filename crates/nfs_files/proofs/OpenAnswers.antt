@@ -90,7 +90,7 @@ set_few o (Absent m) =
     let three : length mask.words ≡ 3 = refl in
     omega (arith, three)
 
-wire_length : (id : StateId) → length (wire_id id).other ≡ 12
+pub wire_length : (id : StateId) → length (wire_id id).other ≡ 12
 wire_length id = omega (arith, length-append (number id.instance) (hyper id.number), length_number id.instance, length_hyper id.number)
 
 pub may_open : (s : State) (x : Context) (now : Time) (o : Open) → IsAnswer (Operation (Op.Open o)) (open_file s x now o).result

@@ -12,6 +12,7 @@ use Rattle.nfs_compound.specs.declared.op_num.OpNum.TheVariants as Num
 use Rattle.nfs_opens.specs.Calls as calls
 use Rattle.nfs_names.specs.{declared.context.Context.Context, State.State, Outcome.{Outcome, refuses, answers, or_delay, is_ok, is_delay}, Ending.with_opens}
 use Rattle.nfs_files.specs.{Denied.open_fault_status, Lock.locked, Parts.unlocked}
+use Rattle.nfs_names.proofs.Faulted.{status_of_refusal}
 
 -- the outcome of a refusal that the code made
 abbrev pub told_with : State → Context → Res → Table → Outcome
@@ -43,10 +44,6 @@ own_refusal w s x op status o e =
     let no : (w && is_delay status) && is_ok (status_of_result o.result) ≡ false = elim w as (λ v. (v && is_delay status) && is_ok (status_of_result o.result) ≡ false)
     [ true ↦ ap (λ st. is_delay status && eqb (status_number st) 0) e ∙ not_both (status_number status) | false ↦ refl ] in
     ap (λ b. cond b (refuses s x op S.Delay) o) no
-
-status_of_refusal : (n : ℕ) (status : Status) → status_of_result (refusal n status) ≡ status
-status_of_refusal n status =
-    elim (eqb n 34) as (λ b. status_of_result (cond b (Res.SetAttr status []) (Res.Refused n status)) ≡ status) [ true ↦ refl | false ↦ refl ]
 
 -- a refusal of an operation's own checks, as its code makes it
 pub told_refusal : (w : Bool) (s : State) (x : Context) (op : OpNum) (o : Outcome) (status : Status) (r : Res) → o ≡ refuses s x op status

@@ -49,7 +49,7 @@ with_id : (w : Wish) (id : Result StateId Status) (k : Wished) → mapped (λ id
 with_id w (Err status) k e = absurd cc
 with_id w (Ok id) k e = let same : record { wish = w; id = id } ≡ k = cc in ap (λ (k : Wished). k.wish) same
 
-wished_parts : (x : Context) (given : Stateid) (v : Result Wish Status) (k : Wished) → wished_by x given v ≡ Ok k → v ≡ Ok k.wish
+pub wished_parts : (x : Context) (given : Stateid) (v : Result Wish Status) (k : Wished) → wished_by x given v ≡ Ok k → v ≡ Ok k.wish
 wished_parts x given (Err status) k e = absurd cc
 wished_parts x given (Ok w) k e = ap Ok (with_id w (meant x Any given) k e)
 

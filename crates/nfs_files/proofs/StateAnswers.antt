@@ -1,9 +1,8 @@
 -- CLOSE, FREE_STATEID, LOCKU and OPEN_DOWNGRADE: the results that they may have.
-use Rattle.std.proofs.{Common.{◌≡◌, ℕ, length, Some, None, refl, arith}, lemmas.List.length-append}
+use Rattle.std.proofs.Common.{ℕ, length, Some, None, refl}
 use Rattle.std.specs.Prelude.{Result, Ok, ok_or, not}
-use Rattle.nfs_xdr.specs.{Spelling.{number, hyper}, declared.status.Status.Status}
+use Rattle.nfs_xdr.specs.{Spelling.number, declared.status.Status.Status}
 use Rattle.nfs_xdr.specs.declared.status.Status.TheVariants as S
-use Rattle.nfs_xdr.proofs.Putting.{length_number, length_hyper}
 use Rattle.nfs_compound.specs.declared.op_num.OpNum.TheVariants as Num
 use Rattle.nfs_compound.specs.{declared.stateid.Stateid.Stateid, declared.open_args.Close.Close, declared.open_args.OpenDowngrade.OpenDowngrade}
 use Rattle.nfs_compound.specs.{declared.lock_args.LockType.LockType, declared.lock_args.LockU.LockU, declared.op.Item.TheVariants.Operation}
@@ -15,7 +14,7 @@ use Rattle.nfs_opens.specs.{declared.stateid.CurrentSeqid.TheVariants.{Own, Any}
 use Rattle.nfs_opens.specs.{declared.judging.Sort.TheVariants.{OpenOnly, LockOnly, Either}, declared.locking.Wish.Wish, Steps.{require}}
 use Rattle.nfs_opens.specs.{Table.{Table, open_at, lock_at}, Judging.judge}
 use Rattle.nfs_opens.specs.declared.judging.Seat.TheVariants as Seats
-use Rattle.nfs_files.specs.{declared.ranges.Wished.Wished, declared.target.Target.Target, StateIds.{meant, wire_id}}
+use Rattle.nfs_files.specs.{declared.{ranges.Wished.Wished, target.Target.Target}, StateIds.meant}
 use Rattle.nfs_files.specs.Bytes.{file_checks}
 use Rattle.nfs_files.specs.{Target.the_file, Ranges.{range, wished}, Close.close, Parts.{target, wish, wished_by, closed, closes}}
 use Rattle.nfs_files.specs.{FreeStateid.free_stateid, LockU.lock_u, Parts.{frees, unlocking, unlocked, unlocks}}
@@ -29,6 +28,7 @@ use Rattle.nfs_names.proofs.Refusing.{Refuses, refusal_by, refuses_checked, refu
 use Rattle.nfs_files.proofs.{Passing.if_passed_refuses, Seats.{bad, meant_refuses, judge_refuses}}
 use Rattle.nfs_files.proofs.InSteps.{file_is, close_is, free_is, downgrade_is, range_is, wished_is, unlock_is}
 use Rattle.nfs_files.proofs.Terms.{range_checks, last_of}
+use Rattle.nfs_files.proofs.OpenAnswers.{wire_length}
 
 -- the file and the stateid
 pub the_file_refuses : (s : State) (x : Context) → Refuses (the_file s x)
@@ -67,10 +67,6 @@ downgrade_refuses t id client file access deny =
     refuses_then (require (opening.is_narrower access deny o) S.Inval) _ (held_refuses _ S.Inval refl) (λ u.
     ok_refuses _)))
 
--- a stateid's bytes are 12
-pub length_id : (id : StateId) → length (wire_id id).other ≡ 12
-length_id id = omega (arith, length-append (number id.instance) (hyper id.number), length_number id.instance, length_hyper id.number)
-
 -- CLOSE
 closes_may : (s : State) (x : Context) (a : Close) (t : Target) → IsAnswer (Operation (Op.Close a)) (closes s x t).result
 closes_may s x a t =
@@ -108,7 +104,7 @@ narrows_may s x a t =
     (opening.downgrade s.opens t.id x.client t.file (bits a.share_access) (bits a.share_deny)) (λ did. narrowed s x did.0 did.1)
     (downgrade_refuses s.opens t.id x.client t.file (bits a.share_access) (bits a.share_deny))
     (λ status h. record { may = (refl, rw (h.done, h.legal) refl, tt); arrays = tt })
-    (λ did. record { may = (refl, tt, tt); arrays = length_id did.0 })
+    (λ did. record { may = (refl, tt, tt); arrays = wire_length did.0 })
 
 pub narrowing_refuses : (s : State) (x : Context) (a : OpenDowngrade) → Refuses (narrowing s x a)
 narrowing_refuses s x a = if_passed_refuses (target s x Own a.open_stateid) (λ t. _) (target_refuses s x Own a.open_stateid)
@@ -151,7 +147,7 @@ unlocks_may s x a k =
     (λ did. unlocked s x did.0 did.1)
     (unlock_refuses s.opens k.id w.client w.file w.first w.last)
     (λ status h. record { may = (refl, rw (h.done, h.legal) refl, tt); arrays = tt })
-    (λ did. record { may = (refl, tt, tt); arrays = length_id did.0 })
+    (λ did. record { may = (refl, tt, tt); arrays = wire_length did.0 })
 
 pub may_lock_u : (s : State) (x : Context) (a : LockU) → IsAnswer (Operation (Op.LockU a)) (lock_u s x a).result
 may_lock_u s x a =

@@ -29,7 +29,7 @@ pushed (p ∷ ps) o n = ap (λ b. (p.file == n) || b) (pushed ps o n) ∙ or_aga
     or_again true b d = refl
     or_again false b d = refl
 
-or_left : (a b : Bool) → a ≡ true → a || b ≡ true
+pub or_left : (a b : Bool) → a ≡ true → a || b ≡ true
 or_left true b e = refl
 or_left false b e = absurd (false≢true e)
 

@@ -14,8 +14,9 @@ use Rattle.nfs_opens.specs.Locking.{test_lock}
 use Rattle.nfs_names.specs.{declared.context.Context.Context, State.State, Outcome.{Outcome, refuses, answers, or_delay, is_ok}}
 use Rattle.nfs_files.specs.{Ranges.wished, Lock.lock, LockT.lock_t, TestStateid.{code, test_stateid}}
 use Rattle.nfs_files.proofs.Terms.{tested}
-use Rattle.nfs_files.proofs.{Fitting.few_denied, StateAnswers.length_id, OpensMoved.by_lock}
+use Rattle.nfs_files.proofs.{Fitting.few_denied, OpensMoved.by_lock}
 use Rattle.nfs_files.proofs.InSteps.{test_is}
+use Rattle.nfs_files.proofs.OpenAnswers.{wire_length}
 
 -- a result of the operation, of the sizes that this server's have
 pub record IsShort (op : Op) (r : Res) : Type 0 where
@@ -42,7 +43,7 @@ lock_short : (s : State) (x : Context) (a : Lock) → IsShort (Op.Lock a) (lock 
 lock_short s x a = by_lock (λ o. IsShort (Op.Lock a) o.result) s x a
     (λ status. record { number = refl; sizes = tt; arrays = tt })
     (λ h. record { number = refl; sizes = few_denied s.opens h; arrays = tt })
-    (λ m did judged granted locked. record { number = refl; sizes = tt; arrays = length_id did.0 })
+    (λ m did judged granted locked. record { number = refl; sizes = tt; arrays = wire_length did.0 })
 
 pub short_lock : (b : Bool) (s : State) (x : Context) (a : Lock) → IsShort (Op.Lock a) (or_delay b s x Num.Lock (lock s x a)).result
 short_lock b s x a =

@@ -66,10 +66,6 @@ short_names_none op operation status n = rw short refl
 abbrev text_of : StateId → List ℕ → List ℕ
 text_of id rest = number id.seqid ++ (number id.instance ++ (hyper id.number ++ rest))
 
-eight : (n : ℕ) (rest : List ℕ) → take 8 (hyper n ++ rest) ≡ hyper n
-unfolding hyper
-eight n rest = refl
-
 open_head : (id : StateId) (rest : List ℕ) → bytes_eq (take 8 (done_head Num.Open ++ text_of id rest)) (done_head Num.Open) ≡ true
 unfolding number hyper
 open_head id rest = refl
@@ -86,7 +82,7 @@ long_enough : (op : OpNum) (id : StateId) (rest : List ℕ) → 24 ≤ length (d
 unfolding number hyper
 long_enough op id rest = omega arith
 
-hyper_read : (n : ℕ) → n ≤ last_number → from_be_bytes w64 (hyper n) ≡ n
+pub hyper_read : (n : ℕ) → n ≤ last_number → from_be_bytes w64 (hyper n) ≡ n
 unfolding hyper
 hyper_read n small = from_be_bytes-to_be_bytes_8 n (omega arith)
 

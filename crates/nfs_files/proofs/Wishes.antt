@@ -4,14 +4,14 @@ use Rattle.std.proofs.lemmas.Bool.{cases_eq, cases_lt, eqb-false, ltb-false}
 use Rattle.std.specs.Prelude.{◌==◌, ◌&&◌, ◌^◌, nat_lt, Result, Ok, Err}
 use Rattle.nfs_xdr.specs.{Checks.first_fault, declared.status.Status.Status, declared.status.Status.TheVariants.Inval}
 use Rattle.nfs_compound.specs.{declared.lock_args.Lock.Lock, declared.lock_args.LockType.LockType, declared.lock_args.LockU.LockU}
-use Rattle.nfs_compound.specs.declared.stateid.Stateid.{Stateid}
-use Rattle.nfs_opens.specs.{declared.locking.Wish.Wish, declared.stateid.CurrentSeqid.TheVariants.Any, declared.stateid.StateId.StateId}
+use Rattle.nfs_opens.specs.declared.{locking.Wish.Wish, stateid.StateId.StateId}
 use Rattle.nfs_names.specs.{declared.context.Context.Context, Outcome.{mapped, passed}, State.State}
 use Rattle.nfs_names.proofs.Found.{came, checked_ok}
-use Rattle.nfs_files.specs.{declared.ranges.Wished.Wished, StateIds.meant, Target.the_file, Ranges.{all_ones, range, wished}, Parts.{wish, wished_by}}
+use Rattle.nfs_files.specs.{declared.ranges.Wished.Wished, Target.the_file, Ranges.{all_ones, range, wished}, Parts.wish}
 use Rattle.nfs_files.specs.{Lock.stateid_in, Parts.{reclaim_checks, locking, unlocking}}
 use Rattle.nfs_files.proofs.InSteps.{wished_is}
 use Rattle.nfs_files.proofs.InSteps as in_steps
+use Rattle.nfs_files.proofs.Spans.{wished_parts}
 
 -- what was asked for as a wish
 pub record IsWish (x : Context) (offset size : ℕ) (w : Wish) : Type 0 where
@@ -38,15 +38,12 @@ with_id : (w : Wish) (v : Result StateId Status) (k : Wished) → ◌≡◌ {A =
 with_id w (Err status) k e = absurd cc
 with_id w (Ok id) k e = let is : record { wish = w; id = id } ≡ k = cc in ap (λ (k : Wished). k.wish) is
 
-wish_found : (x : Context) (given : Stateid) (v : Result Wish Status) (k : Wished) → wished_by x given v ≡ Ok k → v ≡ Ok k.wish
-wish_found x given v k e = let f = came v _ k e in f.is ∙ ap Ok (with_id f.found (meant x Any given) k f.then)
-
 pub lock_wish : (s : State) (x : Context) (a : Lock) (k : Wished) → locking s x a ≡ Ok k → wished s x a.locktype a.offset a.length ≡ Ok k.wish
 lock_wish s x a k e =
-    (checked_ok (wished s x a.locktype a.offset a.length) (reclaim_checks a) k.wish (wish_found x (stateid_in a.locker) _ k e)).0
+    (checked_ok (wished s x a.locktype a.offset a.length) (reclaim_checks a) k.wish (wished_parts x (stateid_in a.locker) _ k e)).0
 
 pub unlock_wish : (s : State) (x : Context) (a : LockU) (k : Wished) → unlocking s x a ≡ Ok k → wished s x a.locktype a.offset a.length ≡ Ok k.wish
-unlock_wish s x a k e = wish_found x a.lock_stateid (wished s x a.locktype a.offset a.length) k e
+unlock_wish s x a k e = wished_parts x a.lock_stateid (wished s x a.locktype a.offset a.length) k e
 
 -- a range of bytes that there are, or an empty one, where its first byte is one that there is not
 abbrev pub IsRange : (first last : ℕ) → Type 0

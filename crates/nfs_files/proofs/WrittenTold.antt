@@ -1,5 +1,6 @@
 -- What a WRITE leaves of its own, and what a READ is given.
-use Rattle.std.proofs.Common.{◌≡◌, ◌⊎◌, ℕ, ◌+◌, ◌-◌, ◌≤◌, ◌<◌, ◌^◌, Bool, true, false, List, ◌++◌, length, take, drop, get_or, Option, Some, None, refl, sym, ◌∙◌, ap, subst, arith, inl, inr}
+use Rattle.std.proofs.Common.{◌≡◌, ◌⊎◌, ℕ, ◌+◌, ◌-◌, ◌≤◌, ◌<◌, ◌^◌, Bool, true, false, List, ◌++◌, length, take, drop, get_or, Some, None, refl, sym, ◌∙◌, ap}
+use Rattle.std.proofs.Common.{subst, arith, inl, inr}
 use Rattle.std.proofs.{lemmas.Bool.{cases_Bool, ltb-false}, lemmas.List.{take_at, drop_at, length-append, length-take, length-drop, get_or-take, get_or-drop}}
 use Rattle.std.specs.{Prelude.{◌&&◌, nat_lt, Ok}, Int.{w32, from_be_bytes}}
 use Rattle.nfs_xdr.specs.{Checks.first_fault, Spelling.{number, flag, fixed, opaque}, declared.time.Time.Time, declared.status.Status.Status}
@@ -18,16 +19,14 @@ use Rattle.nfs_names.specs.{declared.context.Context.Context, declared.node.Node
 use Rattle.nfs_names.proofs.{Found.{checked_ok, current_is}, Ones.by_delay}
 use Rattle.nfs_files.specs.{Bytes.{file_checks, reading, may_use}, Written.{Byte, StandsIn, Lasts, Writes, bytes_in, Reads, GivesIt}}
 use Rattle.nfs_files.specs.Parts.{readable, writable}
-use Rattle.nfs_files.proofs.{Outcomes.{one_or_delay, comes_to}, Passing.if_passed_ok, ReadBytes.few_given, WrittenTrees.lasts_over}
+use Rattle.nfs_files.proofs.{Outcomes.{one_or_delay, comes_to}, Passing.if_passed_ok, ReadBytes.few_given, WrittenImages.lasts_over}
 use Rattle.nfs_files.proofs.WrittenOps.{by_found, current_number, writable_at, number_back, write_spelled, few_written}
 use Rattle.nfs_files.specs.Read as of_read
 use Rattle.nfs_files.specs.Parts as parts
 use Rattle.nfs_files.specs.Write as of_write
 use Rattle.nfs_files.proofs.InSteps.{write_is, read_is}
 use Rattle.nfs_files.proofs.Terms.{bytes_of}
-
-some_same : (o : Option ℕ) (m n : ℕ) → o ≡ Some m → o ≡ Some n → m ≡ n
-some_same o m n e f = (let same : Some m ≡ Some n = sym e ∙ f in cc)
+use Rattle.nfs_files.proofs.ChangesTold.{some_same}
 
 -- a refusal ends behind its status
 pub short : (op : OpNum) (status : Status) (first more : List ℕ) → length first ≡ 4

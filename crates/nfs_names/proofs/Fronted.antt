@@ -1,23 +1,18 @@
 -- Operations and what the code finds for them first: that is their first steps.
-use Rattle.std.proofs.Common.{◌≡◌, ℕ, Bool, true, false, List, [], length, Option, Some, None, refl, sym, ◌∙◌, ap, subst}
-use Rattle.std.specs.{Prelude.{Result, Ok, Err, ok_or, not, is_some, option_map}, Option.option_map_or}
-use Rattle.nfs_xdr.specs.{SheetState.{SheetState, Puts}, declared.status.Status.Status, declared.status.Status.TheVariants.{Inval, NoEnt, Stale}}
+use Rattle.std.proofs.Common.{◌≡◌, ℕ, List, [], refl, sym, ◌∙◌, ap, subst}
+use Rattle.std.specs.Prelude.{Result, Ok, ok_or, not, is_some}
+use Rattle.nfs_xdr.specs.{SheetState.{SheetState, Puts}, declared.status.Status.{Status, TheVariants.{Inval, NoEnt}}}
 use Rattle.nfs_compound.specs.{declared.name_args.Create.Create, declared.op_num.OpNum.OpNum, OpNum.op_number}
 use Rattle.nfs_compound.specs.declared.op_num.OpNum.TheVariants as Num
 use Rattle.nfs_results.specs.declared.res.Res.TheVariants as Res
 use Rattle.nfs_results.specs.Results.{refusal, spell_result}
-use Rattle.nfs_tree.specs.{declared.object.Object.Object, declared.stored.Stored.Stored, Bytes.part, Files.{object_named as found, most_text, stored_in}}
+use Rattle.nfs_tree.specs.{Bytes.part, Files.{object_named as found, most_text}}
 use Rattle.nfs_attrs.specs.{Mask.mask_of, Setting.make_checks}
 use Rattle.nfs_opens.specs.Steps.{◌>>=◌, ◌>>◌, in_order, require}
 use Rattle.nfs_names.specs.{declared.context.Context.Context, declared.making.Making.Making, declared.node.Node.Node, State.State, Context.at_object}
-use Rattle.nfs_names.specs.{Outcome.{Outcome, done, refuses, or_refusal}, Comes.Comes, Checks.{current, node_at}, Attributes.attributes_of, Create.attributes_in}
-use Rattle.nfs_names.specs.{Fronts.{creating, getting_attr, looking_up, placing, reading_link, sized}, GetAttr.get_attr, Lookup.lookup, ReadLink.read_link}
+use Rattle.nfs_names.specs.{Outcome.{Outcome, done, refuses, or_refusal}, Comes.Comes, Checks.current, Attributes.attributes_of, Create.attributes_in}
+use Rattle.nfs_names.specs.{Fronts.{creating, getting_attr, looking_up, placing, reading_link}, GetAttr.get_attr, Lookup.lookup, ReadLink.read_link}
 use Rattle.nfs_names.proofs.{Steps.through, Faulted.status_of_refusal}
-
--- what the code makes of an object and its size, if it is there
-abbrev pub node_and_size : ℕ → Option (Object × ℕ) → Result (Node × ℕ) Status
-node_and_size n None = Err Stale
-node_and_size n (Some p) = Ok (record { number = n; object = p.0 }, p.1)
 
 -- what is wanted of an object that is to be made in a place
 abbrev pub wanting : Context → Create → Node → Result Making Status
@@ -50,29 +45,6 @@ unfolding read_link
 read_link_by s x v e =
     let next : Node → Result Outcome Status = λ d. Ok (done s x (Res.ReadLink (part s.tree d.number 0 most_text))) in
     ap (or_refusal s x Num.ReadLink) (through (current s x) _ Ok next ∙ ap (λ v. v >>= next) (sym e))
-
--- what comes of an object that was found with its size
-pub past_size : {B : Type 0} (s : State) (v : Result Node Status) (next : Node → Result B Status) → (sized s v >>= λ p. next p.0) ≡ (v >>= next)
-past_size s (Err f) next = refl
-past_size s (Ok d) next = refl
-
--- .. and what of it passes a check
-pub through_size : (s : State) (v : Result Node Status) (b : Bool) (f : Status)
-    → (sized s v >>= λ p. require b f >> Ok p) ≡ sized s (v >>= λ d. require b f >> Ok d)
-through_size s (Err g) b f = refl
-through_size s (Ok d) true f = refl
-through_size s (Ok d) false f = refl
-
--- an object and its size, as the tree has them
-pub size_found : (s : State) (n : ℕ) (k : Option (Object × ℕ))
-    → k ≡ option_map {U = Object × ℕ} (λ (w : Stored). (w.object, length w.bytes)) (stored_in s.tree.objects n) → sized s (node_at s (Some n)) ≡ node_and_size n k
-size_found s n k e = by_option (stored_in s.tree.objects n) refl ∙ ap (node_and_size n) (sym e)
-  where
-    by_option : (o : Option Stored) → stored_in s.tree.objects n ≡ o
-        → sized s (node_at s (Some n)) ≡ node_and_size n (option_map {U = Object × ℕ} (λ (w : Stored). (w.object, length w.bytes)) (stored_in s.tree.objects n))
-    by_option None h = rw h refl
-    by_option (Some w) h = rw h (ap (λ (o : Option Stored).
-        let found : Result (Node × ℕ) Status = Ok (record { number = n; object = w.object }, length (option_map_or (λ (x : Stored). x.bytes) o [])) in found) h)
 
 -- a refusal that was put is what an operation comes to that refuses so
 pub refusal_comes : (s : State) (x : Context) (op : OpNum) (o : Outcome) (status answer : Status) (old new : SheetState)

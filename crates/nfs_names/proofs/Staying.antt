@@ -84,10 +84,6 @@ staying_twice p q s =
     used_again s (table_staying p t) t (open_left p t)
     ∙ ap (λ u. only_used (with_opens s u)) (same_table _ _ _ _ _ _ s.opens.last s.opens.instance opens locks held)
 
--- only the test counts
-pub staying_same : (p q : ℕ → Bool) (s : State) → ((c : ℕ) → p c ≡ q c) → staying p s ≡ staying q s
-staying_same p q s same = ap (λ (stays : ℕ → Bool). staying stays s) (fun_ext same)
-
 -- an object is there
 pub there_in : (xs : List Stored) (x : Stored) → In x xs → is_some (stored_in xs x.number) ≡ true
 there_in [] x there = absurd there

@@ -13,8 +13,8 @@ use Rattle.nfs_tree.specs.{Names.{with_link, without_name, forget, Move, moved_o
 use Rattle.nfs_tree.specs.declared.object.FileType.TheVariants as Kind
 use Rattle.nfs_xdr.proofs.Lists.{in_any, any_in, stays_in, push_in, last_in, none_in}
 use Rattle.nfs_tree.proofs.{Objects.{keeps_changed, stored_map, stored_push, stored_dropped}, Trees.entry_names}
-use Rattle.nfs_names.specs.{State.{State, new_store, with_tree, is_open, is_used, without_unused}, StoreInvariants.{IsRooted, IsStore, IsStoreBut}}
-use Rattle.nfs_names.specs.Rename.{without_replaced}
+use Rattle.nfs_names.specs.{declared.start.Start.Start, State.{State, new_store, with_tree, is_open, is_used, without_unused}}
+use Rattle.nfs_names.specs.{StoreInvariants.{IsRooted, IsStore, IsStoreBut}, Rename.without_replaced}
 
 -- of which type an object is, if it is there
 abbrev pub kind_in : List Stored → ℕ → Option FileType
@@ -169,8 +169,8 @@ rooted_without s n is = elim (cases_Bool (is_used s n)) [ inl stays ↦ rw stays
     ]
 
 -- a new server's
-pub store_at_first : (mode : ℕ) (now : Time) (instance lease : ℕ) → IsStore (new_store mode now instance lease)
-store_at_first mode now instance lease = record {
+pub store_at_first : (start : Start) (now : Time) → IsStore (new_store start now)
+store_at_first start now = record {
   used = λ n there. elim (cases_eq root n) [ inl is ↦ rw (eq-eqb n root (sym is)) refl | inr other ↦ absurd (false≢true (rw (ne_eqb root n other) at there)) ];
   files = λ n stands. absurd (false≢true stands);
 }

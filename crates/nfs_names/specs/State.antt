@@ -3,7 +3,7 @@ use Rattle.std.specs.{Prelude.{ℕ, ◌==◌, ◌||◌, Bool, pos, if◌then◌e
 use Rattle.nfs_xdr.specs.declared.time.Time.{Time}
 use Rattle.nfs_tree.specs.{Files.{Files, root, has_row}, Create.new_tree, Names.forget}
 use Rattle.nfs_opens.specs.Table.{Table, table, no_opens}
-use Rattle.nfs_names.specs.declared.store.Store.{Store}
+use Rattle.nfs_names.specs.{declared.start.Start.Start, declared.store.Store.Store}
 
 pub record State : Type 0 where
   pub tree : Files
@@ -14,8 +14,8 @@ abbrev pub state_of : Store → State
 state_of s = record { tree = s.tree; opens = table s.opens; lease = s.lease }
 
 -- a new server's: nothing but the root, and nothing is open
-abbrev pub new_store : ℕ → Time → ℕ → ℕ → State
-new_store mode now instance lease = record { tree = new_tree mode now; opens = no_opens instance; lease = lease }
+abbrev pub new_store : Start → Time → State
+new_store start now = record { tree = new_tree start.mode now; opens = no_opens start.instance; lease = start.lease }
 
 abbrev pub with_tree : State → Files → State
 with_tree s t = record { tree = t; opens = s.opens; lease = s.lease }

@@ -5,6 +5,7 @@ ghost use Rattle.nfs_tree.specs.Files.{has_row, has_entries};
 ghost use Rattle.nfs_names.specs.State.{state_of, new_store, is_open, is_used, without_unused};
 ghost use Rattle.nfs_names.specs.StoreInvariants.{IsRooted, IsStore, IsStoreBut};
 
+use crate::Start;
 use nfs_opens::Opens;
 use nfs_tree::Tree;
 use nfs_xdr::Time;
@@ -22,23 +23,17 @@ pub struct Store {
 }
 
 impl Store {
-    /// The store of a new server: nothing but the root, with this mode and three times `now`, and nothing is open. Fails
+    /// The store of a new server: nothing but the root, with the mode of its start and three times `now`, and nothing is open. Fails
     /// only for want of memory.
-    pub fn new(
-        alloc: Global,
-        mode: u32,
-        now: Time,
-        instance: u32,
-        lease: u32,
-    ) -> Result<Store, AllocError>
-        ensures state { IfOk result (λ s. state_of s ≡ new_store mode now instance lease) }
+    pub fn new(alloc: Global, start: Start, now: Time) -> Result<Store, AllocError>
+        ensures state { IfOk result (λ s. state_of s ≡ new_store start now) }
         ensures store { IfOk result (λ s. IsStore (state_of s)) }
     {
-        let tree = Tree::new(alloc, mode, now)?;
+        let tree = Tree::new(alloc, start.mode, now)?;
         Ok(Store {
             tree,
-            opens: Opens::new(alloc, instance),
-            lease,
+            opens: Opens::new(alloc, start.instance),
+            lease: start.lease,
         })
     }
 

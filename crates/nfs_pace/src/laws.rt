@@ -5,6 +5,7 @@ ghost use Rattle.nfs_pace.specs.Laws.{AlwaysAddsUp, KeepsWhoRenews};
 ghost use Rattle.nfs_pace.specs.Worked.{WorkedRun, WrongClocks};
 
 /// From one sweep to a later one the clock rises by what passed and a sixteenth of it at most, and by a sixteenth of a lease a sweep.
+#[tactic(auto, using(crate::proofs::Sums::always_adds_up))]
 pub fn adds_up()
     ensures { AlwaysAddsUp risen }
 {}
@@ -17,6 +18,7 @@ pub fn keeps_who_renews()
 
 /// A worked run meets the premises of that law, with sweeps of 20 seconds. A clock that shows what is read takes the lease of a client in it, and one
 /// that rises by a quarter of a lease in a sweep and makes up a third of what passes takes one in another.
+#[tactic(auto, using(crate::proofs::WrongClocks::worked_run, crate::proofs::WrongClocks::wrong_clocks))]
 pub fn wrong_clocks_are_refused()
     ensures worked { WorkedRun }
     ensures wrong { WrongClocks }

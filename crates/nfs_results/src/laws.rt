@@ -28,6 +28,7 @@ pub fn wire()
 {}
 
 /// What READDIR puts of an entry is a bool that says that it follows, and entry4 of RFC 5662.
+#[tactic(auto, using(crate::proofs::WireLaws::entry_is))]
 pub fn entries()
     ensures { (e : Entry) → entry_text e ≡ (bool true then entry4 e).bytes }
 {}
@@ -50,6 +51,7 @@ pub fn parts()
 
 /// The head of a compound's result has its status, its tag in whole words behind their number, and its count; a result has its operation's
 /// number and its status in front of the rest.
+#[tactic(auto, using(crate::proofs::Lengths::length_compound_head, crate::proofs::Lengths::length_spelled))]
 pub fn lengths()
     ensures compound { (status : Status) (tag : List ℕ) (count : ℕ) → length (spell_compound_head status tag count) ≡ 12 + length tag + padding (length tag) }
     ensures result { (r : Res) → length (spell_result r) ≡ 8 + length (parts r).behind }

@@ -72,9 +72,6 @@ one_shown port a s d e l0 l1 c is none does logs = record {
   clock = subst (Logs c c) (sym (ap (λ l. l ++ []) none)) (Logs-nil c);
 }
 
-pub quiet_start : (port : ℕ) (d : Desk) (l : Option (List Deed)) → Quiet port [] d d l l
-quiet_start port d l = record { goes = λ s. (refl, refl); logs = Logs-nil l; unasked = refl; no_reads = refl }
-
 pub quiet_act : (port : ℕ) (a : Act) (d e : Desk) (l0 l1 : Option (List Deed))
     → shown port a ≡ record { port = port; act = a } ∷ [] → asked a ≡ [] → filter is_of_read (a ∷ []) ≡ [] → ((s : ServerState) → Does port s d a s e)
     → Logs l0 l1 (record { port = port; act = a } ∷ []) → Quiet port (a ∷ []) d e l0 l1

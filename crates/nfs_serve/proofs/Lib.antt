@@ -12,12 +12,6 @@ pub mod Spending
 pub mod TurnEnds
 pub mod Rounds
 pub mod Sweeps
-pub mod Promises
 pub mod Stepping
-pub mod Cutting
-pub mod Connections
-pub mod Scripts
-pub mod Turns
 pub mod OneReading
-pub mod InMemory
 pub mod Buffers

@@ -1,14 +1,12 @@
 -- Which fault a script has, and its whole entries, are decided by its bytes.
-use Rattle.std.proofs.Common.{◌≡◌, ℕ, suc, ◌+◌, ◌<◌, ◌≤◌, ◌^◌, List, [], ◌∷◌, ◌++◌, length, flat_map, take, drop, All, ◌⊎◌, inl, inr, Option, Some, None, refl}
-use Rattle.std.proofs.{Common.{sym, ap, subst, ◌∙◌, arith, append_assoc, append-nil, length-append}, lemmas.Bool.le-ltb}
-use Rattle.std.proofs.{lemmas.List.{take_at, drop_at, take-append-drop}, lemmas.List.Elements.{All-head, All-tail}, lemmas.Option.some_pair_parts}
+use Rattle.std.proofs.Common.{◌≡◌, ℕ, ◌<◌, ◌≤◌, ◌^◌, List, [], ◌++◌, length, take, drop, None, refl}
+use Rattle.std.proofs.{Common.{sym, ap, ◌∙◌, arith, append_assoc, length-append}, lemmas.Bool.le-ltb}
+use Rattle.std.proofs.lemmas.{List.take-append-drop, Option.some_pair_parts}
 use Rattle.nfs_xdr.specs.{Spelling.{number, hyper}, Codec.{Codec, ◌then◌}, Lawful.IsCodec}
 use Rattle.nfs_xdr.specs.Codec as codec
 use Rattle.nfs_xdr.proofs.CodecLaws.{is_number, is_hyper, is_then}
-use Rattle.nfs_serve.specs.{declared.fault.Stop.Stop, declared.fault.Stop.TheVariants.{Cut, Connection, Long, Late, Many, ReadFailed, WriteFailed}}
-use Rattle.nfs_serve.specs.Script.{Entry, head, spell_entry, Fits, max_entries, refusal, IsHead, BeginsRefused, IsPartial, StopsAt, IsRead}
-use Rattle.nfs_serve.specs.{Promises.Laws.HasOneReading, Reading.BeginsWith}
-use Rattle.nfs_serve.proofs.Entries.{length-head}
+use Rattle.nfs_serve.specs.Script.{Entry, head, spell_entry, Fits, refusal, IsHead}
+use Rattle.nfs_serve.specs.{Reading.BeginsWith}
 
 abbrev heads : Codec (ℕ × (ℕ × ℕ))
 heads = codec.hyper then codec.number then codec.number
@@ -18,7 +16,7 @@ unfolding head
 head_spelled m c l xs = ap (λ h. h ++ xs) (append_assoc (hyper m) (number c) (number l))
 
 -- a head is read in one way
-head_same : (m c l n d k : ℕ) (xs ys : List ℕ) → (m < 2 ^ 64) × (c < 2 ^ 32) × (l < 2 ^ 32)
+pub head_same : (m c l n d k : ℕ) (xs ys : List ℕ) → (m < 2 ^ 64) × (c < 2 ^ 32) × (l < 2 ^ 32)
     → (n < 2 ^ 64) × (d < 2 ^ 32) × (k < 2 ^ 32) → head m c l ++ xs ≡ head n d k ++ ys → (m ≡ n) × (c ≡ d) × (l ≡ k) × (xs ≡ ys)
 head_same m c l n d k xs ys p q e =
     let is : IsCodec heads = is_then codec.hyper (codec.number then codec.number) is_hyper (is_then codec.number codec.number is_number is_number) in
@@ -27,62 +25,14 @@ head_same m c l n d k xs ys p q e =
     ∙ ap heads.read (sym (head_spelled m c l xs) ∙ e ∙ head_spelled n d k ys) ∙ is.again (n, (d, k)) ys (q.0, (q.1, q.2))) in
     (ap (λ x. x.0) parts.0, ap (λ x. x.1.0) parts.0, ap (λ x. x.1.1) parts.0, parts.1)
 
-small : (e : Entry) → Fits e → (e.moment < 2 ^ 64) × (e.conn < 2 ^ 32) × (length e.piece < 2 ^ 32)
+pub small : (e : Entry) → Fits e → (e.moment < 2 ^ 64) × (e.conn < 2 ^ 32) × (length e.piece < 2 ^ 32)
 small e fits = (omega (arith, fits.0), omega (arith, fits.1), omega (arith, fits.2))
 
-behind_head : (e : Entry) (xs : List ℕ) → spell_entry e ++ xs ≡ head e.moment e.conn (length e.piece) ++ (e.piece ++ xs)
+pub behind_head : (e : Entry) (xs : List ℕ) → spell_entry e ++ xs ≡ head e.moment e.conn (length e.piece) ++ (e.piece ++ xs)
 behind_head e xs = append_assoc (head e.moment e.conn (length e.piece)) e.piece xs
 
--- an entry is read in one way
-entry_same : (e f : Entry) (xs ys : List ℕ) → Fits e → Fits f → spell_entry e ++ xs ≡ spell_entry f ++ ys → (e ≡ f) × (xs ≡ ys)
-entry_same e f xs ys p q same =
-    let (moment, conn, len, rest) = head_same e.moment e.conn (length e.piece) f.moment f.conn (length f.piece)
-    (e.piece ++ xs) (f.piece ++ ys) (small e p) (small f q) (sym (behind_head e xs) ∙ same ∙ behind_head f ys) in
-    let piece : e.piece ≡ f.piece = sym (take_at e.piece xs (length f.piece) len)
-    ∙ ap (take (length f.piece)) rest ∙ take_at f.piece ys (length f.piece) refl in (
-      ap (λ m. record { moment = m; conn = e.conn; piece = e.piece }) moment ∙ ap (λ c. record { moment = f.moment; conn = c; piece = e.piece }) conn
-          ∙ ap (λ b. record { moment = f.moment; conn = f.conn; piece = b }) piece,
-      sym (drop_at e.piece xs (length f.piece) len) ∙ ap (drop (length f.piece)) rest ∙ drop_at f.piece ys (length f.piece) refl,
-    )
-
--- no whole entry stands at the front
-record NoEntry (rest : List ℕ) : Type 0 where
-  none : (e : Entry) (behind : List ℕ) → Fits e → rest ≡ spell_entry e ++ behind → ⊥
-
-length-entry : (e : Entry) (behind : List ℕ) → length (spell_entry e ++ behind) ≡ 16 + (length e.piece + length behind)
-length-entry e behind = ap length (behind_head e behind) ∙ length-append (head e.moment e.conn (length e.piece)) (e.piece ++ behind)
-    ∙ omega (arith, length-head e.moment e.conn (length e.piece), length-append e.piece behind)
-
-no_short : (rest : List ℕ) → length rest < 16 → NoEntry rest
-no_short rest short = record { none = λ e behind fits is. omega (arith, ap length is, length-entry e behind, short) }
-
-granted : (m c l : ℕ) → m ≤ 2 ^ 62 → c ≤ 15 → l ≤ 65536 → refusal m c l ≡ None
+pub granted : (m c l : ℕ) → m ≤ 2 ^ 62 → c ≤ 15 → l ≤ 65536 → refusal m c l ≡ None
 granted m c l p q r = rw (le-ltb 15 c q, le-ltb 65536 l r, le-ltb (2 ^ 62) m p) refl
-
-some_none : (s : Stop) → Some s ≡ None → ⊥
-some_none s e = cc
-
-no_partial : (rest : List ℕ) → IsPartial rest → NoEntry rest
-no_partial rest (inl short) = no_short rest short
-no_partial rest (inr h) =
-    let (m, c, l, part, is, late, far, long, short) = h in
-    record {
-      none = λ e behind fits at.
-          let same = head_same m c l e.moment e.conn (length e.piece) part (e.piece ++ behind)
-          (omega (arith, late), omega (arith, far), omega (arith, long)) (small e fits) (sym is ∙ at ∙ behind_head e behind) in
-          omega (arith, short, same.2, ap length same.3, length-append e.piece behind);
-    }
-
-no_refused : (stop : Stop) (rest : List ℕ) → BeginsRefused stop rest → NoEntry rest
-no_refused stop rest h =
-    let (m, c, l, front, behind, split, is, why) = h in
-    record {
-      none = λ e left fits at.
-          let same = head_same m c l e.moment e.conn (length e.piece) behind (e.piece ++ left) (is.1, is.2, is.3)
-          (small e fits) (ap (λ f. f ++ behind) (sym is.0) ∙ sym split ∙ at ∙ behind_head e left) in
-          some_none stop (sym why ∙ ap (λ x. refusal x c l) same.0 ∙ ap (λ x. refusal e.moment x l) same.1
-          ∙ ap (λ x. refusal e.moment e.conn x) same.2 ∙ granted e.moment e.conn (length e.piece) fits.0 fits.1 fits.2);
-    }
 
 -- where an entry stands whole at the front, the head there is none that is refused, and its piece is there
 pub front_is_entry : (bytes front rest : List ℕ) (m c l : ℕ) → front ≡ take 16 bytes → rest ≡ drop 16 bytes → IsHead m c l front
@@ -94,178 +44,3 @@ front_is_entry bytes front rest m c l is_front is_rest is e (behind, at, fits) =
           ∙ granted e.moment e.conn (length e.piece) fits.0 fits.1 fits.2,
       omega (arith, same.2, ap length same.3, length-append e.piece behind),
     )
-
--- no entry is read behind these
-Ends : ℕ → List ℕ → Type 0
-Ends n rest = (n ≡ max_entries) ⊎ NoEntry rest
-
-record IsRun (script : List ℕ) (entries : List Entry) (rest : List ℕ) : Type 0 where
-  spelled : script ≡ flat_map spell_entry entries ++ rest
-  fits : All Fits entries
-  few : length entries ≤ max_entries
-  ends : Ends (length entries) rest
-
-run_of : (a : Option Stop) (script : List ℕ) (es : List Entry) (r : List ℕ) → IsRead a script es r → IsRun script es r
-unfolding Ends
-run_of None script es r h = record {
-  spelled = h.0.spelled ∙ sym (append-nil _) ∙ ap (λ l. flat_map spell_entry es ++ l) (sym h.1);
-  fits = h.0.fits;
-  few = h.0.few;
-  ends = inr (no_short r (omega (arith, ap length h.1)));
-}
-run_of (Some Cut) script es r h = record { spelled = h.spelled; fits = h.fits; few = omega (arith, h.stands.0); ends = inr (no_partial r h.stands.2) }
-run_of (Some Connection) script es r h = record {
-  spelled = h.spelled;
-  fits = h.fits;
-  few = omega (arith, h.stands.0);
-  ends = inr (no_refused Connection r h.stands.1);
-}
-run_of (Some Long) script es r h = record { spelled = h.spelled; fits = h.fits; few = omega (arith, h.stands.0); ends = inr (no_refused Long r h.stands.1) }
-run_of (Some Late) script es r h = record { spelled = h.spelled; fits = h.fits; few = omega (arith, h.stands.0); ends = inr (no_refused Late r h.stands.1) }
-run_of (Some Many) script es r h = record { spelled = h.spelled; fits = h.fits; few = omega (arith, h.stands.0); ends = inl h.stands.0 }
-run_of (Some ReadFailed) script es r h = absurd h
-run_of (Some WriteFailed) script es r h = absurd h
-
-one_more : (n k : ℕ) → n + suc k ≡ suc n + k
-one_more n k = omega arith
-
-further : (e : Entry) (es : List Entry) (r : List ℕ) → flat_map spell_entry (e ∷ es) ++ r ≡ spell_entry e ++ (flat_map spell_entry es ++ r)
-further e es r = append_assoc (spell_entry e) (flat_map spell_entry es) r
-
-walk : (n : ℕ) (es fs : List Entry) (r q : List ℕ) → All Fits es → All Fits fs
-    → n + length es ≤ max_entries → n + length fs ≤ max_entries → Ends (n + length es) r → Ends (n + length fs) q
-    → flat_map spell_entry es ++ r ≡ flat_map spell_entry fs ++ q → (es ≡ fs) × (r ≡ q)
-unfolding Ends
-walk n [] [] r q fits fit few few_too ends end same = (refl, same)
-walk n [] (f ∷ fs) r q fits fit few few_too (inl full) end same = absurd (omega (arith, full, few_too))
-walk n [] (f ∷ fs) r q fits fit few few_too (inr lacks) end same =
-    absurd (lacks.none f (flat_map spell_entry fs ++ q) (All-head Fits f fs fit) (same ∙ further f fs q))
-walk n (e ∷ es) [] r q fits fit few few_too ends (inl full) same = absurd (omega (arith, full, few))
-walk n (e ∷ es) [] r q fits fit few few_too ends (inr lacks) same =
-    absurd (lacks.none e (flat_map spell_entry es ++ r) (All-head Fits e es fits) (sym same ∙ further e es r))
-walk n (e ∷ es) (f ∷ fs) r q fits fit few few_too ends end same =
-    let (entry, behind) = entry_same e f (flat_map spell_entry es ++ r) (flat_map spell_entry fs ++ q)
-    (All-head Fits e es fits) (All-head Fits f fs fit) (sym (further e es r) ∙ same ∙ further f fs q) in
-    let (entries, rest) = walk (suc n) es fs r q (All-tail Fits e es fits) (All-tail Fits f fs fit)
-    (rw (← one_more n (length es)) few) (rw (← one_more n (length fs)) few_too)
-    (subst (λ k. Ends k r) (one_more n (length es)) ends) (subst (λ k. Ends k q) (one_more n (length fs)) end) behind in
-    (ap (λ x. x ∷ es) entry ∙ ap (λ l. f ∷ l) entries, rest)
-
-refused_some : (stop : Stop) (r : List ℕ) → BeginsRefused stop r → 0 < length r
-refused_some stop r h =
-    let (m, c, l, front, behind, split, is, why) = h in
-    omega (arith, ap length split, length-append front behind, ap length is.0, length-head m c l)
-
-partial_refused : (stop : Stop) (r : List ℕ) → IsPartial r → BeginsRefused stop r → ⊥
-partial_refused stop r (inl short) h =
-    let (m, c, l, front, behind, split, is, why) = h in
-    omega (arith, ap length split, length-append front behind, ap length is.0, length-head m c l, short)
-partial_refused stop r (inr p) h =
-    let (n, d, k, part, at, late, far, long, short) = p in
-    let (m, c, l, front, behind, split, is, why) = h in
-    let same = head_same m c l n d k behind part (is.1, is.2, is.3)
-    (omega (arith, late), omega (arith, far), omega (arith, long)) (ap (λ f. f ++ behind) (sym is.0) ∙ sym split ∙ at) in
-    some_none stop (sym why ∙ ap (λ x. refusal x c l) same.0 ∙ ap (λ x. refusal n x l) same.1 ∙ ap (λ x. refusal n d x) same.2 ∙ granted n d k late far long)
-
-refused_same : (s t : Stop) (r : List ℕ) → BeginsRefused s r → BeginsRefused t r → Some s ≡ Some t
-refused_same s t r h g =
-    let (m, c, l, front, behind, split, is, why) = h in
-    let (n, d, k, front_too, left, split_too, is_too, why_too) = g in
-    let same = head_same m c l n d k behind left (is.1, is.2, is.3) (is_too.1, is_too.2, is_too.3)
-    (ap (λ f. f ++ behind) (sym is.0) ∙ sym split ∙ split_too ∙ ap (λ f. f ++ left) is_too.0) in
-    sym why ∙ ap (λ x. refusal x c l) same.0 ∙ ap (λ x. refusal n x l) same.1 ∙ ap (λ x. refusal n d x) same.2 ∙ why_too
-
--- how the script stops behind n entries
-StopsHow : Option Stop → ℕ → List ℕ → Type 0
-StopsHow None n r = r ≡ []
-StopsHow (Some stop) n r = StopsAt stop n r
-
-how : (a : Option Stop) (script : List ℕ) (es : List Entry) (r : List ℕ) → IsRead a script es r → StopsHow a (length es) r
-unfolding StopsHow
-how None script es r h = h.1
-how (Some Cut) script es r h = h.stands
-how (Some Connection) script es r h = h.stands
-how (Some Long) script es r h = h.stands
-how (Some Late) script es r h = h.stands
-how (Some Many) script es r h = h.stands
-how (Some ReadFailed) script es r h = absurd h
-how (Some WriteFailed) script es r h = absurd h
-
-empty_some : (r : List ℕ) → r ≡ [] → 0 < length r → ⊥
-empty_some r e some = omega (arith, ap length e, some)
-
-same_how : (a b : Option Stop) (script other : List ℕ) (es fs : List Entry) (n : ℕ) (r : List ℕ)
-    → IsRead a script es r → IsRead b other fs r → StopsHow a n r → StopsHow b n r → a ≡ b
-unfolding StopsHow
-same_how None None script other es fs n r ra rb h g = refl
-same_how None (Some Cut) script other es fs n r ra rb h g = absurd (empty_some r h g.1)
-same_how None (Some Connection) script other es fs n r ra rb h g = absurd (empty_some r h (refused_some Connection r g.1))
-same_how None (Some Long) script other es fs n r ra rb h g = absurd (empty_some r h (refused_some Long r g.1))
-same_how None (Some Late) script other es fs n r ra rb h g = absurd (empty_some r h (refused_some Late r g.1))
-same_how None (Some Many) script other es fs n r ra rb h g = absurd (empty_some r h g.1)
-same_how None (Some ReadFailed) script other es fs n r ra rb h g = absurd rb
-same_how None (Some WriteFailed) script other es fs n r ra rb h g = absurd rb
-same_how (Some Cut) None script other es fs n r ra rb h g = absurd (empty_some r g h.1)
-same_how (Some Cut) (Some Cut) script other es fs n r ra rb h g = refl
-same_how (Some Cut) (Some Connection) script other es fs n r ra rb h g = absurd (partial_refused Connection r h.2 g.1)
-same_how (Some Cut) (Some Long) script other es fs n r ra rb h g = absurd (partial_refused Long r h.2 g.1)
-same_how (Some Cut) (Some Late) script other es fs n r ra rb h g = absurd (partial_refused Late r h.2 g.1)
-same_how (Some Cut) (Some Many) script other es fs n r ra rb h g = absurd (omega (arith, h.0, g.0))
-same_how (Some Cut) (Some ReadFailed) script other es fs n r ra rb h g = absurd rb
-same_how (Some Cut) (Some WriteFailed) script other es fs n r ra rb h g = absurd rb
-same_how (Some Connection) None script other es fs n r ra rb h g = absurd (empty_some r g (refused_some Connection r h.1))
-same_how (Some Connection) (Some Cut) script other es fs n r ra rb h g = absurd (partial_refused Connection r g.2 h.1)
-same_how (Some Connection) (Some Connection) script other es fs n r ra rb h g = refl
-same_how (Some Connection) (Some Long) script other es fs n r ra rb h g = refused_same Connection Long r h.1 g.1
-same_how (Some Connection) (Some Late) script other es fs n r ra rb h g = refused_same Connection Late r h.1 g.1
-same_how (Some Connection) (Some Many) script other es fs n r ra rb h g = absurd (omega (arith, h.0, g.0))
-same_how (Some Connection) (Some ReadFailed) script other es fs n r ra rb h g = absurd rb
-same_how (Some Connection) (Some WriteFailed) script other es fs n r ra rb h g = absurd rb
-same_how (Some Long) None script other es fs n r ra rb h g = absurd (empty_some r g (refused_some Long r h.1))
-same_how (Some Long) (Some Cut) script other es fs n r ra rb h g = absurd (partial_refused Long r g.2 h.1)
-same_how (Some Long) (Some Connection) script other es fs n r ra rb h g = refused_same Long Connection r h.1 g.1
-same_how (Some Long) (Some Long) script other es fs n r ra rb h g = refl
-same_how (Some Long) (Some Late) script other es fs n r ra rb h g = refused_same Long Late r h.1 g.1
-same_how (Some Long) (Some Many) script other es fs n r ra rb h g = absurd (omega (arith, h.0, g.0))
-same_how (Some Long) (Some ReadFailed) script other es fs n r ra rb h g = absurd rb
-same_how (Some Long) (Some WriteFailed) script other es fs n r ra rb h g = absurd rb
-same_how (Some Late) None script other es fs n r ra rb h g = absurd (empty_some r g (refused_some Late r h.1))
-same_how (Some Late) (Some Cut) script other es fs n r ra rb h g = absurd (partial_refused Late r g.2 h.1)
-same_how (Some Late) (Some Connection) script other es fs n r ra rb h g = refused_same Late Connection r h.1 g.1
-same_how (Some Late) (Some Long) script other es fs n r ra rb h g = refused_same Late Long r h.1 g.1
-same_how (Some Late) (Some Late) script other es fs n r ra rb h g = refl
-same_how (Some Late) (Some Many) script other es fs n r ra rb h g = absurd (omega (arith, h.0, g.0))
-same_how (Some Late) (Some ReadFailed) script other es fs n r ra rb h g = absurd rb
-same_how (Some Late) (Some WriteFailed) script other es fs n r ra rb h g = absurd rb
-same_how (Some Many) None script other es fs n r ra rb h g = absurd (empty_some r g h.1)
-same_how (Some Many) (Some Cut) script other es fs n r ra rb h g = absurd (omega (arith, h.0, g.0))
-same_how (Some Many) (Some Connection) script other es fs n r ra rb h g = absurd (omega (arith, h.0, g.0))
-same_how (Some Many) (Some Long) script other es fs n r ra rb h g = absurd (omega (arith, h.0, g.0))
-same_how (Some Many) (Some Late) script other es fs n r ra rb h g = absurd (omega (arith, h.0, g.0))
-same_how (Some Many) (Some Many) script other es fs n r ra rb h g = refl
-same_how (Some Many) (Some ReadFailed) script other es fs n r ra rb h g = absurd rb
-same_how (Some Many) (Some WriteFailed) script other es fs n r ra rb h g = absurd rb
-same_how (Some ReadFailed) None script other es fs n r ra rb h g = absurd ra
-same_how (Some ReadFailed) (Some Cut) script other es fs n r ra rb h g = absurd ra
-same_how (Some ReadFailed) (Some Connection) script other es fs n r ra rb h g = absurd ra
-same_how (Some ReadFailed) (Some Long) script other es fs n r ra rb h g = absurd ra
-same_how (Some ReadFailed) (Some Late) script other es fs n r ra rb h g = absurd ra
-same_how (Some ReadFailed) (Some Many) script other es fs n r ra rb h g = absurd ra
-same_how (Some ReadFailed) (Some ReadFailed) script other es fs n r ra rb h g = absurd ra
-same_how (Some ReadFailed) (Some WriteFailed) script other es fs n r ra rb h g = absurd ra
-same_how (Some WriteFailed) None script other es fs n r ra rb h g = absurd ra
-same_how (Some WriteFailed) (Some Cut) script other es fs n r ra rb h g = absurd ra
-same_how (Some WriteFailed) (Some Connection) script other es fs n r ra rb h g = absurd ra
-same_how (Some WriteFailed) (Some Long) script other es fs n r ra rb h g = absurd ra
-same_how (Some WriteFailed) (Some Late) script other es fs n r ra rb h g = absurd ra
-same_how (Some WriteFailed) (Some Many) script other es fs n r ra rb h g = absurd ra
-same_how (Some WriteFailed) (Some ReadFailed) script other es fs n r ra rb h g = absurd ra
-same_how (Some WriteFailed) (Some WriteFailed) script other es fs n r ra rb h g = absurd ra
-
-pub one_reading : HasOneReading
-one_reading script a b es fs r q h g =
-    let x = run_of a script es r h in
-    let y = run_of b script fs q g in
-    let (entries, rest) = walk 0 es fs r q x.fits y.fits (omega (arith, x.few)) (omega (arith, y.few))
-    (subst (λ k. Ends k r) (omega arith) x.ends) (subst (λ k. Ends k q) (omega arith) y.ends) (sym x.spelled ∙ y.spelled) in
-    (same_how a b script script es fs (length es) r h (rw rest g) (how a script es r h) (rw (rest, entries) (how b script fs q g)), entries, rest)

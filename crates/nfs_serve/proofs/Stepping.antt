@@ -42,16 +42,6 @@ pub answer_lies : (outcome : Outcome) (r : Stepped) (old new : SheetState) (left
 answer_lies Outcomes.Reply r old new left front h = (lies_behind front h, h.state)
 answer_lies Outcomes.Silent r old new left front h = ((h.0, ap (drop 8) h.1.bytes ∙ drop_at old.bytes [] 8 front), h.2)
 
--- and nothing in front of it has changed
-pub answer_behind : (outcome : Outcome) (r : Stepped) (old new : SheetState) (left : ServerState) → PutsAnswer outcome r old new left
-    → (length old.bytes ≤ length new.bytes) × (new.room ≡ old.room)
-answer_behind Outcomes.Reply r old new left h =
-    let long = ap length h.put.bytes ∙ length-append old.bytes h.text in
-    (omega (arith, long), h.put.room)
-answer_behind Outcomes.Silent r old new left h =
-    let long = ap length h.1.bytes ∙ length-append old.bytes [] in
-    (omega (arith, long), h.1.room)
-
 -- Leases.
 
 -- what has run out takes its lease with it, and what is left was renewed no later

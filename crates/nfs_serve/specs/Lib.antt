@@ -5,7 +5,6 @@ pub mod Ends
 pub mod Server
 pub mod Replay
 pub mod Talk
-pub mod Promises
 pub mod Engine
 pub mod Reading
 pub mod Running

@@ -1,8 +1,8 @@
 -- What a run of a script did: which entries were read, what was written, and what was left.
-use Rattle.std.specs.Prelude.{◌≡◌, ◌≢◌, ℕ, suc, List, [], ◌∷◌, ◌++◌, length, Bool, true, false, Option, Result, Ok, Err, IfErr}
+use Rattle.std.specs.Prelude.{◌≡◌, ℕ, suc, List, [], ◌∷◌, ◌++◌, length, Bool, true, false, Option, Result, Ok, Err}
 use Rattle.std.specs.Io.KnownBytes.{Consumes, Appends, IsAtEnd}
 use Rattle.nfs_rpc.specs.{RecordMarking.Gathered, Stream.Open}
-use Rattle.nfs_serve.specs.{declared.fault.Stop.Stop, declared.fault.Stop.TheVariants.{ReadFailed, WriteFailed}, declared.fault.ReplayFault.ReplayFault}
+use Rattle.nfs_serve.specs.{declared.fault.Stop.Stop, declared.fault.Stop.TheVariants.WriteFailed, declared.fault.ReplayFault.ReplayFault}
 use Rattle.nfs_serve.specs.{declared.form.Form.TheVariants.Tagged, Script.{Entry, IsStopped, IsWhole}, Ends.IsReported, Step.ServerState}
 use Rattle.nfs_serve.specs.{Run.{Streams, with_stream, Runs, RunsInto}, Server.{ServerModel, held_on, Stands, state_of}}
 
@@ -44,14 +44,3 @@ pub record IsReplay {U : Type 0} (result : Result U ReplayFault) (old new : Serv
   pub run : Replays result (state_of old.kept) (state_of new.kept) new.held l0 l1 h0 h1
   pub reported : Reports result ended read_failed write_failed l1
   pub reply : new.reply ≡ []
-
--- The whole script ran: the answer is the script's own fault, if it has one, and what was written is the output of its
--- whole entries.
-abbrev pub RunsScript : {U : Type 0} → Result U ReplayFault → ServerState → ServerState → List Gathered → List ℕ → List ℕ → Type 0
-RunsScript answer old new held script written =
-    Replayed answer old new held script written × IfErr answer (λ fault. (fault.number ≢ ReadFailed) × (fault.number ≢ WriteFailed))
-
--- A front of the script ran up to a reply that could not be written whole.
-abbrev pub RunsFront : ServerState → ServerState → List Gathered → List ℕ → Type 0
-RunsFront old new held script = (entry : ℕ) × (read : List ℕ) × (left : List ℕ) × (written : List ℕ)
-    × (script ≡ read ++ left) × ReplaysFault WriteFailed entry old new held read written

@@ -3,6 +3,7 @@ use Rattle.std.specs.Prelude.{◌≡◌, ℕ, List, [], ◌∷◌, ◌++◌, get
 use Rattle.std.specs.Io.KnownBytes.{Appends}
 use Rattle.nfs_xdr.specs.Text.{IsBytes}
 use Rattle.nfs_rpc.specs.{RecordMarking.{Gathered, Begun, Failed, IsPart, start}, Stream.{End, Open, TooLong}}
+use Rattle.nfs_names.specs.{declared.start.Start.Start}
 use Rattle.nfs_serve.specs.{declared.form.Form.Form, declared.form.Flow.Flow, declared.form.Outcome.Outcome, declared.form.Outcome.TheVariants.{Reply, Silent}}
 use Rattle.nfs_serve.specs.{Script.connection_count, Step.{ServerState, new_state, step}, Run.{Brings, Move, events, after, output, Breaks}}
 use Rattle.nfs_exec.specs.Step.Machine as exec
@@ -34,8 +35,8 @@ abbrev pub IsWith : List Gathered → List Gathered → ℕ → Gathered → Typ
 IsWith new old conn now = (c : ℕ) → held_on new c ≡ (if nat_eq c conn then now else held_on old c)
 
 -- a new server, with nothing held on any of its connections
-pub record IsNew (mode instance lease : ℕ) (s : ServerModel) : Type 0 where
-  pub state : state_of s.kept ≡ new_state mode instance lease
+pub record IsNew (start : Start) (s : ServerModel) : Type 0 where
+  pub state : state_of s.kept ≡ new_state start
   pub held : s.held ≡ replicate connection_count fresh
   pub reply : s.reply ≡ []
 

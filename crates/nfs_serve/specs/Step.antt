@@ -5,6 +5,7 @@ use Rattle.nfs_rpc.specs.{declared.refusal.Refusal.Refusal, declared.refusal.Ref
 use Rattle.nfs_rpc.specs.{declared.refusal.AcceptStat.TheVariants.GarbageArgs, declared.call.Procedure.Procedure}
 use Rattle.nfs_rpc.specs.{CallHead.{Call, Called, Accepted, Refused, call_of}, Reply.{spell_head, spell_refusal}}
 use Rattle.nfs_compound.specs.{Request.Request, ReadRequest.request_at}
+use Rattle.nfs_names.specs.{declared.start.Start.Start}
 use Rattle.nfs_exec.specs.{Step.Machine.{Machine, starts}, Step.Compound.{Answered, compound}, Step.Expiry.expired}
 
 -- what lasts from one record to the next: the tables, and the moment that was taken last, in seconds
@@ -13,8 +14,8 @@ pub record ServerState : Type 0 where
   pub moment : ℕ
 
 -- a new server
-abbrev pub new_state : (mode instance lease : ℕ) → ServerState
-new_state mode instance lease = record { machine = starts mode instance lease; moment = 0 }
+abbrev pub new_state : (start : Start) → ServerState
+new_state start = record { machine = starts start; moment = 0 }
 
 -- the reply, where there is one, and the state that the record leaves
 pub record Stepped : Type 0 where

@@ -21,6 +21,7 @@ use crate::form::{Form, Outcome};
 use crate::moving::{WriteFailed, put};
 use nfs_compound::{Compound, Garbage};
 use nfs_exec::{Held, World};
+use nfs_names::Start;
 use nfs_rpc::{AcceptStat, Call, LAST_FRAGMENT, Procedure, Refusal, write_head, write_refusal};
 use nfs_xdr::Sheet;
 use std::alloc::{AllocError, Global};
@@ -57,18 +58,13 @@ impl Model for Engine {
 impl Engine {
     /// The engine of a new server. The buffer of replies is made here.
     #[tactic(auto, using(nfs_xdr::proofs::Putting::putting))]
-    pub(crate) fn new(
-        alloc: Global,
-        instance: u32,
-        lease: u32,
-        root_mode: u32,
-    ) -> Result<Engine, AllocError>
-        ensures { IfOk result (λ e. (state_of e.kept ≡ new_state root_mode instance lease) × (e.reply ≡ [])) }
+    pub(crate) fn new(alloc: Global, start: Start) -> Result<Engine, AllocError>
+        ensures { IfOk result (λ e. (state_of e.kept ≡ new_state start) × (e.reply ≡ [])) }
     {
         let mut sheet = Sheet::new(alloc, ROOM)?;
         sheet.put_u64(0);
         Ok(Engine {
-            world: World::new(alloc, instance, lease, root_mode)?,
+            world: World::new(alloc, start)?,
             moment: 0,
             sheet,
         })

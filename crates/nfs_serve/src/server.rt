@@ -21,6 +21,7 @@ use crate::script::{Entry, LAST_CONNECTION, MAX_PIECE};
 use crate::talking::{Talk, converse};
 use crate::{BufSource, Clock, Ports, Sink, Source, Watch};
 use nfs_exec::Held;
+use nfs_names::Start;
 use std::alloc::{AllocError, Global};
 use std::marker::Model;
 
@@ -60,17 +61,31 @@ impl Model for Server {
 }
 
 impl Server {
-    /// A server at moment 0, on whose connections nothing has come. `instance` marks it off from other starts of the server. All
-    /// buffers of records, pieces and replies are made here.
+    /// A server that is started with these settings. `instance` marks it off from other starts of the server. `AllocError` where
+    /// memory is refused, as in [`Server::starting`].
+    pub fn new(alloc: Global, settings: Settings, instance: u32) -> Result<Server, AllocError>
+        ensures { IfOk result (λ s. IsNew (record { mode = settings.root_mode; instance = instance; lease = settings.lease }) s) }
+    {
+        Server::starting(
+            alloc,
+            Start {
+                mode: settings.root_mode,
+                instance,
+                lease: settings.lease,
+            },
+        )
+    }
+
+    /// A server at moment 0, on whose connections nothing has come. All buffers of records, pieces and replies are made here.
     ///
     /// `AllocError` where memory is refused.
-    pub fn new(alloc: Global, settings: Settings, instance: u32) -> Result<Server, AllocError>
-        ensures { IfOk result (λ s. IsNew settings.root_mode instance settings.lease s) }
+    pub fn starting(alloc: Global, start: Start) -> Result<Server, AllocError>
+        ensures { IfOk result (λ s. IsNew start s) }
     {
         let piece = vec![in alloc; 0; MAX_PIECE as usize]?;
         let connections = connections(alloc)?;
         Ok(Server {
-            engine: Engine::new(alloc, instance, settings.lease, settings.root_mode)?,
+            engine: Engine::new(alloc, start)?,
             connections,
             piece,
         })

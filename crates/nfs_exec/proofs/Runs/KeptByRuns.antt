@@ -11,8 +11,8 @@ use Rattle.nfs_sessions.specs.Id.{id_of}
 use Rattle.nfs_lease.specs.Renewals.{has_run_out}
 use Rattle.nfs_opens.specs.TableInvariants.{IsTable}
 use Rattle.nfs_opens.proofs.TableLemmas.{table_new}
-use Rattle.nfs_names.specs.{declared.context.Context.Context, declared.node.Node.Node, Checks.current, Context.begins, State.{State, moment}, Ending.staying}
-use Rattle.nfs_names.specs.Outcome.{is_ok}
+use Rattle.nfs_names.specs.{declared.start.Start.Start, declared.context.Context.Context, declared.node.Node.Node, Checks.current, Context.begins}
+use Rattle.nfs_names.specs.{State.{State, moment}, Ending.staying, Outcome.is_ok}
 use Rattle.nfs_names.proofs.{Untouched.leaves_each, Staying.store_staying, StoreInvariants.store_at_first, Ones.each_of}
 use Rattle.nfs_files.proofs.{Outcomes.for_each, TreeFiles.{IsWhole, tree_ended, tree_new}, TableSteps.{table_item, table_staying_is}, Steady.{Few, few_files}}
 use Rattle.nfs_names.proofs.Sound as of_names
@@ -139,18 +139,18 @@ whole_events m [] is = is
 whole_events m (e ∷ more) is = whole_events (stepped m e) more (whole_event m e is)
 
 -- nothing but the root, and nothing is open
-pub start_whole : (mode instance lease : ℕ) → Is (starts mode instance lease)
-start_whole mode instance lease = record {
-  tree = tree_new mode (moment 0);
-  store = store_at_first mode (moment 0) instance lease;
-  table = table_new instance;
+pub start_whole : (start : Start) → Is (starts start)
+start_whole start = record {
+  tree = tree_new start.mode (moment 0);
+  store = store_at_first start (moment 0);
+  table = table_new start.instance;
   few = omega arith;
 }
 
 pub none_in_runs : NoneInRuns
-none_in_runs mode instance lease events e =
-    let m = all_stepped (starts mode instance lease) events in
-    let is : Is m = whole_events (starts mode instance lease) events (start_whole mode instance lease) in
+none_in_runs start events e =
+    let m = all_stepped (starts start) events in
+    let is : Is m = whole_events (starts start) events (start_whole start) in
     record {
       here = none_of m is;
       within = λ d there. none_of d.before (event_ops m e is d there).0;

@@ -400,10 +400,10 @@ calm_events m [] calm = calm
 calm_events m (e ∷ more) calm = calm_events (stepped m e) more (calm_event m e calm)
 
 pub nothing_delays : NothingDelays
-nothing_delays mode instance lease events r who size now =
-    let m = all_stepped (starts mode instance lease) events in
+nothing_delays start events r who size now =
+    let m = all_stepped (starts start) events in
     record {
       behind = λ d op there is. first_ops_prompt m r who size now r.left d op (in_more (eqb r.minor 1) d (ops_of m r who size now None r.left) there) is;
-      alone = λ op. alone_prompt m r.declared who now op (calm_events (starts mode instance lease) events (λ c there. absurd there));
+      alone = λ op. alone_prompt m r.declared who now op (calm_events (starts start) events (λ c there. absurd there));
       first = λ s status e. by_session_prompt r who size s (session_at m.sessions (id_of s.sessionid)) status e;
     }

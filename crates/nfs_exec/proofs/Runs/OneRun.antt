@@ -10,7 +10,8 @@ use Rattle.nfs_files.specs.Operation as table
 use Rattle.nfs_files.proofs.Outcomes.{comes_to, for_each}
 use Rattle.nfs_exec.specs.{Step.Machine.Machine, Step.Behind.{Step, step, refused_step, otherwise}, Step.Run.{in_room, reserve}}
 use Rattle.nfs_exec.specs.Runs.Ops.{RanOp, done}
-use Rattle.nfs_exec.proofs.{Step.Behind.by_step, Step.RefusalsFit.refused_status, Runs.KeptByRuns.{Is, otherwise_store}}
+use Rattle.nfs_exec.proofs.{Step.Behind.by_step, Runs.KeptByRuns.{Is, otherwise_store}}
+use Rattle.nfs_names.proofs.Faulted.{status_of_refusal}
 
 -- an operation is refused for want of room, or is what it is
 pub in_room_is : (P : Step → Type 0) (limit sofar now : ℕ) (refused : Bool) (m : Machine) (x : Context) (i : Item) → P (refused_step m x i RepTooBig)
@@ -18,7 +19,7 @@ pub in_room_is : (P : Step → Type 0) (limit sofar now : ℕ) (refused : Bool) 
 in_room_is P limit sofar now refused m x i big fits = elim (cases_Bool (ltb limit (sofar + largest i + reserve))) [ inl is ↦ rw is big | inr is ↦ rw is fits ]
 
 pub too_big : (m : Machine) (x : Context) (i : Item) → is_ok (refused_step m x i RepTooBig).outcome.status ≡ true → ⊥
-too_big m x i ok = let bad : is_ok RepTooBig ≡ true = sym (ap is_ok (refused_status (item_number i) RepTooBig)) ∙ ok in absurd cc
+too_big m x i ok = let bad : is_ok RepTooBig ≡ true = sym (ap is_ok (status_of_refusal (item_number i) RepTooBig)) ∙ ok in absurd cc
 
 -- it was run
 pub record IsRun (d : RanOp) : Type 0 where

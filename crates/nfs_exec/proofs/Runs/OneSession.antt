@@ -505,9 +505,9 @@ gives_one client number id m e counted g = elim (either client number id m e g) 
 ]
 
 pub gives_one_in_runs : GivesOne
-gives_one_in_runs mode instance lease events e client number id g =
-    gives_one client number id (all_stepped (starts mode instance lease) events) e
-    (counted_all (starts mode instance lease) events (λ s there. absurd there)) g
+gives_one_in_runs start events e client number id g =
+    gives_one client number id (all_stepped (starts start) events) e
+    (counted_all (starts start) events (λ s there. absurd there)) g
 
 -- what it repeats is of its client and number
 for_again : (client number : ℕ) (id : List ℕ) (m : Machine) (e : MachineEvent) (g : Gives client number id m e)

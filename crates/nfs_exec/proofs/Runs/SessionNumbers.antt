@@ -11,6 +11,7 @@ use Rattle.nfs_clients.specs.ExchangeId.{Ask, Case, Refuses, Stays, Adds, does, 
 use Rattle.nfs_clients.specs.CreateSession.{Again, Misordered, InUse, Runs, verdict_by, status_uses_up, uses_up, keeps, with_kept, leaving, with_confirmed}
 use Rattle.nfs_clients.specs.declared.created.CreateResult.TheVariants as results
 use Rattle.nfs_clients.proofs.Terms.{new_client, without_any, confirms}
+use Rattle.nfs_slots.proofs.TableLemmas.{next_small}
 
 -- Each record of the client's id has the number that is k behind the one that follows this one; and if that is none, the result of this one is kept.
 pub record IsAfter (n number k : ℕ) (body : List ℕ) (t : Roster) : Type 0 where
@@ -404,9 +405,6 @@ tells_carried n at body X = record {
   };
 }
 
-small_following : (number : ℕ) → next_number number < 2 ^ 32
-small_following number = omega arith
-
 -- its own number, refused ..
 by_refused : (status : Status) (c b : ClientRecord) (v used : Bool)
     → c ≡ cond v (cond used (record b { number = next_number b.number; kept = Some (results.Refused status) }) b) b
@@ -420,7 +418,7 @@ tells_refused n at body X t status is = record {
   small = λ c there same. (let was = in_map (λ c. cond (c.id == n) (keeps (results.Refused status) c) c) t.records c there in
       elim (by_refused status c was.0 (was.0.id == n) (status_uses_up status) was.2) [
         | inl still ↦ subst (λ (c : ClientRecord). c.number < 2 ^ 32) (sym still) (is.small was.0 was.1 (ap (λ (c : ClientRecord). c.id) (sym still) ∙ same))
-        | inr used ↦ subst (λ k. k < 2 ^ 32) (sym used.0) (small_following was.0.number)
+        | inr used ↦ subst (λ k. k < 2 ^ 32) (sym used.0) (next_small was.0.number)
       ]);
   told = λ c there same number kept. (let was = in_map (λ c. cond (c.id == n) (keeps (results.Refused status) c) c) t.records c there in
       elim (by_refused status c was.0 (was.0.id == n) (status_uses_up status) was.2) [
@@ -438,7 +436,7 @@ pub tells_made : (n number asked : ℕ) (body made : List ℕ) (X Y : Type 0) (t
     → (asked ≡ number → made ≡ body → Y) → ToldBy n (next_number number) body X t
     → ToldBy n (next_number number) body Y (with_kept (with_confirmed t n) n (results.Done made))
 tells_made n number asked body made X Y t is next low give tells = record {
-  small = λ c there same. (let was = was_before t n made c there same in subst (λ k. k < 2 ^ 32) (sym was.number) (small_following was.before.number));
+  small = λ c there same. (let was = was_before t n made c there same in subst (λ k. k < 2 ^ 32) (sym was.number) (next_small was.before.number));
   told = λ c there same at kept. (let was = was_before t n made c there same in
       let one = one_record t n next.client was.before is next.found was.there was.id in
       let as_asked : was.before.number ≡ number =

@@ -167,7 +167,7 @@ last_first t after s is counted =
     let counter = (session_is (id_of s.sessionid) ran.session ran.named).0 in
     last_here t after s is (omega arith)
 
-same_id : (id other : SessionId) → is_id id other ≡ true → id ≡ other
+pub same_id : (id other : SessionId) → is_id id other ≡ true → id ≡ other
 same_id id other e =
     let parts = and_parts (id.counter == other.counter) (id.client == other.client) e in
     let counter = eqb-true id.counter other.counter parts.0 in

@@ -2,6 +2,7 @@
 use Rattle.std.proofs.Common.{◌≡◌, ℕ, ◌+◌, false, cond, arith, List, [], ◌∷◌, Option, Some, None, refl, sym, subst}
 use Rattle.std.specs.{Prelude.not, Option.option_map_or}
 use Rattle.nfs_compound.specs.declared.session_args.Sequence.{Sequence}
+use Rattle.nfs_names.specs.{declared.start.Start.Start}
 use Rattle.nfs_sessions.specs.{declared.id.SessionId.SessionId, Id.id_of, Sessions.SessionTable}
 use Rattle.nfs_lease.specs.Renewals.{has_run_out}
 use Rattle.nfs_exec.specs.{Step.Machine.{Machine, starts}, Step.Sequence.compared, Step.Compound.compound}
@@ -60,8 +61,8 @@ last_all id slot n m (e ∷ more) is =
 
 pub never_runs_again : NeverRunsAgain
 never_runs_again m first between again s t reached runs runs_too same =
-    let start = from_start reached.mode reached.instance reached.lease reached.events in
-    let counted : IsCounted m.sessions = subst (λ (m : Machine). IsCounted m.sessions) (sym reached.machine) start in
+    let reaches = from_start reached.start reached.events in
+    let counted : IsCounted m.sessions = subst (λ (m : Machine). IsCounted m.sessions) (sym reached.machine) reaches in
     let behind = stepped m first in
     let last = all_stepped behind between in
     let id = id_of s.sessionid in
@@ -73,5 +74,5 @@ never_runs_again m first between again s t reached runs runs_too same =
     let there : IsLast (id_of t.sessionid) t.slotid q last.sessions = subst (λ i. IsLast i t.slotid q last.sessions) same.session slots in
     runs_again last.sessions (stepped last again).sessions t s.sequenceid count (kept last again t runs_too) there (sym same.number)
   where
-    from_start : (mode instance lease : ℕ) (events : List MachineEvent) → IsCounted (all_stepped (starts mode instance lease) events).sessions
-    from_start mode instance lease events = counted_all (starts mode instance lease) events (λ s there. absurd there)
+    from_start : (start : Start) (events : List MachineEvent) → IsCounted (all_stepped (starts start) events).sessions
+    from_start start events = counted_all (starts start) events (λ s there. absurd there)

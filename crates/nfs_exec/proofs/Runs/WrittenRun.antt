@@ -15,7 +15,7 @@ use Rattle.nfs_attrs.specs.Handle.{handle_of}
 use Rattle.nfs_names.specs.{declared.context.Context.Context, Context.at_object, PutFh.put_fh, State.{State, moment, is_open, is_used}}
 use Rattle.nfs_names.specs.Outcome as outcome
 use Rattle.nfs_files.specs.Written.{Byte, Lasts, Writes, Spares, Reads, GivesIt}
-use Rattle.nfs_files.proofs.{TreeFiles.IsWhole, WrittenOps.{lasts_staying, spared_bytes_last, names_leave_bytes}}
+use Rattle.nfs_files.proofs.{TreeFiles.IsWhole, WrittenSpared.{lasts_staying, spared_bytes_last, names_leave_bytes}}
 use Rattle.nfs_files.proofs.WrittenTold.{short, writes_leave_bytes, reads_give_bytes}
 use Rattle.nfs_exec.specs.{Step.Machine.{Machine, starts}, Step.Laws.{MachineEvent, stepped, all_stepped}, Runs.Ops.{RanOp, ops_by}}
 use Rattle.nfs_exec.specs.Runs.WrittenRun.{WritesIt, SparesIt, the_byte, AreSpared, StandsBefore, StandsWhile, StandsInRuns}
@@ -35,7 +35,7 @@ left_run b d r is =
     (λ spares. spared_bytes_last b r.refused d.before.store d.context (moment r.now) d.item is spares) (λ other spares. is)
 
 -- a WRITE that told it leaves it
-told_run : (b : Byte) (d : RanOp) → IsRun d → WritesIt b d → LastsIn b d.behind
+pub told_run : (b : Byte) (d : RanOp) → IsRun d → WritesIt b d → LastsIn b d.behind
 told_run b d r writes =
     let i = Operation (Op.Write writes.over.asked) in
     let same = writes.over.is in
@@ -134,9 +134,9 @@ event_told b m e front write back is same writes =
     (told.within, told.behind)
 
 pub stands_in_runs : StandsInRuns
-stands_in_runs mode instance lease events e b =
-    let m = all_stepped (starts mode instance lease) events in
-    let is : Is m = whole_events (starts mode instance lease) events (start_whole mode instance lease) in (
+stands_in_runs start events e b =
+    let m = all_stepped (starts start) events in
+    let is : Is m = whole_events (starts start) events (start_whole start) in (
       λ lasts. (let did = event_walked (the_byte b) (λ m e. Unit {0}) (byte_stays b) m e is tt lasts in (did.0, λ all. did.1 all tt)),
       λ front write back same writes. event_told b m e front write back is same writes,
     )

@@ -1,6 +1,6 @@
 -- Memory refused at a place makes no difference, or cuts the compound there.
 use Rattle.std.proofs.Common.{◌≡◌, ◌⊎◌, ℕ, zero, suc, ◌+◌, ◌≤◌, Bool, true, false, cond, eqb, ltb, List, [], ◌∷◌, ◌++◌, length, take, Option, Some, None}
-use Rattle.std.proofs.{Common.{refl, sym, ◌∙◌, ap, subst₂, arith, inl, inr}, lemmas.Bool.{cases_Bool, eqb-true, eq-eqb, le-ltb, ltb-false, false≢true}}
+use Rattle.std.proofs.{Common.{refl, sym, ◌∙◌, ap, subst₂, arith, inl, inr}, lemmas.Bool.{cases_Bool, eqb-true, eq-eqb, le-ltb, ltb-false}}
 use Rattle.std.proofs.lemmas.List.{append_assoc}
 use Rattle.std.specs.{Prelude.{◌&&◌, ◌||◌, not, nat_lt, slice_get, Result}, Option.{option_map, option_map_or}}
 use Rattle.nfs_xdr.specs.{Caller.Caller, Checks.first_fault, Spelling.{number, opaque}, declared.status.Status.Status}
@@ -30,6 +30,7 @@ use Rattle.nfs_exec.specs.Step.Sequence as sequence
 use Rattle.nfs_exec.specs.Step.Parts.{past, by_session, slot_fault, by_number, creates}
 use Rattle.nfs_exec.proofs.Step.{InSteps.create_session_is, Terms.{by_fault, or_refuses}}
 use Rattle.nfs_exec.proofs.Step.RepliesKept.{runs_means}
+use Rattle.nfs_files.proofs.Storing.{or_left}
 
 -- One operation: memory refused makes no difference, or it is refused and nothing changes.
 
@@ -55,11 +56,7 @@ delay_or_not true s x n o = elim (cases_Bool (of_store.is_ok (status_of_result o
 ]
 delay_or_not false s x n o = inl refl
 
-or_left : (a b : Bool) → a ≡ true → a || b ≡ true
-or_left true b e = refl
-or_left false b e = absurd (false≢true e)
-
-or_right : (a b : Bool) → b ≡ true → a || b ≡ true
+pub or_right : (a b : Bool) → b ≡ true → a || b ≡ true
 or_right true b e = refl
 or_right false b e = e
 

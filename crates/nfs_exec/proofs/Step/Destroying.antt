@@ -12,8 +12,9 @@ use Rattle.nfs_lease.specs.Renewals.{Book, without_lease}
 use Rattle.nfs_names.specs.Ending.{has_open}
 use Rattle.nfs_exec.specs.Step.Machine.{Machine, with_result}
 use Rattle.nfs_exec.specs.Step.Destroy.{destroy_session, destroy_client}
-use Rattle.nfs_exec.proofs.Step.{LeaseTakenBack.none_of, Terms.{by_fault, is_client}}
+use Rattle.nfs_exec.proofs.Step.Terms.{by_fault, is_client}
 use Rattle.nfs_exec.proofs.Step.Terms.{has_session, client_ended}
+use Rattle.nfs_tree.proofs.PairLemmas.{is_none}
 
 none_destroyed : (t : SessionTable) (id : SessionId) → session_at t id ≡ None → ended t id ≡ t
 none_destroyed t id none = ap (λ xs. record t { sessions = xs })
@@ -23,7 +24,7 @@ pub no_session : (m : Machine) (sessionid : List ℕ) (id : SessionId) (after : 
     id ≡ id_of sessionid → false ≡ is_some (session_at m.sessions id) → after ≡ ended m.sessions id →
     r ≡ refusal 44 BadSession → with_result (record m { sessions = after }) r ≡ destroy_session m sessionid
 no_session m sessionid id after r read stood gone told =
-    let none : session_at m.sessions (id_of sessionid) ≡ None = none_of _ (sym (stood ∙ ap (λ id. is_some (session_at m.sessions id)) read)) in
+    let none : session_at m.sessions (id_of sessionid) ≡ None = is_none _ (sym (stood ∙ ap (λ id. is_some (session_at m.sessions id)) read)) in
     let same : after ≡ m.sessions = gone ∙ ap (ended m.sessions) read ∙ none_destroyed m.sessions (id_of sessionid) none in
     rw (same, told, none) refl
 

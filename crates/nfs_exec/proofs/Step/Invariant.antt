@@ -30,7 +30,8 @@ use Rattle.nfs_exec.specs.Step.Sequence as sequence
 use Rattle.nfs_exec.specs.Step.Parts.{ask_of, leases_behind, by_created}
 use Rattle.nfs_exec.proofs.{Step.Exchanging.room_of, Step.Behind.{by_step, follow_kept}, Runs.ByEvent.{by_compound, by_alone}, Step.RepliesKept.runs_means}
 use Rattle.nfs_exec.proofs.Step.{OpensStaying.open_staying, Terms.{is_client, of_one, of_all}}
-use Rattle.nfs_names.specs.{declared.context.Context.Context, Context.begins, Ending.has_open, declared.node.Node.Node, Checks.current}
+use Rattle.nfs_names.specs.{declared.start.Start.Start, declared.context.Context.Context, Context.begins, Ending.has_open, declared.node.Node.Node}
+use Rattle.nfs_names.specs.{Checks.current}
 use Rattle.nfs_names.specs.{Outcome.{Outcome as OfStore}, State.{State, moment}}
 use Rattle.nfs_names.proofs.Untouched.{Leaves, leaves_each}
 use Rattle.nfs_opens.specs.{Table.Table, TableInvariants.IsTable}
@@ -40,19 +41,19 @@ use Rattle.nfs_files.proofs.{Outcomes.for_each, TableSteps.table_staying_is, Own
 use Rattle.nfs_results.specs.Largest.{largest}
 use Rattle.nfs_exec.proofs.Step.Terms.{has_session, run_in}
 
-pub of_start : (mode instance lease : ℕ) → instance < 4294967296 → IsMachine (starts mode instance lease)
-of_start mode instance lease small = record {
+pub of_start : (start : Start) → start.instance < 4294967296 → IsMachine (starts start)
+of_start start small = record {
   clients = record { rising = omega arith; alone = λ c d a b owner mark. absurd a; few = omega arith; instance = omega arith };
   leased = λ client. refl;
   confirmed = λ s there. absurd there;
   opened = λ client holds. absurd (false≢true holds);
-  table = table_new instance;
+  table = table_new start.instance;
 }
 
 abbrev mark_of : Option ClientRecord → Bool
 mark_of o = option_map_or (λ (c : ClientRecord). c.confirmed) o false
 
-not_true : (b : Bool) → not b ≡ true → b ≡ false
+pub not_true : (b : Bool) → not b ≡ true → b ≡ false
 not_true true e = absurd cc
 not_true false e = refl
 

@@ -12,7 +12,7 @@ use Rattle.nfs_compound.specs.{declared.op.Item.Item, declared.op.Item.TheVarian
 use Rattle.nfs_compound.specs.{Request.{Request, Lists, HasBody, item_number}, ArgCodecs.protected}
 use Rattle.nfs_compound.specs.declared.session_args.ExchangeId.{ExchangeId as ExchangeArgs}
 use Rattle.nfs_compound.proofs.{OpNumLaws.op_between, GrammarLaws.some_answer}
-use Rattle.nfs_results.specs.{Results.{refusal, head, spell_result, status_of_result}, Refusals.{may_return, tells, can_refuse}, Parts.is_legal}
+use Rattle.nfs_results.specs.{Results.{refusal, head, spell_result}, Refusals.{may_return, tells, can_refuse}, Parts.is_legal}
 use Rattle.nfs_results.specs.{declared.res.Res.Res, ResultCodec.IsBounded, Largest.number_of, MayAnswer.MayAnswer, Items.attr_set}
 use Rattle.nfs_results.proofs.Lengths.{length_result, length_head}
 use Rattle.nfs_xdr.proofs.Putting.{length_number}
@@ -212,10 +212,4 @@ pub refusal_short : (n : ℕ) (s : Status) → length (spell_result (refusal n s
 refusal_short n s = elim (cases_Bool (eqb n 34)) [
   | inl e ↦ rw e (omega (arith, length-append (head 34 s) (attr_set.spell []), length_head 34 s, length_no_attrs))
   | inr e ↦ rw e (omega (arith, length-append (head n s) [], length_head n s))
-]
-
-pub refused_status : (n : ℕ) (s : Status) → status_of_result (refusal n s) ≡ s
-refused_status n s = elim (cases_Bool (eqb n 34)) [
-  | inl e ↦ rw e refl
-  | inr e ↦ rw e refl
 ]

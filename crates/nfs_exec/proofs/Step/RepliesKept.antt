@@ -3,13 +3,13 @@ use Rattle.std.proofs.Common.{◌≡◌, ℕ, suc, ◌+◌, ◌-◌, ◌≤◌, 
 use Rattle.std.proofs.{Common.{Result, Ok, sym, ◌∙◌, ap, subst, arith, inl, inr}, lemmas.Bool.{cases_Bool, ltb-false}}
 use Rattle.std.proofs.{lemmas.List.{length-append, length-take, length-drop, append_assoc}, Math.Seq.drop-append_seam}
 use Rattle.nfs_xdr.specs.{Caller.Caller, SheetState.{SheetState, HasRoom, Puts}, declared.status.Status.Status, declared.status.Status.TheVariants.Nfs4Ok}
-use Rattle.nfs_xdr.specs.{Spelling.{number, opaque}, Status.status_number}
 use Rattle.nfs_compound.specs.{declared.channel_attrs.ChannelAttrs.ChannelAttrs, declared.op.Item.Item, declared.op.Item.TheVariants.Operation, Request.Request, declared.session_args.Sequence.Sequence}
 use Rattle.nfs_compound.specs.declared.op.Op.TheVariants as Op
 use Rattle.nfs_slots.specs.{Slot.judge, declared.slot.Verdict.Verdict, declared.slot.Verdict.TheVariants.{Fresh, Again, FalseRetry, Misordered, NoSlot}}
 use Rattle.nfs_results.specs.{declared.res.Res.Res, Results.{spell_result, refusal, spell_compound_head}, OpenHead.{HeadsAt, HasHead, SetsHead}}
 use Rattle.nfs_exec.proofs.Step.{RefusalsFit.refusal_short, Creating.the_rest, Terms.or_refuses}
 use Rattle.nfs_results.proofs.Lengths.{length_result, length_head_within}
+use Rattle.nfs_results.proofs.Heads.{length_head}
 use Rattle.nfs_sessions.specs.{Sessions.{session_at, Session, SessionTable, keep}}
 use Rattle.nfs_sessions.specs.{declared.id.SessionId.SessionId, Id.id_of, SessionTables.MayKeep}
 use Rattle.nfs_names.specs.{Outcome.is_ok, declared.context.Context.Context}
@@ -19,7 +19,6 @@ use Rattle.nfs_exec.specs.Step.Parts.{past, slot_says, by_session, slot_fault, f
 use Rattle.nfs_exec.specs.{Step.Run.{Ran, run, in_room, follow, is_here, behind_here}, Step.Compound.renewed, declared.run.Ran.{Ran as Told}}
 use Rattle.nfs_exec.specs.Step.View.{RunsTo, HasReplyRoom}
 use Rattle.nfs_lease.specs.Renewals.{Book, with_renewal}
-use Rattle.nfs_xdr.proofs.Putting.{length_number}
 use Rattle.std.specs.Option.{IsSomeAnd}
 
 -- what it means that a request runs
@@ -177,14 +176,6 @@ put_closed before first second third last status_at count_at tag s ran told m pl
     subst (λ (t : Status). Puts before last (spell_compound_head t tag (suc ran.count) ++ (s ++ ran.results))) runs.status
     (subst (λ n. Puts before last (spell_compound_head told.status tag n ++ (s ++ ran.results))) more put)
 
-length_compound_head : (status : Status) (tag : List ℕ) (count : ℕ) → length (spell_compound_head status tag count) ≡ 8 + length (opaque tag)
-length_compound_head status tag count =
-    let whole = length-append (number (status_number status)) (opaque tag ++ number count) in
-    let rest = length-append (opaque tag) (number count) in
-    let one = length_number (status_number status) in
-    let two = length_number count in
-    omega (arith, whole, rest, one, two)
-
 pub last_fits : (before first second third last : SheetState) (status_at count_at limit start : ℕ) (tag s : List ℕ) (ran : Ran) (told : Told) (m : Machine) →
     HeadsAt status_at count_at before.bytes tag → Puts before first (spell_compound_head Nfs4Ok tag 0) → Puts first second s →
     RunsTo ran told m second third → SetsHead status_at count_at told.status (told.count + 1) third last →
@@ -197,8 +188,8 @@ last_fits before first second third last status_at count_at limit start tag s ra
     let front = length-append before.bytes (spell_compound_head Nfs4Ok tag 0) in
     let there = ap length put.bytes ∙ length-append before.bytes (spell_compound_head told.status tag (told.count + 1) ++ text) in
     let back = length-append (spell_compound_head told.status tag (told.count + 1)) text in
-    let one_head = length_compound_head Nfs4Ok tag 0 in
-    let other_head = length_compound_head told.status tag (told.count + 1) in
+    let one_head = length_head Nfs4Ok tag 0 in
+    let other_head = length_head told.status tag (told.count + 1) in
     omega (arith, fits, at, here, front, there, back, one_head, other_head)
 
 -- the machine behind a request that ran: its lease is renewed, and its slot keeps the reply

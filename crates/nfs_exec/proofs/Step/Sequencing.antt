@@ -48,7 +48,7 @@ false_when false true same e = absurd cc
 false_when false false true e = absurd cc
 false_when false false false e = (refl, refl)
 
-kept_when : (used same : Bool) → not (used && same) ≡ false → (used ≡ true) × (same ≡ true)
+pub kept_when : (used same : Bool) → not (used && same) ≡ false → (used ≡ true) × (same ≡ true)
 kept_when true true e = (refl, refl)
 kept_when true false e = absurd (true≢false e)
 kept_when false same e = absurd (true≢false e)

@@ -6,6 +6,7 @@ use Rattle.nfs_compound.specs.declared.session_args.CreateSession.{CreateSession
 use Rattle.nfs_compound.specs.declared.op.Op.TheVariants as Op
 use Rattle.nfs_compound.specs.declared.op_num.OpNum.TheVariants as Num
 use Rattle.nfs_results.specs.Results.{done_head, spell_compound_head}
+use Rattle.nfs_names.specs.{declared.start.Start.Start}
 use Rattle.nfs_sessions.specs.{declared.id.SessionId.SessionId, Id.id_bytes, Sessions.{Session, SessionTable, is_session, session_at}}
 use Rattle.nfs_exec.specs.{Step.Machine.{Machine, starts}, Step.Compound.compound, Step.Laws.{MachineEvent, Expires, Asks, stepped, all_stepped}}
 
@@ -47,6 +48,6 @@ pub record MakesOne (client : ℕ) (id : List ℕ) (before left : SessionTable) 
 
 -- In every run: what is answered so made one session, of the id that is answered, or changed nothing.
 abbrev pub GivesOne : Type 0
-GivesOne = (mode instance lease : ℕ) (events : List MachineEvent) (e : MachineEvent) (client number : ℕ) (id : List ℕ)
-    → (let m = all_stepped (starts mode instance lease) events in
+GivesOne = (start : Start) (events : List MachineEvent) (e : MachineEvent) (client number : ℕ) (id : List ℕ)
+    → (let m = all_stepped (starts start) events in
     Gives client number id m e → (stepped m e ≡ m) ⊎ MakesOne client id m.sessions (stepped m e).sessions)

@@ -7,7 +7,7 @@ use Rattle.nfs_compound.specs.declared.op.Op.TheVariants as Op
 use Rattle.nfs_results.specs.Results.{spell_result, refusal}
 use Rattle.nfs_tree.specs.Files.{data_at}
 use Rattle.nfs_attrs.specs.Handle.{handle_of}
-use Rattle.nfs_names.specs.State.{is_used}
+use Rattle.nfs_names.specs.{declared.start.Start.Start, State.is_used}
 use Rattle.nfs_files.specs.Written.{Byte, StandsIn, Lasts, Writes, Spares, Reads, GivesIt}
 use Rattle.nfs_exec.specs.Runs.Kept as kept
 use Rattle.nfs_exec.specs.{Runs.Kept.{Kept, While}, Step.Machine.starts, Step.Laws.{MachineEvent, stepped, all_stepped}, Runs.Ops.{RanOp, ops_by}}
@@ -47,8 +47,8 @@ StandsWhile b ds = While (the_byte b) tt ds
 
 -- In every run: where it stands in its file or that is gone for good, it does so behind what spares it, and stands in between; and so from a WRITE on that told it.
 abbrev pub StandsInRuns : Type 0
-StandsInRuns = (mode instance lease : ℕ) (events : List MachineEvent) (e : MachineEvent) (b : Byte)
-    → (let m = all_stepped (starts mode instance lease) events in
+StandsInRuns = (start : Start) (events : List MachineEvent) (e : MachineEvent) (b : Byte)
+    → (let m = all_stepped (starts start) events in
     (Lasts b m.store.tree → StandsWhile b (ops_by m e) × (AreSpared b (ops_by m e) → Lasts b (stepped m e).store.tree))
     × ((front : List RanOp) (write : RanOp) (back : List RanOp) → ops_by m e ≡ front ++ write ∷ back → WritesIt b write
     → StandsWhile b back × (AreSpared b back → Lasts b (stepped m e).store.tree)))

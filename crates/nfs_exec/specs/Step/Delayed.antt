@@ -5,7 +5,7 @@ use Rattle.nfs_xdr.specs.{declared.status.Status.Status, declared.status.Status.
 use Rattle.nfs_compound.specs.{declared.op.Op.Op, declared.op.Item.Item, declared.op.Item.TheVariants.{Operation, Fault}, Request.{Request, item_number}}
 use Rattle.nfs_compound.specs.declared.session_args.Sequence.{Sequence}
 use Rattle.nfs_results.specs.Results.{refusal, spell_result, spell_compound_head}
-use Rattle.nfs_names.specs.{declared.context.Context.Context, State.State, Outcome.is_delay}
+use Rattle.nfs_names.specs.{declared.start.Start.Start, declared.context.Context.Context, State.State, Outcome.is_delay}
 use Rattle.nfs_names.specs.Operation as names
 use Rattle.nfs_files.specs.Operation as files
 use Rattle.nfs_exec.specs.{Step.Machine.{Machine, starts}, Step.Sequence.{Refuses, sequenced}, Step.Compound.{Answered, first_item, keeps, compound}}
@@ -74,5 +74,5 @@ pub record IsNotDelayed (m : Machine) (r : Request) (who : Caller) (size now : �
 
 -- in every machine that events reach, though memory may have been refused before
 abbrev pub NothingDelays : Type 0
-NothingDelays = (mode instance lease : ℕ) (events : List MachineEvent) (r : Request) (who : Caller) (size now : ℕ)
-    → IsNotDelayed (all_stepped (starts mode instance lease) events) r who size now
+NothingDelays = (start : Start) (events : List MachineEvent) (r : Request) (who : Caller) (size now : ℕ)
+    → IsNotDelayed (all_stepped (starts start) events) r who size now

@@ -60,7 +60,7 @@ opens n = request n (Op.Sequence (record { sessionid = words (7 ∷ 1 ∷ 0 ∷ 
     ∷ [])
 
 abbrev pub start : Machine
-start = (asked (asked (starts 511 7 90) 100 None (request 3 (exchanges ∷ []))).machine 101 None (request 4 (begins_session ∷ []))).machine
+start = (asked (asked (starts (record { mode = 511; instance = 7; lease = 90 })) 100 None (request 3 (exchanges ∷ []))).machine 101 None (request 4 (begins_session ∷ []))).machine
 
 abbrev pub first : Answered
 first = asked start 102 (Some 2) (opens 1)

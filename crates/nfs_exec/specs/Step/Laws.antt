@@ -5,6 +5,7 @@ use Rattle.nfs_compound.specs.{OpNum.op_number, declared.session_args.Sequence.S
 use Rattle.nfs_compound.specs.Request.{Request}
 use Rattle.nfs_compound.specs.declared.op_num.OpNum.TheVariants as Num
 use Rattle.nfs_compound.specs.declared.op.Op.TheVariants as Op
+use Rattle.nfs_names.specs.{declared.start.Start.Start}
 use Rattle.nfs_lease.specs.Renewals.{has_run_out}
 use Rattle.nfs_sessions.specs.{declared.id.SessionId.SessionId, Id.id_of, Laws.is_id}
 use Rattle.nfs_exec.specs.{Step.Machine.{Machine, starts, with_refusal}, Step.Sequence.{Sequenced, Refuses, Repeats, Runs, sequenced}}
@@ -83,11 +84,9 @@ pub record IsSame (s t : Sequence) : Type 0 where
 
 -- a machine that a server reaches from its start on
 pub record IsReached (m : Machine) : Type 0 where
-  pub mode : ℕ
-  pub instance : ℕ
-  pub lease : ℕ
+  pub start : Start
   pub events : List MachineEvent
-  pub machine : m ≡ all_stepped (starts mode instance lease) events
+  pub machine : m ≡ all_stepped (starts start) events
 
 -- Where a request ran, one of the same session, slot and number runs again only behind 2^32 - 1 others that ran on that slot,
 -- whatever else comes between, the end of the session too.

@@ -4,7 +4,7 @@ use Rattle.nfs_xdr.specs.{declared.status.Status.Status, declared.status.Status.
 use Rattle.nfs_results.specs.{declared.res.Res.Res, Results.{status_of_result, spell_result, refusal}}
 use Rattle.nfs_opens.specs.{declared.records.OpenState.OpenState, Table.{clashes_with, as_asked}, TableInvariants.IsTable}
 use Rattle.nfs_ranges.specs.Holders.{HasNoClash}
-use Rattle.nfs_names.specs.{Outcome.is_ok, Ending.has_open, State.{State, new_store, moment, state_of}}
+use Rattle.nfs_names.specs.{declared.start.Start.Start, Outcome.is_ok, Ending.has_open, State.{State, new_store, moment, state_of}}
 use Rattle.nfs_lease.specs.Renewals.{Book, no_leases, leases_of}
 use Rattle.nfs_clients.specs.Roster.{Roster, IsRoster, no_clients, client_at}
 use Rattle.nfs_sessions.specs.Sessions.{Session, SessionTable, no_sessions}
@@ -17,12 +17,12 @@ pub record Machine : Type 0 where
   pub store : State
 
 -- the machine of a new server, whose leases last so many seconds, and whose root has a mode and the first moment as its times
-abbrev pub starts : (mode instance lease : ℕ) → Machine
-starts mode instance lease = record {
-  clients = no_clients instance;
+abbrev pub starts : (start : Start) → Machine
+starts start = record {
+  clients = no_clients start.instance;
   sessions = no_sessions;
   leases = no_leases;
-  store = new_store mode (moment 0) instance lease;
+  store = new_store start (moment 0);
 }
 
 -- What one operation comes to: its status, its result as it is spelled, and the machine behind it.

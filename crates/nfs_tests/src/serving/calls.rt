@@ -1,7 +1,7 @@
 //! The calls of a server that the program does not make: a record by itself, a piece by itself, and a script that lies in memory.
 
 use super::{EXCHANGE_ID, LAST, SETTINGS, exchanged};
-use nfs_serve::{Flow, Form, Host, Outcome, ReplayFault, Server, replay_bytes};
+use nfs_serve::{Flow, Form, Host, Outcome, ReplayFault, Server};
 use nfs_testing::bytes_of;
 use std::alloc::Global;
 use std::test::Fail;
@@ -31,14 +31,15 @@ fn call_each(
     let flow = server
         .feed(alloc, 9, piece, 100, Form::Plain, &mut out)
         .ok();
-    let (output, done) = replay_bytes(server, alloc, script)?;
+    let (mut from, mut to) = (Host::new(script), Host::new(Vec::new(alloc)));
+    let done = server.replay(alloc, &mut from, &mut to);
     Ok(Told {
         outcome,
         reply,
         flow,
         written: out.inner,
         done,
-        output,
+        output: to.inner,
     })
 }
 

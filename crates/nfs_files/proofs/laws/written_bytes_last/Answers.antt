@@ -1,6 +1,6 @@
 use Rattle.nfs_results.specs.Results.{spell_result}
 use Rattle.nfs_files.specs.Written.{Lasts, Writes, Spares, Reads, GivesIt}
-use Rattle.nfs_files.proofs.{Outcomes.for_each, WrittenOps.{spared_bytes_last, names_leave_bytes}, WrittenTold.{writes_leave_bytes, reads_give_bytes}}
+use Rattle.nfs_files.proofs.{Outcomes.for_each, WrittenSpared.{spared_bytes_last, names_leave_bytes}, WrittenTold.{writes_leave_bytes, reads_give_bytes}}
 use Rattle.nfs_files.proofs.laws.written_bytes_last.Goals as goal
 
 pub returns : goal.returns

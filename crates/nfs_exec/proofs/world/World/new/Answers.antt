@@ -5,6 +5,6 @@ use Rattle.nfs_exec.proofs.world.World.new.Goals as goal
 
 pub invariant_of-result : goal.invariant_of-result
 invariant_of-result c = record {
-  machine = subst IsMachine (sym c.in_ok-tables.ensures.machine) (of_start c.args.root_mode c.args.instance c.args.lease c.ranges.instance.fits);
+  machine = subst IsMachine (sym c.in_ok-tables.ensures.machine) (of_start c.args.start search);
   store = c.in_ok-tables.ensures.store;
 }

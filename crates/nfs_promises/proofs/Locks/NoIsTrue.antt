@@ -1,0 +1,392 @@
+-- A no is true: what a LOCK or a LOCKT that is denied reports was granted before, and has not ended.
+use Rattle.std.proofs.Common.{◌≡◌, not, Bool, ◌≢◌, ◌⊎◌, ℕ, suc, ◌-◌, ◌<◌, ◌≤◌, true, false, List, [], ◌∷◌, ◌++◌, length, take, Option, Some, None, refl, sym, ◌∙◌, ap, subst, arith, inl, inr}
+use Rattle.std.proofs.{Common.{append_assoc, append-nil}, lemmas.Bool.{cases_Bool, and_parts, false≢true, eq-eqb, eqb-true}, lemmas.Slice.Eq.bytes_eq-Decides}
+use Rattle.std.specs.{Prelude.{◌^◌, Ok}, Option.option_map_or}
+use Rattle.nfs_xdr.specs.{Limits.opaque_limit, Tables.In, declared.status.Status.TheVariants.{Denied, RepTooBig}}
+use Rattle.nfs_xdr.proofs.{Lists.{in_filter, find_in, none_in}, Tables.in_once}
+use Rattle.nfs_compound.specs.declared.lock_args.Lock as lock_args
+use Rattle.nfs_compound.specs.declared.lock_args.LockT as test_args
+use Rattle.nfs_compound.specs.{declared.lock_args.Locker.TheVariants.{LockOwner, OpenOwner}, declared.op.Item.Item, declared.op.Item.TheVariants.Operation}
+use Rattle.nfs_compound.specs.declared.lock_args.LockType.{LockType}
+use Rattle.nfs_compound.specs.declared.op.Op.TheVariants as Op
+use Rattle.nfs_results.specs.declared.res.Denied as result
+use Rattle.nfs_results.specs.{declared.res.Res.Res, Results.spell_result}
+use Rattle.nfs_ranges.specs.{declared.Held.Held, Told.{meets, told}}
+use Rattle.nfs_opens.specs.{declared.locking.Wish.Wish, declared.records.LockState.LockState, Locking.{clash, state_of, is_locker}}
+use Rattle.nfs_opens.specs.{declared.stateid.CurrentSeqid.TheVariants.Any, declared.stateid.StateId.StateId, Table.{Table, lock_at}}
+use Rattle.nfs_opens.proofs.LockLemmas.{clash_tells}
+use Rattle.nfs_opens.proofs.Terms.{number_of}
+use Rattle.nfs_names.specs.State as of_store
+use Rattle.nfs_names.specs.{declared.start.Start.Start, State.moment, declared.context.Context.Context}
+use Rattle.nfs_files.specs.{Denied.{lock_denied, type_of, size_of}, Lock.stateid_in, LockTold.LockTold, StateIds.meant}
+use Rattle.nfs_files.proofs.Wishes.{IsRange, wish_is, wish_range}
+use Rattle.nfs_exec.specs.{Step.Laws.MachineEvent, Step.Machine.{Machine, IsMachine}, Runs.LockHeld.replaces, Runs.Ops.{RanOp, ops_by}}
+use Rattle.nfs_exec.proofs.{Step.Invariant.of_start, Runs.KeptByRuns.Is, Runs.OneRun.{IsRun, by_item}, Runs.OneWalk.none_at}
+use Rattle.nfs_promises.proofs.Runs.LockStates.{as_itself}
+use Rattle.nfs_serve.specs.{Step.{ServerState, new_state}}
+use Rattle.nfs_promises.specs.{Network.Endpoint.Arrival, Locks.{Denials.{IsRefusedFor, ByLock, ByTest, IsBegunBy, IsOthers, asks_for_lock}, NoIsTrue.IsInLease}}
+use Rattle.nfs_promises.specs.Locks.{NoIsTrue.{Passes, AllPass, IsGrantedIn, IsGranted, Before, Within, NoIsTrue}, LockKept.replaces_by}
+use Rattle.nfs_promises.specs.{Locks.NoneOutlives.last_renewal, Bytes.ChangeTells.RunsIn, Runs.Points.{state_after, state_after_all, reached, taken, before}}
+use Rattle.nfs_promises.specs.Runs.Points.{asked_by, ops_of}
+use Rattle.nfs_promises.proofs.Locks.{DenialsCaused.{WasDenied, IsLocker, IsTester, asker, is_denied, lock_was_denied, test_denied}, LockBeforeStep.Holds}
+use Rattle.nfs_promises.proofs.Locks.{LockBeforeStep.found_at, ReplacedByRepeat.{lock_had, replaced_none}, LockTraced.{Traced, Stood, Given, event_traced}}
+use Rattle.nfs_promises.proofs.Locks.{LockTraced.{event_until, held_staying}, OneStateEach.{HasOneEach, locker_is, each_kept}, StatesBegun.same_lock}
+use Rattle.nfs_promises.proofs.Locks.{StatesBegun.{WasThere, IsBegunIn, event_states, until_states}, NoneOutlives.{machine_before, machine_all, none_outlives}}
+use Rattle.nfs_promises.proofs.Runs.{LaterRecords.{runs_keep, op_done, first_there}, Points.{left, for_asked, next_is, IsSound, whole_before, sound_all}}
+use Rattle.nfs_promises.proofs.Runs.Points.{sound_new}
+
+-- Records.
+
+-- what a record's compound did
+asked_traced : (k : LockTold) (owner : List ℕ) → k.last ≡ k.first → (m : Machine) (o : Option MachineEvent) → Is m → Holds k owner (left m o).store.opens
+    → Traced k owner m (option_map_or (ops_by m) o [])
+asked_traced k owner one m None is holds = Stood holds (λ d there. absurd there)
+asked_traced k owner one m (Some e) is holds = event_traced k owner one m e is holds
+
+asked_until : (k : LockTold) (owner : List ℕ) → k.last ≡ k.first → (m : Machine) (o : Option MachineEvent) (until : List RanOp) (d : RanOp) (back : List RanOp) → Is m
+    → option_map_or (ops_by m) o [] ≡ until ++ d ∷ back → Holds k owner d.before.store.opens → Traced k owner m until
+asked_until k owner one m None until d back is same holds = absurd (none_at until d back same)
+asked_until k owner one m (Some e) until d back is same holds = event_until k owner one m e until d back is same holds
+
+pub reached_more : (s : ServerState) (records : List Arrival) (c : Arrival) → state_after_all s (records ++ c ∷ []) ≡ state_after (state_after_all s records) c
+reached_more s [] c = refl
+reached_more s (r ∷ more) c = reached_more (state_after s r) more c
+
+pub whole_at : (start : Start) (records : List Arrival) (c : Arrival) → Is (before (reached start records) c)
+whole_at start records c =
+    let sound : IsSound (reached start records) = sound_all (new_state start) records (sound_new start) in
+    whole_before (reached start records) c sound.whole
+
+module _ (start : Start) (small : start.instance < 2 ^ 32) where
+  -- while it is held, its client's lease lasts
+  in_lease : (k : LockTold) (owner : List ℕ) (records : List Arrival) (c : Arrival) → Holds k owner (before (reached start records) c).store.opens
+      → IsInLease start k.client records c
+  in_lease k owner records c is =
+      let t = (before (reached start records) c).store.opens in
+      let time = none_outlives start records c k.file k.state k.first k.kind small is.held in
+      let one : time.lock ≡ is.lock = in_once (λ (l : LockState). l.number) 1 (suc t.last) t.locks time.lock is.lock (whole_at start records c).table.locks time.there is.there
+      (time.number ∙ sym is.number) in (
+        time.last,
+        subst (λ client. last_renewal client None (new_state start) records ≡ Some time.last) (ap (λ (l : LockState). l.client) one ∙ is.client) time.renewed,
+        time.within,
+      )
+
+  machine_at : (records : List Arrival) (c : Arrival) → IsMachine (before (reached start records) c)
+  machine_at records c =
+      machine_before (reached start records) c (machine_all (new_state start) records (of_start start small))
+
+  -- and nobody took its client's place
+  is_alone : (k : LockTold) (owner : List ℕ) → k.last ≡ k.first → (records : List Arrival) (c : Arrival)
+      → (let s = reached start records in
+      Holds k owner (left (before s c) (asked_by s c)).store.opens → (replaces_by k.client s c ≡ false) ⊎ ((state_after s c).machine ≡ before s c))
+  is_alone k owner one records c holds =
+      let s = reached start records in
+      let m = before s c in
+      elim (cases_Bool (replaces_by k.client s c)) [
+        | inr leaves ↦ inl leaves
+        | inl takes ↦ inr (ap (λ (s : ServerState). s.machine) (next_is s c)
+            ∙ for_asked (λ o. option_map_or (replaces k.client m) o false ≡ true → Holds k owner (left m o).store.opens → left m o ≡ m) s c (λ e holds. refl)
+            (λ r who. replaced_none k.client (Holds k owner) (lock_had k owner one) m (machine_at records c) r who (length c.bytes) (taken s c) c.choice) takes holds)
+      ]
+
+  pass_more : (k : LockTold) (records between : List Arrival) (c : Arrival) → AllPass start k records between
+      → Passes start k (records ++ between) c → AllPass start k records (between ++ c ∷ [])
+  pass_more k records [] c all passes = (subst (λ rs. Passes start k rs c) (append-nil records) passes, tt)
+  pass_more k records (b ∷ between) c all passes = (
+    all.0,
+    pass_more k (records ++ b ∷ []) between c all.1 (subst (λ rs. Passes start k rs c) (sym (append_assoc records (b ∷ []) between)) passes),
+  )
+
+  one_more : (k : LockTold) (owner : List ℕ) (records : List Arrival) (c : Arrival) → IsGrantedIn start k owner records
+      → Passes start k records c → IsGrantedIn start k owner (records ++ c ∷ [])
+  one_more k owner records c g passes = record {
+    earlier = g.earlier;
+    arrival = g.arrival;
+    between = g.between ++ c ∷ [];
+    all = ap (λ rs. rs ++ c ∷ []) g.all ∙ append_assoc g.earlier (g.arrival ∷ g.between) (c ∷ []);
+    front = g.front;
+    lock = g.lock;
+    back = g.back;
+    ops = g.ops;
+    grants = g.grants;
+    spared = g.spared;
+    passed = pass_more k (g.earlier ++ g.arrival ∷ []) g.between c g.passed
+        (subst (λ rs. Passes start k rs c) (g.all ∙ sym (append_assoc g.earlier (g.arrival ∷ []) g.between)) passes);
+  }
+
+  -- each byte that is held behind records was granted in one of them
+  abbrev Known : List Arrival → Type 0
+  Known records = (k : LockTold) (owner : List ℕ) → k.last ≡ k.first → Holds k owner (reached start records).machine.store.opens
+      → IsGrantedIn start k owner records
+
+  unexpired : (k : LockTold) (owner : List ℕ) → k.last ≡ k.first → (s : ServerState) (c : Arrival) → Holds k owner (before s c).store.opens → Holds k owner s.machine.store.opens
+  unexpired k owner one s c is = held_staying k owner one s.machine.store.opens _ is
+
+  known_next : (records : List Arrival) (c : Arrival) → Known records → Known (records ++ c ∷ [])
+  known_next records c known k owner one is =
+      let s = reached start records in
+      let here : Holds k owner (left (before s c) (asked_by s c)).store.opens =
+      subst (λ (s : ServerState). Holds k owner s.machine.store.opens) (reached_more (new_state start) records c ∙ next_is s c) is in
+      elim (asked_traced k owner one (before s c) (asked_by s c) (whole_at start records c) here) [
+        | Given front lock back same grants spared ↦ record {
+          earlier = records;
+          arrival = c;
+          between = [];
+          all = refl;
+          front = front;
+          lock = lock;
+          back = back;
+          ops = same;
+          grants = grants;
+          spared = spared;
+          passed = tt;
+        }
+        | Stood holds spared ↦ one_more k owner records c (known k owner one (unexpired k owner one s c holds))
+            (record { lasts = in_lease k owner records c holds; spared = spared; alone = is_alone k owner one records c here })
+      ]
+
+  known_all : (done more : List Arrival) → Known done → Known (done ++ more)
+  known_all done [] known = subst Known (sym (append-nil done)) known
+  known_all done (c ∷ more) known = subst Known (append_assoc done (c ∷ []) more) (known_all (done ++ c ∷ []) more (known_next done c known))
+
+  known_new : Known []
+  known_new k owner one is = absurd is.there
+
+  -- and so was each that is held before an operation
+  granted : (k : LockTold) (owner : List ℕ) → k.last ≡ k.first → (records : List Arrival) (c : Arrival) (until : List RanOp) (d : RanOp) (behind : List RanOp)
+      → ops_of (reached start records) c ≡ until ++ d ∷ behind → Holds k owner d.before.store.opens → IsGranted start k owner records c until
+  granted k owner one records c until d behind same is =
+      let s = reached start records in
+      elim (asked_until k owner one (before s c) (asked_by s c) until d behind (whole_at start records c) same is) [
+        | Given front lock back at grants spared ↦ Within front lock back at grants spared
+        | Stood holds spared ↦ Before (known_all [] records known_new k owner one (unexpired k owner one s c holds)) (in_lease k owner records c holds) spared
+      ]
+
+-- Who began a lock state.
+
+asked_states : (m : Machine) (o : Option MachineEvent) → Is m → (l : LockState) → In l (left m o).store.opens.locks
+    → IsBegunIn (option_map_or (ops_by m) o []) l ⊎ WasThere m.store.opens l
+asked_states m None is l there = inr (l, there, as_itself l)
+asked_states m (Some e) is l there = event_states m e is l there
+
+asked_states_until : (m : Machine) (o : Option MachineEvent) (until : List RanOp) (d : RanOp) (back : List RanOp) → Is m
+    → option_map_or (ops_by m) o [] ≡ until ++ d ∷ back → (l : LockState) → In l d.before.store.opens.locks → IsBegunIn until l ⊎ WasThere m.store.opens l
+asked_states_until m None until d back is same l there = absurd (none_at until d back same)
+asked_states_until m (Some e) until d back is same l there = until_states m e until d back is same l there
+
+runs_before : (s : ServerState) (records more : List Arrival) (d : RanOp) → RunsIn s records d → RunsIn s (records ++ more) d
+runs_before s [] more d there = absurd there
+runs_before s (c ∷ records) more d (inl here) = inl here
+runs_before s (c ∷ records) more d (inr later) = inr (runs_before (state_after s c) records more d later)
+
+runs_last : (s : ServerState) (records : List Arrival) (c : Arrival) (d : RanOp) → In d (ops_of (state_after_all s records) c) → RunsIn s (records ++ c ∷ []) d
+runs_last s [] c d there = inl there
+runs_last s (b ∷ records) c d there = inr (runs_last (state_after s b) records c d there)
+
+module _ (start : Start) where
+  abbrev IsBegun : List Arrival → LockState → Type 0
+  IsBegun records l = (first : RanOp) × RunsIn (new_state start) records first × IsBegunBy first l.number l.client l.owner
+
+  abbrev AreBegun : List Arrival → Type 0
+  AreBegun records = (l : LockState) → In l (reached start records).machine.store.opens.locks → IsBegun records l
+
+  -- what was there when a record's compound began
+  was_begun : (records : List Arrival) (c : Arrival) → AreBegun records → (l : LockState) → WasThere (before (reached start records) c).store.opens l → IsBegun records l
+  was_begun records c begun l was =
+      let s = reached start records in
+      let there = (in_filter _ s.machine.store.opens.locks was.0 was.1).0 in
+      let b = begun was.0 there in
+      let later = was.2 in (
+        b.0,
+        b.1,
+        subst (λ n. IsBegunBy b.0 n l.client l.owner) later.number
+            (subst (λ c. IsBegunBy b.0 was.0.number c l.owner) later.client (subst (IsBegunBy b.0 was.0.number was.0.client) later.owner b.2)),
+      )
+
+  begun_next : (records : List Arrival) (c : Arrival) → AreBegun records → AreBegun (records ++ c ∷ [])
+  begun_next records c begun l there =
+      let s = reached start records in
+      let here : In l (left (before s c) (asked_by s c)).store.opens.locks =
+      subst (λ (s : ServerState). In l s.machine.store.opens.locks) (reached_more (new_state start) records c ∙ next_is s c) there in
+      elim (asked_states (before s c) (asked_by s c) (whole_at start records c) l here) [
+        | inl b ↦ (b.first, runs_last (new_state start) records c b.first b.there, b.begun)
+        | inr was ↦ (let b = was_begun records c begun l was in (b.0, runs_before (new_state start) records (c ∷ []) b.0 b.1, b.2))
+      ]
+
+  begun_all : (done more : List Arrival) → AreBegun done → AreBegun (done ++ more)
+  begun_all done [] begun = subst AreBegun (sym (append-nil done)) begun
+  begun_all done (c ∷ more) begun = subst AreBegun (append_assoc done (c ∷ []) more) (begun_all (done ++ c ∷ []) more (begun_next done c begun))
+
+  begun_new : AreBegun []
+  begun_new l there = absurd there
+
+  begun_by : (records : List Arrival) (c : Arrival) (until : List RanOp) (d : RanOp) (behind : List RanOp) → ops_of (reached start records) c ≡ until ++ d ∷ behind
+      → (l : LockState) → In l d.before.store.opens.locks
+      → (first : RanOp) × (RunsIn (new_state start) records first ⊎ In first until) × IsBegunBy first l.number l.client l.owner
+  begun_by records c until d behind same l there =
+      let s = reached start records in
+      elim (asked_states_until (before s c) (asked_by s c) until d behind (whole_at start records c) same l there) [
+        | inl b ↦ (b.first, inr b.there, b.begun)
+        | inr was ↦ (let b = was_begun records c (begun_all [] records begun_new) l was in (b.0, inl b.1, b.2))
+      ]
+
+-- What was told of the clash.
+
+none_told : (t : Table) (n : ℕ) (w : Wish) (h : Held) → suc w.last - w.first ≡ 0 → clash t n w ≡ Some h → ⊥
+unfolding told
+none_told t n w h empty e = let bad : None ≡ Some h = rw empty at e in absurd cc
+
+abbrev report : Held → LockState → result.Denied
+report h l = record {
+  offset = h.first;
+  length = size_of h;
+  locktype = type_of h.kind;
+  owner = record { clientid = l.client; owner = take opaque_limit l.owner };
+}
+
+report_of : (t : Table) (h : Held) (l : LockState) → lock_at t h.owner ≡ Some l → lock_denied t h ≡ report h l
+unfolding lock_denied
+report_of t h l found = rw found refl
+
+-- The lock that is reported is not of whoever asks.
+
+its_number : (t : Table) (client : ℕ) (owner : List ℕ) (file : ℕ) (l : LockState) → HasOneEach t → In l t.locks → l.client ≡ client → l.owner ≡ owner → l.file ≡ file
+    → number_of (state_of t client owner file) ≡ l.number
+its_number t client owner file l each there mine its on = go (state_of t client owner file) refl
+  where
+    go : (o : Option LockState) → state_of t client owner file ≡ o → number_of o ≡ l.number
+    go None none = absurd (false≢true (sym (none_in (is_locker client owner file) t.locks l none there) ∙ locker_is client owner file l mine its on))
+    go (Some k) found =
+        (let at = find_in (is_locker client owner file) t.locks k found in
+        let tests = and_parts _ _ at.1 in
+        let more = and_parts _ _ tests.1 in
+        ap (λ (l : LockState). l.number)
+        (each k l at.0 there (eqb-true k.client client more.0 ∙ sym mine) ((bytes_eq-Decides k.owner owner).0 more.1 ∙ sym its) (eqb-true k.file file tests.0 ∙ sym on)))
+
+abbrev is_locking : Item → Bool
+is_locking (Operation (Op.Lock a)) = true
+is_locking item = false
+
+-- what a LOCK or a LOCKT that was denied found
+record Found (d : RanOp) : Type 0 where
+  pub wish : Wish
+  pub held : Held
+  pub number : ℕ
+  pub met : clash d.before.store.opens number wish ≡ Some held
+  pub range : (wish.first ≤ wish.last) × (wish.last < 2 ^ 64)
+  pub refused : IsRefusedFor d wish (lock_denied d.before.store.opens held)
+  pub others : HasOneEach d.before.store.opens → (l : LockState) → In l d.before.store.opens.locks → l.file ≡ wish.file → l.number ≢ number
+      → IsOthers d l.number l.client l.owner
+
+-- a wish that meets a lock has a byte
+has_byte : (t : Table) (n : ℕ) (w : Wish) (h : Held) → IsRange w.first w.last → clash t n w ≡ Some h → (w.first ≤ w.last) × (w.last < 2 ^ 64)
+has_byte t n w h (inl some) e = some
+has_byte t n w h (inr empty) e = absurd (none_told t n w h (let below = empty.0 in omega (arith, below)) e)
+
+lock_others : (d : RanOp) (a : lock_args.Lock) (w : Wish) (n : ℕ) → d.item ≡ Operation (Op.Lock a) → w.client ≡ d.context.client
+    → IsLocker d.before.store d.context a w n → HasOneEach d.before.store.opens → (l : LockState) → In l d.before.store.opens.locks → l.file ≡ w.file → l.number ≢ n
+    → IsOthers d l.number l.client l.owner
+lock_others d a w n is asks whose each l there on other = record {
+  named = λ b o id item locker means same.
+      (let at : a.locker ≡ LockOwner o = ap (λ (a : lock_args.Lock). a.locker) (same_lock d.item a b is item) ∙ locker in
+      let found : Ok whose.0 ≡ Ok id = sym whose.1 ∙ (ap (λ k. meant d.context Any (stateid_in k)) at ∙ means) in
+      let one : whose.0 ≡ id = cc in
+      other (sym same ∙ (ap (λ (i : StateId). i.number) (sym one) ∙ sym (whose.2 ∙ ap (λ k. asker d.before.store.opens k whose.0 w) at))));
+  new = λ b o item locker mine its.
+      (let at : a.locker ≡ OpenOwner o = ap (λ (a : lock_args.Lock). a.locker) (same_lock d.item a b is item) ∙ locker in
+      other (sym (its_number d.before.store.opens w.client o.lock_owner.owner w.file l each there (mine ∙ sym asks) its on)
+      ∙ sym (whose.2 ∙ ap (λ k. asker d.before.store.opens k whose.0 w) at)));
+  tested = λ b item mine its. let bad : true ≡ false = ap is_locking (sym is ∙ item) in absurd cc;
+}
+
+same_test : (i : Item) (a b : test_args.LockT) → i ≡ Operation (Op.LockT a) → i ≡ Operation (Op.LockT b) → a ≡ b
+same_test i a b one two = let same : Operation (Op.LockT a) ≡ Operation (Op.LockT b) = sym one ∙ two in cc
+
+test_others : (d : RanOp) (a : test_args.LockT) (w : Wish) (n : ℕ) → d.item ≡ Operation (Op.LockT a) → w.client ≡ d.context.client
+    → IsTester d.before.store d.context a w n → HasOneEach d.before.store.opens → (l : LockState) → In l d.before.store.opens.locks → l.file ≡ w.file → l.number ≢ n
+    → IsOthers d l.number l.client l.owner
+test_others d a w n is asks whose each l there on other = record {
+  named = λ b o id item locker means same. let bad : true ≡ false = ap is_locking (sym item ∙ is) in absurd cc;
+  new = λ b o item locker mine its. let bad : true ≡ false = ap is_locking (sym item ∙ is) in absurd cc;
+  tested = λ b item mine its.
+      (let name : l.owner ≡ a.owner.owner = its ∙ ap (λ (a : test_args.LockT). a.owner.owner) (same_test d.item b a item is) in
+      other (sym (its_number d.before.store.opens w.client a.owner.owner w.file l each there (mine ∙ sym asks) name on) ∙ sym whose));
+}
+
+record Reported (s : of_store.State) (x : Context) (how : LockType) (offset size : ℕ) (text : List ℕ) (reports : result.Denied → Res) (IsAsker : Wish → ℕ → Type 0)
+    : Type 0 where
+  pub was : (r : Res) × (text ≡ spell_result r) × WasDenied s x how offset size r reports IsAsker
+
+lock_found : (d : RanOp) → IsRun d → (a : lock_args.Lock) → d.item ≡ Operation (Op.Lock a) → d.status ≡ Denied → Found d
+lock_found d r a is status =
+    let s = d.before.store in
+    let x = d.context in
+    let (answer, text, did) = (by_item (λ status text u. status ≡ Denied → Reported s x a.locktype a.offset a.length text Res.LockDenied (IsLocker s x a)) d r (Operation (Op.Lock a)) is
+    (λ e. let bad : RepTooBig ≡ Denied = e in absurd cc)
+    (λ e. record { was = (_, refl, lock_was_denied s x (moment r.now) r.refused a (ap is_denied e)) }) status).was in
+    record {
+      wish = did.wish;
+      held = did.held;
+      number = did.number;
+      met = did.clash;
+      range = has_byte s.opens did.number did.wish did.held (wish_range s x a.locktype a.offset a.length did.wish did.asks) did.clash;
+      refused = ByLock a is did.asks (text ∙ ap spell_result did.answers);
+      others = lock_others d a did.wish did.number is (wish_is s x a.locktype a.offset a.length did.wish did.asks).client did.whose;
+    }
+
+test_found : (d : RanOp) → IsRun d → (a : test_args.LockT) → d.item ≡ Operation (Op.LockT a) → d.status ≡ Denied → Found d
+test_found d r a is status =
+    let s = d.before.store in
+    let x = d.context in
+    let (answer, text, did) = (by_item (λ status text u. status ≡ Denied → Reported s x a.locktype a.offset a.length text Res.LockTDenied (IsTester s x a)) d r (Operation (Op.LockT a)) is
+    (λ e. let bad : RepTooBig ≡ Denied = e in absurd cc)
+    (λ e. record { was = (_, refl, test_denied s x (moment r.now) r.refused a (ap is_denied e)) }) status).was in
+    record {
+      wish = did.wish;
+      held = did.held;
+      number = did.number;
+      met = did.clash;
+      range = has_byte s.opens did.number did.wish did.held (wish_range s x a.locktype a.offset a.length did.wish did.asks) did.clash;
+      refused = ByTest a is did.asks (text ∙ ap spell_result did.answers);
+      others = test_others d a did.wish did.number is (wish_is s x a.locktype a.offset a.length did.wish did.asks).client did.whose;
+    }
+
+found_by : (d : RanOp) → IsRun d → (i : Item) → d.item ≡ i → asks_for_lock i ≡ true → d.status ≡ Denied → Found d
+found_by d r (Operation (Op.Lock a)) is asks status = lock_found d r a is status
+found_by d r (Operation (Op.LockT a)) is asks status = test_found d r a is status
+found_by d r i is asks status = absurd (false≢true asks)
+
+pub no_is_true : NoIsTrue
+no_is_true start records c until d behind small same asks status =
+    let s = reached start records in
+    let sound : IsSound s = sound_all (new_state start) records (sound_new start) in
+    let r = (op_done s c sound d (first_there s c until d behind same)).run in
+    let f = found_by d r d.item refl asks status in
+    let t = d.before.store.opens in
+    let each : HasOneEach t = runs_keep (λ s. HasOneEach s.opens) each_kept (new_state start) (records ++ c ∷ []) (sound_new start)
+    (λ k l here. absurd here) d (runs_last (new_state start) records c d (first_there s c until d behind same)) in
+    let w = f.wish in
+    let h = f.held in
+    let (b, told) = clash_tells t w.file f.number w.kind w.first w.last (Some h) r.whole.table f.range.0 f.range.1 f.met in
+    let held : t.held w.file h.owner b ≡ Some h.kind = told.held b told.round.0 told.round.1 in
+    let (l, here) = r.whole.table.holders w.file h.owner b (λ none. let bad : Some h.kind ≡ None = sym held ∙ none in cc) in
+    record {
+      wish = w;
+      held = record { state = h.owner; client = l.client; opened = l.opened; file = w.file; kind = h.kind; first = h.first; last = h.last };
+      owner = l.owner;
+      refused = subst (IsRefusedFor d w) (report_of t h l (found_at t l h.owner r.whole.table here.stands here.number)) f.refused;
+      file = refl;
+      others = subst (λ n. IsOthers d n l.client l.owner) here.number (f.others each l here.stands here.file (λ same. false≢true
+          (sym (ap not (eq-eqb h.owner f.number (sym here.number ∙ same))) ∙ (and_parts _ _ told.clash).0)));
+      begun = (let b = begun_by start records c until d behind same l here.stands in
+          (b.0, b.1, subst (λ n. IsBegunBy b.0 n l.client l.owner) here.number b.2));
+      clash = (
+        (let within = told.within in let round = told.round in omega (arith, within.0, round.1)),
+        (let within = told.within in let round = told.round in omega (arith, within.1, round.0)),
+        (let round = told.round in omega (arith, round.0, round.1)),
+      );
+      kinds = ap (meets w.kind) (sym held) ∙ (and_parts _ _ told.clash).1;
+      granted = λ byte lo hi. granted start small
+          (record { state = h.owner; client = l.client; opened = l.opened; file = w.file; kind = h.kind; first = byte; last = byte }) l.owner refl records c until d behind same
+          (record { lock = l; there = here.stands; number = here.number; client = refl; opened = refl; owner = refl; held = told.held byte lo hi });
+    }

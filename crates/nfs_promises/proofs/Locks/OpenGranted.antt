@@ -1,0 +1,160 @@
+-- Each open that stands was granted in some record, and nothing has ended it since.
+use Rattle.std.proofs.Common.{◌≡◌, ◌⊎◌, ℕ, ◌<◌, not, true, false, List, [], ◌∷◌, ◌++◌, length, Option, Some, None, refl, sym, ◌∙◌, ap, subst, inl, inr}
+use Rattle.std.proofs.{Common.{append_assoc, append-nil}, lemmas.Bool.{cases_Bool, eq-eqb, false≢true}}
+use Rattle.std.specs.{Prelude.{◌^◌, ◌==◌}, Option.option_map_or}
+use Rattle.nfs_xdr.proofs.Lists.{any_in, in_filter}
+use Rattle.nfs_opens.specs.{declared.records.OpenState.OpenState, Table.Table}
+use Rattle.nfs_names.specs.{declared.start.Start.Start, Ending.has_open}
+use Rattle.nfs_names.specs.State as of_store
+use Rattle.nfs_files.specs.OpenTold.{OpenTold, Bits, IsOpenWith}
+use Rattle.nfs_exec.specs.{Runs.LockHeld.replaces, Runs.Ops.{RanOp, ops_by}, Step.Laws.MachineEvent, Step.Machine.{Machine, IsMachine}}
+use Rattle.nfs_promises.specs.Runs.OpenHeld.{bits_left}
+use Rattle.nfs_exec.proofs.{Step.Invariant.of_start, Runs.KeptByRuns.Is, Runs.OneWalk.none_at}
+use Rattle.nfs_serve.specs.{Step.{ServerState, new_state}}
+use Rattle.nfs_promises.specs.{Network.Endpoint.Arrival, Locks.{LockKept.replaces_by, NoIsTrue.IsInLease, OpenGranted.{LeavesOpen, AllLeaveOpen, bits_through}}}
+use Rattle.nfs_promises.specs.{Locks.OpenGranted.{IsOpenSince, IsGrantedOpen, Before, Within}, Runs.Points.{state_after, state_after_all, reached, taken}}
+use Rattle.nfs_promises.specs.Runs.Points.{before, asked_by, ops_of}
+use Rattle.nfs_promises.proofs.Locks.{ReplacedByRepeat.{IsHad, replaced_none}, NoIsTrue.{reached_more, whole_at}, OpenTraced.{TracedOpen, Stood, Given}}
+use Rattle.nfs_promises.proofs.Locks.{OpenTraced.{open_staying, event_open, event_open_until}, NoneOutlives.{machine_before, machine_all, renewed_in_time}}
+use Rattle.nfs_promises.proofs.{Locks.OneWriterByHandle.after_both, Runs.Points.{left, for_asked, next_is}}
+
+-- Records.
+
+asked_open : (k : OpenTold) (b : Bits) (m : Machine) (o : Option MachineEvent) → Is m → IsOpenWith k b (left m o).store.opens
+    → TracedOpen k b m (option_map_or (ops_by m) o [])
+asked_open k b m None is stands = Stood b stands (λ d there. absurd there) refl
+asked_open k b m (Some e) is stands = event_open k b m e is stands
+
+asked_until : (k : OpenTold) (b : Bits) (m : Machine) (o : Option MachineEvent) (until : List RanOp) (d : RanOp) (back : List RanOp) → Is m
+    → option_map_or (ops_by m) o [] ≡ until ++ d ∷ back → IsOpenWith k b d.before.store.opens → TracedOpen k b m until
+asked_until k b m None until d back is same stands = absurd (none_at until d back same)
+asked_until k b m (Some e) until d back is same stands = event_open_until k b m e until d back is same stands
+
+-- with some bits
+abbrev IsSome : OpenTold → Table → Type 0
+IsSome k t = (b : Bits) × IsOpenWith k b t
+
+has_its_open : (k : OpenTold) (b : Bits) (s : of_store.State) → IsOpenWith k b s.opens → has_open s k.client ≡ true
+has_its_open k b s is = any_in (λ (o : OpenState). o.client == k.client) s.opens.opens is.state is.there (eq-eqb is.state.client k.client is.client)
+
+open_had : (k : OpenTold) → IsHad k.client (IsSome k)
+open_had k = record {
+  opened = λ s table is. has_its_open k is.0 s is.1;
+  staying = λ t stays is. (is.0, open_staying k is.0 t stays is.1);
+  gone = λ t is.
+      (let passes = (in_filter (λ (o : OpenState). not (o.client == k.client)) t.opens is.1.state is.1.there).1 in
+      false≢true (sym (ap not (eq-eqb is.1.state.client k.client is.1.client)) ∙ passes));
+}
+
+through_more : (n : ℕ) (b : Bits) (s : ServerState) (records : List Arrival) (c : Arrival)
+    → bits_through n b s (records ++ c ∷ []) ≡ bits_left n (bits_through n b s records) (ops_of (state_after_all s records) c)
+through_more n b s [] c = refl
+through_more n b s (r ∷ more) c = through_more n (bits_left n b (ops_of s r)) (state_after s r) more c
+
+module _ (start : Start) (small : start.instance < 2 ^ 32) (k : OpenTold) where
+  in_lease : (b : Bits) (records : List Arrival) (c : Arrival) → IsOpenWith k b (before (reached start records) c).store.opens
+      → IsInLease start k.client records c
+  in_lease b records c is =
+      let time = renewed_in_time start k.client records c small (has_its_open k b (before (reached start records) c).store is) in
+      (time.last, time.renewed, time.within)
+
+  machine_at : (records : List Arrival) (c : Arrival) → IsMachine (before (reached start records) c)
+  machine_at records c =
+      machine_before (reached start records) c (machine_all (new_state start) records (of_start start small))
+
+  -- nobody took its client's place
+  is_alone : (b : Bits) (records : List Arrival) (c : Arrival)
+      → (let s = reached start records in
+      IsOpenWith k b (left (before s c) (asked_by s c)).store.opens → (replaces_by k.client s c ≡ false) ⊎ ((state_after s c).machine ≡ before s c))
+  is_alone b records c stands =
+      let s = reached start records in
+      let m = before s c in
+      elim (cases_Bool (replaces_by k.client s c)) [
+        | inr leaves ↦ inl leaves
+        | inl takes ↦ inr (ap (λ (s : ServerState). s.machine) (next_is s c)
+            ∙ for_asked (λ o. option_map_or (replaces k.client m) o false ≡ true → IsSome k (left m o).store.opens → left m o ≡ m) s c (λ e holds. refl)
+            (λ r who. replaced_none k.client (IsSome k) (open_had k) m (machine_at records c) r who (length c.bytes) (taken s c) c.choice) takes (b, stands))
+      ]
+
+  leave_more : (records between : List Arrival) (c : Arrival) → AllLeaveOpen start k records between
+      → LeavesOpen start k (records ++ between) c → AllLeaveOpen start k records (between ++ c ∷ [])
+  leave_more records [] c all leaves = (subst (λ rs. LeavesOpen start k rs c) (append-nil records) leaves, tt)
+  leave_more records (b ∷ between) c all leaves = (
+    all.0,
+    leave_more (records ++ b ∷ []) between c all.1 (subst (λ rs. LeavesOpen start k rs c) (sym (append_assoc records (b ∷ []) between)) leaves),
+  )
+
+  one_more : (had b : Bits) (records : List Arrival) (c : Arrival) → IsOpenSince start k had records → LeavesOpen start k records c
+      → bits_left k.number had (ops_of (reached start records) c) ≡ b → IsOpenSince start k b (records ++ c ∷ [])
+  one_more had b records c g leaves bits =
+      let whole : (g.earlier ++ g.arrival ∷ []) ++ g.between ≡ records = append_assoc g.earlier (g.arrival ∷ []) g.between ∙ sym g.all in
+      let outset = bits_left k.number g.asked g.back in
+      let at = reached start (g.earlier ++ g.arrival ∷ []) in
+      let there : state_after_all at g.between ≡ reached start records =
+      sym (after_both (new_state start) (g.earlier ++ g.arrival ∷ []) g.between) ∙ ap (reached start) whole in
+      record {
+        earlier = g.earlier;
+        arrival = g.arrival;
+        between = g.between ++ c ∷ [];
+        all = ap (λ rs. rs ++ c ∷ []) g.all ∙ append_assoc g.earlier (g.arrival ∷ g.between) (c ∷ []);
+        front = g.front;
+        first = g.first;
+        back = g.back;
+        ops = g.ops;
+        asked = g.asked;
+        grants = g.grants;
+        unclosed = g.unclosed;
+        left = leave_more (g.earlier ++ g.arrival ∷ []) g.between c g.left (subst (λ rs. LeavesOpen start k rs c) (sym whole) leaves);
+        bits = through_more k.number outset at g.between c
+            ∙ (ap (λ had. bits_left k.number had (ops_of (state_after_all at g.between) c)) g.bits
+            ∙ (ap (λ s. bits_left k.number had (ops_of s c)) there ∙ bits));
+      }
+
+  -- each open that stands behind records was granted in one of them
+  abbrev Known : List Arrival → Type 0
+  Known records = (b : Bits) → IsOpenWith k b (reached start records).machine.store.opens → IsOpenSince start k b records
+
+  unexpired : (b : Bits) (s : ServerState) (c : Arrival) → IsOpenWith k b (before s c).store.opens → IsOpenWith k b s.machine.store.opens
+  unexpired b s c is = open_staying k b s.machine.store.opens _ is
+
+  known_next : (records : List Arrival) (c : Arrival) → Known records → Known (records ++ c ∷ [])
+  known_next records c known b is =
+      let s = reached start records in
+      let here : IsOpenWith k b (left (before s c) (asked_by s c)).store.opens =
+      subst (λ (s : ServerState). IsOpenWith k b s.machine.store.opens) (reached_more (new_state start) records c ∙ next_is s c) is in
+      elim (asked_open k b (before s c) (asked_by s c) (whole_at start records c) here) [
+        | Given front first back asked same grants unclosed bits ↦ record {
+          earlier = records;
+          arrival = c;
+          between = [];
+          all = refl;
+          front = front;
+          first = first;
+          back = back;
+          ops = same;
+          asked = asked;
+          grants = grants;
+          unclosed = unclosed;
+          left = tt;
+          bits = bits;
+        }
+        | Stood had stood unclosed bits ↦ one_more had b records c (known had (unexpired had s c stood))
+            (record { lasts = in_lease had records c stood; unclosed = unclosed; alone = is_alone b records c here }) bits
+      ]
+
+  known_all : (done more : List Arrival) → Known done → Known (done ++ more)
+  known_all done [] known = subst Known (sym (append-nil done)) known
+  known_all done (c ∷ more) known = subst Known (append_assoc done (c ∷ []) more) (known_all (done ++ c ∷ []) more (known_next done c known))
+
+  known_new : Known []
+  known_new b is = absurd is.there
+
+  -- and so was each that stands before an operation
+  pub open_granted : (b : Bits) (records : List Arrival) (c : Arrival) (until : List RanOp) (d : RanOp) (behind : List RanOp)
+      → ops_of (reached start records) c ≡ until ++ d ∷ behind → IsOpenWith k b d.before.store.opens → IsGrantedOpen start k b records c until
+  open_granted b records c until d behind same is =
+      let s = reached start records in
+      elim (asked_until k b (before s c) (asked_by s c) until d behind (whole_at start records c) same is) [
+        | Given front first back asked at grants unclosed bits ↦ Within front first back asked at grants unclosed bits
+        | Stood had stood unclosed bits ↦ Before had (known_all [] records known_new had (unexpired had s c stood)) (in_lease had records c stood) unclosed bits
+      ]

@@ -1,0 +1,58 @@
+-- A file that is open stays, whatever becomes of its names; and an object that no name leads to is not named again.
+use Rattle.std.proofs.Common.{◌≡◌, ℕ, ◌<◌, ◌^◌, Bool, true, false, List, Some, refl, sym, ◌∙◌, ap}
+use Rattle.std.proofs.lemmas.Bool.{eq-eqb}
+use Rattle.std.specs.Prelude.{◌==◌, ◌||◌}
+use Rattle.nfs_xdr.proofs.Lists.{any_in}
+use Rattle.nfs_attrs.specs.Handle.{handle_of}
+use Rattle.nfs_tree.specs.Files.{root, is_there, has_row}
+use Rattle.nfs_names.specs.State.{is_used, is_open}
+use Rattle.nfs_names.specs.State as store
+use Rattle.nfs_files.specs.OpenTold.{OpenTold, Bits, IsOpenWith}
+use Rattle.nfs_promises.specs.Runs.OpenHeld.{the_open}
+use Rattle.nfs_exec.specs.Runs.Ops.{RanOp}
+use Rattle.nfs_exec.proofs.Step.Instances.{instance_kept}
+use Rattle.nfs_promises.proofs.Runs.{ToldOtherwise.from_other, Handles.{handle_in, handle_read}}
+use Rattle.nfs_exec.proofs.Runs.{OneRun.IsRun, WrittenRun.used_there}
+use Rattle.nfs_promises.specs.Names.FileStays.{IsThere, FilesStay}
+use Rattle.nfs_promises.proofs.Names.{Handles.given_at, StaleTruly.{current_other, saved_other}, ThereAnswers.{not_stale, put_other}}
+use Rattle.nfs_promises.proofs.Locks.OpenKept.{open_kept}
+
+-- The file of an open is there.
+
+open_used : (k : OpenTold) (b : Bits) (s : store.State) → IsOpenWith k b s.opens → is_used s k.file ≡ true
+open_used k b s is =
+    let opened : is_open s k.file ≡ true = any_in (λ o. o.file == k.file) s.opens.opens is.state is.there (eq-eqb is.state.file k.file is.file) in
+    go (k.file == root) (has_row s.tree.rows k.file) (is_open s k.file) opened
+  where
+    go : (a r o : Bool) → o ≡ true → a || (r || o) ≡ true
+    go true r o e = refl
+    go false true o e = refl
+    go false false o e = e
+
+-- Through the operations before which the open stands.
+
+abbrev IsOfHandle : (instance n : ℕ) → List ℕ → Type 0
+IsOfHandle instance n h = (instance < 2 ^ 32) × (h ≡ handle_in instance n) × (n < 2 ^ 64)
+
+handle_here : (instance n : ℕ) (h : List ℕ) → IsOfHandle instance n h → (own : ℕ) → own ≡ instance → handle_of h ≡ Some (record { instance = own; number = n })
+handle_here instance n h of own same =
+    ap handle_of of.1 ∙ (handle_read instance n of.0 of.2 ∙ ap (λ i. Some (record { instance = i; number = n })) (sym same))
+
+there_before : (k : OpenTold) (b : Bits) (h : List ℕ) (instance : ℕ) (d : RanOp) → IsOfHandle instance k.file h → IsRun d → d.before.store.opens.instance ≡ instance
+    → IsOpenWith k b d.before.store.opens → IsThere k.file h d
+there_before k b h instance d of r own stands =
+    let there : is_there d.before.store.tree k.file ≡ true = used_there d.before.store k.file r.whole (open_used k b d.before.store stands) in
+    record {
+      there = there;
+      found = λ is. not_stale d.status (put_other d r k.file h there (handle_here instance k.file h of d.before.store.opens.instance own) is);
+      at_current = λ on off at. not_stale d.status (current_other d r k.file there at on off);
+      at_saved = λ on saved at same others. not_stale d.status (saved_other d r k.file there saved at same others on);
+    }
+
+pub files_stay : FilesStay
+files_stay start earlier c k b h front told back small handle same tells =
+    let given = given_at start handle.records handle.record_of handle.get k.file h handle.ran handle.gives in
+    let of : IsOfHandle start.instance k.file h = (small, given.0, given.1) in
+    from_other (the_open k) (λ b d. IsThere k.file h d) (λ s. s.opens.instance ≡ start.instance) (instance_kept start.instance)
+    (λ b d run own is. there_before k b h start.instance d of run own is.stands) start earlier c front told back k.client start.lease b same refl
+    (open_kept start earlier c k b front told back same tells)

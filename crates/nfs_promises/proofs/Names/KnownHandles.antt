@@ -1,0 +1,704 @@
+-- What is known of filehandles by what was sent and answered is so, in every run.
+use Rattle.std.proofs.Common.{◌≡◌, ℕ, zero, suc, ◌<◌, ◌^◌, Bool, true, false, cond, not, List, [], ◌∷◌, length, take, drop, get_or, Option, Some, None}
+use Rattle.std.proofs.Common.{refl, sym, ◌∙◌, ap, subst, arith, inl, inr}
+use Rattle.std.proofs.lemmas.Bool.{and_parts, and_from, not-true, eqb-true, ltb-true, true≢false}
+use Rattle.std.proofs.{lemmas.List.{take_at, drop_at}, lemmas.Option.same_Some, lemmas.Slice.Eq.bytes_eq-Decides}
+use Rattle.std.specs.{Prelude.{◌==◌, bytes_eq, find, is_some, option_map, option_and_then, Result, Ok, Err}, Int.{w32, from_be_bytes}}
+use Rattle.std.specs.Option.{option_map_or}
+use Rattle.nfs_xdr.specs.{Spelling.{number, fixed, opaque}, Tables.In, Status.status_number, declared.status.Status.Status}
+use Rattle.nfs_xdr.specs.declared.status.Status.TheVariants.{Nfs4Ok, NoFileHandle, Stale, RepTooBig}
+use Rattle.nfs_xdr.proofs.{Lists.{find_in, in_filter}, Putting.length_number}
+use Rattle.nfs_compound.specs.declared.{name_args.Rename.Rename, open_args.OpenClaim.OpenClaim}
+use Rattle.nfs_compound.specs.{declared.open_args.OpenClaim.TheVariants.Null, declared.op.Item.Item, declared.op.Item.TheVariants.Operation, OpNum.op_number}
+use Rattle.nfs_compound.specs.declared.op.Op.TheVariants as Op
+use Rattle.nfs_compound.specs.declared.op_num.OpNum.TheVariants as Num
+use Rattle.nfs_results.specs.declared.res.Res.TheVariants as Res
+use Rattle.nfs_results.specs.Results.{spell_result, done_head, refusal}
+use Rattle.nfs_results.proofs.Lengths.{length_head}
+use Rattle.nfs_tree.specs.{declared.object.Object.Object, declared.row.Row.Row, Files.{root, object_at, is_entry, entry, is_directory_at}}
+use Rattle.nfs_tree.proofs.RowsKept.{entry_parts}
+use Rattle.nfs_attrs.specs.Handle.{handle_of}
+use Rattle.nfs_attrs.proofs.{Lengths.length_handle, Texts.handle_is}
+use Rattle.nfs_names.specs.{declared.start.Start.Start, declared.context.Context.Context, declared.node.Node.Node}
+use Rattle.nfs_names.specs.{Checks.{saved_object, node_as, node_at, current}, GetFh.get_fh, Outcome.{or_refusal, is_ok}}
+use Rattle.nfs_names.specs.Outcome as outcome
+use Rattle.nfs_names.specs.State as store
+use Rattle.nfs_opens.specs.Steps.{◌>>=◌}
+use Rattle.nfs_files.proofs.WrittenOps.{number_back}
+use Rattle.nfs_files.proofs.ChangesTold.{some_same}
+use Rattle.nfs_exec.specs.Step.{Machine.Machine, Run.in_room}
+use Rattle.nfs_promises.specs.Runs.Handles.{Gives}
+use Rattle.nfs_exec.specs.Runs.Ops.{RanOp, done, left_by, AreChained}
+use Rattle.nfs_exec.proofs.{Step.Instances.instance_kept, Runs.KeptByRuns.Is, Runs.OneRun.{IsRun, in_room_is}}
+use Rattle.nfs_promises.proofs.Runs.{LaterRecords.op_keeps, Handles.{handle_in, handle_read}}
+use Rattle.nfs_promises.proofs.Runs.Handles as handles
+use Rattle.nfs_serve.specs.{Step.{ServerState, new_state}}
+use Rattle.nfs_promises.specs.{Network.Endpoint.Arrival, Names.KnownHandles.{Place, KnownName, Known, starts, is_at, object_of, directory_of, may_be, without}}
+use Rattle.nfs_promises.specs.Names.KnownHandles.{with_name, place_in, are_bytes, led_by, opened, given_in, behind, IsHandleOf, known_after, known_after_all}
+use Rattle.nfs_promises.specs.Names.{KnownHandles.{Tells, Follow, names_after, FollowThrough, root_of, HandlesFollow}, NameStays.{IsDone, TakesIt, Removed}}
+use Rattle.nfs_promises.specs.{Names.NameStays.{MovedAway, MovedOver, next_of, Links, Renames}, Runs.Points.{state_after, before, asked_by, ops_of}}
+use Rattle.nfs_promises.proofs.Names.{Handles.{Has, has_next, number_in}, NameRows.{run_rows, kept_rows, takes_names, spared}, NameSaid.status_in}
+use Rattle.nfs_promises.proofs.{Names.NameStays.{RunsTo, AreLinked, rows, ran_as, as_step, asked_runs, missed, says_leads}, Runs.Points.{IsSound, whole_before}}
+use Rattle.nfs_promises.proofs.Runs.{Points.{sound_next, sound_new, next_is}, Seats.{Room, LedTo, PutTo, IsParent, OpenedTo, plain_same, was_put, root_put}}
+use Rattle.nfs_promises.proofs.Runs.Seats.{public_put, was_saved, was_restored, was_spent, looked_up, was_created, was_opened, by_name, parent_found}
+use Rattle.nfs_promises.proofs.Runs.Seats.{removed_so, renamed_as, linked_as, was_got}
+
+-- A test for bytes.
+
+list_bytes : (h : List ℕ) → are_bytes h ≡ true → (i : ℕ) → get_or h i 0 < 256
+list_bytes [] e i = omega arith
+list_bytes (b ∷ h) e zero = ltb-true b 256 (and_parts _ _ e).0
+list_bytes (b ∷ h) e (suc i) = list_bytes h (and_parts _ _ e).1 i
+
+-- The filehandle in the result of a GETFH.
+
+pub given_back : (h : List ℕ) → length h ≡ 16 → given_in (spell_result (Res.GetFh h)) ≡ h
+given_back h long =
+    let text : drop 8 (spell_result (Res.GetFh h)) ≡ opaque h = drop_at (done_head Num.GetFh) (opaque h) 8 (length_head (op_number Num.GetFh) Nfs4Ok) in
+    let count : take 4 (opaque h) ≡ number (length h) = take_at (number (length h)) (fixed h) 4 (length_number (length h)) in
+    let bytes : drop 4 (opaque h) ≡ fixed h = drop_at (number (length h)) (fixed h) 4 (length_number (length h)) in
+    let size : from_be_bytes w32 (take 4 (opaque h)) ≡ length h = ap (from_be_bytes w32) count ∙ number_back (length h) (omega (arith, long)) in
+    ap (λ text. take (from_be_bytes w32 (take 4 text)) (drop 4 text)) text
+    ∙ (ap (λ n. take n (drop 4 (opaque h))) size ∙ (ap (take (length h)) bytes ∙ take_at h _ (length h) refl))
+
+-- What there is of an operation that was run.
+
+-- the room that it ran in, and its answer there
+abbrev room_of : (d : RanOp) → IsRun d → Room
+room_of d r = record { limit = r.limit; sofar = r.sofar; now = r.now; refused = r.refused }
+
+was_ok : (d : RanOp) (r : IsRun d) (i : Item) → d.item ≡ i → is_ok d.status ≡ true → is_ok (ran_as d r i).outcome.status ≡ true
+was_ok d r i item ok = ap (λ (d : RanOp). is_ok d.status) (sym (as_step d r i item)) ∙ ok
+
+result_is : (d : RanOp) (r : IsRun d) (i : Item) → d.item ≡ i → d.result ≡ (ran_as d r i).outcome.result
+result_is d r i item = ap (λ (d : RanOp). d.result) (as_step d r i item)
+
+behind_is : (d : RanOp) (r : IsRun d) (i : Item) → d.item ≡ i → d.behind ≡ (ran_as d r i).outcome.machine
+behind_is d r i item = ap (λ (d : RanOp). d.behind) (as_step d r i item)
+
+-- a name leads to an object by rows
+abbrev Leads : List Row → ℕ → List ℕ → ℕ → Type 0
+Leads rs d name n = option_map (λ (r : Row). r.object) (entry rs d name) ≡ Some n
+
+leads_kept : (d : RanOp) → IsRun d → (directory : ℕ) (name : List ℕ) (n : ℕ) → Leads (rows d.before) directory name n → (TakesIt directory name d → ⊥)
+    → Leads (rows d.behind) directory name n
+leads_kept d r directory name n leads spares = go (entry (rows d.before) directory name) refl leads
+  where
+    go : (o : Option Row) → entry (rows d.before) directory name ≡ o → option_map (λ (r : Row). r.object) o ≡ Some n → Leads (rows d.behind) directory name n
+    go None e is = absurd cc
+    go (Some row) e is =
+        ap (option_map (λ (r : Row). r.object)) (kept_rows d.before.store.tree (rows d.behind) d.context d.item d.result directory name row (run_rows d r) e spares) ∙ is
+
+-- a GETFH with an object is not answered NFS4ERR_NOFILEHANDLE
+abbrev none_there : List ℕ
+none_there = spell_result (refusal (op_number Num.GetFh) NoFileHandle)
+
+stale_as : (n : ℕ) (o : Option Object) (f : Status) → node_as n o ≡ Err f → f ≡ Stale
+stale_as n None f e = cc
+stale_as n (Some object) f e = absurd cc
+
+stale_at : (s : store.State) (o : Option ℕ) (n : ℕ) (f : Status) → o ≡ Some n → node_at s o ≡ Err f → f ≡ Stale
+stale_at s None n f at e = absurd cc
+stale_at s (Some k) n f at e = stale_as k (object_at s.tree k) f e
+
+got_spelled : (s : store.State) (x : Context) (n : ℕ) → x.current ≡ Some n → spell_result (get_fh s x).result ≡ none_there → ⊥
+unfolding get_fh current
+got_spelled s x n at = go (node_at s x.current) refl
+  where
+    go : (v : Result Node Status) → node_at s x.current ≡ v
+        → spell_result (or_refusal s x Num.GetFh (v >>= λ d. Ok (outcome.done s x (Res.GetFh (handle_in s.opens.instance d.number))))).result ≡ none_there → ⊥
+    go (Err f) e told =
+        let same : ◌≡◌ {A = ℕ} 70 10020 =
+        ap status_number (sym (stale_at s x.current n f at e)) ∙ status_in 10 10 f NoFileHandle [] [] told in
+        absurd (omega arith)
+    go (Ok d) e told =
+        let same : ◌≡◌ {A = ℕ} 0 10020 = status_in 10 10 Nfs4Ok NoFileHandle (opaque (handle_in s.opens.instance d.number)) [] told in absurd (omega arith)
+
+got_there : (r : Room) (m : Machine) (x : Context) (n : ℕ) → x.current ≡ Some n
+    → (in_room r.limit r.sofar r.now r.refused m x (Operation Op.GetFh)).outcome.result ≡ none_there → ⊥
+got_there r m x n at =
+    in_room_is (λ s. s.outcome.result ≡ none_there → ⊥) r.limit r.sofar r.now r.refused m x (Operation Op.GetFh)
+    (λ told. (let same : ◌≡◌ {A = ℕ} 10066 10020 = status_in 10 10 RepTooBig NoFileHandle [] [] told in absurd (omega arith)))
+    (got_spelled m.store x n at)
+
+-- What is known, as it stands in a server of an instance.
+
+module _ (instance : ℕ) (low : instance < 2 ^ 32) where
+  -- a filehandle bears the number of an object
+  abbrev pub Its : List ℕ → ℕ → Type 0
+  Its h n = IsHandleOf instance h n
+
+  read_back : (h : List ℕ) (n : ℕ) → Its h n → handle_of h ≡ Some (record { instance = instance; number = n })
+  read_back h n bears = ap handle_of bears.is ∙ handle_read instance n low bears.small
+
+  pub same_number : (h : List ℕ) (n m : ℕ) → Its h n → Its h m → n ≡ m
+  same_number h n m one two = number_in instance n m (sym (read_back h n one) ∙ read_back h m two)
+
+  abbrev pub IsAt : List ℕ → Option ℕ → Type 0
+  IsAt h o = (n : ℕ) × Its h n × (o ≡ Some n)
+
+  at_again : (h : List ℕ) (o q : Option ℕ) → q ≡ o → IsAt h o → IsAt h q
+  at_again h o q same at = (at.0, at.1, same ∙ at.2)
+
+  -- so are the current filehandle and the saved one, where they are known
+  pub record Seated (current saved : Option (List ℕ)) (x : Context) : Type 0 where
+    pub at_current : (h : List ℕ) → current ≡ Some h → IsAt h x.current
+    pub at_saved : (h : List ℕ) → saved ≡ Some h → IsAt h (saved_object x.saved)
+
+  -- a name stands in rows
+  pub record StandsIn (rs : List Row) (k : KnownName) : Type 0 where
+    pub directory : ℕ
+    pub object : ℕ
+    pub in_it : Its k.place.directory directory
+    pub of_it : Its k.object object
+    pub leads : Leads rs directory k.place.name object
+
+  abbrev pub AllStand : List KnownName → List Row → Type 0
+  AllStand names rs = (k : KnownName) → In k names → StandsIn rs k
+
+  -- the current object was found by a name
+  pub record CameBy (p : Place) (x : Context) (rs : List Row) : Type 0 where
+    pub directory : ℕ
+    pub object : ℕ
+    pub in_it : Its p.directory directory
+    pub leads : Leads rs directory p.name object
+    pub now : x.current ≡ Some object
+
+  pub record Holds (k : Known) (x : Context) (rs : List Row) : Type 0 where
+    pub seated : Seated k.current k.saved x
+    pub came : (p : Place) → k.came_by ≡ Some p → CameBy p x rs
+    pub names : AllStand k.names rs
+
+  -- what is looked up among names
+  pub record Finds (names : List KnownName) (directory name object : List ℕ) : Type 0 where
+    pub known : KnownName
+    pub there : In known names
+    pub in_it : known.place.directory ≡ directory
+    pub called : known.place.name ≡ name
+    pub leads : known.object ≡ object
+
+  found_is : (names : List KnownName) (directory name object : List ℕ) → object_of names directory name ≡ Some object → Finds names directory name object
+  found_is names directory name object e = go (find (is_at directory name) names) refl e
+    where
+      go : (o : Option KnownName) → find (is_at directory name) names ≡ o → option_map (λ (k : KnownName). k.object) o ≡ Some object → Finds names directory name object
+      go None found e = absurd cc
+      go (Some k) found e =
+          let there = find_in (is_at directory name) names k found in
+          let parts = and_parts _ _ there.1 in
+          record {
+            known = k;
+            there = there.0;
+            in_it = (bytes_eq-Decides k.place.directory directory).0 parts.0;
+            called = (bytes_eq-Decides k.place.name name).0 parts.1;
+            leads = same_Some k.object object e;
+          }
+
+  parent_is : (names : List KnownName) (object directory : List ℕ) → directory_of names object ≡ Some directory
+      → (k : KnownName) × In k names × (k.object ≡ object) × (k.place.directory ≡ directory)
+  parent_is names object directory e = go (find (λ k. bytes_eq k.object object) names) refl e
+    where
+      go : (o : Option KnownName) → find (λ k. bytes_eq k.object object) names ≡ o → option_map (λ (k : KnownName). k.place.directory) o ≡ Some directory
+          → (k : KnownName) × In k names × (k.object ≡ object) × (k.place.directory ≡ directory)
+      go None found e = absurd cc
+      go (Some k) found e =
+          let there = find_in (λ k. bytes_eq k.object object) names k found in
+          (k, there.0, (bytes_eq-Decides k.object object).0 there.1, same_Some k.place.directory directory e)
+
+  -- a filehandle that is known, and what is known through it
+  through_it : {A : Type 0} (o : Option (List ℕ)) (f : List ℕ → Option A) (a : A) → option_and_then f o ≡ Some a → (h : List ℕ) × (o ≡ Some h) × (f h ≡ Some a)
+  through_it None f a e = absurd cc
+  through_it (Some h) f a e = (h, refl, e)
+
+  placed : (o : Option (List ℕ)) (name : List ℕ) (p : Place) → place_in o name ≡ Some p → (h : List ℕ) × (o ≡ Some h) × (p ≡ record { directory = h; name = name })
+  placed None name p e = absurd cc
+  placed (Some h) name p e = (let same : record { directory = h; name = name } ≡ p = cc in (h, refl, sym same))
+
+  -- by a seat that is known, the numbers of a name there
+  pub record Numbers (rs : List Row) (o : Option ℕ) (name object : List ℕ) : Type 0 where
+    pub directory : ℕ
+    pub number : ℕ
+    pub at : o ≡ Some directory
+    pub of_it : Its object number
+    pub leads : Leads rs directory name number
+
+  pub numbers : (names : List KnownName) (rs : List Row) (known : Option (List ℕ)) (o : Option ℕ) (name object : List ℕ) → AllStand names rs
+      → ((h : List ℕ) → known ≡ Some h → IsAt h o) → option_and_then (λ d. object_of names d name) known ≡ Some object → Numbers rs o name object
+  numbers names rs known o name object stand seat e =
+      let h = through_it known (λ d. object_of names d name) object e in
+      let f = found_is names h.0 name object h.2 in
+      let s = stand f.known f.there in
+      let at = seat h.0 h.1 in
+      let same = same_number h.0 s.directory at.0 (subst (λ d. Its d s.directory) f.in_it s.in_it) at.1 in
+      record {
+        directory = at.0;
+        number = s.object;
+        at = at.2;
+        of_it = subst (λ h. Its h s.object) f.leads s.of_it;
+        leads = subst (λ d. Leads rs d name s.object) same (subst (λ n. Leads rs s.directory n s.object) f.called s.leads);
+      }
+
+  -- Names behind an operation.
+
+  stands_kept : (d : RanOp) → IsRun d → (k : KnownName) → StandsIn (rows d.before) k
+      → ((n : ℕ) → Its k.place.directory n → TakesIt n k.place.name d → ⊥) → StandsIn (rows d.behind) k
+  stands_kept d r k s spares = record {
+    directory = s.directory;
+    object = s.object;
+    in_it = s.in_it;
+    of_it = s.of_it;
+    leads = leads_kept d r s.directory k.place.name s.object s.leads (spares s.directory s.in_it);
+  }
+
+  plain_kept : (d : RanOp) → IsRun d → (names : List KnownName) → AllStand names (rows d.before) → takes_names d.item ≡ false → AllStand names (rows d.behind)
+  plain_kept d r names stand e k there = stands_kept d r k (stand k there) (λ n bears. spared n k.place.name d e)
+
+  with_stands : (place : Option Place) (object : Option (List ℕ)) (names : List KnownName) (rs : List Row) → AllStand names rs
+      → ((p : Place) (h : List ℕ) → place ≡ Some p → object ≡ Some h → StandsIn rs (record { place = p; object = h })) → AllStand (with_name place object names) rs
+  with_stands None object names rs stand new = stand
+  with_stands (Some p) None names rs stand new = stand
+  with_stands (Some p) (Some h) names rs stand new = λ k there. elim there [
+    | inl is ↦ subst (StandsIn rs) (sym is) (new p h refl refl)
+    | inr more ↦ stand k more
+  ]
+
+  -- a name that an operation takes is one that it may take, as it is known
+  may_take : (k : KnownName) (n : ℕ) (name : List ℕ) (known : Option (List ℕ)) (o : Option ℕ) → k.place.name ≡ name → Its k.place.directory n → o ≡ Some n
+      → ((h : List ℕ) → known ≡ Some h → IsAt h o) → may_be name known k ≡ true
+  may_take k n name known o called bears at seat =
+      and_from (bytes_eq k.place.name name) (option_map_or (bytes_eq k.place.directory) known true) ((bytes_eq-Decides k.place.name name).1 called) (go known seat)
+    where
+      go : (known : Option (List ℕ)) → ((h : List ℕ) → known ≡ Some h → IsAt h o) → option_map_or (bytes_eq k.place.directory) known true ≡ true
+      go None seat = refl
+      go (Some h) seat =
+          let its = seat h refl in
+          let same : its.0 ≡ n = some_same o its.0 n its.2 at in
+          (bytes_eq-Decides k.place.directory h).1 (bears.is ∙ (ap (handle_in instance) (sym same) ∙ sym its.1.is))
+
+  left_in : (known : Option (List ℕ)) (name : List ℕ) (names : List KnownName) (k : KnownName) → In k (without known name names)
+      → In k names × (may_be name known k ≡ true → ⊥)
+  left_in known name names k there =
+      let is = in_filter (λ k. not (may_be name known k)) names k there in
+      (is.0, λ may. true≢false (sym may ∙ not-true _ is.1))
+
+  removed_stand : (d : RanOp) → IsRun d → (name : List ℕ) → d.item ≡ Operation (Op.Remove name) → (k : Known) → Seated k.current k.saved d.context → AllStand k.names (rows d.before)
+      → AllStand (without k.current name k.names) (rows d.behind)
+  removed_stand d r name item k seated stand e there =
+      let left = left_in k.current name k.names e there in
+      stands_kept d r e (stand e left.0) (λ n bears takes. left.1 (by_take n bears takes))
+    where
+      by_take : (n : ℕ) → Its e.place.directory n → TakesIt n e.place.name d → may_be name k.current e ≡ true
+      by_take n bears (Removed is at done) =
+          let same : Operation (Op.Remove e.place.name) ≡ Operation (Op.Remove name) = sym is ∙ item in
+          let called : e.place.name ≡ name = cc in
+          may_take e n name k.current d.context.current called bears at seated.at_current
+      by_take n bears (MovedAway a is old saved done) = (let bad : Operation (Op.Rename a) ≡ Operation (Op.Remove name) = sym is ∙ item in absurd cc)
+      by_take n bears (MovedOver a is new at done) = (let bad : Operation (Op.Rename a) ≡ Operation (Op.Remove name) = sym is ∙ item in absurd cc)
+
+  renamed_stand : (d : RanOp) → IsRun d → (a : Rename) → d.item ≡ Operation (Op.Rename a) → (k : Known) → Seated k.current k.saved d.context → AllStand k.names (rows d.before)
+      → AllStand (without k.saved a.oldname (without k.current a.newname k.names)) (rows d.behind)
+  renamed_stand d r a item k seated stand e there =
+      let moved = left_in k.saved a.oldname (without k.current a.newname k.names) e there in
+      let left = left_in k.current a.newname k.names e moved.0 in
+      stands_kept d r e (stand e left.0) (by_take moved.1 left.1)
+    where
+      by_take : (may_be a.oldname k.saved e ≡ true → ⊥) → (may_be a.newname k.current e ≡ true → ⊥) → (n : ℕ) → Its e.place.directory n → TakesIt n e.place.name d → ⊥
+      by_take away over n bears (Removed is at done) = (let bad : Operation (Op.Remove e.place.name) ≡ Operation (Op.Rename a) = sym is ∙ item in absurd cc)
+      by_take away over n bears (MovedAway b is old saved done) =
+          let same : Operation (Op.Rename b) ≡ Operation (Op.Rename a) = sym is ∙ item in
+          let one : b ≡ a = cc in
+          away (may_take e n a.oldname k.saved (saved_object d.context.saved) (sym old ∙ ap (λ (a : Rename). a.oldname) one) bears saved seated.at_saved)
+      by_take away over n bears (MovedOver b is new at done) =
+          let same : Operation (Op.Rename b) ≡ Operation (Op.Rename a) = sym is ∙ item in
+          let one : b ≡ a = cc in
+          over (may_take e n a.newname k.current d.context.current (sym new ∙ ap (λ (a : Rename). a.newname) one) bears at seated.at_current)
+
+  -- A name that leads to the current object behind an operation.
+
+  seat_put : (current saved o : Option (List ℕ)) (x y : Context) → Seated current saved x → y.saved ≡ x.saved → ((h : List ℕ) → o ≡ Some h → IsAt h y.current)
+      → Seated o saved y
+  seat_put current saved o x y s same new = record { at_current = new; at_saved = λ h e. at_again h _ _ (ap saved_object same) (s.at_saved h e) }
+
+  seat_same : (current saved : Option (List ℕ)) (x y : Context) → Seated current saved x → (y.current ≡ x.current) × (y.saved ≡ x.saved) → Seated current saved y
+  seat_same current saved x y s same =
+      seat_put current saved current x y s same.1 (λ h e. at_again h _ _ same.0 (s.at_current h e))
+
+  led_seat : (k : Known) (name : List ℕ) (d : RanOp) (r : IsRun d) (i : Item) → d.item ≡ i → takes_names i ≡ false → Seated k.current k.saved d.context
+      → AllStand k.names (rows d.before) → (let s = ran_as d r i in LedTo name s.outcome.machine.store.tree d.context s.context → Seated (led_by name k).current k.saved s.context)
+  led_seat k name d r i item spares seated stand led =
+      seat_put k.current k.saved (led_by name k).current d.context (ran_as d r i).context seated led.saved (λ h e.
+      (let n = numbers k.names (rows d.before) k.current d.context.current name h stand seated.at_current e in
+      let kept = leads_kept d r n.directory name n.number n.leads (spared n.directory name d (ap takes_names item ∙ spares)) in
+      let at : led.directory ≡ n.directory = some_same d.context.current led.directory n.directory led.from n.at in
+      let leads : Leads (rows d.behind) n.directory name led.object =
+      subst (λ e. Leads (rows d.behind) e name led.object) at (subst (λ (m : Machine). Leads (rows m) led.directory name led.object) (sym (behind_is d r i item)) led.leads) in
+      (n.number, n.of_it, led.to ∙ (sym leads ∙ kept))))
+
+  led_came : (k : Known) (name : List ℕ) (d : RanOp) (r : IsRun d) (i : Item) → d.item ≡ i → Seated k.current k.saved d.context
+      → (let s = ran_as d r i in LedTo name s.outcome.machine.store.tree d.context s.context
+      → (p : Place) → place_in k.current name ≡ Some p → CameBy p s.context (rows d.behind))
+  led_came k name d r i item seated led p e =
+      let h = placed k.current name p e in
+      let at = seated.at_current h.0 h.1 in
+      let same : at.0 ≡ led.directory = some_same d.context.current at.0 led.directory at.2 led.from in
+      record {
+        directory = led.directory;
+        object = led.object;
+        in_it = subst (λ (p : Place). Its p.directory led.directory) (sym h.2) (subst (Its h.0) same at.1);
+        leads = subst (λ (p : Place). Leads (rows d.behind) led.directory p.name led.object) (sym h.2)
+            (subst (λ (m : Machine). Leads (rows m) led.directory name led.object) (sym (behind_is d r i item)) led.leads);
+        now = led.to;
+      }
+
+  came_kept : (p : Place) (d : RanOp) → IsRun d → (y : Context) → takes_names d.item ≡ false → y.current ≡ d.context.current → CameBy p d.context (rows d.before)
+      → CameBy p y (rows d.behind)
+  came_kept p d r y spares same c = record {
+    directory = c.directory;
+    object = c.object;
+    in_it = c.in_it;
+    leads = leads_kept d r c.directory p.name c.object c.leads (spared c.directory p.name d spares);
+    now = same ∙ c.now;
+  }
+
+  -- PUTFH of bytes, and the root
+  put_at : (h : List ℕ) (st : ℕ) (x y : Context) → PutTo st h x y → st ≡ instance → (b : Bool) → are_bytes h ≡ b → (g : List ℕ) → cond b (Some h) None ≡ Some g
+      → IsAt g y.current
+  put_at h st x y p own true bytes g e =
+      let same : h ≡ g = cc in
+      let is = (handle_is h p.handle (record { each = list_bytes h bytes })).0 p.read in
+      subst (λ h. IsAt h y.current) same
+      (p.handle.number, record { is = is.0 ∙ ap (λ i. handle_in i p.handle.number) (p.own ∙ own); small = is.1.1.1 }, p.current)
+  put_at h st x y p own false bytes g e = absurd cc
+
+  abbrev the_root : List ℕ
+  the_root = root_of instance
+
+  root_at : (x y : Context) → y.current ≡ Some root → (g : List ℕ) → Some the_root ≡ Some g → IsAt g y.current
+  root_at x y at g e = (let same : the_root ≡ g = cc in (root, record { is = sym same; small = omega arith }, at))
+
+  -- GETFH
+  got_at : (d : RanOp) (r : IsRun d) → d.before.store.opens.instance ≡ instance → d.item ≡ Operation Op.GetFh → is_ok d.status ≡ true
+      → (n : ℕ) × Its (given_in d.result) n × (d.context.current ≡ Some n)
+  got_at d r own item ok =
+      let got = was_got (room_of d r) d.before d.context (was_ok d r (Operation Op.GetFh) item ok) in
+      let h = handle_in instance got.0 in
+      let told : d.result ≡ spell_result (Res.GetFh h) =
+      result_is d r (Operation Op.GetFh) item ∙ (got.2 ∙ ap (λ i. spell_result (Res.GetFh (handle_in i got.0))) own) in
+      let long : length h ≡ 16 = length_handle (record { instance = instance; number = got.0 }) in
+      let gives : Gives got.0 h d = record { is = item; at = got.1; short = omega (arith, long); answers = told } in
+      (got.0, record { is = ap given_in told ∙ given_back h long; small = (handles.given_in d r got.0 h gives).small }, got.1)
+
+  -- LOOKUPP
+  parent_at : (k : Known) (d : RanOp) (y : Context) → Is d.before → Seated k.current k.saved d.context → AllStand k.names (rows d.before)
+      → IsParent d.before.store.tree d.context y → (g : List ℕ) → option_and_then (directory_of k.names) k.current ≡ Some g → IsAt g y.current
+  parent_at k d y whole seated stand is g e =
+      let h = through_it k.current (directory_of k.names) g e in
+      let f = parent_is k.names h.0 g h.2 in
+      let s = stand f.0 f.1 in
+      let at = seated.at_current h.0 h.1 in
+      let object : s.object ≡ is.object =
+      same_number h.0 s.object at.0 (subst (λ h. Its h s.object) f.2 s.of_it) at.1 ∙ some_same d.context.current at.0 is.object at.2 is.from in
+      let row = row_of s.directory s.object f.0.place.name (entry (rows d.before) s.directory f.0.place.name) refl s.leads in
+      let up = up_of is.object is.parent (find (λ (r : Row). r.object == is.object) (rows d.before)) refl is.stands in
+      let one : up.0 ≡ row.0 = whole.tree.rows.one up.0 row.0 up.1 row.1 (up.2 ∙ (sym object ∙ sym row.3))
+      (ap (is_directory_at d.before.store.tree) (row.3 ∙ object) ∙ is.directory) in
+      (s.directory, subst (λ h. Its h s.directory) f.3 s.in_it, is.to ∙ ap (λ n. Some n) (sym up.3 ∙ (ap (λ (r : Row). r.directory) one ∙ row.2)))
+    where
+      row_of : (directory n : ℕ) (name : List ℕ) (o : Option Row) → entry (rows d.before) directory name ≡ o → option_map (λ (r : Row). r.object) o ≡ Some n
+          → (r : Row) × In r (rows d.before) × (r.directory ≡ directory) × (r.object ≡ n)
+      row_of directory n name None e is = absurd cc
+      row_of directory n name (Some r) e is =
+          let there = find_in (is_entry directory name) (rows d.before) r e in
+          let object : r.object ≡ n = cc in
+          (r, there.0, (entry_parts directory name r there.1).0, object)
+
+      up_of : (n parent : ℕ) (o : Option Row) → find (λ (r : Row). r.object == n) (rows d.before) ≡ o → option_map (λ (r : Row). r.directory) o ≡ Some parent
+          → (r : Row) × In r (rows d.before) × (r.object ≡ n) × (r.directory ≡ parent)
+      up_of n parent None e is = absurd cc
+      up_of n parent (Some r) e is =
+          let there = find_in (λ (r : Row). r.object == n) (rows d.before) r e in
+          let up : r.directory ≡ parent = cc in
+          (r, there.0, eqb-true r.object n there.1, up)
+
+  -- What is known behind an operation that was answered NFS4_OK.
+
+  module _ (d : RanOp) (next : Option Context) (to : RunsTo d next) (k : Known) (own : d.before.store.opens.instance ≡ instance) (ok : is_ok d.status ≡ true)
+      (seated : Seated k.current k.saved d.context) (came : (p : Place) → k.came_by ≡ Some p → CameBy p d.context (rows d.before))
+      (stand : AllStand k.names (rows d.before)) where
+    abbrev r : IsRun d
+    r = to.run
+
+    abbrev room : Room
+    room = room_of d r
+
+    abbrev after : Item → Context
+    after i = (ran_as d r i).context
+
+    names_behind : (i : Item) → d.item ≡ i → AllStand (behind the_root k i d.result).names (rows d.behind)
+    names_behind (Operation Op.GetFh) item = by_known (is_some k.current)
+      where
+        all : AllStand (with_name k.came_by (Some (given_in d.result)) k.names) (rows d.behind)
+        all =
+            with_stands k.came_by (Some (given_in d.result)) k.names (rows d.behind) (plain_kept d r k.names stand (ap takes_names item)) (λ p h place object.
+            (let c = came p place in
+            let got = got_at d r own item ok in
+            let same : got.0 ≡ c.object = some_same d.context.current got.0 c.object got.2 c.now in
+            let given_is : given_in d.result ≡ h = cc in
+            record {
+              directory = c.directory;
+              object = c.object;
+              in_it = c.in_it;
+              of_it = subst (λ h. Its h c.object) given_is (subst (Its (given_in d.result)) same got.1);
+              leads = leads_kept d r c.directory p.name c.object c.leads (spared c.directory p.name d (ap takes_names item));
+            }))
+
+        by_known : (b : Bool) → AllStand (cond b k.names (with_name k.came_by (Some (given_in d.result)) k.names)) (rows d.behind)
+        by_known true = plain_kept d r k.names stand (ap takes_names item)
+        by_known false = all
+    names_behind (Operation (Op.Link name)) item =
+        with_stands (place_in k.current name) k.saved k.names (rows d.behind) (plain_kept d r k.names stand (ap takes_names item)) (λ p h place object.
+        (let at = placed k.current name p place in
+        let in_it = seated.at_current at.0 at.1 in
+        let of_it = seated.at_saved h object in
+        let is : IsDone Num.Link d.result =
+        subst (IsDone Num.Link) (sym (result_is d r (Operation (Op.Link name)) item))
+        ((linked_as room d.before d.context name).0 (was_ok d r (Operation (Op.Link name)) item ok)) in
+        subst (λ p. StandsIn (rows d.behind) (record { place = p; object = h })) (sym at.2) (record {
+          directory = in_it.0;
+          object = of_it.0;
+          in_it = in_it.1;
+          of_it = of_it.1;
+          leads = says_leads (record { directory = in_it.0; name = name; object = of_it.0 }) d next to (Links item in_it.2 of_it.2 is);
+        })))
+    names_behind (Operation (Op.Remove name)) item = removed_stand d r name item k seated stand
+    names_behind (Operation (Op.Rename a)) item =
+        with_stands (place_in k.current a.newname) (option_and_then (λ d. object_of k.names d a.oldname) k.saved)
+        (without k.saved a.oldname (without k.current a.newname k.names)) (rows d.behind) (renamed_stand d r a item k seated stand) (λ p h place object.
+        (let at = placed k.current a.newname p place in
+        let in_it = seated.at_current at.0 at.1 in
+        let n = numbers k.names (rows d.before) k.saved (saved_object d.context.saved) a.oldname h stand seated.at_saved object in
+        let is : IsDone Num.Rename d.result =
+        subst (IsDone Num.Rename) (sym (result_is d r (Operation (Op.Rename a)) item))
+        ((renamed_as room d.before d.context a).0 (was_ok d r (Operation (Op.Rename a)) item ok)) in
+        subst (λ p. StandsIn (rows d.behind) (record { place = p; object = h })) (sym at.2) (record {
+          directory = in_it.0;
+          object = n.number;
+          in_it = in_it.1;
+          of_it = n.of_it;
+          leads = says_leads (record { directory = in_it.0; name = a.newname; object = n.number }) d next to (Renames a item refl in_it.2 n.directory n.at n.leads is);
+        })))
+    names_behind (Operation (Op.Open a)) item =
+        subst (λ names. AllStand names (rows d.behind)) (sym (open_names a.claim)) (plain_kept d r k.names stand (ap takes_names item))
+      where
+        open_names : (claim : OpenClaim) → (opened claim k).names ≡ k.names
+        open_names (Null name) = refl
+        open_names claim = refl
+    names_behind i item = plain_kept d r k.names stand (ap takes_names item)
+
+    seats_behind : (i : Item) → d.item ≡ i → (let b = behind the_root k i d.result in Seated b.current b.saved (after i))
+    seats_behind (Operation (Op.PutFh h)) item =
+        let p = was_put room d.before d.context h (was_ok d r (Operation (Op.PutFh h)) item ok) in
+        seat_put k.current k.saved _ d.context (after (Operation (Op.PutFh h))) seated p.saved
+        (put_at h d.before.store.opens.instance d.context (after (Operation (Op.PutFh h))) p own (are_bytes h) refl)
+    seats_behind (Operation Op.PutRootFh) item =
+        let p = root_put room d.before d.context (was_ok d r (Operation Op.PutRootFh) item ok) in
+        seat_put k.current k.saved (Some the_root) d.context (after (Operation Op.PutRootFh)) seated p.1 (root_at d.context (after (Operation Op.PutRootFh)) p.0)
+    seats_behind (Operation Op.PutPubFh) item =
+        let p = public_put room d.before d.context (was_ok d r (Operation Op.PutPubFh) item ok) in
+        seat_put k.current k.saved (Some the_root) d.context (after (Operation Op.PutPubFh)) seated p.1 (root_at d.context (after (Operation Op.PutPubFh)) p.0)
+    seats_behind (Operation Op.GetFh) item =
+        let got = got_at d r own item ok in
+        let same = plain_same room d.before d.context (Operation Op.GetFh) refl in
+        seat_put k.current k.saved (Some (given_in d.result)) d.context (after (Operation Op.GetFh)) seated same.1 (λ h e.
+        (let is : given_in d.result ≡ h = cc in (got.0, subst (λ h. Its h got.0) is got.1, same.0 ∙ got.2)))
+    seats_behind (Operation Op.SaveFh) item =
+        let p = was_saved room d.before d.context (was_ok d r (Operation Op.SaveFh) item ok) in
+        record { at_current = λ h e. at_again h _ _ p.0 (seated.at_current h e); at_saved = λ h e. at_again h _ _ p.1 (seated.at_current h e) }
+    seats_behind (Operation Op.RestoreFh) item =
+        let p = was_restored room d.before d.context (was_ok d r (Operation Op.RestoreFh) item ok) in
+        seat_put k.current k.saved k.saved d.context (after (Operation Op.RestoreFh)) seated p.1 (λ h e. at_again h _ _ p.0 (seated.at_saved h e))
+    seats_behind (Operation (Op.Lookup name)) item =
+        led_seat k name d r (Operation (Op.Lookup name)) item refl seated stand (looked_up room d.before d.context name (was_ok d r (Operation (Op.Lookup name)) item ok))
+    seats_behind (Operation Op.LookupP) item =
+        let p = parent_found room d.before d.context (was_ok d r (Operation Op.LookupP) item ok) in
+        seat_put k.current k.saved _ d.context (after (Operation Op.LookupP)) seated p.saved (parent_at k d (after (Operation Op.LookupP)) r.whole seated stand p)
+    seats_behind (Operation (Op.Create a)) item =
+        led_seat k a.objname d r (Operation (Op.Create a)) item refl seated stand (was_created room d.before d.context a (was_ok d r (Operation (Op.Create a)) item ok))
+    seats_behind (Operation (Op.Open a)) item = by_claim a.claim (was_opened room d.before d.context a (was_ok d r (Operation (Op.Open a)) item ok))
+      where
+        by_claim : (claim : OpenClaim) → (let s = ran_as d r (Operation (Op.Open a)) in OpenedTo claim s.outcome.machine.store.tree d.context s.context
+            → Seated (opened claim k).current (opened claim k).saved s.context)
+        by_claim (Null name) is = led_seat k name d r (Operation (Op.Open a)) item refl seated stand
+            (by_name name (ran_as d r (Operation (Op.Open a))).outcome.machine.store.tree d.context (after (Operation (Op.Open a))) is)
+        by_claim claim is = seat_same k.current k.saved d.context (after (Operation (Op.Open a))) seated (sym is.0, is.3)
+    seats_behind (Operation (Op.SecinfoNoName style)) item =
+        seat_put k.current k.saved None d.context (after (Operation (Op.SecinfoNoName style))) seated
+        (was_spent room d.before d.context style (was_ok d r (Operation (Op.SecinfoNoName style)) item ok)) (λ h e. absurd cc)
+    seats_behind i item = seat_same k.current k.saved d.context (after i) seated (plain_same room d.before d.context i refl)
+
+    came_behind : (i : Item) → d.item ≡ i → (p : Place) → (behind the_root k i d.result).came_by ≡ Some p → CameBy p (after i) (rows d.behind)
+    came_behind (Operation (Op.PutFh h)) item p e = absurd cc
+    came_behind (Operation Op.PutRootFh) item p e = absurd cc
+    came_behind (Operation Op.PutPubFh) item p e = absurd cc
+    came_behind (Operation Op.SaveFh) item p e =
+        came_kept p d r (after (Operation Op.SaveFh)) (ap takes_names item) (was_saved room d.before d.context (was_ok d r (Operation Op.SaveFh) item ok)).0 (came p e)
+    came_behind (Operation Op.RestoreFh) item p e = absurd cc
+    came_behind (Operation (Op.Lookup name)) item p e =
+        led_came k name d r (Operation (Op.Lookup name)) item seated (looked_up room d.before d.context name (was_ok d r (Operation (Op.Lookup name)) item ok)) p e
+    came_behind (Operation Op.LookupP) item p e = absurd cc
+    came_behind (Operation (Op.Create a)) item p e =
+        led_came k a.objname d r (Operation (Op.Create a)) item seated (was_created room d.before d.context a (was_ok d r (Operation (Op.Create a)) item ok)) p e
+    came_behind (Operation (Op.Open a)) item p e = by_claim a.claim (was_opened room d.before d.context a (was_ok d r (Operation (Op.Open a)) item ok)) e
+      where
+        by_claim : (claim : OpenClaim) → (let s = ran_as d r (Operation (Op.Open a)) in OpenedTo claim s.outcome.machine.store.tree d.context s.context
+            → (opened claim k).came_by ≡ Some p → CameBy p s.context (rows d.behind))
+        by_claim (Null name) is e = led_came k name d r (Operation (Op.Open a)) item seated
+            (by_name name (ran_as d r (Operation (Op.Open a))).outcome.machine.store.tree d.context (after (Operation (Op.Open a))) is) p e
+        by_claim claim is e = came_kept p d r (after (Operation (Op.Open a))) (ap takes_names item) (sym is.0) (came p e)
+    came_behind (Operation (Op.Remove name)) item p e = absurd cc
+    came_behind (Operation (Op.Rename a)) item p e = absurd cc
+    came_behind (Operation (Op.SecinfoNoName style)) item p e = absurd cc
+    came_behind i item p e = came_kept p d r (after i) (ap takes_names item) (plain_same room d.before d.context i refl).0 (came p e)
+
+  -- What an operation tells.
+
+  tells : (d : RanOp) → IsRun d → (k : Known) → d.before.store.opens.instance ≡ instance → Holds k d.context (rows d.before) → Tells instance k d
+  tells d r k own holds = record {
+    gives = λ h known item ok.
+        (let at = holds.seated.at_current h known in
+        let got = was_got (room_of d r) d.before d.context (was_ok d r (Operation Op.GetFh) item ok) in
+        let same : got.0 ≡ at.0 = some_same d.context.current got.0 at.0 got.1 at.2 in
+        result_is d r (Operation Op.GetFh) item
+        ∙ (got.2 ∙ (ap (λ i. spell_result (Res.GetFh (handle_in i got.0))) own
+        ∙ (ap (λ n. spell_result (Res.GetFh (handle_in instance n))) same ∙ ap (λ h. spell_result (Res.GetFh h)) (sym at.1.is)))));
+    there = λ h known item told.
+        (let at = holds.seated.at_current h known in
+        got_there (room_of d r) d.before d.context at.0 at.2 (sym (result_is d r (Operation Op.GetFh) item) ∙ told));
+    finds = λ h name object known leads item told.
+        (let n = numbers k.names (rows d.before) (Some h) d.context.current name object holds.names (λ g e. holds.seated.at_current g (known ∙ e)) leads in
+        missed d r n.directory name n.number item n.at n.leads told);
+    on = λ h known. holds.seated.at_current h known;
+  }
+
+  -- Operations one after the other.
+
+  abbrev Begins : Known → List Row → Option Context → Type 0
+  Begins k rs next = (x : Context) → next ≡ Some x → Seated k.current k.saved x × ((p : Place) → k.came_by ≡ Some p → CameBy p x rs)
+
+  begun : (names : List KnownName) (rs : List Row) (next : Option Context) → Begins (starts names) rs next
+  begun names rs next x e = (record { at_current = λ h e. absurd cc; at_saved = λ h e. absurd cc }, λ p e. absurd cc)
+
+  refused_names : (d : RanOp) → IsRun d → (names : List KnownName) → AllStand names (rows d.before) → is_ok d.status ≡ false → (i : Item) → d.item ≡ i
+      → AllStand names (rows d.behind)
+  refused_names d r names stand failed (Operation (Op.Remove name)) item k there = stands_kept d r k (stand k there) (λ n bears. by_take n)
+    where
+      none : IsDone Num.Remove d.result → ⊥
+      none is = (removed_so (room_of d r) d.before d.context name).1 (ap (λ (d : RanOp). is_ok d.status) (sym (as_step d r (Operation (Op.Remove name)) item)) ∙ failed)
+          (subst (IsDone Num.Remove) (result_is d r (Operation (Op.Remove name)) item) is)
+
+      by_take : (n : ℕ) → TakesIt n k.place.name d → ⊥
+      by_take n (Removed is at done) = none done
+      by_take n (MovedAway a is old saved done) = (let bad : Operation (Op.Rename a) ≡ Operation (Op.Remove name) = sym is ∙ item in absurd cc)
+      by_take n (MovedOver a is new at done) = (let bad : Operation (Op.Rename a) ≡ Operation (Op.Remove name) = sym is ∙ item in absurd cc)
+  refused_names d r names stand failed (Operation (Op.Rename a)) item k there = stands_kept d r k (stand k there) (λ n bears. by_take n)
+    where
+      none : IsDone Num.Rename d.result → ⊥
+      none is = (renamed_as (room_of d r) d.before d.context a).1 (ap (λ (d : RanOp). is_ok d.status) (sym (as_step d r (Operation (Op.Rename a)) item)) ∙ failed)
+          (subst (IsDone Num.Rename) (result_is d r (Operation (Op.Rename a)) item) is)
+
+      by_take : (n : ℕ) → TakesIt n k.place.name d → ⊥
+      by_take n (Removed is at done) = (let bad : Operation (Op.Remove k.place.name) ≡ Operation (Op.Rename a) = sym is ∙ item in absurd cc)
+      by_take n (MovedAway b is old saved done) = none done
+      by_take n (MovedOver b is new at done) = none done
+  refused_names d r names stand failed i item k there = plain_kept d r names stand (ap takes_names item) k there
+
+  record Steps (k : Known) (d : RanOp) (next : Option Context) : Type 0 where
+    pub begins : Begins (known_after the_root k d) (rows d.behind) next
+    pub names : AllStand (known_after the_root k d).names (rows d.behind)
+
+  steps : (d : RanOp) (next : Option Context) (to : RunsTo d next) (k : Known) → d.before.store.opens.instance ≡ instance → Holds k d.context (rows d.before) → Steps k d next
+  steps d next to k own holds = go (is_ok d.status) refl
+    where
+      go : (b : Bool) → is_ok d.status ≡ b → Steps k d next
+      go true ok =
+          let after : known_after the_root k d ≡ behind the_root k d.item d.result = ap (λ b. cond b (behind the_root k d.item d.result) k) ok in
+          record {
+            begins = subst (λ k. Begins k (rows d.behind) next) (sym after) (λ x e.
+                subst (λ x. Seated (behind the_root k d.item d.result).current (behind the_root k d.item d.result).saved x
+                × ((p : Place) → (behind the_root k d.item d.result).came_by ≡ Some p → CameBy p x (rows d.behind))) (sym (to.hands x e)) (
+                  seats_behind d next to k own ok holds.seated holds.came holds.names d.item refl,
+                  came_behind d next to k own ok holds.seated holds.came holds.names d.item refl,
+                ));
+            names = subst (λ (k : Known). AllStand k.names (rows d.behind)) (sym after)
+                (names_behind d next to k own ok holds.seated holds.came holds.names d.item refl);
+          }
+      go false failed =
+          let after : known_after the_root k d ≡ k = ap (λ b. cond b (behind the_root k d.item d.result) k) failed in
+          record {
+            begins = λ x e. absurd (let bad : None ≡ Some x = sym (to.stops failed) ∙ e in cc);
+            names = subst (λ (k : Known). AllStand k.names (rows d.behind)) (sym after) (refused_names d to.run k.names holds.names failed d.item refl);
+          }
+
+  -- what is known before each operation is so
+  pub record HoldsAt (k : Known) (d : RanOp) : Type 0 where
+    pub run : IsRun d
+    pub own : d.before.store.opens.instance ≡ instance
+    pub holds : Holds k d.context (rows d.before)
+
+  abbrev pub AllHold : Known → List RanOp → Type 0
+  AllHold k [] = Unit {0}
+  AllHold k (d ∷ more) = HoldsAt k d × AllHold (known_after the_root k d) more
+
+  walk : (m : Machine) (ds : List RanOp) (k : Known) → AreChained m ds → AreLinked ds → ((d : RanOp) → In d ds → d.before.store.opens.instance ≡ instance)
+      → Begins k (rows m) (next_of ds) → AllStand k.names (rows m) → AllHold k ds × AllStand (known_after_all the_root k ds).names (rows (left_by m ds))
+  walk m [] k chained linked own begins stand = (tt, stand)
+  walk m (d ∷ more) k chained linked own begins stand =
+      let same : rows m ≡ rows d.before = ap rows (sym chained.0) in
+      let first = begins d.context refl in
+      let holds : Holds k d.context (rows d.before) = record {
+        seated = first.0;
+        came = λ p e. subst (CameBy p d.context) same (first.1 p e);
+        names = subst (AllStand k.names) same stand;
+      } in
+      let its = own d (inl refl) in
+      let step = steps d (next_of more) linked.0 k its holds in
+      let rest = walk d.behind more (known_after the_root k d) chained.1 linked.1 (λ e there. own e (inr there)) step.begins step.names in
+      ((record { run = linked.0.run; own = its; holds = holds }, rest.0), rest.1)
+
+  -- A record: what is known holds before each of its operations, and the names behind it.
+
+  pub record HoldsIn (names : List KnownName) (s : ServerState) : Type 0 where
+    pub sound : IsSound s
+    pub own : Has instance s.machine
+    pub stand : AllStand names (rows s.machine)
+
+  pub one_record : (names : List KnownName) (s : ServerState) (c : Arrival) → HoldsIn names s
+      → AllHold (starts names) (ops_of s c) × HoldsIn (names_after the_root names s c) (state_after s c)
+  one_record names s c is =
+      let whole = whole_before s c is.sound.whole in
+      let runs = asked_runs (before s c) (asked_by s c) whole in
+      let did = walk runs.outset (ops_of s c) (starts names) runs.chained runs.linked (op_keeps (λ s. s.opens.instance ≡ instance) (instance_kept instance) s c is.sound is.own)
+      (begun names (rows runs.outset) (next_of (ops_of s c))) (subst (AllStand names) (sym runs.first) is.stand) in (
+        did.0,
+        record {
+          sound = sound_next s c is.sound;
+          own = has_next s c instance is.sound is.own;
+          stand = subst (AllStand (names_after the_root names s c)) (sym (ap (λ (s : ServerState). rows s.machine) (next_is s c) ∙ runs.last)) did.1;
+        },
+      )
+
+  follow : (ds : List RanOp) (k : Known) → AllHold k ds → Follow instance the_root k ds
+  follow [] k all = tt
+  follow (d ∷ more) k all = (tells d all.0.run k all.0.own all.0.holds, follow more (known_after the_root k d) all.1)
+
+  through : (s : ServerState) (records : List Arrival) (names : List KnownName) → HoldsIn names s → FollowThrough instance the_root names s records
+  through s [] names is = tt
+  through s (c ∷ more) names is =
+      let one = one_record names s c is in
+      (follow (ops_of s c) (starts names) one.0, through (state_after s c) more (names_after the_root names s c) one.1)
+
+  pub first_holds : (start : Start) → start.instance ≡ instance → HoldsIn [] (new_state start)
+  first_holds start own = record { sound = sound_new start; own = own; stand = λ k there. absurd there }
+
+pub handles_follow : HandlesFollow
+handles_follow start low records =
+    through start.instance low (new_state start) records [] (first_holds start.instance low start refl)

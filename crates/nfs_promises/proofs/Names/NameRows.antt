@@ -1,0 +1,295 @@
+-- What each operation does to the rows of the tree, by what was asked and what was answered.
+use Rattle.std.proofs.Common.{◌≡◌, ℕ, ◌+◌, Bool, true, false, not, List, [], ◌∷◌, ◌++◌, Option, Some, None, refl, sym, ◌∙◌, ap, subst, inl, inr}
+use Rattle.std.proofs.lemmas.Bool.{cases_Bool, true≢false}
+use Rattle.std.specs.{Prelude.{◌&&◌, IfSome, Ok}, Option.ForSome}
+use Rattle.nfs_xdr.specs.{Checks.judged, Spelling.number, declared.time.Time.Time}
+use Rattle.nfs_xdr.proofs.Lists.{find_in, find_kept, find_none_kept, find_push_some, find_push_other}
+use Rattle.nfs_compound.specs.{Arguments.arguments, declared.{lock_args.LockU.LockU, name_args.Rename.Rename}}
+use Rattle.nfs_compound.specs.{declared.open_args.Open.Open, declared.open_args.Close.Close, declared.open_args.OpenDowngrade.OpenDowngrade}
+use Rattle.nfs_compound.specs.{declared.file_args.Write.Write, declared.file_args.SetAttr.SetAttr, declared.stateid.Stateid.Stateid, declared.op.Op.Op}
+use Rattle.nfs_compound.specs.declared.op.Item.{Item, TheVariants.{Operation, Fault}}
+use Rattle.nfs_compound.specs.declared.lock_args.Lock as locks
+use Rattle.nfs_compound.specs.declared.op.Op.TheVariants as Op
+use Rattle.nfs_compound.specs.declared.op_num.OpNum.TheVariants as Num
+use Rattle.nfs_results.specs.Results.{spell_result}
+use Rattle.nfs_ranges.specs.declared.Held.{Held}
+use Rattle.nfs_tree.specs.{declared.object.Object.Object, declared.row.Row.Row, Files.{Files, object_at, is_entry, entry, object_named, without_entry}}
+use Rattle.nfs_tree.specs.{Bytes.has_bytes, Names.{Move, moves, moved_object, with_row}}
+use Rattle.nfs_tree.proofs.RowsKept.{entry_parts}
+use Rattle.nfs_attrs.specs.declared.wanted.Wanted.{Wanted}
+use Rattle.nfs_opens.specs.Closing as closing
+use Rattle.nfs_opens.specs.Locking as locking
+use Rattle.nfs_names.specs.{declared.{context.Context.Context, node.Node.Node}, State.{State, is_used, without_unused, moment}}
+use Rattle.nfs_names.specs.{Ending.with_opens, Checks.{node_as, node_at, saved_object, current, both}, Outcome.{Outcome, checked}, PutPubFh.put_pub_fh}
+use Rattle.nfs_names.specs.{PutRootFh.put_root_fh, Rename.{without_replaced, move_of, renamed}}
+use Rattle.nfs_names.specs.Operation as names
+use Rattle.nfs_names.proofs.{Found.{came, ok_is, checked_ok}, Ones.{if_delayed, each_of, by_delay}}
+use Rattle.nfs_names.proofs.NameLaws as law
+use Rattle.nfs_files.specs.{Operation.grows, Close.close, FreeStateid.free_stateid, LockU.lock_u, Parts.writable}
+use Rattle.nfs_files.specs.{OpenDowngrade.open_downgrade, Read.read, TestStateid.test_stateid}
+use Rattle.nfs_files.specs.Parts as parts
+use Rattle.nfs_files.specs.Lock as of_lock
+use Rattle.nfs_files.specs.OpenParts as open_parts
+use Rattle.nfs_files.specs.Open as of_open
+use Rattle.nfs_files.specs.SetAttrParts as set_parts
+use Rattle.nfs_files.specs.SetAttr as of_set
+use Rattle.nfs_files.specs.Write as of_write
+use Rattle.nfs_files.proofs.Terms.{tested}
+use Rattle.nfs_files.proofs.Outcomes as files
+use Rattle.nfs_files.proofs.{Outcomes.for_each, OpenRows.{OpensRows, Kept, Put, opened_rows}, WrittenOps.{by_found, current_number}}
+use Rattle.nfs_files.proofs.OpensMoved.{by_close, by_free, by_downgrade, by_lock, by_unlock}
+use Rattle.nfs_exec.specs.{Step.{Machine.Machine, Behind.{Step, step, on_store}}, Runs.Ops.RanOp}
+use Rattle.nfs_exec.proofs.{Step.Behind.by_step, Runs.KeptByRuns.otherwise_store, Runs.WhatWasDone.{in_room_is, IsRun}}
+use Rattle.nfs_promises.specs.Names.NameStays.{IsDone, Makes, ByCreate, ByOpen, ByLink, ByRename, Takes, TakesIt, Removed, MovedAway, MovedOver}
+use Rattle.nfs_files.proofs.InSteps as in_steps
+
+-- The rows are the same, or one more is there, or those of a name are gone, or an entry moved.
+pub data DidRows (t : Files) (rows : List Row) (x : Context) (i : Item) (result : List ℕ) : Type 0 where
+  Same : rows ≡ t.rows → DidRows t rows x i result
+  Added : (r : Row) → rows ≡ t.rows ++ r ∷ [] → Makes r.directory r.name x i result → DidRows t rows x i result
+  Dropped : (d : ℕ) (name : List ℕ) → rows ≡ without_entry d name t.rows → Takes d name x i result → DidRows t rows x i result
+  Moved : (m : Move) (n cookie : ℕ) → rows ≡ with_row (without_entry m.source m.old (without_entry m.target m.name t.rows)) m.target m.name n cookie
+      → Takes m.source m.old x i result → Takes m.target m.name x i result → Makes m.target m.name x i result → DidRows t rows x i result
+
+abbrev Did : State → Context → Item → Outcome → Type 0
+Did s x i o = DidRows s.tree o.state.tree.rows x i (spell_result o.result)
+
+pub unused_rows : (s : State) (n : ℕ) → (without_unused s n).tree.rows ≡ s.tree.rows
+unused_rows s n = elim (cases_Bool (is_used s n)) [ inl stays ↦ rw stays refl | inr goes ↦ rw goes refl ]
+
+pub replaced_rows : (s : State) (o : Option ℕ) → (without_replaced s o).tree.rows ≡ s.tree.rows
+replaced_rows s None = refl
+replaced_rows s (Some n) = unused_rows s n
+
+-- The objects of the current filehandle and of the saved one.
+
+number_as : (n : ℕ) (o : Option Object) (d : Node) → node_as n o ≡ Ok d → Some n ≡ Some d.number
+number_as n None d e = absurd cc
+number_as n (Some o) d e = let same : record { number = n; object = o } ≡ d = cc in ap (λ (h : Node). Some h.number) same
+
+number_at : (s : State) (o : Option ℕ) (d : Node) → node_at s o ≡ Ok d → o ≡ Some d.number
+number_at s None d e = absurd cc
+number_at s (Some n) d e = number_as n (object_at s.tree n) d e
+
+pub record AreAt (x : Context) (current saved : ℕ) : Type 0 where
+  pub current_is : x.current ≡ Some current
+  pub saved_is : saved_object x.saved ≡ Some saved
+
+picked : {P : Type 0} (a b : P) → a ≡ b → (pick : P → Option ℕ) → pick a ≡ pick b
+picked a b same pick = ap pick same
+
+pub both_at : (s : State) (x : Context) (p : _) → both s x ≡ Ok p → AreAt x p.current.number p.saved.number
+unfolding both
+both_at s x p e =
+    let d = came (current s x) _ p e in
+    let k = came (node_at s (saved_object x.saved)) _ p d.then in
+    record {
+      current_is = current_number s x d.found d.is ∙ picked _ p (ok_is refl k.then) (λ q. Some q.current.number);
+      saved_is = number_at s (saved_object x.saved) k.found k.is ∙ picked _ p (ok_is refl k.then) (λ q. Some q.saved.number);
+    }
+
+-- Operations on names.
+
+did_rename : (s : State) (x : Context) (now : Time) (a : Rename) (p : _) (b : Bool) → both s x ≡ Ok p → Did s x (Operation (Op.Rename a)) (renamed s x now a p b)
+did_rename s x now a p true at =
+    Moved (move_of a p) (moved_object s.tree (move_of a p)) (s.tree.last_cookie + 1) (replaced_rows _ (object_named s.tree p.current.number a.newname))
+    (MovedAway a refl refl (both_at s x p at).saved_is (_, refl)) (MovedOver a refl refl (both_at s x p at).current_is (_, refl))
+    (ByRename a refl refl (both_at s x p at).current_is (_, refl))
+did_rename s x now a p false at = Same refl
+
+did_name : (s : State) (x : Context) (now : Time) (op : Op) → IfSome (names.one s x now op) (Did s x (Operation op))
+unfolding put_pub_fh put_root_fh
+did_name s x now (Op.Access asked) = law.by_access (Did s x (Operation (Op.Access asked))) s x asked (λ f h. Same refl) (λ d there. Same refl)
+did_name s x now (Op.Create c) = law.by_create (Did s x (Operation (Op.Create c))) s x now c (λ f h. Same refl) (λ d wanted there placed read row.
+    Added (record { directory = d.number; name = c.objname; object = s.tree.last_object + 1; cookie = s.tree.last_cookie + 1 }) refl
+    (ByCreate c refl refl (current_number s x d there) (_, refl)))
+did_name s x now (Op.GetAttr words) = law.by_get_attr (Did s x (Operation (Op.GetAttr words))) s x words (λ f h. Same refl) (λ d there plain. Same refl)
+did_name s x now Op.GetFh = law.by_get_fh (Did s x (Operation Op.GetFh)) s x (λ f h. Same refl) (λ d there. Same refl)
+did_name s x now (Op.Link name) = law.by_link (Did s x (Operation (Op.Link name))) s x now name (λ f h. Same refl) (λ p there placed row.
+    Added (record { directory = p.current.number; name = name; object = p.saved.number; cookie = s.tree.last_cookie + 1 }) refl
+    (ByLink refl (both_at s x p there).current_is (_, refl)))
+did_name s x now (Op.Lookup name) = law.by_lookup (Did s x (Operation (Op.Lookup name))) s x name (λ f h. Same refl) (λ d n there placed named. Same refl)
+did_name s x now Op.LookupP = law.by_lookup_p (Did s x (Operation Op.LookupP)) s x (λ f h. Same refl) (λ d n there placed stands. Same refl)
+did_name s x now (Op.NVerify a) = law.by_nverify (Did s x (Operation (Op.NVerify a))) s x a (λ f h. Same refl) (λ equal e unequal. Same refl)
+did_name s x now (Op.PutFh object) = law.by_put_fh (Did s x (Operation (Op.PutFh object))) s x object (λ f h. Same refl) (λ h read placed. Same refl)
+did_name s x now Op.PutPubFh = Same refl
+did_name s x now Op.PutRootFh = Same refl
+did_name s x now (Op.ReadDir a) = law.by_read_dir (Did s x (Operation (Op.ReadDir a))) s x a (λ f h. Same refl) (λ d there placed some. Same refl)
+did_name s x now Op.ReadLink = law.by_read_link (Did s x (Operation Op.ReadLink)) s x (λ f h. Same refl) (λ d there linked. Same refl)
+did_name s x now (Op.Remove name) = law.by_remove (Did s x (Operation (Op.Remove name))) s x now name (λ f h. Same refl) (λ d there placed row.
+    Dropped d.number name (unused_rows _ _) (Removed refl (current_number s x d there) (_, refl)))
+did_name s x now (Op.Rename a) = law.by_rename (Did s x (Operation (Op.Rename a))) s x now a (λ f h. Same refl) (λ p there row.
+    did_rename s x now a p (moves s.tree (move_of a p)) there)
+did_name s x now Op.RestoreFh = law.by_restore_fh (Did s x (Operation Op.RestoreFh)) s x (λ f h. Same refl) (λ saved there stands. Same refl)
+did_name s x now Op.SaveFh = law.by_save_fh (Did s x (Operation Op.SaveFh)) s x (λ f h. Same refl) (λ d there. Same refl)
+did_name s x now (Op.SecinfoNoName style) =
+    law.by_secinfo_no_name (Did s x (Operation (Op.SecinfoNoName style))) s x style (λ f h. Same refl) (λ d there placed. Same refl)
+did_name s x now (Op.Verify a) = law.by_verify (Did s x (Operation (Op.Verify a))) s x a (λ f h. Same refl) (λ equal e same. Same refl)
+did_name s x now op = tt
+
+did_names : (refused : Bool) (s : State) (x : Context) (now : Time) (i : Item) → ForSome (names.comes_to refused s x now i) (Did s x i)
+did_names refused s x now (Operation op) =
+    each_of (Did s x (Operation op)) (names.comes_to refused s x now (Operation op))
+    (if_delayed (Did s x (Operation op)) (names.grows s x op && refused) s x (arguments op).op (names.one s x now op) (Same refl) (did_name s x now op))
+did_names refused s x now (Fault n status) = λ o e. absurd cc
+
+-- Operations on open files: an OPEN may make a name.
+
+did_opened : (s : State) (x : Context) (o : Open) (rows : List Row) (result : List ℕ) → IsDone Num.Open result → OpensRows s x o rows
+    → DidRows s.tree rows x (Operation (Op.Open o)) result
+did_opened s x o rows result is (Kept same) = Same same
+did_opened s x o rows result is (Put r more claim at) = Added r more (ByOpen o refl claim at is)
+
+did_open : (s : State) (x : Context) (now : Time) (o : Open) → Did s x (Operation (Op.Open o)) (of_open.open_file s x now o)
+did_open s x now o =
+    rw (in_steps.open_is s x now o)
+    (by_found (Did s x (Operation (Op.Open o))) s x Num.Open (checked (open_parts.asked_for s x o) (of_open.last_checks s x o)) (of_open.opened s x now o)
+    (λ status. Same refl) (λ f granted.
+    did_opened s x o _ _ (_, refl) (opened_rows s x now o f (checked_ok (open_parts.asked_for s x o) (of_open.last_checks s x o) f granted).0)))
+
+-- the others leave the rows
+abbrev Keeps : State → State → Type 0
+Keeps s t = t.tree.rows ≡ s.tree.rows
+
+kept_close : (s : State) (x : Context) (a : Close) → Keeps s (close s x a).state
+kept_close s x a = by_close (λ o. Keeps s o.state) s x a (λ status. refl) (λ t did judged granted its. unused_rows (with_opens s (closing.without_open s.opens t.id.number)) t.file)
+
+kept_lock : (s : State) (x : Context) (a : locks.Lock) → Keeps s (of_lock.lock s x a).state
+kept_lock s x a = by_lock (λ o. Keeps s o.state) s x a (λ status. refl) (λ h. refl) (λ m did judged granted locked. refl)
+
+kept_unlock : (s : State) (x : Context) (a : LockU) → Keeps s (lock_u s x a).state
+kept_unlock s x a = by_unlock (λ o. Keeps s o.state) s x a (λ status. refl) (λ m did judged granted unlocked. refl)
+
+kept_free : (s : State) (x : Context) (given : Stateid) → Keeps s (free_stateid s x given).state
+kept_free s x given = by_free (λ o. Keeps s o.state) s x given (λ status. refl) (λ id did freed. refl)
+
+kept_downgrade : (s : State) (x : Context) (a : OpenDowngrade) → Keeps s (open_downgrade s x a).state
+kept_downgrade s x a = by_downgrade (λ o. Keeps s o.state) s x a (λ status. refl) (λ t did narrowed. refl)
+
+kept_tested : (s : State) (x : Context) (o : Option Held) → Keeps s (tested s x o).state
+kept_tested s x None = refl
+kept_tested s x (Some h) = refl
+
+kept_write : (s : State) (x : Context) (now : Time) (w : Write) → Keeps s (of_write.write s x now w).state
+kept_write s x now w =
+    rw (in_steps.write_is s x now w)
+    (by_found (λ o. Keeps s o.state) s x Num.Write (checked (writable s x w.stateid (current s x)) (of_write.last_checks s w)) (parts.was_written s x now w)
+    (λ status. refl) (λ d granted. elim (cases_Bool (has_bytes w.bytes)) [ inl some ↦ rw some refl | inr empty ↦ rw empty refl ]))
+
+kept_set : (s : State) (n : ℕ) (now : Time) (w : Wanted) (size : Option ℕ) → (of_set.with_set s.tree n now w size).rows ≡ s.tree.rows
+kept_set s n now w (Some size) = refl
+kept_set s n now w None = elim (cases_Bool (of_set.gives_some w)) [ inl some ↦ rw some refl | inr nothing ↦ rw nothing refl ]
+
+kept_set_attr : (s : State) (x : Context) (now : Time) (a : SetAttr) → Keeps s (of_set.set_attr s x now a).state
+kept_set_attr s x now a =
+    rw (in_steps.set_attr_is s x now a)
+    (by_found (λ o. Keeps s o.state) s x Num.SetAttr (checked (set_parts.asked_for s x a) (set_parts.last_checks s)) (set_parts.was_set s x now a)
+    (λ status. refl) (λ m granted. kept_set s m.node.number now m.wanted m.wanted.size))
+
+did_file : (s : State) (x : Context) (now : Time) (op : Op) → Did s x (Operation op) (files.one s x now op)
+unfolding test_stateid
+did_file s x now (Op.Close a) = Same (kept_close s x a)
+did_file s x now (Op.Commit a) = Same (rw (in_steps.commit_is s x) (by_found (λ o. Keeps s o.state) s x Num.Commit _ _ (λ status. refl) (λ d e. refl)))
+did_file s x now (Op.FreeStateid given) = Same (kept_free s x given)
+did_file s x now (Op.Lock a) = Same (kept_lock s x a)
+did_file s x now (Op.LockT a) =
+    Same (rw (in_steps.test_is s x a) (by_found (λ o. Keeps s o.state) s x Num.LockT _ _ (λ status. refl) (λ w e. kept_tested s x (locking.test_lock s.opens a.owner.owner w))))
+did_file s x now (Op.LockU a) = Same (kept_unlock s x a)
+did_file s x now (Op.Open a) = did_open s x now a
+did_file s x now (Op.OpenDowngrade a) = Same (kept_downgrade s x a)
+did_file s x now (Op.Read a) = Same (rw (in_steps.read_is s x a) (by_found (λ o. Keeps s o.state) s x Num.Read _ _ (λ status. refl) (λ d e. refl)))
+did_file s x now (Op.SetAttr a) = Same (kept_set_attr s x now a)
+did_file s x now (Op.TestStateid given) = Same refl
+did_file s x now (Op.Write a) = Same (kept_write s x now a)
+did_file s x now op = Same refl
+
+did_files : (refused : Bool) (s : State) (x : Context) (now : Time) (i : Item) → Did s x i (files.comes_to refused s x now i)
+did_files refused s x now (Operation op) =
+    by_delay (Did s x (Operation op)) (grows s x op && refused) s x (arguments op).op (files.one s x now op) (Same refl) (did_file s x now op)
+did_files refused s x now (Fault n status) = Same refl
+
+-- One operation of a compound.
+
+abbrev DidStep : Machine → Context → Item → Step → Type 0
+DidStep m x i s = DidRows m.store.tree s.outcome.machine.store.tree.rows x i s.outcome.result
+
+step_rows : (m : Machine) (x : Context) (now : ℕ) (refused : Bool) (i : Item) → DidStep m x i (step m x now refused i)
+step_rows m x now refused i =
+    by_step (DidStep m x i) m x now refused i (did_names refused m.store x (moment now) i)
+    (for_each (λ o. DidStep m x i (on_store m o)) refused m.store x (moment now) i (did_files refused m.store x (moment now) i))
+    (λ none other. Same (ap (λ (s : State). s.tree.rows) (otherwise_store m x i)))
+
+pub run_rows : (d : RanOp) → IsRun d → DidRows d.before.store.tree d.behind.store.tree.rows d.context d.item d.result
+run_rows d r =
+    subst (λ (d : RanOp). DidRows d.before.store.tree d.behind.store.tree.rows d.context d.item d.result) (sym r.is)
+    (in_room_is (DidStep d.before d.context d.item) r.limit r.sofar r.now r.refused d.before d.context d.item (Same refl)
+    (step_rows d.before d.context r.now r.refused d.item))
+
+-- What that leaves of a name.
+
+pub entry_at : (rows : List Row) (d : ℕ) (name : List ℕ) (r : Row) → entry rows d name ≡ Some r → (r.directory ≡ d) × (r.name ≡ name)
+entry_at rows d name r e = entry_parts d name r (find_in (is_entry d name) rows r e).1
+
+-- it is found where another one is taken away
+without_other : (rows : List Row) (d e : ℕ) (name called : List ℕ) (r : Row) → entry rows d name ≡ Some r → (e ≡ d → called ≡ name → ⊥)
+    → entry (without_entry e called rows) d name ≡ Some r
+without_other rows d e name called r found other = elim (cases_Bool (is_entry e called r)) [
+  | inl is ↦ (let parts = entry_parts e called r is in
+      let at = entry_at rows d name r found in
+      absurd (other (sym parts.0 ∙ at.0) (sym parts.1 ∙ at.1)))
+  | inr out ↦ find_kept (is_entry d name) (λ (r : Row). not (is_entry e called r)) rows r found (ap not out)
+]
+
+-- what spares it leaves it
+pub kept_rows : (t : Files) (rows : List Row) (x : Context) (i : Item) (result : List ℕ) (d : ℕ) (name : List ℕ) (r : Row) → DidRows t rows x i result
+    → entry t.rows d name ≡ Some r → (Takes d name x i result → ⊥) → entry rows d name ≡ Some r
+kept_rows t rows x i result d name r (Same e) found spares = ap (λ rows. entry rows d name) e ∙ found
+kept_rows t rows x i result d name r (Added new e makes) found spares =
+    ap (λ rows. entry rows d name) e ∙ find_push_some (is_entry d name) t.rows new r found
+kept_rows t rows x i result d name r (Dropped at called e takes) found spares =
+    ap (λ rows. entry rows d name) e
+    ∙ without_other t.rows d at name called r found (λ same named. spares (subst (λ d. Takes d name x i result) same (subst (λ n. Takes at n x i result) named takes)))
+kept_rows t rows x i result d name r (Moved m n cookie e away over makes) found spares =
+    let Other : (at : ℕ) (called : List ℕ) → Takes at called x i result → at ≡ d → called ≡ name → ⊥ =
+    λ at called takes same named. spares (subst (λ d. Takes d name x i result) same (subst (λ n. Takes at n x i result) named takes)) in
+    ap (λ rows. entry rows d name) e
+    ∙ find_push_some (is_entry d name) _ _ r
+    (without_other (without_entry m.target m.name t.rows) d m.source name m.old r
+    (without_other t.rows d m.target name m.name r found (Other m.target m.name over)) (Other m.source m.old away))
+
+-- it is not found behind another row
+pushed_none : (rows : List Row) (new : Row) (d : ℕ) (name : List ℕ) → entry rows d name ≡ None → (new.directory ≡ d → new.name ≡ name → ⊥)
+    → entry (rows ++ new ∷ []) d name ≡ None
+pushed_none rows new d name none other = elim (cases_Bool (is_entry d name new)) [
+  | inl is ↦ (let parts = entry_parts d name new is in absurd (other parts.0 parts.1))
+  | inr out ↦ find_push_other (is_entry d name) rows new out ∙ none
+]
+
+without_none : (rows : List Row) (d e : ℕ) (name called : List ℕ) → entry rows d name ≡ None → entry (without_entry e called rows) d name ≡ None
+without_none rows d e name called none = find_none_kept (is_entry d name) (λ (r : Row). not (is_entry e called r)) rows none
+
+-- what does not make it leaves it gone
+pub gone_rows : (t : Files) (rows : List Row) (x : Context) (i : Item) (result : List ℕ) (d : ℕ) (name : List ℕ) → DidRows t rows x i result
+    → entry t.rows d name ≡ None → (Makes d name x i result → ⊥) → entry rows d name ≡ None
+gone_rows t rows x i result d name (Same e) none spares = ap (λ rows. entry rows d name) e ∙ none
+gone_rows t rows x i result d name (Added new e makes) none spares =
+    ap (λ rows. entry rows d name) e
+    ∙ pushed_none t.rows new d name none (λ same named. spares (subst (λ d. Makes d name x i result) same (subst (λ n. Makes new.directory n x i result) named makes)))
+gone_rows t rows x i result d name (Dropped at called e takes) none spares = ap (λ rows. entry rows d name) e ∙ without_none t.rows d at name called none
+gone_rows t rows x i result d name (Moved m n cookie e away over makes) none spares =
+    ap (λ rows. entry rows d name) e
+    ∙ pushed_none (without_entry m.source m.old (without_entry m.target m.name t.rows)) _ d name
+    (without_none (without_entry m.target m.name t.rows) d m.source name m.old (without_none t.rows d m.target name m.name none))
+    (λ same named. spares (subst (λ d. Makes d name x i result) same (subst (λ n. Makes m.target n x i result) named makes)))
+
+-- What is neither a REMOVE nor a RENAME spares each name.
+
+abbrev pub takes_names : Item → Bool
+takes_names (Operation (Op.Remove name)) = true
+takes_names (Operation (Op.Rename a)) = true
+takes_names i = false
+
+pub spared : (directory : ℕ) (name : List ℕ) (d : RanOp) → takes_names d.item ≡ false → TakesIt directory name d → ⊥
+spared directory name d e (Removed is at done) = true≢false (sym (ap takes_names is) ∙ e)
+spared directory name d e (MovedAway a is old saved done) = true≢false (sym (ap takes_names is) ∙ e)
+spared directory name d e (MovedOver a is new at done) = true≢false (sym (ap takes_names is) ∙ e)

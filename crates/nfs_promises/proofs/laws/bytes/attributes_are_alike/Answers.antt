@@ -1,0 +1,5 @@
+use Rattle.nfs_promises.proofs.Bytes.ChangeAttributes.{attributes_are_alike}
+use Rattle.nfs_promises.proofs.laws.bytes.attributes_are_alike.Goals as goal
+
+pub returns : goal.returns
+returns c = attributes_are_alike

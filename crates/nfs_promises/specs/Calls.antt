@@ -1,0 +1,16 @@
+pub mod Streams
+pub mod NothingIsLost
+pub mod WaitsForFew
+pub mod WholeRuns
+pub mod EachForm
+pub mod Exchanges
+pub mod EachIsAnswered
+pub mod SessionStays
+pub mod SessionStaysWorked
+pub mod SessionsOnce
+pub mod SessionsOnceWorked
+pub mod SessionsDenied
+pub mod SessionsDeniedWorked
+pub mod NeverExpired
+pub mod LeaseTold
+pub mod LeaseToldWorked

@@ -1,0 +1,13 @@
+pub mod Handles
+pub mod HandlesWorked
+pub mod KnownHandles
+pub mod KnownHandlesWorked
+pub mod StaleTruly
+pub mod StaleTrulyWorked
+pub mod NameStays
+pub mod NameStaysWorked
+pub mod FileStays
+pub mod FileStaysWorked
+pub mod OpenReads
+pub mod ListsAll
+pub mod ListsAllWorked

@@ -1,0 +1,15 @@
+pub mod Endpoint
+pub mod ExactlyOnce
+pub mod ByNumber
+pub mod PerfectWire
+pub mod RealTime
+pub mod ExecutingAlone
+pub mod ThisServer
+pub mod LostReply
+pub mod GivenUp
+pub mod SeenWrite
+pub mod WrongServers
+pub mod AnsweredAgain
+pub mod AnsweredAgainWorked
+pub mod FreshRuns
+pub mod WrongAnswers

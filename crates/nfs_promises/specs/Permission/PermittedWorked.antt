@@ -1,0 +1,77 @@
+-- A file whose mode gives its owner nothing, worked by hand over the run of `WrittenStaysWorked` (RFC 8881 sections 6.2.4, 18.16, 18.22 and 18.30). The
+-- user 5, whose group is 6, makes the file `f`, and sets its mode to `r` for its group alone. The user's READ under the anonymous stateid is refused by NFS4ERR_ACCESS: the
+-- owner's digit alone decides. Then the mode is `r` for the owner alone, and the READ is answered.
+use Rattle.std.specs.Prelude.{◌≡◌, ℕ, ◌+◌, List, [], ◌∷◌, ◌++◌}
+use Rattle.nfs_xdr.specs.declared.status.Status.TheVariants.{Nfs4Ok, Access}
+use Rattle.nfs_compound.specs.declared.op.Op.{Op}
+use Rattle.nfs_names.specs.Context.{anonymous}
+use Rattle.nfs_exec.specs.Runs.Ops.{RanOp}
+use Rattle.nfs_serve.specs.{Step.ServerState}
+use Rattle.nfs_promises.specs.{Runs.{Requests.{words, stateid, in_session}, Points.{state_after, ops_of}}, Network.Endpoint.Arrival}
+use Rattle.nfs_promises.specs.{Names.FileStaysWorked.with_status, Locks.LockKeptWorked.{came, outset, last_of, statuses}, Permission.Permitted.{Rights, IsAt}}
+use Rattle.nfs_promises.specs.Permission.{Permitted.{IsGranted, IsRefused}, RightsTold.{rights_after_all, HasRights, MakesWith}}
+use Rattle.nfs_promises.specs.Bytes.WrittenStaysWorked.{makes, made}
+use Rattle.nfs_promises.specs.Network.SeenWrite as seen
+
+abbrev pub sets : (now number mode : ℕ) → Arrival
+sets now number mode = came (100 + now) now (in_session 1 number (Op.PutRootFh ∷ Op.Lookup (0x66 ∷ [])
+    ∷ Op.SetAttr (record { stateid = anonymous; obj_attributes = record { attrmask = 0 ∷ 2 ∷ []; attr_vals = words (mode ∷ []) } }) ∷ []))
+
+-- PUTROOTFH, LOOKUP of `f`, and READ under the anonymous stateid
+abbrev pub reads : (now number : ℕ) → Arrival
+reads now number = came (100 + now) now (in_session 1 number seen.reads)
+
+-- the group may read: 040; and then the owner: 400
+abbrev pub to_group : Arrival
+to_group = sets 4 2 32
+
+abbrev pub asks : Arrival
+asks = reads 5 3
+
+abbrev pub to_owner : Arrival
+to_owner = sets 6 4 256
+
+abbrev pub asks_again : Arrival
+asks_again = reads 7 5
+
+-- and before the mode is set
+abbrev pub asks_early : Arrival
+asks_early = reads 4 2
+
+abbrev pub shut : ServerState
+shut = state_after made to_group
+
+abbrev pub refused : ServerState
+refused = state_after shut asks
+
+abbrev pub free : ServerState
+free = state_after refused to_owner
+
+-- user 5's and group 6's, with a mode
+abbrev pub with_mode : ℕ → Rights
+with_mode mode = record { mode = mode; owner = 5; group = 6 }
+
+-- The run meets the premises of the promises, and computes to what they say.
+pub record IsAskedOfTheOwner : Type 0 where
+  -- OPEN is the last operation of its compound, and made the file with rw-r--r--
+  pub front : List RanOp
+  pub opening : RanOp
+  pub ops : ops_of outset makes ≡ front ++ opening ∷ []
+  pub making : MakesWith 2 (with_mode 420) opening
+  -- what it has by the answers, behind each SETATTR
+  pub set : rights_after_all 2 (with_mode 420) (ops_of made to_group) ≡ with_mode 32
+  pub again : rights_after_all 2 (with_mode 32) (ops_of refused to_owner) ≡ with_mode 256
+  -- that the READs find, and so they are answered
+  pub at : (d : RanOp) → IsAt 2 (with_mode 32) (last_of d (ops_of shut asks))
+  pub denied : statuses (ops_of shut asks) ≡ Nfs4Ok ∷ Nfs4Ok ∷ Access ∷ []
+  pub at_last : (d : RanOp) → IsAt 2 (with_mode 256) (last_of d (ops_of free asks_again))
+  pub given : statuses (ops_of free asks_again) ≡ Nfs4Ok ∷ Nfs4Ok ∷ Nfs4Ok ∷ []
+
+-- The promises refuse these.
+pub record GrantsAreRefused : Type 0 where
+  -- the group's digit is asked for the owner too: the first READ is answered NFS4_OK
+  pub other_class : (d : RanOp) → IsGranted (with_status Nfs4Ok (last_of d (ops_of shut asks))) → ⊥
+  -- the second READ is refused, though the owner may read
+  pub needless : (d : RanOp) → IsRefused (with_status Access (last_of d (ops_of free asks_again))) → ⊥
+  -- the SETATTR set nothing
+  pub unset : (d : RanOp) → HasRights 2 (with_mode 32) (last_of d (ops_of made asks_early)) → ⊥

@@ -1,0 +1,10 @@
+pub mod AttributesTold
+pub mod Handles
+pub mod LockOwners
+pub mod OpenHeld
+pub mod Renewing
+pub mod SessionLasts
+pub mod Points
+pub mod Requests
+pub mod Followed
+pub mod Started

@@ -1,0 +1,10 @@
+-- What the servers of worked runs are started with.
+use Rattle.nfs_names.specs.{declared.start.Start.Start}
+
+-- the root has the mode 0o777, and a lease lasts 90 seconds
+abbrev pub usual : Start
+usual = record { mode = 511; instance = 7; lease = 90 }
+
+-- one whose leases last a second
+abbrev pub hasty_start : Start
+hasty_start = record { mode = 511; instance = 7; lease = 1 }

@@ -1,5 +1,0 @@
-use Rattle.nfs_serve.proofs.Promises.ListsAll.{pages_are_parts, gone_is_unlisted}
-use Rattle.nfs_serve.proofs.laws.nothing_else_is_listed.Goals as goal
-
-pub returns : goal.returns
-returns c = record { parts = pages_are_parts; gone = gone_is_unlisted }

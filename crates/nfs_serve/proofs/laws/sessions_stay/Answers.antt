@@ -1,5 +1,0 @@
-use Rattle.nfs_serve.proofs.Promises.SessionStays.{sessions_stay}
-use Rattle.nfs_serve.proofs.laws.sessions_stay.Goals as goal
-
-pub returns : goal.returns
-returns c = sessions_stay
