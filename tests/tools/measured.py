@@ -107,7 +107,7 @@ def row_of(name, commits, dates, lines):
     """The line of an old file; its reason is that of the line that the table has of it."""
     reasons = {cells[0].strip("`"): cells[-1] for cells in ([it.strip() for it in line.strip().strip("|").split("|")] for line in lines[2:])}
     words = " ".join(f"`{it.split()[0]}`{' with changes' if it.endswith(' with changes') else ''}" for it in commits)
-    return f"| `{name}` | {words} | {', '.join(dates)} | {reasons.get(name) or 'not measured again yet'} |"
+    return f"| `{name}` | {words} | {', '.join(dates)} | {reasons.get(name) or 'not yet'} |"
 
 
 def made(lines):
@@ -157,7 +157,7 @@ def try_itself():
         if (said is None) != (wanted is None) or (wanted and wanted not in said):
             wrong.append(f"tests/tools/measured.py: of {commits} with {ages} it says {said}, and not {wanted}")
     lines = ["| File |", "|---|", "| `a.tsv` | `b` | 2026-01-01 | why |"]
-    for name, reason in (("a.tsv", "why"), ("c.tsv", "not measured again yet")):
+    for name, reason in (("a.tsv", "why"), ("c.tsv", "not yet")):
         row = row_of(name, ["b", "d with changes"], ["2026-01-01"], lines)
         if row != f"| `{name}` | `b` `d` with changes | 2026-01-01 | {reason} |" or listed([*lines[:2], row]) != {name: ["b", "d with changes"]}:
             wrong.append(f"tests/tools/measured.py: it makes the line {row}")
