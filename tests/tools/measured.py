@@ -84,38 +84,28 @@ def listed(lines):
     found = {}
     for line in lines[2:]:
         cells = [it.strip() for it in line.strip().strip("|").split("|")]
-        words = re.findall(r"`([^`]+)`( with changes)?", cells[1]) if len(cells) == 4 and cells[3] else []
+        words = re.findall(r"`([^`]+)`( with changes)?", cells[1]) if len(cells) == 3 and cells[2] else []
         found[cells[0].strip("`")] = sorted("".join(it) for it in words)
     return found
-
-
-def dates_of(path):
-    """The days of the runs that a file is of: its line `# date`, or its column `date`."""
-    lines = path.read_text(encoding="utf-8").splitlines()
-    named = [line.removeprefix("# date: ")[:10] for line in lines if line.startswith("# date: ")]
-    heads, *rows = [line.split("\t") for line in lines if not line.startswith("#")]
-    if "date" in heads:
-        named += [row[heads.index("date")] for row in rows]
-    return sorted(set(filter(None, named)))
 
 
 def is_old(commits, after=since):
     return any(it.endswith(" with changes") or (after(it.split()[0]) or 0) > MOST for it in commits)
 
 
-def row_of(name, commits, dates, lines):
+def row_of(name, commits, lines):
     """The line of an old file; its reason is that of the line that the table has of it."""
     reasons = {cells[0].strip("`"): cells[-1] for cells in ([it.strip() for it in line.strip().strip("|").split("|")] for line in lines[2:])}
     words = " ".join(f"`{it.split()[0]}`{' with changes' if it.endswith(' with changes') else ''}" for it in commits)
-    return f"| `{name}` | {words} | {', '.join(dates)} | {reasons.get(name) or 'not yet'} |"
+    return f"| `{name}` | {words} | {reasons.get(name) or 'not yet'} |"
 
 
 def made(lines):
     """The table of old results as it is to be; without the whole history as it is."""
     if not is_whole():
         return lines
-    files = [(path, commits_of(path)) for path in sorted(RESULTS.glob("*.tsv"))]
-    return lines[:2] + [row_of(path.name, commits, dates_of(path), lines) for path, commits in files if is_old(commits)]
+    files = [(path.name, commits_of(path)) for path in sorted(RESULTS.glob("*.tsv"))]
+    return lines[:2] + [row_of(name, commits, lines) for name, commits in files if is_old(commits)]
 
 
 def compared(lines):
@@ -156,10 +146,10 @@ def try_itself():
         said = fault_of("it", list(commits), is_listed, ages.get)
         if (said is None) != (wanted is None) or (wanted and wanted not in said):
             wrong.append(f"tests/tools/measured.py: of {commits} with {ages} it says {said}, and not {wanted}")
-    lines = ["| File |", "|---|", "| `a.tsv` | `b` | 2026-01-01 | why |"]
+    lines = ["| File |", "|---|", "| `a.tsv` | `b` | why |"]
     for name, reason in (("a.tsv", "why"), ("c.tsv", "not yet")):
-        row = row_of(name, ["b", "d with changes"], ["2026-01-01"], lines)
-        if row != f"| `{name}` | `b` `d` with changes | 2026-01-01 | {reason} |" or listed([*lines[:2], row]) != {name: ["b", "d with changes"]}:
+        row = row_of(name, ["b", "d with changes"], lines)
+        if row != f"| `{name}` | `b` `d` with changes | {reason} |" or listed([*lines[:2], row]) != {name: ["b", "d with changes"]}:
             wrong.append(f"tests/tools/measured.py: it makes the line {row}")
     if [is_old(["a"], {"a": age}.get) for age in (None, 50, 51)] != [False, False, True] or not is_old(["a with changes"], {"a": 0}.get):
         wrong.append("tests/tools/measured.py: it calls another age old")
