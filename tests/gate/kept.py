@@ -73,6 +73,12 @@ def place(store):
     return os.path.join(os.environ.get("XDG_CACHE_HOME") or os.path.expanduser("~/.cache"), "gondzalif", "proved")
 
 
+def toolchain_of(kit):
+    """Returns what tells one toolchain from another, for a script that has no sum of its own."""
+    made = [os.stat(f"{kit}/bin/{it}") for it in ("rattle", "rt", "rtlib.py")]
+    return repr([text_of(f"{kit}/KIT-ID"), *((it.st_size, it.st_mtime_ns) for it in made)])
+
+
 def is_own(folder):
     """Whether a folder is one that nobody but this user can write."""
     found = os.stat(folder) if os.path.isdir(folder) and not os.path.islink(folder) else None
@@ -101,9 +107,7 @@ class Store:
         """Without `is_taken`, what earlier runs kept is as if it were not there."""
         os.makedirs(folder, 0o700, exist_ok=True)
         self.folder, self.is_taken, self.begun = folder, is_taken and is_own(folder), {}
-        made = [os.stat(f"{rt.KIT}/bin/{it}") for it in ("rattle", "rt", "rtlib.py")]
-        stats = [text_of(f"{rt.KIT}/KIT-ID"), *((it.st_size, it.st_mtime_ns) for it in made)]
-        self.toolchain = rt.kit_sum() if hasattr(rt, "kit_sum") else repr(stats)
+        self.toolchain = rt.kit_sum() if hasattr(rt, "kit_sum") else toolchain_of(rt.KIT)
 
     # The names of what is kept.
 

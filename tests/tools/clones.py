@@ -13,13 +13,15 @@ SECONDS = 60
 STUB = r'''#!/usr/bin/env python3
 """A stub of the toolchain."""
 import os
+import re
 import sys
 import time
 import types
 from pathlib import Path
 
-rtlib = types.SimpleNamespace(crates_below=lambda folder: [])
+rtlib = types.SimpleNamespace(crates_below=lambda folder: [], VERDICT=re.compile(r"proved\n\Z"))
 must_fail = in_lanes = None
+kit_sum = lambda: "stub"
 STORE = os.path.join(os.path.dirname(os.path.abspath(__file__)), "store")
 Kept = types.SimpleNamespace(of_edit=None)
 PROGRAM = """#!/bin/sh
