@@ -5,3 +5,4 @@ pub mod Locks
 pub mod Names
 pub mod Bytes
 pub mod Permission
+pub mod Answers

@@ -1,6 +1,7 @@
 //! Laws of the definitions alone: each is the contract of a function that takes and answers nothing. They stand in rooms, and each is
 //! called by its own name here.
 
+mod answers;
 mod bytes;
 mod calls;
 mod locks;
@@ -8,6 +9,9 @@ mod names;
 mod network;
 mod permission;
 
+pub use answers::each_no_has_its_reason;
+pub use answers::refusals_have_reasons;
+pub use answers::wrong_reasons_are_refused;
 pub use bytes::a_change_is_seen;
 pub use bytes::a_change_tells;
 pub use bytes::a_file_is_read_whole;

@@ -49,7 +49,7 @@ gives s x n r d right at is e grants = subst (λ r. Grants r x.who right) (sym (
 pub picked : {P Q : Type 0} (a b : P) → a ≡ b → (pick : P → Q) → pick a ≡ pick b
 picked a b same pick = ap pick same
 
-both_current : (s : State) (x : Context) (p : _) → both s x ≡ Ok p → current s x ≡ Ok p.current
+pub both_current : (s : State) (x : Context) (p : _) → both s x ≡ Ok p → current s x ≡ Ok p.current
 unfolding both
 both_current s x p e =
     let d = came (current s x) _ p e in
@@ -95,11 +95,11 @@ module _ (s : State) (x : Context) (n : ℕ) (r : Rights) (at : x.current ≡ So
 
 -- of an operation that was run
 
-one_of : (right only : Right) (P : Right → Type 0) → In right (only ∷ []) → P only → P right
+pub one_of : (right only : Right) (P : Right → Type 0) → In right (only ∷ []) → P only → P right
 one_of right only P (inl same) holds = subst P (sym same) holds
 one_of right only P (inr none) holds = absurd none
 
-two_of : (right first second : Right) (P : Right → Type 0) → In right (first ∷ second ∷ []) → P first × P second → P right
+pub two_of : (right first second : Right) (P : Right → Type 0) → In right (first ∷ second ∷ []) → P first × P second → P right
 two_of right first second P (inl same) holds = subst P (sym same) holds.0
 two_of right first second P (inr there) holds = one_of right second P there holds.1
 

@@ -1,0 +1,222 @@
+-- Operations on names and attributes: what they are refused with has its reason, and what was answered NFS4_OK was granted.
+use Rattle.std.proofs.Common.{◌≡◌, ◌≢◌, ◌⊎◌, ℕ, Bool, true, false, not, List, [], ◌∷◌, None, refl, sym, ◌∙◌, ap, subst, inl, inr}
+use Rattle.std.proofs.lemmas.{Bool.{and_parts, false≢true, not-false, not-true, eq-eqb}, Option.same_Some}
+use Rattle.std.specs.Prelude.{◌||◌, ◌&&◌, Ok, ok_or, if◌then◌else◌}
+use Rattle.nfs_xdr.specs.{Checks.first_fault, declared.status.Status.Status, declared.time.Time.Time}
+use Rattle.nfs_xdr.specs.declared.status.Status.TheVariants as S
+use Rattle.nfs_xdr.proofs.Checks.{all_passed}
+use Rattle.nfs_compound.specs.{declared.name_args.Rename.Rename, declared.op.Item.Item, declared.op.Item.TheVariants.Operation}
+use Rattle.nfs_compound.specs.declared.op.Op.TheVariants as Op
+use Rattle.nfs_compound.specs.declared.op_num.OpNum.TheVariants as Num
+use Rattle.nfs_tree.specs.{Object.{is_link}, Files.{Files, object_named, number_named, is_directory_at, has_name, has_entries}}
+use Rattle.nfs_tree.specs.Names.{Move, moves, is_unlike, is_in_the_way, moved_object, replaced_object}
+use Rattle.nfs_attrs.specs.{declared.permission.Want.Want, Mask.{mask_of, asks_set_only}, Permissions.{execute, change_entries}}
+use Rattle.nfs_opens.specs.Steps.{require}
+use Rattle.nfs_names.specs.{declared.context.Context.Context, declared.node.Node.Node, State.State, Outcome.Outcome}
+use Rattle.nfs_names.specs.Checks.{current, both, no_directory, no_access, name_checks}
+use Rattle.nfs_names.specs.{GetAttr.get_attr, GetFh.get_fh, Lookup.lookup, ReadLink.read_link, Remove.{remove, last_checks}, SaveFh.save_fh}
+use Rattle.nfs_names.specs.Rename.{rename, renamed, move_of, place_checks as rename_places, last_checks as rename_lasts}
+use Rattle.nfs_files.proofs.{TreeFiles.IsWhole, WrittenOps.current_number}
+use Rattle.nfs_promises.specs.Permission.Permitted.{Writes, Executes, Grants, rights_of, rights_at}
+use Rattle.nfs_promises.specs.Answers.Asked.{ByName, ByOldName, ByNewName, InCurrent, InSaved, Source, Searched, ToFind, ToRemove, ToTake, ToPut}
+use Rattle.nfs_promises.specs.Answers.Reasons.{HasEntry, IsInTheWay, IsGranted, Reason}
+use Rattle.nfs_promises.proofs.Answers.Blaming.{all_blame, held_blames, there_blames, ends_then, ends_checks, answers_blame, passed_all}
+use Rattle.nfs_promises.proofs.Answers.Placed.{Answers, refused_so, done_so, current_blames, both_blames, saved_found, rights_is, unnamed, named_at}
+use Rattle.nfs_promises.proofs.Answers.Placed.{has_entry, has_kind, denied_by, no_directory_blames, no_finding, missing, names_blame}
+use Rattle.nfs_promises.proofs.Permission.{Granting.{executes, changes, may_change}, PermittedNames.{gets, one_of, two_of, both_current}}
+
+-- What passed grants what it needs.
+
+-- of the place of a name, and of the name
+abbrev placing : Context → Node → Want → List ℕ → List (Bool × Status)
+placing x d want name = no_directory d ∷ no_access x d want ∷ name_checks name
+
+found_granted : (s : State) (x : Context) (d : Node) (name : List ℕ) → current s x ≡ Ok d → first_fault ((is_link d.object.kind, S.Symlink) ∷ placing x d execute name) ≡ None
+    → IsGranted s x (Operation (Op.Lookup name))
+found_granted s x d name e none m rights (ToFind n i given named_so at) right asks r has =
+    let checks = all_passed ((is_link d.object.kind, S.Symlink) ∷ placing x d execute name) none in
+    one_of right Executes (Grants r x.who) asks (gets s x n r d Executes at has e (executes x d (not-false _ checks.1.1.0)))
+
+remove_granted : (s : State) (x : Context) (d : Node) (name : List ℕ) → current s x ≡ Ok d → first_fault (placing x d change_entries name) ≡ None
+    → IsGranted s x (Operation (Op.Remove name))
+remove_granted s x d name e none m rights (ToRemove n k at) right asks r has =
+    let both = changes x d (not-false _ (all_passed (placing x d change_entries name) none).1.0) in
+    two_of right Writes Executes (Grants r x.who) asks (gets s x n r d Writes at has e both.0, gets s x n r d Executes at has e both.1)
+remove_granted s x d name e none m rights (ToFind n i given named_so at) right asks r has =
+    one_of right Executes (Grants r x.who) asks (gets s x n r d Executes at has e (changes x d (not-false _ (all_passed (placing x d change_entries name) none).1.0)).1)
+
+rename_granted : (s : State) (x : Context) (a : Rename) (p : _) → both s x ≡ Ok p → first_fault (rename_places x a p) ≡ None → IsGranted s x (Operation (Op.Rename a))
+rename_granted s x a p e none m rights (ToTake n b saved at same) right asks r has =
+    let may = changes x p.saved (not-false _ (all_passed (rename_places x a p) none).1.1.0) in
+    let its = saved_found s x p e in
+    let one : saved ≡ its.saved = same_Some saved its.saved (sym at ∙ its.is) in
+    let number : n ≡ p.saved.number = sym same ∙ (ap (λ k. k.object) one ∙ its.names) in
+    let is : rights_of p.saved.object ≡ r = same_Some (rights_of p.saved.object) r (sym (rights_is s p.saved its.there) ∙ (ap (rights_at s.tree) (sym number) ∙ has)) in
+    subst (λ r. Grants r x.who right) is (two_of right Writes Executes (Grants (rights_of p.saved.object) x.who) asks may)
+rename_granted s x a p e none m rights (ToPut n b at) right asks r has =
+    let may = changes x p.current (not-false _ (all_passed (rename_places x a p) none).1.1.1.0) in
+    let there = both_current s x p e in
+    two_of right Writes Executes (Grants r x.who) asks (gets s x n r p.current Writes at has there may.0, gets s x n r p.current Executes at has there may.1)
+rename_granted s x a p e none m rights (ToFind n i given named_so at) right asks r has = absurd cc
+
+-- What is in the way of a RENAME.
+
+unlike : (t : Files) (m : Move) → is_unlike t m ≡ true → is_directory_at t (moved_object t m) ≢ is_directory_at t (replaced_object t m)
+unlike t m is same = by (is_directory_at t (moved_object t m)) (is_directory_at t (replaced_object t m)) is same
+  where
+    by : (p q : Bool) → (if p then not q else q) ≡ true → p ≡ q → ⊥
+    by true true is same = false≢true is
+    by true false is same = false≢true (sym same)
+    by false true is same = false≢true same
+    by false false is same = false≢true is
+
+blocked : (t : Files) (m : Move) → is_unlike t m || has_entries t.rows (replaced_object t m) ≡ true
+    → (is_directory_at t (moved_object t m) ≢ is_directory_at t (replaced_object t m)) ⊎ HasEntry t (replaced_object t m)
+blocked t m is = by (is_unlike t m) (has_entries t.rows (replaced_object t m)) refl refl is
+  where
+    by : (p q : Bool) → is_unlike t m ≡ p → has_entries t.rows (replaced_object t m) ≡ q → p || q ≡ true
+        → (is_directory_at t (moved_object t m) ≢ is_directory_at t (replaced_object t m)) ⊎ HasEntry t (replaced_object t m)
+    by true q un has is = inl (unlike t m un)
+    by false true un has is = inr (has_entry t (replaced_object t m) has)
+    by false false un has is = absurd (false≢true is)
+
+in_the_way : (s : State) (x : Context) (a : Rename) (p : _) → both s x ≡ Ok p → has_name s.tree p.saved.number a.oldname ≡ true
+    → moves s.tree (move_of a p) && is_in_the_way s.tree (move_of a p) ≡ true → IsInTheWay s x (Operation (Op.Rename a))
+in_the_way s x a p e has is =
+    let m : Move = move_of a p in
+    let its = saved_found s x p e in
+    let parts = and_parts (moves s.tree m) (is_in_the_way s.tree m) is in
+    let way = and_parts (has_name s.tree p.current.number a.newname) _ parts.1 in
+    record {
+      asked = a;
+      is = refl;
+      saved = its.saved;
+      directory = p.current.number;
+      source = its.is;
+      target = current_number s x p.current (both_current s x p e);
+      moved = moved_object s.tree m;
+      other = replaced_object s.tree m;
+      old = ap (λ n. object_named s.tree n a.oldname) its.names ∙ named_at s.tree p.saved.number a.oldname has;
+      new = named_at s.tree p.current.number a.newname way.0;
+      two = λ same. false≢true (sym (not-true _ parts.0) ∙ eq-eqb (moved_object s.tree m) (replaced_object s.tree m) same);
+      blocks = blocked s.tree m way.1;
+    }
+
+module _ (s : State) (whole : IsWhole s) (x : Context) where
+  -- LOOKUP
+  pub lookup_blames : (name : List ℕ) → Answers s x (Operation (Op.Lookup name)) (lookup s x name)
+  unfolding lookup
+  lookup_blames name =
+      let i : Item = Operation (Op.Lookup name) in
+      let B : Status → Type 0 = Reason s x i in
+      let Y : Outcome → Type 0 = Answers s x i in
+      answers_blame B Y s x Num.Lookup _ (refused_so s x i Num.Lookup) (ends_then B Y (current s x) _ (current_blames s whole x i refl) (λ d e.
+      ends_checks B Y ((is_link d.object.kind, S.Symlink) ∷ placing x d execute name) _ (
+        λ link. (d.number, Searched name refl (current_number s x d e), has_kind s x i d is_link e link),
+        λ u. (no_directory_blames s x i d refl e, λ u. (no_finding s x i d name refl e, λ u. names_blame s x i name (ByName refl))),
+      ) (λ placed. ends_then B Y (ok_or (object_named s.tree d.number name) S.NoEnt) _
+      (there_blames B (object_named s.tree d.number name) S.NoEnt (missing s x i d name (InCurrent (current_number s x d e) refl)))
+      (λ n there. done_so s x i (found_granted s x d name e (passed_all ((is_link d.object.kind, S.Symlink) ∷ placing x d execute name) placed))))))
+
+  -- REMOVE
+  pub remove_blames : (now : Time) (name : List ℕ) → Answers s x (Operation (Op.Remove name)) (remove s x now name)
+  unfolding remove
+  remove_blames now name =
+      let i : Item = Operation (Op.Remove name) in
+      let B : Status → Type 0 = Reason s x i in
+      let Y : Outcome → Type 0 = Answers s x i in
+      answers_blame B Y s x Num.Remove _ (refused_so s x i Num.Remove) (ends_then B Y (current s x) _ (current_blames s whole x i refl) (λ d e.
+      ends_checks B Y (placing x d change_entries name) _ (
+        no_directory_blames s x i d refl e,
+        λ u. (
+          λ lacks. denied_by s x i d (Writes ∷ Executes ∷ []) e (ToRemove d.number name (current_number s x d e)) (λ all.
+              false≢true (sym (not-true _ lacks) ∙ may_change x d (all Writes (inl refl)) (all Executes (inr (inl refl))))),
+          λ u. names_blame s x i name (ByName refl),
+        ),
+      ) (λ placed. ends_checks B Y (last_checks s.tree d.number name) _ (
+        λ no_name. missing s x i d name (InCurrent (current_number s x d e) refl) (unnamed s.tree d.number name no_name),
+        λ has. (
+          λ entries. record {
+            name = name;
+            is = refl;
+            directory = d.number;
+            object = number_named s.tree d.number name;
+            at = current_number s x d e;
+            there = named_at s.tree d.number name (not-false _ has);
+            has = has_entry s.tree (number_named s.tree d.number name) entries;
+          },
+          λ u. (λ v. tt, λ u. tt),
+        ),
+      ) (λ last. done_so s x i (remove_granted s x d name e (passed_all (placing x d change_entries name) placed))))))
+
+  -- RENAME
+  pub rename_blames : (now : Time) (a : Rename) → Answers s x (Operation (Op.Rename a)) (rename s x now a)
+  unfolding rename
+  rename_blames now a =
+      let i : Item = Operation (Op.Rename a) in
+      let B : Status → Type 0 = Reason s x i in
+      let Y : Outcome → Type 0 = Answers s x i in
+      answers_blame B Y s x Num.Rename _ (refused_so s x i Num.Rename) (ends_then B Y (both s x) _ (both_blames s whole x i refl refl) (λ p e.
+      (let its = saved_found s x p e in
+      let there = both_current s x p e in
+      ends_checks B Y (rename_places x a p) _ (
+        λ no_dir. (p.saved.number, Source a its.saved refl its.is its.names, (p.saved.object, its.there, no_dir)),
+        λ u. (
+          no_directory_blames s x i p.current refl there,
+          λ u. (
+            λ lacks. record {
+              number = p.saved.number;
+              rights = Writes ∷ Executes ∷ [];
+              needs = ToTake p.saved.number a its.saved its.is its.names;
+              denies = λ all.
+                  (let at = rights_is s p.saved its.there in
+                  false≢true (sym (not-true _ lacks) ∙ may_change x p.saved (all Writes (inl refl) _ at) (all Executes (inr (inl refl)) _ at)));
+            },
+            λ u. (
+              λ lacks. denied_by s x i p.current (Writes ∷ Executes ∷ []) there (ToPut p.current.number a (current_number s x p.current there)) (λ all.
+                  false≢true (sym (not-true _ lacks) ∙ may_change x p.current (all Writes (inl refl)) (all Executes (inr (inl refl))))),
+              λ u. all_blame B (name_checks a.oldname) (name_checks a.newname) (names_blame s x i a.oldname (ByOldName a refl refl)) (names_blame s x i a.newname (ByNewName a refl refl)),
+            ),
+          ),
+        ),
+      ) (λ placed. ends_checks B Y (rename_lasts s.tree (move_of a p)) _ (
+        λ no_name. record { directory = p.saved.number; name = a.oldname; seeks = InSaved a its.saved refl refl its.is its.names; gone = unnamed s.tree p.saved.number a.oldname no_name },
+        λ has. (λ below. tt, λ u. (λ way. inr (in_the_way s x a p e (not-false _ has) way), λ u. (λ v. tt, λ u. tt))),
+      ) (λ last. by_moves p e (passed_all (rename_places x a p) placed) (moves s.tree (move_of a p)))))))
+    where
+      by_moves : (p : _) → both s x ≡ Ok p → first_fault (rename_places x a p) ≡ None → (b : Bool) → Answers s x (Operation (Op.Rename a)) (renamed s x now a p b)
+      by_moves p e none true = done_so s x (Operation (Op.Rename a)) (rename_granted s x a p e none)
+      by_moves p e none false = done_so s x (Operation (Op.Rename a)) (rename_granted s x a p e none)
+
+  -- Those that look at the current object alone.
+
+  pub get_attr_blames : (words : List ℕ) → Answers s x (Operation (Op.GetAttr words)) (get_attr s x words)
+  unfolding get_attr
+  get_attr_blames words =
+      let i : Item = Operation (Op.GetAttr words) in
+      answers_blame (Reason s x i) (Answers s x i) s x Num.GetAttr _ (refused_so s x i Num.GetAttr) (ends_then (Reason s x i) (Answers s x i) (current s x) _
+      (current_blames s whole x i refl) (λ d e. ends_then (Reason s x i) (Answers s x i) (require (not (asks_set_only (mask_of words))) S.Inval) _
+      (held_blames (Reason s x i) (not (asks_set_only (mask_of words))) S.Inval (λ v. tt)) (λ u e. done_so s x i tt)))
+
+  pub get_fh_blames : Answers s x (Operation Op.GetFh) (get_fh s x)
+  unfolding get_fh
+  get_fh_blames =
+      let i : Item = Operation Op.GetFh in
+      answers_blame (Reason s x i) (Answers s x i) s x Num.GetFh _ (refused_so s x i Num.GetFh) (ends_then (Reason s x i) (Answers s x i) (current s x) _
+      (current_blames s whole x i refl) (λ d e. done_so s x i tt))
+
+  pub save_fh_blames : Answers s x (Operation Op.SaveFh) (save_fh s x)
+  unfolding save_fh
+  save_fh_blames =
+      let i : Item = Operation Op.SaveFh in
+      answers_blame (Reason s x i) (Answers s x i) s x Num.SaveFh _ (refused_so s x i Num.SaveFh) (ends_then (Reason s x i) (Answers s x i) (current s x) _
+      (current_blames s whole x i refl) (λ d e. done_so s x i tt))
+
+  pub read_link_blames : Answers s x (Operation Op.ReadLink) (read_link s x)
+  unfolding read_link
+  read_link_blames =
+      let i : Item = Operation Op.ReadLink in
+      answers_blame (Reason s x i) (Answers s x i) s x Num.ReadLink _ (refused_so s x i Num.ReadLink) (ends_then (Reason s x i) (Answers s x i) (current s x) _
+      (current_blames s whole x i refl) (λ d e. ends_then (Reason s x i) (Answers s x i) (require (is_link d.object.kind) S.WrongType) _
+      (held_blames (Reason s x i) (is_link d.object.kind) S.WrongType (λ other. (d.number, refl, current_number s x d e, has_kind s x i d (λ k. not (is_link k)) e (ap not other))))
+      (λ u e. done_so s x i tt)))

@@ -1,0 +1,219 @@
+-- OPEN: what it is refused with has its reason, and a guarded create that was answered NFS4_OK found the name free.
+use Rattle.std.proofs.Common.{◌≡◌, ◌≢◌, ℕ, Bool, true, false, not, List, [], ◌∷◌, Option, Some, None, refl, sym, ◌∙◌, ap, subst, inl, inr}
+use Rattle.std.proofs.lemmas.{Bool.{and_parts, false≢true, not-true}, Option.same_Some, Slice.Eq.bytes_eq-Decides}
+use Rattle.std.specs.Prelude.{◌==◌, ◌%◌, is_none, is_some, Ok, option_map}
+use Rattle.nfs_xdr.specs.{Tables.In, declared.status.Status.Status, declared.time.Time.Time}
+use Rattle.nfs_xdr.specs.declared.status.Status.TheVariants as S
+use Rattle.nfs_xdr.proofs.{Checks.all_passed, Lists.find_in}
+use Rattle.nfs_compound.specs.{declared.op.Item.Item, declared.op.Item.TheVariants.Operation}
+use Rattle.nfs_compound.specs.declared.open_args.{Open.Open, OpenHow.OpenHow, OpenHow.TheVariants.{NoCreate, Create}, CreateHow.TheVariants.{Unchecked, Guarded, Exclusive, Exclusive41}}
+use Rattle.nfs_compound.specs.declared.open_args.{OpenClaim.OpenClaim, OpenClaim.TheVariants.{Null, Previous, DelegateCur, DelegatePrev, Fh, DelegCurFh, DelegPrevFh}}
+use Rattle.nfs_compound.specs.declared.op.Op.TheVariants as Op
+use Rattle.nfs_compound.specs.declared.op_num.OpNum.TheVariants as Num
+use Rattle.nfs_tree.specs.{declared.row.Row.Row, declared.stored.Stored.Stored}
+use Rattle.nfs_tree.specs.{Files.{stored_in, object_at, object_named, is_there, entry}}
+use Rattle.nfs_attrs.specs.{declared.wanted.Wanted.Wanted, Mask.mask_of, Setting.make_checks, Permissions.{execute, write as write_bits}}
+use Rattle.nfs_attrs.proofs.Answered.{by_read}
+use Rattle.nfs_opens.specs.{declared.share.Share.Share, Share.share_of, Steps.{require, in_order}}
+use Rattle.nfs_names.specs.{declared.context.Context.Context, declared.node.Node.Node, State.State, Outcome.Outcome, Create.attributes_in}
+use Rattle.nfs_names.specs.Checks.{node_as, node_at, current, no_directory, no_access, name_checks}
+use Rattle.nfs_names.proofs.Found.{came}
+use Rattle.nfs_files.specs.{OpenTold.{claimed, named_in}, Open.{access_of, is_made_by, makes, there_checks, found_by, by_claim, open_file, last_checks as open_last}}
+use Rattle.nfs_files.proofs.{Prompt.all_pass, OpenAnswers.last_pass, TreeFiles.IsWhole, WrittenOps.current_number}
+use Rattle.nfs_promises.specs.Permission.Permitted.{Right, Reads, Writes, Executes, has_right, rights_of}
+use Rattle.nfs_promises.specs.Answers.Asked.{AFile, Opened, named_by as name_claimed, sought_by, makes_by, creates, ByName, InCurrent, ToMake, ToOpen, shared}
+use Rattle.nfs_promises.specs.Answers.Reasons.{WasFree, Reason}
+use Rattle.nfs_promises.proofs.Answers.Blaming.{Blames, AllBlame, held_blames, then_blames, then_checks, ends_then, ends_checks, answers_blame, passed_all}
+use Rattle.nfs_promises.proofs.Answers.Placed.{Answers, refused_so, done_so, node_found, found_now, rights_is, current_blames, denied_by, no_directory_blames, no_finding}
+use Rattle.nfs_promises.proofs.{Answers.Placed.{missing, names_blame}, Permission.Granting.{may_ask, may_write}}
+
+in_shared : (access : Share) (right : Right) → has_right access right ≡ true → In right (shared access.reads access.writes)
+in_shared access Reads has = by access.reads access.writes has
+  where
+    by : (p q : Bool) → p ≡ true → In Reads (shared p q)
+    by true true e = inl refl
+    by true false e = inl refl
+    by false q e = absurd (false≢true e)
+in_shared access Writes has = by access.reads access.writes has
+  where
+    by : (p q : Bool) → q ≡ true → In Writes (shared p q)
+    by true true e = inr (inl refl)
+    by false true e = inl refl
+    by p false e = absurd (false≢true e)
+in_shared access Executes has = absurd (false≢true has)
+
+not_made : (v : List ℕ) (made : Option (List ℕ)) → not (is_made_by v made) ≡ true → made ≢ Some v
+not_made v None other e = cc
+not_made v (Some w) other e = (let same : w ≡ v = cc in false≢true (sym (not-true _ other) ∙ (bytes_eq-Decides v w).1 (sym same)))
+
+-- what makes, and finds the name taken
+taken_by : (how : OpenHow) (made : Option (List ℕ)) → not ((makes how).opens made) ≡ true
+    → (w : Option (List ℕ)) × (makes_by how ≡ Some w) × ((v : List ℕ) → w ≡ Some v → made ≢ Some v)
+taken_by NoCreate made other = absurd (false≢true other)
+taken_by (Create (Unchecked a)) made other = absurd (false≢true other)
+taken_by (Create (Guarded a)) made other = (None, refl, λ v e. cc)
+taken_by (Create (Exclusive w)) made other = (Some w, refl, λ v e. (let same : w ≡ v = cc in subst (λ v. made ≢ Some v) same (not_made w made other)))
+taken_by (Create (Exclusive41 w a)) made other = (Some w, refl, λ v e. (let same : w ≡ v = cc in subst (λ v. made ≢ Some v) same (not_made w made other)))
+
+guarded_opens : (how : OpenHow) (made : Option (List ℕ)) → makes_by how ≡ Some None → (makes how).opens made ≡ false
+guarded_opens NoCreate made is = absurd cc
+guarded_opens (Create (Unchecked a)) made is = absurd cc
+guarded_opens (Create (Guarded a)) made is = refl
+guarded_opens (Create (Exclusive v)) made is = absurd cc
+guarded_opens (Create (Exclusive41 v a)) made is = absurd cc
+
+-- what makes nothing seeks the name
+sought_so : (how : OpenHow) (c : OpenClaim) → not (makes how).creates ≡ true → sought_by how c ≡ name_claimed c
+sought_so NoCreate c none = refl
+sought_so (Create (Unchecked a)) c none = absurd (false≢true none)
+sought_so (Create (Guarded a)) c none = absurd (false≢true none)
+sought_so (Create (Exclusive v)) c none = absurd (false≢true none)
+sought_so (Create (Exclusive41 v a)) c none = absurd (false≢true none)
+
+creates_so : (how : OpenHow) → not (makes how).creates ≡ false → creates how ≡ true
+creates_so NoCreate none = absurd (false≢true (sym none))
+creates_so (Create how) none = refl
+
+-- what a name leads to is there
+named_there : (s : State) (d n : ℕ) (name : List ℕ) → IsWhole s → object_named s.tree d name ≡ Some n → is_there s.tree n ≡ true
+named_there s d n name whole at = by (entry s.tree.rows d name) refl at
+  where
+    by : (o : Option Row) → entry s.tree.rows d name ≡ o → option_map (λ (r : Row). r.object) o ≡ Some n → is_there s.tree n ≡ true
+    by None found at = absurd cc
+    by (Some r) found at =
+        let there = find_in _ s.tree.rows r found in
+        subst (λ k. is_there s.tree k ≡ true) (same_Some r.object n at) (whole.tree.rows.names r there.0)
+
+there_blames : (R : Status → Type 0) (s : State) (n : ℕ) → is_there s.tree n ≡ true → Blames R (node_at s (Some n))
+there_blames R s n there = by (stored_in s.tree.objects n) there
+  where
+    by : (o : Option Stored) → is_some o ≡ true → Blames R (node_as n (option_map (λ (k : Stored). k.object) o))
+    by None there = absurd (false≢true there)
+    by (Some k) there = tt
+
+-- what is looked at last is refused with one of these
+is_last : Status → Bool
+is_last S.ShareDenied = true
+is_last S.FBig = true
+is_last S.NoSpc = true
+is_last S.ServerFault = true
+is_last f = false
+
+last_is : (s : State) (x : Context) (i : _) (f : Status) → is_last f ≡ true → Reason s x i f
+unfolding is_last
+last_is s x i S.ShareDenied e = tt
+last_is s x i S.FBig e = tt
+last_is s x i S.NoSpc e = tt
+last_is s x i S.ServerFault e = tt
+last_is s x i f e = absurd (false≢true e)
+
+last_all : (s : State) (x : Context) (i : _) (checks : List (Bool × Status)) → all_pass is_last checks ≡ true → AllBlame (Reason s x i) checks
+last_all s x i [] all = tt
+last_all s x i (c ∷ more) all = (let parts = and_parts (is_last c.1) (all_pass is_last more) all in
+    (λ v. last_is s x i c.1 parts.0, λ u. last_all s x i more parts.1))
+
+module _ (s : State) (whole : IsWhole s) (x : Context) (o : Open) where
+  abbrev opening : Item
+  opening = Operation (Op.Open o)
+
+  abbrev B : Status → Type 0
+  B = Reason s x opening
+
+  abbrev Y : Outcome → Type 0
+  Y = Answers s x opening
+
+  -- the file that the claim leads to
+  module _ (f : Node) (leads : claimed s.tree x o.claim ≡ Some f.number) (is : object_at s.tree f.number ≡ Some f.object) where
+    there_all : AllBlame B (there_checks x o f)
+    there_all = (
+      λ taken. inl (let its = taken_by o.openhow f.object.verifier taken in record {
+        asked = o;
+        is = refl;
+        verifier = its.0;
+        makes = its.1;
+        file = f.number;
+        object = f.object;
+        at = leads;
+        there = is;
+        other = its.2;
+      }),
+      λ u. (
+        λ dir. (f.number, Opened o refl leads, (f.object, is, dir)),
+        λ u. (
+          λ link. (f.number, AFile (Opened o refl leads), (f.object, is, link)),
+          λ u. (
+            λ lacks. record {
+              number = f.number;
+              rights = shared (access_of o).reads (access_of o).writes;
+              needs = ToOpen f.number o leads;
+              denies = λ all. false≢true (sym (not-true _ lacks) ∙ may_ask x f (access_of o) (λ right has.
+                  all right (in_shared (access_of o) right has) (rights_of f.object) (rights_is s f is)));
+            },
+            λ u. tt,
+          ),
+        ),
+      ),
+    )
+
+  -- by a name
+  module _ (name : List ℕ) (claim : o.claim ≡ Null name) (d : Node) (e : current s x ≡ Ok d) where
+    found_blames : (w : Wanted) (at : Option ℕ) → object_named s.tree d.number name ≡ at → Blames B (found_by s x o (record { place = d; wanted = w }) at)
+    found_blames w None gone = then_checks B ((not (makes o.openhow).creates, S.NoEnt) ∷ no_access x d write_bits ∷ make_checks w x.who) _ (
+      λ makes_none. missing s x opening d name (InCurrent (current_number s x d e) (sought_so o.openhow o.claim makes_none ∙ ap name_claimed claim)) gone,
+      λ makes_one. (
+        λ lacks. denied_by s x opening d (Writes ∷ []) e (ToMake d.number o name claim (creates_so o.openhow makes_one) (current_number s x d e) gone) (λ all.
+            false≢true (sym (not-true _ lacks) ∙ may_write x d (all Writes (inl refl)))),
+        λ u. (λ v. tt, λ u. (λ v. tt, λ u. tt)),
+      ),
+    ) (λ u. tt)
+    found_blames w (Some n) there =
+        let leads : claimed s.tree x o.claim ≡ Some n = ap (claimed s.tree x) claim ∙ (ap (named_in s.tree name) (current_number s x d e) ∙ there) in
+        then_blames B (node_at s (Some n)) _ (there_blames B s n (named_there s d.number n name whole there)) (λ f found.
+        (let its = node_found s (Some n) f found in
+        then_checks B (there_checks x o f) _ (there_all f (leads ∙ its.0) its.1) (λ u. tt)))
+
+    by_name_blames : Blames B (by_claim s x o (Null name) d)
+    unfolding attributes_in
+    by_name_blames = then_checks B (no_directory d ∷ no_access x d execute ∷ name_checks name) _ (
+      no_directory_blames s x opening d (ap (λ c. is_some (name_claimed c)) claim) e,
+      λ u. (no_finding s x opening d name (ap name_claimed claim) e, λ u. names_blame s x opening name (ByName (ap name_claimed claim))),
+    ) (λ u. then_blames B (attributes_in (makes o.openhow).attributes) _
+        (by_read (Blames B) tt tt tt tt (λ w. tt) (mask_of (makes o.openhow).attributes.attrmask) (makes o.openhow).attributes.attr_vals) (λ w read.
+        found_blames w (object_named s.tree d.number name) refl))
+
+  claim_blames : (c : OpenClaim) → o.claim ≡ c → (d : Node) → current s x ≡ Ok d → Blames B (by_claim s x o c d)
+  claim_blames (Null name) is d e = by_name_blames name is d e
+  claim_blames Fh is d e = (let found = found_now s x d e in
+      then_blames B (require (not (makes o.openhow).creates) S.Inval) _ (held_blames B (not (makes o.openhow).creates) S.Inval (λ v. tt)) (λ u e.
+      then_checks B (there_checks x o d) _ (there_all d (ap (claimed s.tree x) is ∙ found.0) found.1) (λ u. tt)))
+  claim_blames (Previous type) is d e = (o, refl, rw is refl)
+  claim_blames (DelegateCur id file) is d e = (o, refl, rw is refl)
+  claim_blames (DelegatePrev file) is d e = (o, refl, rw is refl)
+  claim_blames (DelegCurFh id) is d e = (o, refl, rw is refl)
+  claim_blames DelegPrevFh is d e = (o, refl, rw is refl)
+
+  was_free : (name : List ℕ) (d : Node) (f : _) → makes_by o.openhow ≡ Some None → by_claim s x o (Null name) d ≡ Ok f → object_named s.tree d.number name ≡ None
+  was_free name d f guarded e =
+      let a = came (in_order (no_directory d ∷ no_access x d execute ∷ name_checks name)) _ f e in
+      let w = came (attributes_in (makes o.openhow).attributes) _ f a.then in
+      by w.found (object_named s.tree d.number name) w.then
+    where
+      by : (w : Wanted) (at : Option ℕ) → found_by s x o (record { place = d; wanted = w }) at ≡ Ok f → at ≡ None
+      by w None e = refl
+      by w (Some n) e =
+          let k = came (node_at s (Some n)) _ f e in
+          let c = came (in_order (there_checks x o k.found)) _ f k.then in
+          let checks = all_passed (there_checks x o k.found) (passed_all (there_checks x o k.found) c.is) in
+          absurd (false≢true (sym checks.0 ∙ ap not (guarded_opens o.openhow k.found.object.verifier guarded)))
+
+  made_free : (d : Node) (f : _) → current s x ≡ Ok d → by_claim s x o o.claim d ≡ Ok f → WasFree s x o
+  made_free d f e came_by n name claim guarded at =
+      let same : n ≡ d.number = same_Some n d.number (sym at ∙ current_number s x d e) in
+      ap (λ n. object_named s.tree n name) same ∙ was_free name d f guarded (subst (λ c. by_claim s x o c d ≡ Ok f) claim came_by)
+
+  pub open_blames : (now : Time) → Answers s x opening (open_file s x now o)
+  unfolding open_file is_last
+  open_blames now = answers_blame B Y s x Num.Open _ (refused_so s x opening Num.Open) (ends_then B Y (current s x) _ (current_blames s whole x opening refl) (λ d e.
+      ends_checks B Y ((o.share_access % 4 == 0, S.Inval) ∷ (is_none (share_of o.share_deny), S.Inval) ∷ []) _ (λ v. tt, λ u. (λ v. tt, λ u. tt)) (λ u.
+      ends_then B Y (by_claim s x o o.claim d) _ (claim_blames o.claim refl d e) (λ f its. ends_checks B Y (open_last s x o f) _
+      (last_all s x opening (open_last s x o f) (last_pass is_last s x o f refl refl refl refl)) (λ u. done_so s x opening (made_free d f e its))))))

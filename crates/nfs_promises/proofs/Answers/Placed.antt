@@ -1,0 +1,207 @@
+-- What is found at the place of a filehandle, and the reasons that are said of it.
+use Rattle.std.proofs.Common.{◌≡◌, ◌⊎◌, ℕ, Bool, true, false, not, List, [], ◌∷◌, Option, Some, None, refl, sym, ◌∙◌, ap, subst, inl, inr}
+use Rattle.std.proofs.lemmas.{Bool.{cases_Bool, false≢true, ltb-true, not-true, eqb-true}, Option.same_Some, Slice.Eq.bytes_eq-Decides}
+use Rattle.std.specs.{Prelude.{◌==◌, ◌||◌, is_some, length, bytes_eq, Ok, option_map, unwrap_or}, List.list_any}
+use Rattle.nfs_xdr.specs.{Tables.In, declared.status.Status.Status}
+use Rattle.nfs_xdr.specs.declared.status.Status.TheVariants as S
+use Rattle.nfs_xdr.proofs.Lists.{in_any}
+use Rattle.nfs_compound.specs.{OpNum.op_number, declared.op_num.OpNum.OpNum, declared.op.Item.Item, Request.item_number}
+use Rattle.nfs_results.specs.Results.{status_of_result}
+use Rattle.nfs_tree.specs.{declared.object.Object.Object, declared.object.FileType.FileType, declared.row.Row.Row, declared.stored.Stored.Stored, Object.is_directory}
+use Rattle.nfs_tree.specs.Files.{Files, most_name, stored_in, object_at, object_named, number_named, entry, has_name, has_entries}
+use Rattle.nfs_attrs.specs.Permissions.{execute}
+use Rattle.nfs_names.specs.{declared.context.Context.Context, declared.context.Saved.Saved, declared.node.Node.Node, State.{State, is_used}}
+use Rattle.nfs_names.specs.{Checks.{node_as, node_at, saved_object, current, both, permits, name_checks}, Outcome.{Outcome, refuses, is_ok}}
+use Rattle.nfs_names.proofs.{Found.{came, ok_is}, Faulted.status_of_refusal}
+use Rattle.nfs_files.proofs.{TreeFiles.IsWhole, WrittenOps.current_number}
+use Rattle.nfs_exec.specs.{Step.Behind.step, Runs.Ops.RanOp}
+use Rattle.nfs_exec.proofs.{Runs.{OneRun.{IsRun, by_item}, WrittenRun.used_there}}
+use Rattle.nfs_promises.specs.{Names.FileStays.{is_on_current, is_on_saved}, Permission.Permitted.{Right, Executes, Grants, rights_of, rights_at}}
+use Rattle.nfs_promises.specs.Answers.Asked.{LooksAt, AtCurrent, AtSaved, Target, is_in_directory, named, Gives, Needs, ToFind, Seeks}
+use Rattle.nfs_promises.specs.Answers.Reasons.{HasKind, HasEntry, IsMissing, IsDenied, Reason, Granted, IsAnswered}
+use Rattle.nfs_promises.proofs.{Answers.Blaming.{Blames, AllBlame, then_blames}, Permission.{Granting.may_execute, PermittedNames.picked}}
+
+-- An operation that was run is refused for want of room, or answers so.
+
+abbrev pub Answers : State → Context → Item → Outcome → Type 0
+Answers s x i o = IsAnswered s x i (status_of_result o.result)
+
+no_reason : (s : State) (x : Context) (i : Item) (f : Status) → Reason s x i f → is_ok f ≡ false
+no_reason s x i S.Nfs4Ok reason = absurd reason
+no_reason s x i f reason = refl
+
+pub of_refusal : (s : State) (x : Context) (i : Item) (f : Status) → Reason s x i f → IsAnswered s x i f
+of_refusal s x i f reason = record { refused = λ no_ok. reason; granted = λ ok. absurd (false≢true (sym (no_reason s x i f reason) ∙ ok)) }
+
+pub refused_so : (s : State) (x : Context) (i : Item) (op : OpNum) (f : Status) → Reason s x i f → Answers s x i (refuses s x op f)
+refused_so s x i op f reason = subst (IsAnswered s x i) (sym (status_of_refusal (op_number op) f)) (of_refusal s x i f reason)
+
+pub done_so : (s : State) (x : Context) (i : Item) → Granted s x i → IsAnswered s x i S.Nfs4Ok
+done_so s x i granted = record { refused = λ no_ok. absurd (false≢true (sym no_ok)); granted = λ ok. granted }
+
+pub ran_blames : (d : RanOp) (r : IsRun d) (i : Item) → d.item ≡ i → IsAnswered d.before.store d.context i (step d.before d.context r.now r.refused i).outcome.status
+    → IsAnswered d.before.store d.context i d.status
+ran_blames d r i is answered =
+    by_item (λ status text s. IsAnswered d.before.store d.context i status) d r i is
+    (subst (IsAnswered d.before.store d.context i) (sym (status_of_refusal (item_number i) S.RepTooBig)) (of_refusal d.before.store d.context i S.RepTooBig tt)) answered
+
+-- What is found at a place.
+
+abbrev pub IsFound : State → Option ℕ → Node → Type 0
+IsFound s o d = (o ≡ Some d.number) × (object_at s.tree d.number ≡ Some d.object)
+
+pub node_found : (s : State) (o : Option ℕ) (d : Node) → node_at s o ≡ Ok d → IsFound s o d
+node_found s None d e = absurd cc
+node_found s (Some n) d e = by (object_at s.tree n) refl e
+  where
+    by : (k : Option Object) → object_at s.tree n ≡ k → node_as n k ≡ Ok d → IsFound s (Some n) d
+    by None is e = absurd cc
+    by (Some o) is e = let same : record { number = n; object = o } ≡ d = cc in subst (IsFound s (Some n)) same (refl, is)
+
+pub found_now : (s : State) (x : Context) (d : Node) → current s x ≡ Ok d → IsFound s x.current d
+unfolding current
+found_now s x d e = node_found s x.current d e
+
+-- an object that is not there is not used
+unused : (s : State) (n : ℕ) → IsWhole s → object_at s.tree n ≡ None → is_used s n ≡ false
+unused s n whole gone = elim (cases_Bool (is_used s n)) [
+  | inr is ↦ is
+  | inl used ↦ absurd (no (stored_in s.tree.objects n) gone (used_there s n whole used))
+]
+  where
+    no : (o : Option Stored) → option_map (λ (k : Stored). k.object) o ≡ None → is_some o ≡ true → ⊥
+    no None gone there = false≢true there
+    no (Some k) gone there = cc
+
+-- the two directories of a RENAME
+
+pub both_saved : (s : State) (x : Context) (p : _) → both s x ≡ Ok p → node_at s (saved_object x.saved) ≡ Ok p.saved
+unfolding both
+both_saved s x p e =
+    let d = came (current s x) _ p e in
+    let k = came (node_at s (saved_object x.saved)) _ p d.then in
+    k.is ∙ picked _ p (ok_is refl k.then) (λ q. Ok q.saved)
+
+pub record IsSaved (s : State) (x : Context) (d : Node) : Type 0 where
+  pub saved : Saved
+  pub is : x.saved ≡ Some saved
+  pub names : saved.object ≡ d.number
+  pub there : object_at s.tree d.number ≡ Some d.object
+
+pub saved_found : (s : State) (x : Context) (p : _) → both s x ≡ Ok p → IsSaved s x p.saved
+saved_found s x p e = by x.saved refl
+  where
+    found : IsFound s (saved_object x.saved) p.saved
+    found = node_found s (saved_object x.saved) p.saved (both_saved s x p e)
+
+    by : (o : Option Saved) → x.saved ≡ o → IsSaved s x p.saved
+    by None is = absurd (let bad : None ≡ Some p.saved.number = ap saved_object (sym is) ∙ found.0 in cc)
+    by (Some saved) is = record {
+      saved = saved;
+      is = is;
+      names = same_Some saved.object p.saved.number (ap saved_object (sym is) ∙ found.0);
+      there = found.1;
+    }
+
+-- Rights and names.
+
+pub rights_is : (s : State) (d : Node) → object_at s.tree d.number ≡ Some d.object → rights_at s.tree d.number ≡ Some (rights_of d.object)
+rights_is s d is = by (stored_in s.tree.objects d.number) is
+  where
+    by : (o : Option Stored) → option_map (λ (k : Stored). k.object) o ≡ Some d.object → option_map (λ (k : Stored). rights_of k.object) o ≡ Some (rights_of d.object)
+    by None e = absurd cc
+    by (Some k) e = let same : k.object ≡ d.object = cc in ap (λ o. Some (rights_of o)) same
+
+pub unnamed : (t : Files) (n : ℕ) (name : List ℕ) → not (has_name t n name) ≡ true → object_named t n name ≡ None
+unnamed t n name gone = by (entry t.rows n name) gone
+  where
+    by : (o : Option Row) → not (is_some o) ≡ true → option_map (λ (r : Row). r.object) o ≡ None
+    by None e = refl
+    by (Some r) e = absurd (false≢true e)
+
+pub named_at : (t : Files) (n : ℕ) (name : List ℕ) → has_name t n name ≡ true → object_named t n name ≡ Some (number_named t n name)
+named_at t n name there = by (entry t.rows n name) there
+  where
+    by : (o : Option Row) → is_some o ≡ true → option_map (λ (r : Row). r.object) o ≡ Some (unwrap_or (option_map (λ (r : Row). r.object) o) 0)
+    by None e = absurd (false≢true e)
+    by (Some r) e = refl
+
+pub has_entry : (t : Files) (n : ℕ) → has_entries t.rows n ≡ true → HasEntry t n
+has_entry t n has = let r = in_any (λ (r : Row). r.directory == n) t.rows has in (r.0, r.1, eqb-true _ _ r.2)
+
+-- Reasons that are said of a place.
+
+module _ (s : State) (whole : IsWhole s) (x : Context) (i : Item) where
+  pub node_blames : (o : Option ℕ) → ((n : ℕ) → o ≡ Some n → LooksAt x i n) → (o ≡ None → Reason s x i S.NoFileHandle) → Blames (Reason s x i) (node_at s o)
+  node_blames None looks none = none refl
+  node_blames (Some n) looks none = by (object_at s.tree n) refl
+    where
+      by : (k : Option Object) → object_at s.tree n ≡ k → Blames (Reason s x i) (node_as n k)
+      by None gone = (n, looks n refl, unused s n whole gone)
+      by (Some o) is = tt
+
+  pub current_blames : is_on_current i ≡ true → Blames (Reason s x i) (current s x)
+  unfolding current
+  current_blames on = node_blames x.current (λ n at. AtCurrent on at) (λ none. inl (on, none))
+
+  saved_blames : is_on_saved i ≡ true → Blames (Reason s x i) (node_at s (saved_object x.saved))
+  saved_blames on = by x.saved refl
+    where
+      by : (o : Option Saved) → x.saved ≡ o → Blames (Reason s x i) (node_at s (saved_object o))
+      by None none = inr (on, none)
+      by (Some saved) is = node_blames (Some saved.object) (λ n same. AtSaved saved on is (same_Some saved.object n same)) (λ bad. (let no_such : Some saved.object ≡ None = bad in cc))
+
+  pub both_blames : is_on_current i ≡ true → is_on_saved i ≡ true → Blames (Reason s x i) (both s x)
+  unfolding both
+  both_blames on on_saved = then_blames (Reason s x i) (current s x) _ (current_blames on) (λ d e.
+      then_blames (Reason s x i) (node_at s (saved_object x.saved)) _ (saved_blames on_saved) (λ k e. tt))
+
+module _ (s : State) (x : Context) (i : Item) where
+  -- the object that was found, by its kind
+  pub has_kind : (d : Node) (will : FileType → Bool) → current s x ≡ Ok d → will d.object.kind ≡ true → HasKind s d.number will
+  has_kind d will e is = (d.object, (found_now s x d e).1, is)
+
+  pub denied_by : (d : Node) (rights : List Right) → current s x ≡ Ok d → Needs s x i d.number rights
+      → (((right : Right) → In right rights → Grants (rights_of d.object) x.who right) → ⊥) → IsDenied s x i
+  denied_by d rights e needs lacks = record {
+    number = d.number;
+    rights = rights;
+    needs = needs;
+    denies = λ all. lacks (λ right there. all right there (rights_of d.object) (rights_is s d (found_now s x d e).1));
+  }
+
+  pub no_directory_blames : (d : Node) → is_in_directory i ≡ true → current s x ≡ Ok d → not (is_directory d.object.kind) ≡ true → Reason s x i S.NotDir
+  no_directory_blames d wants e no_dir = (d.number, Target wants (current_number s x d e), has_kind d (λ k. not (is_directory k)) e no_dir)
+
+  pub no_finding : (d : Node) (name : List ℕ) → named i ≡ Some name → current s x ≡ Ok d → not (permits x d execute) ≡ true → IsDenied s x i
+  no_finding d name is e lacks = denied_by d (Executes ∷ []) e (ToFind d.number i name is (current_number s x d e)) (λ all.
+      false≢true (sym (not-true _ lacks) ∙ may_execute x d (all Executes (inl refl))))
+
+  pub missing : (d : Node) (name : List ℕ) → Seeks x i d.number name → object_named s.tree d.number name ≡ None → IsMissing s x i
+  missing d name seeks none = record { directory = d.number; name = name; seeks = seeks; gone = none }
+
+-- What the checks of a name blame.
+
+one_or : (a b : Bool) → a || b ≡ true → (a ≡ true) ⊎ (b ≡ true)
+one_or true b e = inl refl
+one_or false b e = inr e
+
+is_dots : (name : List ℕ) → bytes_eq name (0x2e ∷ []) || bytes_eq name (0x2e ∷ 0x2e ∷ []) ≡ true → (name ≡ 0x2e ∷ []) ⊎ (name ≡ 0x2e ∷ 0x2e ∷ [])
+is_dots name dots = elim (one_or (bytes_eq name (0x2e ∷ [])) (bytes_eq name (0x2e ∷ 0x2e ∷ [])) dots) [
+  | inl one ↦ inl ((bytes_eq-Decides name (0x2e ∷ [])).0 one)
+  | inr two ↦ inr ((bytes_eq-Decides name (0x2e ∷ 0x2e ∷ [])).0 two)
+]
+
+odd_byte : (name : List ℕ) → list_any (λ byte. byte == 0x2f || byte == 0) name ≡ true → (byte : ℕ) × In byte name × ((byte ≡ 0x2f) ⊎ (byte ≡ 0))
+odd_byte name odd =
+    let b = in_any (λ byte. byte == 0x2f || byte == 0) name odd in
+    (b.0, b.1, elim (one_or (b.0 == 0x2f) (b.0 == 0) b.2) [ inl slash ↦ inl (eqb-true _ _ slash) | inr zero ↦ inr (eqb-true _ _ zero) ])
+
+pub names_blame : (s : State) (x : Context) (i : Item) (name : List ℕ) → Gives i name → AllBlame (Reason s x i) (name_checks name)
+names_blame s x i name gives = (
+  λ v. tt,
+  λ v. (
+    λ long. (name, gives, ltb-true most_name (length name) long),
+    λ v. (λ odd. (let b = odd_byte name odd in (name, gives, b.0, b.1, b.2)), λ v. (λ dots. (name, gives, is_dots name dots), λ v. tt)),
+  ),
+)

@@ -1,0 +1,57 @@
+-- Each no has its reason, in every run.
+use Rattle.std.proofs.Common.{◌≡◌, true, refl}
+use Rattle.std.proofs.lemmas.Bool.{false≢true}
+use Rattle.std.specs.Prelude.{◌&&◌}
+use Rattle.nfs_xdr.specs.declared.status.Status.TheVariants as S
+use Rattle.nfs_compound.specs.declared.op.{Item.{Item, TheVariants.Operation}}
+use Rattle.nfs_compound.specs.declared.op.Op.TheVariants as Op
+use Rattle.nfs_compound.specs.declared.op_num.OpNum.TheVariants as Num
+use Rattle.nfs_tree.specs.Bytes.{has_bytes}
+use Rattle.nfs_names.specs.{Checks.both, Operation.moves_in, Rename.rename, State.moment}
+use Rattle.nfs_names.proofs.Ones.{by_delay}
+use Rattle.nfs_files.specs.{LockU.{lock_u, wants_memory}, Open.open_file, Write.write}
+use Rattle.nfs_exec.specs.Runs.Ops.{RanOp}
+use Rattle.nfs_exec.proofs.Runs.OneRun.{IsRun}
+use Rattle.nfs_promises.specs.Answers.Reasons.{EachNoHasItsReason, IsAnswered, is_covered}
+use Rattle.nfs_promises.proofs.Answers.Placed.{Answers, refused_so, ran_blames}
+use Rattle.nfs_promises.proofs.Names.NameStays.{ran_in}
+use Rattle.nfs_promises.proofs.Answers.NameReasons as names
+use Rattle.nfs_promises.proofs.Answers.FileReasons as files
+use Rattle.nfs_promises.proofs.Answers.OpenReasons as opens
+
+by_op : (d : RanOp) → IsRun d → (i : Item) → d.item ≡ i → is_covered i ≡ true → IsAnswered d.before.store d.context i d.status
+by_op d r (Operation (Op.Commit a)) is on = ran_blames d r (Operation (Op.Commit a)) is (files.commit_blames d.before.store r.whole d.context a)
+by_op d r (Operation (Op.GetAttr words)) is on = ran_blames d r (Operation (Op.GetAttr words)) is (names.get_attr_blames d.before.store r.whole d.context words)
+by_op d r (Operation Op.GetFh) is on = ran_blames d r (Operation Op.GetFh) is (names.get_fh_blames d.before.store r.whole d.context)
+by_op d r (Operation (Op.LockT a)) is on = ran_blames d r (Operation (Op.LockT a)) is (files.test_blames d.before.store r.whole d.context a)
+by_op d r (Operation (Op.LockU a)) is on =
+    ran_blames d r (Operation (Op.LockU a)) is
+    (by_delay (Answers d.before.store d.context (Operation (Op.LockU a))) (wants_memory a && r.refused) d.before.store d.context Num.LockU
+    (lock_u d.before.store d.context a) (refused_so d.before.store d.context (Operation (Op.LockU a)) Num.LockU S.Delay tt)
+    (files.unlock_blames d.before.store r.whole d.context a))
+by_op d r (Operation (Op.Lookup name)) is on = ran_blames d r (Operation (Op.Lookup name)) is (names.lookup_blames d.before.store r.whole d.context name)
+by_op d r (Operation (Op.Open a)) is on =
+    ran_blames d r (Operation (Op.Open a)) is
+    (by_delay (Answers d.before.store d.context (Operation (Op.Open a))) r.refused d.before.store d.context Num.Open
+    (open_file d.before.store d.context (moment r.now) a) (refused_so d.before.store d.context (Operation (Op.Open a)) Num.Open S.Delay tt)
+    (opens.open_blames d.before.store r.whole d.context a (moment r.now)))
+by_op d r (Operation (Op.Read a)) is on = ran_blames d r (Operation (Op.Read a)) is (files.read_blames d.before.store r.whole d.context a)
+by_op d r (Operation Op.ReadLink) is on = ran_blames d r (Operation Op.ReadLink) is (names.read_link_blames d.before.store r.whole d.context)
+by_op d r (Operation (Op.Remove name)) is on =
+    ran_blames d r (Operation (Op.Remove name)) is (names.remove_blames d.before.store r.whole d.context (moment r.now) name)
+by_op d r (Operation (Op.Rename a)) is on =
+    ran_blames d r (Operation (Op.Rename a)) is
+    (by_delay (Answers d.before.store d.context (Operation (Op.Rename a))) (moves_in d.before.store a (both d.before.store d.context) && r.refused)
+    d.before.store d.context Num.Rename (rename d.before.store d.context (moment r.now) a)
+    (refused_so d.before.store d.context (Operation (Op.Rename a)) Num.Rename S.Delay tt)
+    (names.rename_blames d.before.store r.whole d.context (moment r.now) a))
+by_op d r (Operation Op.SaveFh) is on = ran_blames d r (Operation Op.SaveFh) is (names.save_fh_blames d.before.store r.whole d.context)
+by_op d r (Operation (Op.Write a)) is on =
+    ran_blames d r (Operation (Op.Write a)) is
+    (by_delay (Answers d.before.store d.context (Operation (Op.Write a))) (has_bytes a.bytes && r.refused) d.before.store d.context Num.Write
+    (write d.before.store d.context (moment r.now) a) (refused_so d.before.store d.context (Operation (Op.Write a)) Num.Write S.Delay tt)
+    (files.write_blames d.before.store r.whole d.context (moment r.now) a))
+by_op d r i is on = absurd (false≢true on)
+
+pub each_no_has_its_reason : EachNoHasItsReason
+each_no_has_its_reason start records c d there on = by_op d (ran_in start records c d there) d.item refl on

@@ -1,0 +1,236 @@
+-- Refusals with a reason and without one, computed.
+use Rattle.std.proofs.Common.{◌≡◌, ◌≢◌, ◌⊎◌, ℕ, ◌<◌, ◌≤◌, Bool, true, false, List, [], ◌∷◌, Option, Some, None, refl, sym, ◌∙◌, ap, subst, arith, inl, inr}
+use Rattle.std.proofs.lemmas.{Bool.false≢true, Option.same_Some}
+use Rattle.std.specs.Prelude.{not, ◌+◌, ◌*◌, ◌^◌}
+use Rattle.nfs_xdr.specs.declared.status.Status.TheVariants as S
+use Rattle.nfs_compound.specs.{declared.open_args.Open.Open, declared.name_args.Rename.Rename, declared.op.Item.Item, declared.op.Item.TheVariants.Operation}
+use Rattle.nfs_compound.specs.declared.open_args.{OpenHow.OpenHow, OpenHow.TheVariants.NoCreate, OpenClaim.TheVariants.Null}
+use Rattle.nfs_compound.specs.ArgCodecs.{rename_args}
+use Rattle.nfs_compound.specs.declared.op.Op.TheVariants as Op
+use Rattle.nfs_tree.specs.{declared.object.Object.Object, Files.{object_at, object_named}, Object.is_directory}
+use Rattle.nfs_opens.specs.{declared.stateid.StateId.StateId, declared.stateid.CurrentSeqid.TheVariants.Any, declared.judging.Sort.TheVariants.LockOnly}
+use Rattle.nfs_names.specs.{Context.anonymous, declared.context.Context.Context, declared.context.Saved.Saved, State.State, Remove.remove, Rename.rename, SaveFh.save_fh, Checks.both}
+use Rattle.nfs_files.specs.{OpenTold.claimed, StateIds.state_id}
+use Rattle.nfs_promises.specs.{Runs.Points.ops_of, Runs.Requests.{unchecked, stateid}, Locks.LockKeptWorked.{asked, gives_up, last_of, statuses}, Bytes.WrittenStaysWorked.made}
+use Rattle.nfs_promises.specs.Permission.Permitted.{Writes, Executes, Grants, ToRoot, ToOwner, ToGroup, ToOthers}
+use Rattle.nfs_promises.specs.Answers.Asked.{StateGiven, by_state, IsCurrent, IsSpecial, AllZeros, AllOnes, StandsFor, Itself, TheCurrent, sought, InCurrent, InSaved, makes_by}
+use Rattle.nfs_promises.specs.Answers.Asked.{DirectoryOf, Target, Source, FileOf, Used, Opened, ToPut}
+use Rattle.nfs_promises.specs.Answers.Reasons.{StateTold, state_of, IsOwn, IsOld, IsBad, NoCurrent, Special, NoState, IsMissing, IsTaken, IsInTheWay, Reason}
+use Rattle.nfs_promises.specs.Answers.ReasonsWorked.{AreAnsweredSo, AnswersRefused, Refused, opens, guarded, removes, shut, moves}
+use Rattle.nfs_promises.proofs.Runs.Computing.{computing}
+
+-- What has no reason, whatever the server.
+
+stands_itself : (x : Context) (k : StateGiven) (id : StateId) → (IsCurrent (state_id k.given) → ⊥) → StandsFor x k id → id ≡ state_id k.given
+stands_itself x k id other (Itself fresh same) = same
+stands_itself x k id other (TheCurrent is some same) = absurd (other is)
+
+module _ (s : State) (x : Context) (i : Item) (k : StateGiven) (m : StateTold) (is : by_state i ≡ Some k) (other : IsCurrent (state_id k.given) → ⊥)
+    (names : state_of s.opens (state_id k.given) ≡ Some m) where
+  -- a stateid that has the seqid of its state
+  not_old : (state_id k.given).seqid ≡ m.seqid → IsOld s x i → ⊥
+  not_old same why =
+      let one : k ≡ why.given = same_Some k why.given (sym is ∙ why.is) in
+      let id_is : why.id ≡ state_id k.given = stands_itself x k why.id other (subst (λ k. StandsFor x k why.id) (sym one) why.means) in
+      let m_is : m ≡ why.state = same_Some m why.state (sym names ∙ (ap (state_of s.opens) (sym id_is) ∙ why.names)) in
+      let a : why.id.seqid ≡ (state_id k.given).seqid = ap (λ (i : StateId). i.seqid) id_is in
+      let b : m.seqid ≡ why.state.seqid = ap (λ (m : StateTold). m.seqid) m_is in
+      let less : why.id.seqid < why.state.seqid = why.old in
+      omega arith
+
+  not_bad : IsOwn x k m → (IsSpecial (state_id k.given) → ⊥) → (state_id k.given).seqid ≤ m.seqid → IsBad s x i → ⊥
+  not_bad own plain late (NoCurrent j at current none) = other (subst (λ (k : StateGiven). IsCurrent (state_id k.given)) (sym (same_Some k j (sym is ∙ at))) current)
+  not_bad own plain late (Special j id at means special sort) =
+      let one : k ≡ j = same_Some k j (sym is ∙ at) in
+      plain (subst IsSpecial (stands_itself x k id other (subst (λ k. StandsFor x k id) (sym one) means)) special)
+  not_bad own plain late (NoState j id at means some none) =
+      let one : k ≡ j = same_Some k j (sym is ∙ at) in
+      let id_is : id ≡ state_id k.given = stands_itself x k id other (subst (λ k. StandsFor x k id) (sym one) means) in
+      let low : id.seqid ≤ m.seqid = subst (λ (i : StateId). i.seqid ≤ m.seqid) (sym id_is) late in
+      none m (ap (state_of s.opens) id_is ∙ names) (subst (λ k. IsOwn x k m) one own) low
+
+module _ (s : State) (x : Context) where
+  -- a name that is there
+  not_missing : (i : Item) (n k : ℕ) (name : List ℕ) → x.current ≡ Some n → sought i ≡ Some name → object_named s.tree n name ≡ Some k
+      → ((a : Rename) → i ≡ Operation (Op.Rename a) → ⊥) → IsMissing s x i → ⊥
+  not_missing i n k name at is there other why = elim why.seeks [
+    | InCurrent here so ↦ (let bad : Some k ≡ None = sym there ∙ (ap (λ m. object_named s.tree m name) (same_Some n why.directory (sym at ∙ here))
+        ∙ (ap (object_named s.tree why.directory) (same_Some name why.name (sym is ∙ so)) ∙ why.gone)) in cc)
+    | InSaved a saved so old here same ↦ other a so
+  ]
+
+  not_missing_old : (a : Rename) (saved : Saved) (k : ℕ) → x.saved ≡ Some saved → object_named s.tree saved.object a.oldname ≡ Some k → IsMissing s x (Operation (Op.Rename a)) → ⊥
+  not_missing_old a saved k at there why = elim why.seeks [
+    | InCurrent here so ↦ (let bad : None ≡ Some why.name = so in cc)
+    | InSaved b other so old here same ↦
+        (let one : Operation (Op.Rename a) ≡ Operation (Op.Rename b) = so in
+        let asked : a ≡ b = cc in
+        let where_is : saved ≡ other = same_Some saved other (sym at ∙ here) in
+        let bad : Some k ≡ None = sym there ∙ (ap (λ (q : Saved). object_named s.tree q.object a.oldname) where_is ∙ (ap (λ m. object_named s.tree m a.oldname) same
+        ∙ (ap (λ (a : Rename). object_named s.tree why.directory a.oldname) asked ∙ (ap (object_named s.tree why.directory) old ∙ why.gone)))) in cc)
+  ]
+
+  -- an OPEN that may open what is there
+  not_taken : (a : Open) → makes_by a.openhow ≡ None → IsTaken s x (Operation (Op.Open a)) ⊎ IsInTheWay s x (Operation (Op.Open a)) → ⊥
+  not_taken a plain (inl why) =
+      let same : Operation (Op.Open a) ≡ Operation (Op.Open why.asked) = why.is in
+      let one : a ≡ why.asked = cc in
+      let bad : None ≡ Some why.verifier = sym plain ∙ (ap (λ (a : Open). makes_by a.openhow) one ∙ why.makes) in
+      cc
+  not_taken a plain (inr why) = let same : Operation (Op.Open a) ≡ Operation (Op.Rename why.asked) = why.is in cc
+
+  -- an OPEN of what is no directory
+  not_directory : (a : Open) (n : ℕ) (o : Object) → claimed s.tree x a.claim ≡ Some n → object_at s.tree n ≡ Some o → is_directory o.kind ≡ false
+      → Reason s x (Operation (Op.Open a)) S.IsDir → ⊥
+  not_directory a n o at is plain (m, place, kind) =
+      let same : n ≡ m = by place in
+      let one : o ≡ kind.0 = same_Some o kind.0 (sym is ∙ (ap (object_at s.tree) same ∙ kind.1)) in
+      false≢true (sym plain ∙ (ap (λ (o : Object). is_directory o.kind) one ∙ kind.2))
+    where
+      by : FileOf s x (Operation (Op.Open a)) m → n ≡ m
+      by (Used of_file here) = absurd (false≢true of_file)
+      by (Opened b so here) = (let it : Operation (Op.Open a) ≡ Operation (Op.Open b) = so in
+          let asked : a ≡ b = cc in same_Some n m (sym at ∙ (ap (λ (a : Open). claimed s.tree x a.claim) asked ∙ here)))
+
+  -- a RENAME from and to a directory
+  not_placed : (a : Rename) (saved : Saved) (n : ℕ) (o : Object) → x.current ≡ Some n → x.saved ≡ Some saved → saved.object ≡ n → object_at s.tree n ≡ Some o
+      → is_directory o.kind ≡ true → Reason s x (Operation (Op.Rename a)) S.NotDir → ⊥
+  not_placed a saved n o at from both is plain (m, place, kind) =
+      let same : n ≡ m = by place in
+      let one : o ≡ kind.0 = same_Some o kind.0 (sym is ∙ (ap (object_at s.tree) same ∙ kind.1)) in
+      absurd (false_not (is_directory kind.0.kind) (sym (ap (λ (o : Object). is_directory o.kind) one) ∙ plain) kind.2)
+    where
+      false_not : (b : Bool) → b ≡ true → not b ≡ true → ⊥
+      false_not true e off = false≢true off
+      false_not false e off = false≢true e
+
+      by : DirectoryOf x (Operation (Op.Rename a)) m → n ≡ m
+      by (Target on here) = same_Some n m (sym at ∙ here)
+      by (Source b other so here same) = sym both ∙ (ap (λ (q : Saved). q.object) (same_Some saved other (sym from ∙ here)) ∙ same)
+
+-- The runs.
+
+no_current : ◌≢◌ {A = ℕ} 7 0
+no_current e = absurd (omega arith)
+
+not_all_ones : ◌≢◌ {A = ℕ} 7 0xffff_ffff
+not_all_ones e = absurd (omega arith)
+
+no_user : ◌≢◌ {A = ℕ} 5 0
+no_user e = absurd (omega arith)
+
+no_bit : ◌≢◌ {A = ℕ} 0 1
+no_bit e = absurd (omega arith)
+
+-- 555 lets nobody but user 0 write
+not_writable : Grants (record { mode = 365; owner = 0; group = 0 }) (record { uid = 5; gid = 6; gids = [] }) Writes → ⊥
+not_writable (ToRoot root) = no_user root
+not_writable (ToOwner own bit) = no_user own
+not_writable (ToGroup other within bit) = no_bit bit
+not_writable (ToOthers other out bit) = no_bit bit
+
+unlocked : statuses (ops_of asked gives_up) ≡ S.Nfs4Ok ∷ S.Nfs4Ok ∷ []
+unfolding computing
+unlocked = refl
+
+opened : statuses (ops_of made (opens NoCreate)) ≡ S.Nfs4Ok ∷ S.Nfs4Ok ∷ []
+unfolding computing
+opened = refl
+
+made_before : statuses (ops_of made (opens guarded)) ≡ S.Nfs4Ok ∷ S.Exist ∷ []
+unfolding computing
+made_before = refl
+
+denied : statuses (ops_of shut (moves 3 1)) ≡ S.Nfs4Ok ∷ S.Nfs4Ok ∷ S.Access ∷ []
+unfolding computing save_fh both rename rename_args
+denied = refl
+
+pub are_answered_so : AreAnsweredSo
+are_answered_so = record { unlocked = unlocked; opened = opened; made_before = made_before; denied = denied }
+
+-- The wrong answers.
+
+-- the LOCKU's stateid, and the state that it names
+abbrev lock_given : StateGiven
+lock_given = record { given = stateid 1 2; sort = LockOnly; form = Any }
+
+abbrev lock_told : StateTold
+lock_told = record { sort = LockOnly; client = 7 * 2 ^ 32 + 1; file = 2; seqid = 1 }
+
+not_special : IsSpecial (record { seqid = 1; instance = 7; number = 2 }) → ⊥
+not_special (AllZeros a b c) = no_current b
+not_special (AllOnes a b c) = not_all_ones b
+
+-- the OPENs, and the RENAME
+abbrev asking : OpenHow → Open
+asking how = record { seqid = 0; share_access = 1; share_deny = 0; owner = record { clientid = 0; owner = 0x70 ∷ [] }; openhow = how; claim = Null (0x66 ∷ []) }
+
+abbrev moving : Rename
+moving = record { oldname = 0x66 ∷ []; newname = 0x67 ∷ [] }
+
+abbrev root_saved : Saved
+root_saved = record { object = 1; stateid = anonymous }
+
+old : Refused asked gives_up S.OldStateId
+unfolding computing
+old d is = let e = last_of d (ops_of asked gives_up) in
+    not_old e.before.store e.context e.item lock_given lock_told refl (λ c. no_current c.1) refl refl ((is refl).refused refl)
+
+bad : Refused asked gives_up S.BadStateId
+unfolding computing
+bad d is = let e = last_of d (ops_of asked gives_up) in
+    not_bad e.before.store e.context e.item lock_given lock_told refl (λ c. no_current c.1) refl (record { client = refl; file = refl; sort = refl })
+    not_special (omega arith) ((is refl).refused refl)
+
+taken : Refused made (opens NoCreate) S.Exist
+unfolding computing
+taken d is = let e = last_of d (ops_of made (opens NoCreate)) in not_taken e.before.store e.context (asking NoCreate) refl ((is refl).refused refl)
+
+retaken : Refused made (opens unchecked) S.Exist
+unfolding computing
+retaken d is = let e = last_of d (ops_of made (opens unchecked)) in not_taken e.before.store e.context (asking unchecked) refl ((is refl).refused refl)
+
+missing : Refused made (opens NoCreate) S.NoEnt
+unfolding computing
+missing d is = let e = last_of d (ops_of made (opens NoCreate)) in
+    not_missing e.before.store e.context e.item 1 2 (0x66 ∷ []) refl refl refl (λ a so. cc) ((is refl).refused refl)
+
+directory : Refused made (opens NoCreate) S.IsDir
+unfolding computing
+directory d is = let e = last_of d (ops_of made (opens NoCreate)) in not_directory e.before.store e.context (asking NoCreate) 2 _ refl refl refl ((is refl).refused refl)
+
+unremoved : Refused made removes S.NoEnt
+unfolding computing remove
+unremoved d is = let e = last_of d (ops_of made removes) in
+    not_missing e.before.store e.context e.item 1 2 (0x66 ∷ []) refl refl refl (λ a so. cc) ((is refl).refused refl)
+
+unrenamed : Refused made (moves 4 2) S.NoEnt
+unfolding computing save_fh both rename rename_args
+unrenamed d is = let e = last_of d (ops_of made (moves 4 2)) in not_missing_old e.before.store e.context moving root_saved 2 refl refl ((is refl).refused refl)
+
+unplaced : Refused made (moves 4 2) S.NotDir
+unfolding computing save_fh both rename rename_args
+unplaced d is = let e = last_of d (ops_of made (moves 4 2)) in not_placed e.before.store e.context moving root_saved 1 _ refl refl refl refl refl ((is refl).refused refl)
+
+found : Refused made (opens guarded) S.Nfs4Ok
+unfolding computing
+found d is = (let there : ◌≡◌ {A = Option ℕ} (Some 2) None = (is refl).granted refl 1 (0x66 ∷ []) refl refl refl in cc)
+
+moved : Refused shut (moves 3 1) S.Nfs4Ok
+unfolding computing save_fh both rename rename_args
+moved d is = not_writable ((is refl).granted refl 1 (Writes ∷ Executes ∷ []) (ToPut 1 moving refl) Writes (inl refl) (record { mode = 365; owner = 0; group = 0 }) refl)
+
+pub answers_refused : AnswersRefused
+answers_refused = record {
+  old = old;
+  bad = bad;
+  taken = taken;
+  retaken = retaken;
+  missing = missing;
+  directory = directory;
+  unremoved = unremoved;
+  unrenamed = unrenamed;
+  unplaced = unplaced;
+  found = found;
+  moved = moved;
+}

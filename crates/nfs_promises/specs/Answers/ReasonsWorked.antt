@@ -1,0 +1,59 @@
+-- Refusals with a reason and without one, worked by hand over the runs of `LockKeptWorked` and `WrittenStaysWorked` (RFC 8881 sections 8.2.2, 15.1,
+-- 18.12, 18.16, 18.25 and 18.26): a guarded create of a name that is there is refused, and so is a RENAME in a root that only its owner may change.
+use Rattle.std.specs.Prelude.{◌≡◌, ℕ, ◌+◌, [], ◌∷◌}
+use Rattle.nfs_xdr.specs.declared.status.Status.{Status}
+use Rattle.nfs_xdr.specs.declared.status.Status.TheVariants.{Nfs4Ok, OldStateId, BadStateId, Exist, NoEnt, IsDir, Access, NotDir}
+use Rattle.nfs_compound.specs.declared.open_args.{OpenHow.OpenHow, OpenHow.TheVariants.{NoCreate, Create}, CreateHow.TheVariants.Guarded}
+use Rattle.nfs_compound.specs.declared.op.Op.TheVariants as Op
+use Rattle.nfs_exec.specs.Runs.Ops.{RanOp}
+use Rattle.nfs_serve.specs.Step.{ServerState}
+use Rattle.nfs_promises.specs.{Runs.{Requests.{in_session, opening_by, unchecked}, Points.{reached, ops_of}}, Network.Endpoint.Arrival, Answers.Reasons.AnswersSo}
+use Rattle.nfs_promises.specs.Locks.LockKeptWorked.{came, earlier, asked, gives_up, last_of, statuses}
+use Rattle.nfs_promises.specs.{Bytes.WrittenStaysWorked.made, Names.FileStaysWorked.with_status}
+
+-- PUTROOTFH, and an OPEN of `f` for reading by another open owner
+abbrev pub opens : OpenHow → Arrival
+opens how = came 103 4 (in_session 1 2 (Op.PutRootFh ∷ opening_by (0x70 ∷ []) 1 0 how (0x66 ∷ []) ∷ []))
+
+abbrev pub guarded : OpenHow
+guarded = Create (Guarded (record { attrmask = []; attr_vals = [] }))
+
+abbrev pub removes : Arrival
+removes = came 103 4 (in_session 1 2 (Op.PutRootFh ∷ Op.Remove (0x66 ∷ []) ∷ []))
+
+-- a root of which others than its owner may read and search: 555
+abbrev pub shut : ServerState
+shut = reached (record { mode = 365; instance = 7; lease = 90 }) earlier
+
+abbrev pub moves : (now number : ℕ) → Arrival
+moves now number = came (100 + now) now (in_session 1 number (Op.PutRootFh ∷ Op.SaveFh ∷ Op.Rename (record { oldname = 0x66 ∷ []; newname = 0x67 ∷ [] }) ∷ []))
+
+-- The runs compute to what the promise says.
+pub record AreAnsweredSo : Type 0 where
+  pub unlocked : statuses (ops_of asked gives_up) ≡ Nfs4Ok ∷ Nfs4Ok ∷ []
+  pub opened : statuses (ops_of made (opens NoCreate)) ≡ Nfs4Ok ∷ Nfs4Ok ∷ []
+  pub made_before : statuses (ops_of made (opens guarded)) ≡ Nfs4Ok ∷ Exist ∷ []
+  pub denied : statuses (ops_of shut (moves 3 1)) ≡ Nfs4Ok ∷ Nfs4Ok ∷ Access ∷ []
+
+-- with another status the last operation of a compound does not answer so
+abbrev pub Refused : ServerState → Arrival → Status → Type 0
+Refused s c status = (d : RanOp) → AnswersSo (with_status status (last_of d (ops_of s c))) → ⊥
+
+-- The promise refuses these.
+pub record AnswersRefused : Type 0 where
+  -- a LOCKU by the stateid that LOCK answered
+  pub old : Refused asked gives_up OldStateId
+  pub bad : Refused asked gives_up BadStateId
+  -- an OPEN of a file that is there: it is there already, it is not there, it is a directory
+  pub taken : Refused made (opens NoCreate) Exist
+  pub retaken : Refused made (opens unchecked) Exist
+  pub missing : Refused made (opens NoCreate) NoEnt
+  pub directory : Refused made (opens NoCreate) IsDir
+  -- a REMOVE and a RENAME of a name that is there
+  pub unremoved : Refused made removes NoEnt
+  pub unrenamed : Refused made (moves 4 2) NoEnt
+  pub unplaced : Refused made (moves 4 2) NotDir
+  -- a guarded create of a name that is there opens it
+  pub found : Refused made (opens guarded) Nfs4Ok
+  -- the RENAME asks nobody's permission
+  pub moved : Refused shut (moves 3 1) Nfs4Ok
