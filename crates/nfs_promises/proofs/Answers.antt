@@ -3,6 +3,10 @@ pub mod Placed
 pub mod StateReasons
 pub mod NameReasons
 pub mod FileReasons
+pub mod AttrReasons
+pub mod HoldReasons
+pub mod MakeReasons
+pub mod WalkReasons
 pub mod OpenReasons
 pub mod Reasons
 pub mod ReasonsWorked

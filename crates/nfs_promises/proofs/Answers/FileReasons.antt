@@ -23,7 +23,7 @@ use Rattle.nfs_files.specs.{LockU.lock_u, Ranges.{range, wished, all_ones, kind_
 use Rattle.nfs_files.proofs.{TreeFiles.IsWhole, WrittenOps.current_number}
 use Rattle.nfs_files.proofs.InSteps as in_steps
 use Rattle.nfs_promises.specs.{Names.FileStays.is_on_current, Permission.Permitted.{Right, Reads, Writes, Grants, rights_of, is_special}}
-use Rattle.nfs_promises.specs.Answers.Asked.{is_of_file, AFile, Used, StateGiven, by_state, IsSpecial, Needs, ToRead, ToWrite}
+use Rattle.nfs_promises.specs.Answers.Asked.{is_of_file, AFile, TheFile, Used, StateGiven, by_state, IsSpecial, Needs, ToRead, ToWrite}
 use Rattle.nfs_promises.specs.Answers.Reasons.{IsDenied, Reason}
 use Rattle.nfs_promises.proofs.Answers.Blaming.{Blames, AllBlame, then_blames, there_blames, then_checks, ends_then, ends_checks, answers_blame}
 use Rattle.nfs_promises.proofs.Answers.{Placed.{Answers, of_refusal, refused_so, done_so, current_blames, has_kind, denied_by}, StateReasons.{special_so, stands_for, meant_blames, state_blames}}
@@ -34,8 +34,8 @@ use Rattle.nfs_promises.proofs.Permission.{Granting.{may_read, may_write}, Permi
 module _ (s : State) (whole : IsWhole s) (x : Context) (i : Item) (on : is_on_current i ≡ true) (wants : is_of_file i ≡ true) where
   pub file_all : (d : Node) → current s x ≡ Ok d → AllBlame (Reason s x i) (file_checks d)
   file_all d e = (
-    λ dir. (d.number, Used wants (current_number s x d e), has_kind s x i d is_directory e dir),
-    λ u. (λ link. (d.number, AFile (Used wants (current_number s x d e)), has_kind s x i d is_link e link), λ u. tt),
+    λ dir. (d.number, AFile (Used wants (current_number s x d e)), has_kind s x i d is_directory e dir),
+    λ u. (λ link. (d.number, TheFile (Used wants (current_number s x d e)), has_kind s x i d is_link e link), λ u. tt),
   )
 
   pub file_blames : Blames (Reason s x i) (the_file s x)
@@ -45,7 +45,7 @@ module _ (s : State) (whole : IsWhole s) (x : Context) (i : Item) (on : is_on_cu
   range_blames : (offset size : ℕ) → Blames (Reason s x i) (range offset size)
   unfolding range
   range_blames offset size = then_checks (Reason s x i) ((size == 0, S.Inval) ∷ (not (size == all_ones) && nat_lt all_ones (offset + size), S.Inval) ∷ []) _
-      (λ v. tt, λ u. (λ v. tt, λ u. tt)) (λ u. tt)
+      (λ v. refl, λ u. (λ v. refl, λ u. tt)) (λ u. tt)
 
   pub wished_blames : (how : LockType) (offset size : ℕ) → Blames (Reason s x i) (wished s x how offset size)
   unfolding wished
@@ -54,7 +54,7 @@ module _ (s : State) (whole : IsWhole s) (x : Context) (i : Item) (on : is_on_cu
 pub the_file_is : (s : State) (x : Context) (d : Node) → the_file s x ≡ Ok d → current s x ≡ Ok d
 the_file_is s x d e = (checked_ok (current s x) file_checks d (sym (in_steps.file_is s x) ∙ e)).0
 
-wished_is : (s : State) (x : Context) (how : LockType) (offset size : ℕ) (w : Wish) → wished s x how offset size ≡ Ok w → (w.client ≡ x.client) × (x.current ≡ Some w.file)
+pub wished_is : (s : State) (x : Context) (how : LockType) (offset size : ℕ) (w : Wish) → wished s x how offset size ≡ Ok w → (w.client ≡ x.client) × (x.current ≡ Some w.file)
 unfolding wished
 wished_is s x how offset size w e =
     let d = came (the_file s x) _ w e in
@@ -64,7 +64,7 @@ wished_is s x how offset size w e =
 
 module _ (s : State) (whole : IsWhole s) (x : Context) where
   -- READ and WRITE
-  module _ (i : Item) (k : StateGiven) (is : by_state i ≡ Some k) (either : k.sort ≡ Either) (any : k.form ≡ Any) (d : Node) (e : current s x ≡ Ok d) (wanted : Share) (right : Right)
+  module _ (i : Item) (k : StateGiven) (is : by_state i ≡ Some k) (either : k.sort ≡ Either) (any : k.form ≡ Any) (locked : Reason s x i S.Locked) (mode : Reason s x i S.OpenMode) (d : Node) (e : current s x ≡ Ok d) (wanted : Share) (right : Right)
       (may : Grants (rights_of d.object) x.who right → permits x d (want_of wanted) ≡ true)
       (needs : (id : StateId) → meant x Any k.given ≡ Ok id → IsSpecial id → Needs s x i d.number (right ∷ [])) where
     seat_blames : (id : StateId) → meant x Any k.given ≡ Ok id → (n : Seat) → judge s.opens id x.client (Some d.number) Either ≡ Ok n → AllBlame (Reason s x i) (seat_checks s x wanted d n)
@@ -80,10 +80,10 @@ module _ (s : State) (whole : IsWhole s) (x : Context) where
         ]
 
         by : (n : Seat) → judge s.opens id x.client (Some d.number) Either ≡ Ok n → AllBlame (Reason s x i) (seat_checks s x wanted d n)
-        by Anonymous seated = (λ v. tt, λ u. (λ bits. lacks (not-true _ bits) (some Anonymous refl seated), λ u. tt))
-        by ReadBypass seated = (λ v. tt, λ u. (λ bits. lacks (not-true _ bits) (some ReadBypass refl seated), λ u. tt))
-        by (AnOpen n access) seated = (λ v. tt, λ u. tt)
-        by (ALock n access) seated = (λ v. tt, λ u. tt)
+        by Anonymous seated = (λ v. locked, λ u. (λ bits. lacks (not-true _ bits) (some Anonymous refl seated), λ u. tt))
+        by ReadBypass seated = (λ v. locked, λ u. (λ bits. lacks (not-true _ bits) (some ReadBypass refl seated), λ u. tt))
+        by (AnOpen n access) seated = (λ v. mode, λ u. tt)
+        by (ALock n access) seated = (λ v. mode, λ u. tt)
 
     judge_blames : (id : StateId) → meant x Any k.given ≡ Ok id → Blames (Reason s x i) (judge s.opens id x.client (Some d.number) Either)
     judge_blames id means =
@@ -108,7 +108,7 @@ module _ (s : State) (whole : IsWhole s) (x : Context) where
       let Y : Outcome → Type 0 = Answers s x i in
       answers_blame B Y s x Num.Read _ (refused_so s x i Num.Read) (ends_then B Y (the_file s x) _ (file_blames s whole x i refl refl) (λ d e.
       (let now = the_file_is s x d e in
-      ends_then B Y (may_use s x reading a.stateid d) _ (may_use_blames i k refl refl refl d now reading Reads (may_read x d) (λ id means some.
+      ends_then B Y (may_use s x reading a.stateid d) _ (may_use_blames i k refl refl refl refl refl d now reading Reads (may_read x d) (λ id means some.
       ToRead d.number a (record { state = k; is = refl; id = id; means = stands_for x k id means; special = some; at = current_number s x d now }))) (λ n e. done_so s x i tt))))
 
   pub write_blames : (now : Time) (a : Write) → Answers s x (Operation (Op.Write a)) (write s x now a)
@@ -120,9 +120,9 @@ module _ (s : State) (whole : IsWhole s) (x : Context) where
       let Y : Outcome → Type 0 = Answers s x i in
       answers_blame B Y s x Num.Write _ (refused_so s x i Num.Write) (ends_then B Y (the_file s x) _ (file_blames s whole x i refl refl) (λ d e.
       (let now = the_file_is s x d e in
-      ends_then B Y (may_use s x writing a.stateid d) _ (may_use_blames i k refl refl refl d now writing Writes (may_write x d) (λ id means some.
+      ends_then B Y (may_use s x writing a.stateid d) _ (may_use_blames i k refl refl refl refl refl d now writing Writes (may_write x d) (λ id means some.
       ToWrite d.number a (record { state = k; is = refl; id = id; means = stands_for x k id means; special = some; at = current_number s x d now }))) (λ n e.
-      ends_checks B Y (write_lasts s a d) _ (λ v. tt, λ u. (λ v. tt, λ u. tt)) (λ u. done_so s x i tt)))))
+      ends_checks B Y (write_lasts s a d) _ (λ v. refl, λ u. (λ v. refl, λ u. tt)) (λ u. done_so s x i tt)))))
 
   pub commit_blames : (a : _) → Answers s x (Operation (Op.Commit a)) (commit s x)
   unfolding commit
@@ -134,7 +134,7 @@ module _ (s : State) (whole : IsWhole s) (x : Context) where
   -- LOCKT
   tested_so : (a : LockT) (o : Option Held) → Answers s x (Operation (Op.LockT a)) (done s x (option_map_or (λ h. Res.LockTDenied (lock_denied s.opens h)) o Res.LockT))
   tested_so a None = done_so s x (Operation (Op.LockT a)) tt
-  tested_so a (Some h) = of_refusal s x (Operation (Op.LockT a)) S.Denied tt
+  tested_so a (Some h) = of_refusal s x (Operation (Op.LockT a)) S.Denied refl
 
   pub test_blames : (a : LockT) → Answers s x (Operation (Op.LockT a)) (lock_t s x a)
   unfolding lock_t

@@ -18,7 +18,7 @@ use Rattle.nfs_names.specs.{GetAttr.get_attr, GetFh.get_fh, Lookup.lookup, ReadL
 use Rattle.nfs_names.specs.Rename.{rename, renamed, move_of, place_checks as rename_places, last_checks as rename_lasts}
 use Rattle.nfs_files.proofs.{TreeFiles.IsWhole, WrittenOps.current_number}
 use Rattle.nfs_promises.specs.Permission.Permitted.{Writes, Executes, Grants, rights_of, rights_at}
-use Rattle.nfs_promises.specs.Answers.Asked.{ByName, ByOldName, ByNewName, InCurrent, InSaved, Source, Searched, ToFind, ToRemove, ToTake, ToPut}
+use Rattle.nfs_promises.specs.Answers.Asked.{ByName, ByOldName, ByNewName, InCurrent, InSaved, Source, Searched, ToAdd, ToFind, ToRemove, ToTake, ToPut}
 use Rattle.nfs_promises.specs.Answers.Reasons.{HasEntry, IsInTheWay, IsGranted, Reason}
 use Rattle.nfs_promises.proofs.Answers.Blaming.{all_blame, held_blames, there_blames, ends_then, ends_checks, answers_blame, passed_all}
 use Rattle.nfs_promises.proofs.Answers.Placed.{Answers, refused_so, done_so, current_blames, both_blames, saved_found, rights_is, unnamed, named_at}
@@ -33,12 +33,14 @@ placing x d want name = no_directory d ∷ no_access x d want ∷ name_checks na
 
 found_granted : (s : State) (x : Context) (d : Node) (name : List ℕ) → current s x ≡ Ok d → first_fault ((is_link d.object.kind, S.Symlink) ∷ placing x d execute name) ≡ None
     → IsGranted s x (Operation (Op.Lookup name))
+found_granted s x d name e none m rights (ToAdd n i given made_so at) right asks r has = absurd cc
 found_granted s x d name e none m rights (ToFind n i given named_so at) right asks r has =
     let checks = all_passed ((is_link d.object.kind, S.Symlink) ∷ placing x d execute name) none in
     one_of right Executes (Grants r x.who) asks (gets s x n r d Executes at has e (executes x d (not-false _ checks.1.1.0)))
 
 remove_granted : (s : State) (x : Context) (d : Node) (name : List ℕ) → current s x ≡ Ok d → first_fault (placing x d change_entries name) ≡ None
     → IsGranted s x (Operation (Op.Remove name))
+remove_granted s x d name e none m rights (ToAdd n i given made_so at) right asks r has = absurd cc
 remove_granted s x d name e none m rights (ToRemove n k at) right asks r has =
     let both = changes x d (not-false _ (all_passed (placing x d change_entries name) none).1.0) in
     two_of right Writes Executes (Grants r x.who) asks (gets s x n r d Writes at has e both.0, gets s x n r d Executes at has e both.1)
@@ -57,6 +59,7 @@ rename_granted s x a p e none m rights (ToPut n b at) right asks r has =
     let may = changes x p.current (not-false _ (all_passed (rename_places x a p) none).1.1.1.0) in
     let there = both_current s x p e in
     two_of right Writes Executes (Grants r x.who) asks (gets s x n r p.current Writes at has there may.0, gets s x n r p.current Executes at has there may.1)
+rename_granted s x a p e none m rights (ToAdd n i given made_so at) right asks r has = absurd cc
 rename_granted s x a p e none m rights (ToFind n i given named_so at) right asks r has = absurd cc
 
 -- What is in the way of a RENAME.
@@ -145,7 +148,7 @@ module _ (s : State) (whole : IsWhole s) (x : Context) where
             there = named_at s.tree d.number name (not-false _ has);
             has = has_entry s.tree (number_named s.tree d.number name) entries;
           },
-          λ u. (λ v. tt, λ u. tt),
+          λ u. (λ v. refl, λ u. tt),
         ),
       ) (λ last. done_so s x i (remove_granted s x d name e (passed_all (placing x d change_entries name) placed))))))
 
@@ -180,8 +183,8 @@ module _ (s : State) (whole : IsWhole s) (x : Context) where
           ),
         ),
       ) (λ placed. ends_checks B Y (rename_lasts s.tree (move_of a p)) _ (
-        λ no_name. record { directory = p.saved.number; name = a.oldname; seeks = InSaved a its.saved refl refl its.is its.names; gone = unnamed s.tree p.saved.number a.oldname no_name },
-        λ has. (λ below. tt, λ u. (λ way. inr (in_the_way s x a p e (not-false _ has) way), λ u. (λ v. tt, λ u. tt))),
+        λ no_name. missing s x i p.saved a.oldname (InSaved a its.saved refl refl its.is its.names) (unnamed s.tree p.saved.number a.oldname no_name),
+        λ has. (λ below. refl, λ u. (λ way. inr (inl (in_the_way s x a p e (not-false _ has) way)), λ u. (λ v. refl, λ u. tt))),
       ) (λ last. by_moves p e (passed_all (rename_places x a p) placed) (moves s.tree (move_of a p)))))))
     where
       by_moves : (p : _) → both s x ≡ Ok p → first_fault (rename_places x a p) ≡ None → (b : Bool) → Answers s x (Operation (Op.Rename a)) (renamed s x now a p b)
@@ -196,7 +199,7 @@ module _ (s : State) (whole : IsWhole s) (x : Context) where
       let i : Item = Operation (Op.GetAttr words) in
       answers_blame (Reason s x i) (Answers s x i) s x Num.GetAttr _ (refused_so s x i Num.GetAttr) (ends_then (Reason s x i) (Answers s x i) (current s x) _
       (current_blames s whole x i refl) (λ d e. ends_then (Reason s x i) (Answers s x i) (require (not (asks_set_only (mask_of words))) S.Inval) _
-      (held_blames (Reason s x i) (not (asks_set_only (mask_of words))) S.Inval (λ v. tt)) (λ u e. done_so s x i tt)))
+      (held_blames (Reason s x i) (not (asks_set_only (mask_of words))) S.Inval (λ v. refl)) (λ u e. done_so s x i tt)))
 
   pub get_fh_blames : Answers s x (Operation Op.GetFh) (get_fh s x)
   unfolding get_fh

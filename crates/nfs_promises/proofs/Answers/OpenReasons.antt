@@ -12,8 +12,7 @@ use Rattle.nfs_compound.specs.declared.op.Op.TheVariants as Op
 use Rattle.nfs_compound.specs.declared.op_num.OpNum.TheVariants as Num
 use Rattle.nfs_tree.specs.{declared.row.Row.Row, declared.stored.Stored.Stored}
 use Rattle.nfs_tree.specs.{Files.{stored_in, object_at, object_named, is_there, entry}}
-use Rattle.nfs_attrs.specs.{declared.wanted.Wanted.Wanted, Mask.mask_of, Setting.make_checks, Permissions.{execute, write as write_bits}}
-use Rattle.nfs_attrs.proofs.Answered.{by_read}
+use Rattle.nfs_attrs.specs.{declared.wanted.Wanted.Wanted, Setting.make_checks, Permissions.{execute, write as write_bits}}
 use Rattle.nfs_opens.specs.{declared.share.Share.Share, Share.share_of, Steps.{require, in_order}}
 use Rattle.nfs_names.specs.{declared.context.Context.Context, declared.node.Node.Node, State.State, Outcome.Outcome, Create.attributes_in}
 use Rattle.nfs_names.specs.Checks.{node_as, node_at, current, no_directory, no_access, name_checks}
@@ -21,11 +20,11 @@ use Rattle.nfs_names.proofs.Found.{came}
 use Rattle.nfs_files.specs.{OpenTold.{claimed, named_in}, Open.{access_of, is_made_by, makes, there_checks, found_by, by_claim, open_file, last_checks as open_last}}
 use Rattle.nfs_files.proofs.{Prompt.all_pass, OpenAnswers.last_pass, TreeFiles.IsWhole, WrittenOps.current_number}
 use Rattle.nfs_promises.specs.Permission.Permitted.{Right, Reads, Writes, Executes, has_right, rights_of}
-use Rattle.nfs_promises.specs.Answers.Asked.{AFile, Opened, named_by as name_claimed, sought_by, makes_by, creates, ByName, InCurrent, ToMake, ToOpen, shared}
+use Rattle.nfs_promises.specs.Answers.Asked.{AFile, TheFile, Opened, ToMakeAs, attributes_of, named_by as name_claimed, sought_by, makes_by, creates, ByName, InCurrent, ToMake, ToOpen, shared}
 use Rattle.nfs_promises.specs.Answers.Reasons.{WasFree, Reason}
 use Rattle.nfs_promises.proofs.Answers.Blaming.{Blames, AllBlame, held_blames, then_blames, then_checks, ends_then, ends_checks, answers_blame, passed_all}
 use Rattle.nfs_promises.proofs.Answers.Placed.{Answers, refused_so, done_so, node_found, found_now, rights_is, current_blames, denied_by, no_directory_blames, no_finding}
-use Rattle.nfs_promises.proofs.{Answers.Placed.{missing, names_blame}, Permission.Granting.{may_ask, may_write}}
+use Rattle.nfs_promises.proofs.{Answers.{Placed.{missing, names_blame}, AttrReasons.{attributes_blame, make_blames}}, Permission.Granting.{may_ask, may_write}}
 
 in_shared : (access : Share) (right : Right) → has_right access right ≡ true → In right (shared access.reads access.writes)
 in_shared access Reads has = by access.reads access.writes has
@@ -74,6 +73,13 @@ creates_so : (how : OpenHow) → not (makes how).creates ≡ false → creates h
 creates_so NoCreate none = absurd (false≢true (sym none))
 creates_so (Create how) none = refl
 
+same_attributes : (how : OpenHow) → attributes_of how ≡ (makes how).attributes
+same_attributes NoCreate = refl
+same_attributes (Create (Unchecked a)) = refl
+same_attributes (Create (Guarded a)) = refl
+same_attributes (Create (Exclusive v)) = refl
+same_attributes (Create (Exclusive41 v a)) = refl
+
 -- what a name leads to is there
 named_there : (s : State) (d n : ℕ) (name : List ℕ) → IsWhole s → object_named s.tree d name ≡ Some n → is_there s.tree n ≡ true
 named_there s d n name whole at = by (entry s.tree.rows d name) refl at
@@ -99,18 +105,18 @@ is_last S.NoSpc = true
 is_last S.ServerFault = true
 is_last f = false
 
-last_is : (s : State) (x : Context) (i : _) (f : Status) → is_last f ≡ true → Reason s x i f
+last_is : (s : State) (x : Context) (o : Open) (f : Status) → is_last f ≡ true → Reason s x (Operation (Op.Open o)) f
 unfolding is_last
-last_is s x i S.ShareDenied e = tt
-last_is s x i S.FBig e = tt
-last_is s x i S.NoSpc e = tt
-last_is s x i S.ServerFault e = tt
-last_is s x i f e = absurd (false≢true e)
+last_is s x o S.ShareDenied e = refl
+last_is s x o S.FBig e = refl
+last_is s x o S.NoSpc e = refl
+last_is s x o S.ServerFault e = refl
+last_is s x o f e = absurd (false≢true e)
 
-last_all : (s : State) (x : Context) (i : _) (checks : List (Bool × Status)) → all_pass is_last checks ≡ true → AllBlame (Reason s x i) checks
-last_all s x i [] all = tt
-last_all s x i (c ∷ more) all = (let parts = and_parts (is_last c.1) (all_pass is_last more) all in
-    (λ v. last_is s x i c.1 parts.0, λ u. last_all s x i more parts.1))
+last_all : (s : State) (x : Context) (o : Open) (checks : List (Bool × Status)) → all_pass is_last checks ≡ true → AllBlame (Reason s x (Operation (Op.Open o))) checks
+last_all s x o [] all = tt
+last_all s x o (c ∷ more) all = (let parts = and_parts (is_last c.1) (all_pass is_last more) all in
+    (λ v. last_is s x o c.1 parts.0, λ u. last_all s x o more parts.1))
 
 module _ (s : State) (whole : IsWhole s) (x : Context) (o : Open) where
   abbrev opening : Item
@@ -138,9 +144,9 @@ module _ (s : State) (whole : IsWhole s) (x : Context) (o : Open) where
         other = its.2;
       }),
       λ u. (
-        λ dir. (f.number, Opened o refl leads, (f.object, is, dir)),
+        λ dir. (f.number, AFile (Opened o refl leads), (f.object, is, dir)),
         λ u. (
-          λ link. (f.number, AFile (Opened o refl leads), (f.object, is, link)),
+          λ link. (f.number, TheFile (Opened o refl leads), (f.object, is, link)),
           λ u. (
             λ lacks. record {
               number = f.number;
@@ -157,36 +163,35 @@ module _ (s : State) (whole : IsWhole s) (x : Context) (o : Open) where
 
   -- by a name
   module _ (name : List ℕ) (claim : o.claim ≡ Null name) (d : Node) (e : current s x ≡ Ok d) where
-    found_blames : (w : Wanted) (at : Option ℕ) → object_named s.tree d.number name ≡ at → Blames B (found_by s x o (record { place = d; wanted = w }) at)
-    found_blames w None gone = then_checks B ((not (makes o.openhow).creates, S.NoEnt) ∷ no_access x d write_bits ∷ make_checks w x.who) _ (
+    found_blames : (w : Wanted) → attributes_in (attributes_of o.openhow) ≡ Ok w → (at : Option ℕ) → object_named s.tree d.number name ≡ at → Blames B (found_by s x o (record { place = d; wanted = w }) at)
+    found_blames w read None gone = then_checks B ((not (makes o.openhow).creates, S.NoEnt) ∷ no_access x d write_bits ∷ make_checks w x.who) _ (
       λ makes_none. missing s x opening d name (InCurrent (current_number s x d e) (sought_so o.openhow o.claim makes_none ∙ ap name_claimed claim)) gone,
       λ makes_one. (
         λ lacks. denied_by s x opening d (Writes ∷ []) e (ToMake d.number o name claim (creates_so o.openhow makes_one) (current_number s x d e) gone) (λ all.
             false≢true (sym (not-true _ lacks) ∙ may_write x d (all Writes (inl refl)))),
-        λ u. (λ v. tt, λ u. (λ v. tt, λ u. tt)),
+        λ u. make_blames s x opening w (ToMakeAs d.number o name w claim (current_number s x d e) gone read),
       ),
     ) (λ u. tt)
-    found_blames w (Some n) there =
+    found_blames w read (Some n) there =
         let leads : claimed s.tree x o.claim ≡ Some n = ap (claimed s.tree x) claim ∙ (ap (named_in s.tree name) (current_number s x d e) ∙ there) in
         then_blames B (node_at s (Some n)) _ (there_blames B s n (named_there s d.number n name whole there)) (λ f found.
         (let its = node_found s (Some n) f found in
         then_checks B (there_checks x o f) _ (there_all f (leads ∙ its.0) its.1) (λ u. tt)))
 
     by_name_blames : Blames B (by_claim s x o (Null name) d)
-    unfolding attributes_in
     by_name_blames = then_checks B (no_directory d ∷ no_access x d execute ∷ name_checks name) _ (
       no_directory_blames s x opening d (ap (λ c. is_some (name_claimed c)) claim) e,
       λ u. (no_finding s x opening d name (ap name_claimed claim) e, λ u. names_blame s x opening name (ByName (ap name_claimed claim))),
     ) (λ u. then_blames B (attributes_in (makes o.openhow).attributes) _
-        (by_read (Blames B) tt tt tt tt (λ w. tt) (mask_of (makes o.openhow).attributes.attrmask) (makes o.openhow).attributes.attr_vals) (λ w read.
-        found_blames w (object_named s.tree d.number name) refl))
+        (attributes_blame B refl refl refl refl (makes o.openhow).attributes) (λ w read.
+        found_blames w (ap attributes_in (same_attributes o.openhow) ∙ read) (object_named s.tree d.number name) refl))
 
   claim_blames : (c : OpenClaim) → o.claim ≡ c → (d : Node) → current s x ≡ Ok d → Blames B (by_claim s x o c d)
   claim_blames (Null name) is d e = by_name_blames name is d e
   claim_blames Fh is d e = (let found = found_now s x d e in
-      then_blames B (require (not (makes o.openhow).creates) S.Inval) _ (held_blames B (not (makes o.openhow).creates) S.Inval (λ v. tt)) (λ u e.
+      then_blames B (require (not (makes o.openhow).creates) S.Inval) _ (held_blames B (not (makes o.openhow).creates) S.Inval (λ v. refl)) (λ u e.
       then_checks B (there_checks x o d) _ (there_all d (ap (claimed s.tree x) is ∙ found.0) found.1) (λ u. tt)))
-  claim_blames (Previous type) is d e = (o, refl, rw is refl)
+  claim_blames (Previous type) is d e = inl (o, refl, rw is refl)
   claim_blames (DelegateCur id file) is d e = (o, refl, rw is refl)
   claim_blames (DelegatePrev file) is d e = (o, refl, rw is refl)
   claim_blames (DelegCurFh id) is d e = (o, refl, rw is refl)
@@ -214,6 +219,6 @@ module _ (s : State) (whole : IsWhole s) (x : Context) (o : Open) where
   pub open_blames : (now : Time) → Answers s x opening (open_file s x now o)
   unfolding open_file is_last
   open_blames now = answers_blame B Y s x Num.Open _ (refused_so s x opening Num.Open) (ends_then B Y (current s x) _ (current_blames s whole x opening refl) (λ d e.
-      ends_checks B Y ((o.share_access % 4 == 0, S.Inval) ∷ (is_none (share_of o.share_deny), S.Inval) ∷ []) _ (λ v. tt, λ u. (λ v. tt, λ u. tt)) (λ u.
+      ends_checks B Y ((o.share_access % 4 == 0, S.Inval) ∷ (is_none (share_of o.share_deny), S.Inval) ∷ []) _ (λ v. refl, λ u. (λ v. refl, λ u. tt)) (λ u.
       ends_then B Y (by_claim s x o o.claim d) _ (claim_blames o.claim refl d e) (λ f its. ends_checks B Y (open_last s x o f) _
-      (last_all s x opening (open_last s x o f) (last_pass is_last s x o f refl refl refl refl)) (λ u. done_so s x opening (made_free d f e its))))))
+      (last_all s x o (open_last s x o f) (last_pass is_last s x o f refl refl refl refl)) (λ u. done_so s x opening (made_free d f e its))))))

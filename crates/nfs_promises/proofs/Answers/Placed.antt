@@ -18,7 +18,7 @@ use Rattle.nfs_exec.specs.{Step.Behind.step, Runs.Ops.RanOp}
 use Rattle.nfs_exec.proofs.{Runs.{OneRun.{IsRun, by_item}, WrittenRun.used_there}}
 use Rattle.nfs_promises.specs.{Names.FileStays.{is_on_current, is_on_saved}, Permission.Permitted.{Right, Executes, Grants, rights_of, rights_at}}
 use Rattle.nfs_promises.specs.Answers.Asked.{LooksAt, AtCurrent, AtSaved, Target, is_in_directory, named, Gives, Needs, ToFind, Seeks}
-use Rattle.nfs_promises.specs.Answers.Reasons.{HasKind, HasEntry, IsMissing, IsDenied, Reason, Granted, IsAnswered}
+use Rattle.nfs_promises.specs.Answers.Reasons.{HasKind, HasEntry, IsDenied, Reason, Granted, IsAnswered}
 use Rattle.nfs_promises.proofs.{Answers.Blaming.{Blames, AllBlame, then_blames}, Permission.{Granting.may_execute, PermittedNames.picked}}
 
 -- An operation that was run is refused for want of room, or answers so.
@@ -27,7 +27,7 @@ abbrev pub Answers : State → Context → Item → Outcome → Type 0
 Answers s x i o = IsAnswered s x i (status_of_result o.result)
 
 no_reason : (s : State) (x : Context) (i : Item) (f : Status) → Reason s x i f → is_ok f ≡ false
-no_reason s x i S.Nfs4Ok reason = absurd reason
+no_reason s x i S.Nfs4Ok reason = absurd (false≢true reason)
 no_reason s x i f reason = refl
 
 pub of_refusal : (s : State) (x : Context) (i : Item) (f : Status) → Reason s x i f → IsAnswered s x i f
@@ -43,7 +43,7 @@ pub ran_blames : (d : RanOp) (r : IsRun d) (i : Item) → d.item ≡ i → IsAns
     → IsAnswered d.before.store d.context i d.status
 ran_blames d r i is answered =
     by_item (λ status text s. IsAnswered d.before.store d.context i status) d r i is
-    (subst (IsAnswered d.before.store d.context i) (sym (status_of_refusal (item_number i) S.RepTooBig)) (of_refusal d.before.store d.context i S.RepTooBig tt)) answered
+    (subst (IsAnswered d.before.store d.context i) (sym (status_of_refusal (item_number i) S.RepTooBig)) (of_refusal d.before.store d.context i S.RepTooBig refl)) answered
 
 -- What is found at a place.
 
@@ -63,7 +63,7 @@ unfolding current
 found_now s x d e = node_found s x.current d e
 
 -- an object that is not there is not used
-unused : (s : State) (n : ℕ) → IsWhole s → object_at s.tree n ≡ None → is_used s n ≡ false
+pub unused : (s : State) (n : ℕ) → IsWhole s → object_at s.tree n ≡ None → is_used s n ≡ false
 unused s n whole gone = elim (cases_Bool (is_used s n)) [
   | inr is ↦ is
   | inl used ↦ absurd (no (stored_in s.tree.objects n) gone (used_there s n whole used))
@@ -137,7 +137,7 @@ module _ (s : State) (whole : IsWhole s) (x : Context) (i : Item) where
   node_blames (Some n) looks none = by (object_at s.tree n) refl
     where
       by : (k : Option Object) → object_at s.tree n ≡ k → Blames (Reason s x i) (node_as n k)
-      by None gone = (n, looks n refl, unused s n whole gone)
+      by None gone = inl (n, looks n refl, unused s n whole gone)
       by (Some o) is = tt
 
   pub current_blames : is_on_current i ≡ true → Blames (Reason s x i) (current s x)
@@ -177,12 +177,12 @@ module _ (s : State) (x : Context) (i : Item) where
   no_finding d name is e lacks = denied_by d (Executes ∷ []) e (ToFind d.number i name is (current_number s x d e)) (λ all.
       false≢true (sym (not-true _ lacks) ∙ may_execute x d (all Executes (inl refl))))
 
-  pub missing : (d : Node) (name : List ℕ) → Seeks x i d.number name → object_named s.tree d.number name ≡ None → IsMissing s x i
-  missing d name seeks none = record { directory = d.number; name = name; seeks = seeks; gone = none }
+  pub missing : (d : Node) (name : List ℕ) → Seeks x i d.number name → object_named s.tree d.number name ≡ None → Reason s x i S.NoEnt
+  missing d name seeks none = inl (record { directory = d.number; name = name; seeks = seeks; gone = none })
 
 -- What the checks of a name blame.
 
-one_or : (a b : Bool) → a || b ≡ true → (a ≡ true) ⊎ (b ≡ true)
+pub one_or : (a b : Bool) → a || b ≡ true → (a ≡ true) ⊎ (b ≡ true)
 one_or true b e = inl refl
 one_or false b e = inr e
 
@@ -199,9 +199,9 @@ odd_byte name odd =
 
 pub names_blame : (s : State) (x : Context) (i : Item) (name : List ℕ) → Gives i name → AllBlame (Reason s x i) (name_checks name)
 names_blame s x i name gives = (
-  λ v. tt,
+  λ v. refl,
   λ v. (
-    λ long. (name, gives, ltb-true most_name (length name) long),
+    λ long. inl (name, gives, ltb-true most_name (length name) long),
     λ v. (λ odd. (let b = odd_byte name odd in (name, gives, b.0, b.1, b.2)), λ v. (λ dots. (name, gives, is_dots name dots), λ v. tt)),
   ),
 )

@@ -1,22 +1,27 @@
 -- Refusals with a reason and without one, computed.
-use Rattle.std.proofs.Common.{◌≡◌, ◌≢◌, ◌⊎◌, ℕ, ◌<◌, ◌≤◌, Bool, true, false, List, [], ◌∷◌, Option, Some, None, refl, sym, ◌∙◌, ap, subst, arith, inl, inr}
+use Rattle.std.proofs.Common.{◌≡◌, ◌≢◌, ℕ, ◌<◌, ◌≤◌, Bool, true, false, List, [], ◌∷◌, Option, Some, None, refl, sym, ◌∙◌, ap, subst, arith, inl, inr}
 use Rattle.std.proofs.lemmas.{Bool.false≢true, Option.same_Some}
-use Rattle.std.specs.Prelude.{not, ◌+◌, ◌*◌, ◌^◌}
+use Rattle.std.specs.Prelude.{Result, Ok, not, ◌+◌, ◌*◌, ◌^◌}
 use Rattle.nfs_xdr.specs.declared.status.Status.TheVariants as S
-use Rattle.nfs_compound.specs.{declared.open_args.Open.Open, declared.name_args.Rename.Rename, declared.op.Item.Item, declared.op.Item.TheVariants.Operation}
+use Rattle.nfs_xdr.specs.declared.status.Status.{Status}
+use Rattle.nfs_compound.specs.declared.name_args.CreateType.TheVariants.{Other}
+use Rattle.nfs_compound.specs.declared.name_args.Create as args
+use Rattle.nfs_attrs.specs.{declared.wanted.Wanted.Wanted, Mask.mask_of}
+use Rattle.nfs_compound.specs.{declared.file_args.SetAttr.SetAttr, declared.open_args.Open.Open, declared.name_args.Rename.Rename, declared.op.Item.Item, declared.op.Item.TheVariants.Operation}
 use Rattle.nfs_compound.specs.declared.open_args.{OpenHow.OpenHow, OpenHow.TheVariants.NoCreate, OpenClaim.TheVariants.Null}
-use Rattle.nfs_compound.specs.ArgCodecs.{rename_args}
+use Rattle.nfs_compound.specs.ArgCodecs.{rename_args, create_args, create_type, set_attr_args}
 use Rattle.nfs_compound.specs.declared.op.Op.TheVariants as Op
 use Rattle.nfs_tree.specs.{declared.object.Object.Object, Files.{object_at, object_named}, Object.is_directory}
-use Rattle.nfs_opens.specs.{declared.stateid.StateId.StateId, declared.stateid.CurrentSeqid.TheVariants.Any, declared.judging.Sort.TheVariants.LockOnly}
-use Rattle.nfs_names.specs.{Context.anonymous, declared.context.Context.Context, declared.context.Saved.Saved, State.State, Remove.remove, Rename.rename, SaveFh.save_fh, Checks.both}
-use Rattle.nfs_files.specs.{OpenTold.claimed, StateIds.state_id}
-use Rattle.nfs_promises.specs.{Runs.Points.ops_of, Runs.Requests.{unchecked, stateid}, Locks.LockKeptWorked.{asked, gives_up, last_of, statuses}, Bytes.WrittenStaysWorked.made}
-use Rattle.nfs_promises.specs.Permission.Permitted.{Writes, Executes, Grants, ToRoot, ToOwner, ToGroup, ToOthers}
+use Rattle.nfs_opens.specs.{declared.stateid.StateId.StateId, declared.stateid.CurrentSeqid.TheVariants.{Any, Own}, declared.judging.Sort.TheVariants.{OpenOnly, LockOnly}}
+use Rattle.nfs_names.specs.{Context.anonymous, declared.context.Context.Context, declared.context.Saved.Saved, State.State, Remove.remove, Rename.rename, SaveFh.save_fh, GetFh.get_fh, Create.{attributes_in, create}, Checks.both}
+use Rattle.nfs_files.specs.{OpenTold.claimed, SetAttr.set_attr, StateIds.state_id}
+use Rattle.nfs_promises.specs.{Runs.Points.ops_of, Runs.Requests.{unchecked, stateid, words}, Locks.LockKeptWorked.{asked, gives_up, last_of, statuses}, Bytes.WrittenStaysWorked.made}
+use Rattle.nfs_promises.specs.Permission.Permitted.{Writes, Executes, Rights, rights_at, Grants, ToRoot, ToOwner, ToGroup, ToOthers}
 use Rattle.nfs_promises.specs.Answers.Asked.{StateGiven, by_state, IsCurrent, IsSpecial, AllZeros, AllOnes, StandsFor, Itself, TheCurrent, sought, InCurrent, InSaved, makes_by}
-use Rattle.nfs_promises.specs.Answers.Asked.{DirectoryOf, Target, Source, FileOf, Used, Opened, ToPut}
-use Rattle.nfs_promises.specs.Answers.Reasons.{StateTold, state_of, IsOwn, IsOld, IsBad, NoCurrent, Special, NoState, IsMissing, IsTaken, IsInTheWay, Reason}
-use Rattle.nfs_promises.specs.Answers.ReasonsWorked.{AreAnsweredSo, AnswersRefused, Refused, opens, guarded, removes, shut, moves}
+use Rattle.nfs_promises.specs.Answers.Asked.{DirectoryOf, Target, Source, NoDirectoryOf, AFile, Linked, Used, Opened, NamedOf, Left, Kept, leaves, ToPut, Owns, MaySet, Sets, ToSet}
+use Rattle.nfs_promises.specs.Answers.Reasons.{StateTold, state_of, IsOwn, IsOld, IsBad, NoCurrent, Special, NoState, IsNameless, IsForbidden, Reason}
+use Rattle.nfs_promises.specs.Answers.ReasonsWorked.{AreAnsweredSo, AnswersRefused, Refused, opens, guarded, removes, creates, opens_up, shut, moves}
+use Rattle.nfs_promises.specs.{Names.FileStaysWorked.{missed, closes}, Permission.PermittedWorked.to_group}
 use Rattle.nfs_promises.proofs.Runs.Computing.{computing}
 
 -- What has no reason, whatever the server.
@@ -50,17 +55,26 @@ module _ (s : State) (x : Context) (i : Item) (k : StateGiven) (m : StateTold) (
       none m (ap (state_of s.opens) id_is ∙ names) (subst (λ k. IsOwn x k m) one own) low
 
 module _ (s : State) (x : Context) where
+  not_nameless : (i : Item) → leaves i ≡ false → ((name : List ℕ) → i ≡ Operation (Op.Link name) → ⊥) → IsNameless s x i → ⊥
+  not_nameless i off other why = by why.of
+    where
+      by : NamedOf x i why.number → ⊥
+      by (Left on at) = false≢true (sym off ∙ on)
+      by (Kept name saved is at same) = other name is
+
   -- a name that is there
   not_missing : (i : Item) (n k : ℕ) (name : List ℕ) → x.current ≡ Some n → sought i ≡ Some name → object_named s.tree n name ≡ Some k
-      → ((a : Rename) → i ≡ Operation (Op.Rename a) → ⊥) → IsMissing s x i → ⊥
-  not_missing i n k name at is there other why = elim why.seeks [
+      → ((a : Rename) → i ≡ Operation (Op.Rename a) → ⊥) → leaves i ≡ false → ((name : List ℕ) → i ≡ Operation (Op.Link name) → ⊥) → Reason s x i S.NoEnt → ⊥
+  not_missing i n k name at is there other off one (inr why) = not_nameless i off one why
+  not_missing i n k name at is there other off one (inl why) = elim why.seeks [
     | InCurrent here so ↦ (let bad : Some k ≡ None = sym there ∙ (ap (λ m. object_named s.tree m name) (same_Some n why.directory (sym at ∙ here))
         ∙ (ap (object_named s.tree why.directory) (same_Some name why.name (sym is ∙ so)) ∙ why.gone)) in cc)
     | InSaved a saved so old here same ↦ other a so
   ]
 
-  not_missing_old : (a : Rename) (saved : Saved) (k : ℕ) → x.saved ≡ Some saved → object_named s.tree saved.object a.oldname ≡ Some k → IsMissing s x (Operation (Op.Rename a)) → ⊥
-  not_missing_old a saved k at there why = elim why.seeks [
+  not_missing_old : (a : Rename) (saved : Saved) (k : ℕ) → x.saved ≡ Some saved → object_named s.tree saved.object a.oldname ≡ Some k → Reason s x (Operation (Op.Rename a)) S.NoEnt → ⊥
+  not_missing_old a saved k at there (inr why) = not_nameless (Operation (Op.Rename a)) refl (λ name so. cc) why
+  not_missing_old a saved k at there (inl why) = elim why.seeks [
     | InCurrent here so ↦ (let bad : None ≡ Some why.name = so in cc)
     | InSaved b other so old here same ↦
         (let one : Operation (Op.Rename a) ≡ Operation (Op.Rename b) = so in
@@ -71,13 +85,14 @@ module _ (s : State) (x : Context) where
   ]
 
   -- an OPEN that may open what is there
-  not_taken : (a : Open) → makes_by a.openhow ≡ None → IsTaken s x (Operation (Op.Open a)) ⊎ IsInTheWay s x (Operation (Op.Open a)) → ⊥
+  not_taken : (a : Open) → makes_by a.openhow ≡ None → Reason s x (Operation (Op.Open a)) S.Exist → ⊥
   not_taken a plain (inl why) =
       let same : Operation (Op.Open a) ≡ Operation (Op.Open why.asked) = why.is in
       let one : a ≡ why.asked = cc in
       let bad : None ≡ Some why.verifier = sym plain ∙ (ap (λ (a : Open). makes_by a.openhow) one ∙ why.makes) in
       cc
-  not_taken a plain (inr why) = let same : Operation (Op.Open a) ≡ Operation (Op.Rename why.asked) = why.is in cc
+  not_taken a plain (inr (inl why)) = let same : Operation (Op.Open a) ≡ Operation (Op.Rename why.asked) = why.is in cc
+  not_taken a plain (inr (inr why)) = let none : None ≡ Some why.name = why.is in cc
 
   -- an OPEN of what is no directory
   not_directory : (a : Open) (n : ℕ) (o : Object) → claimed s.tree x a.claim ≡ Some n → object_at s.tree n ≡ Some o → is_directory o.kind ≡ false
@@ -87,9 +102,10 @@ module _ (s : State) (x : Context) where
       let one : o ≡ kind.0 = same_Some o kind.0 (sym is ∙ (ap (object_at s.tree) same ∙ kind.1)) in
       false≢true (sym plain ∙ (ap (λ (o : Object). is_directory o.kind) one ∙ kind.2))
     where
-      by : FileOf s x (Operation (Op.Open a)) m → n ≡ m
-      by (Used of_file here) = absurd (false≢true of_file)
-      by (Opened b so here) = (let it : Operation (Op.Open a) ≡ Operation (Op.Open b) = so in
+      by : NoDirectoryOf s x (Operation (Op.Open a)) m → n ≡ m
+      by (Linked name saved so from both) = absurd cc
+      by (AFile (Used of_file here)) = absurd (false≢true of_file)
+      by (AFile (Opened b so here)) = (let it : Operation (Op.Open a) ≡ Operation (Op.Open b) = so in
           let asked : a ≡ b = cc in same_Some n m (sym at ∙ (ap (λ (a : Open). claimed s.tree x a.claim) asked ∙ here)))
 
   -- a RENAME from and to a directory
@@ -107,6 +123,27 @@ module _ (s : State) (x : Context) where
       by : DirectoryOf x (Operation (Op.Rename a)) m → n ≡ m
       by (Target on here) = same_Some n m (sym at ∙ here)
       by (Source b other so here same) = sym both ∙ (ap (λ (q : Saved). q.object) (same_Some saved other (sym from ∙ here)) ∙ same)
+
+  -- a SETATTR of what is the caller's to set
+  not_forbidden : (a : SetAttr) (n : ℕ) (r : Rights) (w : Wanted) → x.current ≡ Some n → rights_at s.tree n ≡ Some r → attributes_in a.obj_attributes ≡ Ok w → MaySet x.who r w
+      → IsForbidden s x (Operation (Op.SetAttr a)) → ⊥
+  not_forbidden a n r w at is gives may why = by why.rights why.wanted why.sets why.forbids
+    where
+      by : (q : Rights) (v : Wanted) → Sets s x (Operation (Op.SetAttr a)) q v → (MaySet x.who q v → ⊥) → ⊥
+      by q v (ToSet m b k u here has given) forbids =
+          let rights : r ≡ q = same_Some r q (sym is ∙ (ap (rights_at s.tree) (same_Some n m (sym at ∙ here)) ∙ has)) in
+          let two : ◌≡◌ {A = Result Wanted Status} (Ok w) (Ok v) = sym gives ∙ given in
+          let one : w ≡ v = cc in
+          forbids (subst (λ q. MaySet x.who q v) rights (subst (λ v. MaySet x.who r v) one may))
+
+  -- a CREATE of a name that is free
+  not_occupied : (c : args.Create) (n : ℕ) → x.current ≡ Some n → object_named s.tree n c.objname ≡ None → Reason s x (Operation (Op.Create c)) S.Exist → ⊥
+  not_occupied c n at free (inl why) = let same : Operation (Op.Create c) ≡ Operation (Op.Open why.asked) = why.is in cc
+  not_occupied c n at free (inr (inl why)) = let same : Operation (Op.Create c) ≡ Operation (Op.Rename why.asked) = why.is in cc
+  not_occupied c n at free (inr (inr why)) =
+      let bad : None ≡ Some why.object = sym free ∙ (ap (λ m. object_named s.tree m c.objname) (same_Some n why.directory (sym at ∙ why.at))
+      ∙ (ap (object_named s.tree why.directory) (same_Some c.objname why.name why.is) ∙ why.there)) in
+      cc
 
 -- The runs.
 
@@ -141,12 +178,28 @@ made_before : statuses (ops_of made (opens guarded)) ≡ S.Nfs4Ok ∷ S.Exist �
 unfolding computing
 made_before = refl
 
+closed : statuses (ops_of missed closes) ≡ S.Nfs4Ok ∷ S.Nfs4Ok ∷ []
+unfolding computing get_fh remove
+closed = refl
+
+made_now : statuses (ops_of made creates) ≡ S.Nfs4Ok ∷ S.Nfs4Ok ∷ []
+unfolding computing create create_args create_type
+made_now = refl
+
+set : statuses (ops_of made to_group) ≡ S.Nfs4Ok ∷ S.Nfs4Ok ∷ S.Nfs4Ok ∷ []
+unfolding computing set_attr_args set_attr
+set = refl
+
+forbidden : statuses (ops_of made opens_up) ≡ S.Nfs4Ok ∷ S.Perm ∷ []
+unfolding computing set_attr_args set_attr
+forbidden = refl
+
 denied : statuses (ops_of shut (moves 3 1)) ≡ S.Nfs4Ok ∷ S.Nfs4Ok ∷ S.Access ∷ []
 unfolding computing save_fh both rename rename_args
 denied = refl
 
 pub are_answered_so : AreAnsweredSo
-are_answered_so = record { unlocked = unlocked; opened = opened; made_before = made_before; denied = denied }
+are_answered_so = record { unlocked = unlocked; opened = opened; made_before = made_before; closed = closed; made_now = made_now; set = set; forbidden = forbidden; denied = denied }
 
 -- The wrong answers.
 
@@ -182,6 +235,63 @@ bad d is = let e = last_of d (ops_of asked gives_up) in
     not_bad e.before.store e.context e.item lock_given lock_told refl (λ c. no_current c.1) refl (record { client = refl; file = refl; sort = refl })
     not_special (omega arith) ((is refl).refused refl)
 
+abbrev open_given : StateGiven
+open_given = record { given = stateid 1 1; sort = OpenOnly; form = Own }
+
+abbrev open_told : StateTold
+open_told = record { sort = OpenOnly; client = 7 * 2 ^ 32 + 1; file = 2; seqid = 1 }
+
+no_special : IsSpecial (record { seqid = 1; instance = 7; number = 1 }) → ⊥
+no_special (AllZeros a b c) = no_current b
+no_special (AllOnes a b c) = not_all_ones b
+
+old_open : Refused missed closes S.OldStateId
+unfolding computing get_fh remove
+old_open d is = let e = last_of d (ops_of missed closes) in
+    not_old e.before.store e.context e.item open_given open_told refl (λ c. no_current c.1) refl refl ((is refl).refused refl)
+
+bad_open : Refused missed closes S.BadStateId
+unfolding computing get_fh remove
+bad_open d is = let e = last_of d (ops_of missed closes) in
+    not_bad e.before.store e.context e.item open_given open_told refl (λ c. no_current c.1) refl (record { client = refl; file = refl; sort = refl })
+    no_special (omega arith) ((is refl).refused refl)
+
+-- the mode that the owner sets, and another user
+abbrev mode_set : Wanted
+mode_set = record { mask = mask_of (0 ∷ 2 ∷ []); size = None; mode = Some 32; owner = None; group = None; access = None; modify = None }
+
+abbrev setting : SetAttr
+setting = record { stateid = anonymous; obj_attributes = record { attrmask = 0 ∷ 2 ∷ []; attr_vals = words (32 ∷ []) } }
+
+abbrev creating : args.Create
+creating = record { objtype = Other 2; objname = 0x64 ∷ []; createattrs = record { attrmask = []; attr_vals = [] } }
+
+its_own : MaySet (record { uid = 5; gid = 6; gids = [] }) (record { mode = 420; owner = 5; group = 6 }) mode_set
+its_own = record {
+  owner = λ new e. cc;
+  group = λ new e. cc;
+  mode = λ new e. inr refl;
+  accessed = λ t e. cc;
+  modified = λ t e. cc;
+}
+
+no_owner : Owns (record { uid = 5; gid = 6; gids = [] }) (record { mode = 511; owner = 0; group = 0 }) → ⊥
+no_owner (inl root) = no_user root
+no_owner (inr own) = no_user own
+
+unset : Refused made to_group S.Perm
+unfolding computing set_attr_args set_attr
+unset d is = let e = last_of d (ops_of made to_group) in
+    not_forbidden e.before.store e.context setting 2 (record { mode = 420; owner = 5; group = 6 }) mode_set refl refl refl its_own ((is refl).refused refl)
+
+set_by_all : Refused made opens_up S.Nfs4Ok
+unfolding computing set_attr_args set_attr
+set_by_all d is = no_owner (((is refl).granted refl 1 (record { mode = 511; owner = 0; group = 0 }) mode_set refl refl refl).0.mode 32 refl)
+
+occupied : Refused made creates S.Exist
+unfolding computing create create_args create_type
+occupied d is = let e = last_of d (ops_of made creates) in not_occupied e.before.store e.context creating 1 refl refl ((is refl).refused refl)
+
 taken : Refused made (opens NoCreate) S.Exist
 unfolding computing
 taken d is = let e = last_of d (ops_of made (opens NoCreate)) in not_taken e.before.store e.context (asking NoCreate) refl ((is refl).refused refl)
@@ -193,7 +303,7 @@ retaken d is = let e = last_of d (ops_of made (opens unchecked)) in not_taken e.
 missing : Refused made (opens NoCreate) S.NoEnt
 unfolding computing
 missing d is = let e = last_of d (ops_of made (opens NoCreate)) in
-    not_missing e.before.store e.context e.item 1 2 (0x66 ∷ []) refl refl refl (λ a so. cc) ((is refl).refused refl)
+    not_missing e.before.store e.context e.item 1 2 (0x66 ∷ []) refl refl refl (λ a so. cc) refl (λ name so. cc) ((is refl).refused refl)
 
 directory : Refused made (opens NoCreate) S.IsDir
 unfolding computing
@@ -202,7 +312,7 @@ directory d is = let e = last_of d (ops_of made (opens NoCreate)) in not_directo
 unremoved : Refused made removes S.NoEnt
 unfolding computing remove
 unremoved d is = let e = last_of d (ops_of made removes) in
-    not_missing e.before.store e.context e.item 1 2 (0x66 ∷ []) refl refl refl (λ a so. cc) ((is refl).refused refl)
+    not_missing e.before.store e.context e.item 1 2 (0x66 ∷ []) refl refl refl (λ a so. cc) refl (λ name so. cc) ((is refl).refused refl)
 
 unrenamed : Refused made (moves 4 2) S.NoEnt
 unfolding computing save_fh both rename rename_args
@@ -224,6 +334,11 @@ pub answers_refused : AnswersRefused
 answers_refused = record {
   old = old;
   bad = bad;
+  old_open = old_open;
+  bad_open = bad_open;
+  occupied = occupied;
+  unset = unset;
+  set_by_all = set_by_all;
   taken = taken;
   retaken = retaken;
   missing = missing;

@@ -15,14 +15,14 @@ use Rattle.nfs_exec.proofs.Step.Delayed.{or_right}
 
 -- Groups.
 
-is_in : (group : ℕ) (who : Caller) → (who.gid == group) || list_any (λ g. g == group) who.gids ≡ true → IsIn group who
+pub is_in : (group : ℕ) (who : Caller) → (who.gid == group) || list_any (λ g. g == group) who.gids ≡ true → IsIn group who
 is_in group who e = elim (cases_Bool (who.gid == group)) [
   | inl first ↦ First (eqb-true who.gid group first)
   | inr other ↦ (let any : list_any (λ g. g == group) who.gids ≡ true = rw other at e in
       let q = in_any (λ g. g == group) who.gids any in Further (subst (λ g. In g who.gids) (eqb-true q.0 group q.2) q.1))
 ]
 
-in_is : (group : ℕ) (who : Caller) → IsIn group who → (who.gid == group) || list_any (λ g. g == group) who.gids ≡ true
+pub in_is : (group : ℕ) (who : Caller) → IsIn group who → (who.gid == group) || list_any (λ g. g == group) who.gids ≡ true
 in_is group who (First same) = rw (eq-eqb who.gid group same) refl
 in_is group who (Further there) =
     or_right (who.gid == group) (list_any (λ g. g == group) who.gids) (any_in (λ g. g == group) who.gids group there (eq-eqb group group refl))

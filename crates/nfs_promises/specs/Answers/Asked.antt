@@ -1,16 +1,21 @@
 -- What a request looks at, which names and which stateid it gives, and which rights it needs: a line for each operation (RFC 8881 sections 18.3 to 18.32).
-use Rattle.std.specs.Prelude.{◌≡◌, ℕ, Bool, true, false, List, [], ◌∷◌, Option, Some, None, is_some}
-use Rattle.nfs_compound.specs.{declared.file_args.{Read.Read, Write.Write}, declared.name_args.Rename.Rename, declared.open_args.{Open.Open, OpenHow.OpenHow}}
+use Rattle.std.specs.Prelude.{◌≡◌, ◌⊎◌, ℕ, Bool, true, false, List, [], ◌∷◌, Option, Some, None, is_some, Result, Ok, Err, if◌then◌else◌}
+use Rattle.nfs_xdr.specs.{Caller.Caller, declared.time.Time.Time, declared.status.Status.Status}
+use Rattle.nfs_compound.specs.{declared.attributes.Attributes.Attributes, declared.lock_args.Locker.{Locker, TheVariants.{OpenOwner, LockOwner}}}
+use Rattle.nfs_compound.specs.declared.name_args.{ReadDir.ReadDir, SecinfoStyle.TheVariants.Parent}
+use Rattle.nfs_compound.specs.declared.name_args.Create as args
+use Rattle.nfs_compound.specs.{declared.file_args.{Read.Read, SetAttr.SetAttr, Write.Write}, declared.name_args.Rename.Rename, declared.open_args.{Open.Open, OpenHow.OpenHow}}
 use Rattle.nfs_compound.specs.declared.open_args.{OpenClaim.OpenClaim, OpenClaim.TheVariants.{Null, Previous, Fh}, OpenHow.TheVariants.{NoCreate, Create}}
-use Rattle.nfs_compound.specs.declared.open_args.CreateHow.TheVariants.{Guarded, Exclusive, Exclusive41}
+use Rattle.nfs_compound.specs.declared.open_args.CreateHow.TheVariants.{Unchecked, Guarded, Exclusive, Exclusive41}
 use Rattle.nfs_compound.specs.{declared.stateid.Stateid.Stateid, declared.op.Item.Item, declared.op.Item.TheVariants.Operation}
 use Rattle.nfs_compound.specs.declared.op.Op.TheVariants as Op
 use Rattle.nfs_tree.specs.Files.{object_named}
-use Rattle.nfs_opens.specs.{declared.judging.Sort.Sort, declared.judging.Sort.TheVariants.{Either, LockOnly}, declared.stateid.StateId.StateId}
+use Rattle.nfs_attrs.specs.{declared.set_time.SetTime.TheVariants.{Now, Given}, declared.wanted.Wanted.Wanted}
+use Rattle.nfs_opens.specs.{declared.judging.Sort.Sort, declared.judging.Sort.TheVariants.{Either, OpenOnly, LockOnly}, declared.stateid.StateId.StateId}
 use Rattle.nfs_opens.specs.{declared.stateid.CurrentSeqid.CurrentSeqid, declared.stateid.CurrentSeqid.TheVariants.{Any, Own}}
-use Rattle.nfs_names.specs.{declared.context.Context.Context, declared.context.Saved.Saved, State.State}
+use Rattle.nfs_names.specs.{declared.context.Context.Context, declared.context.Saved.Saved, Create.attributes_in, State.State}
 use Rattle.nfs_files.specs.{Open.access_of, OpenTold.claimed, StateIds.state_id}
-use Rattle.nfs_promises.specs.{Names.FileStays.{is_on_current, is_on_saved}, Permission.Permitted.{Right, Reads, Writes, Executes}}
+use Rattle.nfs_promises.specs.{Names.FileStays.{is_on_current, is_on_saved}, Permission.Permitted.{Right, Reads, Writes, Executes, Rights, IsIn, rights_at}}
 
 -- Objects.
 
@@ -26,6 +31,11 @@ named_by claim = None
 
 -- the current one has to be a directory, and for RENAME the saved one too
 abbrev pub is_in_directory : Item → Bool
+is_in_directory (Operation (Op.Create c)) = true
+is_in_directory (Operation (Op.Link name)) = true
+is_in_directory (Operation Op.LookupP) = true
+is_in_directory (Operation (Op.ReadDir a)) = true
+is_in_directory (Operation (Op.SecinfoNoName Parent)) = true
 is_in_directory (Operation (Op.Lookup name)) = true
 is_in_directory (Operation (Op.Remove name)) = true
 is_in_directory (Operation (Op.Rename a)) = true
@@ -36,12 +46,24 @@ pub data DirectoryOf (x : Context) (i : Item) (n : ℕ) : Type 0 where
   Target : is_in_directory i ≡ true → x.current ≡ Some n → DirectoryOf x i n
   Source : (a : Rename) (saved : Saved) → i ≡ Operation (Op.Rename a) → x.saved ≡ Some saved → saved.object ≡ n → DirectoryOf x i n
 
+-- the size that is given to be set
+abbrev pub size_in : Result Wanted Status → Option ℕ
+size_in (Err f) = None
+size_in (Ok w) = w.size
+
+abbrev pub sets_size : SetAttr → Bool
+sets_size a = is_some (size_in (attributes_in a.obj_attributes))
+
 -- the current one has to be a file; of an OPEN what its claim leads to
 abbrev pub is_of_file : Item → Bool
+is_of_file (Operation (Op.Close a)) = true
 is_of_file (Operation (Op.Commit a)) = true
+is_of_file (Operation (Op.Lock a)) = true
 is_of_file (Operation (Op.LockT a)) = true
 is_of_file (Operation (Op.LockU a)) = true
+is_of_file (Operation (Op.OpenDowngrade a)) = true
 is_of_file (Operation (Op.Read a)) = true
+is_of_file (Operation (Op.SetAttr a)) = sets_size a
 is_of_file (Operation (Op.Write a)) = true
 is_of_file item = false
 
@@ -49,15 +71,22 @@ pub data FileOf (s : State) (x : Context) (i : Item) (n : ℕ) : Type 0 where
   Used : is_of_file i ≡ true → x.current ≡ Some n → FileOf s x i n
   Opened : (a : Open) → i ≡ Operation (Op.Open a) → claimed s.tree x a.claim ≡ Some n → FileOf s x i n
 
+-- what may be no directory: such a file, and the object of a LINK
+pub data NoDirectoryOf (s : State) (x : Context) (i : Item) (n : ℕ) : Type 0 where
+  AFile : FileOf s x i n → NoDirectoryOf s x i n
+  Linked : (name : List ℕ) (saved : Saved) → i ≡ Operation (Op.Link name) → x.saved ≡ Some saved → saved.object ≡ n → NoDirectoryOf s x i n
+
 -- what may be no link: such a file, and the directory of a LOOKUP
 pub data NoLinkOf (s : State) (x : Context) (i : Item) (n : ℕ) : Type 0 where
-  AFile : FileOf s x i n → NoLinkOf s x i n
+  TheFile : FileOf s x i n → NoLinkOf s x i n
   Searched : (name : List ℕ) → i ≡ Operation (Op.Lookup name) → x.current ≡ Some n → NoLinkOf s x i n
 
 -- Names.
 
 -- a name in the current directory
 abbrev pub named : Item → Option (List ℕ)
+named (Operation (Op.Create c)) = Some c.objname
+named (Operation (Op.Link name)) = Some name
 named (Operation (Op.Lookup name)) = Some name
 named (Operation (Op.Remove name)) = Some name
 named (Operation (Op.Open a)) = named_by a.claim
@@ -78,6 +107,22 @@ sought item = None
 pub data Seeks (x : Context) (i : Item) (directory : ℕ) (name : List ℕ) : Type 0 where
   InCurrent : x.current ≡ Some directory → sought i ≡ Some name → Seeks x i directory name
   InSaved : (a : Rename) (saved : Saved) → i ≡ Operation (Op.Rename a) → a.oldname ≡ name → x.saved ≡ Some saved → saved.object ≡ directory → Seeks x i directory name
+
+-- one that has to be free
+abbrev pub made : Item → Option (List ℕ)
+made (Operation (Op.Create c)) = Some c.objname
+made (Operation (Op.Link name)) = Some name
+made item = None
+
+-- an object that has to have a name: LINK's, and that of which the directory is asked for
+abbrev pub leaves : Item → Bool
+leaves (Operation Op.LookupP) = true
+leaves (Operation (Op.SecinfoNoName Parent)) = true
+leaves item = false
+
+pub data NamedOf (x : Context) (i : Item) (n : ℕ) : Type 0 where
+  Left : leaves i ≡ true → x.current ≡ Some n → NamedOf x i n
+  Kept : (name : List ℕ) (saved : Saved) → i ≡ Operation (Op.Link name) → x.saved ≡ Some saved → saved.object ≡ n → NamedOf x i n
 
 -- all names that are given
 pub data Gives (i : Item) (name : List ℕ) : Type 0 where
@@ -116,8 +161,17 @@ pub record StateGiven : Type 0 where
   pub sort : Sort
   pub form : CurrentSeqid
 
+-- a new lock owner names an open, another one its lock state
+abbrev pub of_locker : Locker → StateGiven
+of_locker (OpenOwner o) = record { given = o.open_stateid; sort = OpenOnly; form = Any }
+of_locker (LockOwner o) = record { given = o.lock_stateid; sort = LockOnly; form = Any }
+
 abbrev pub by_state : Item → Option StateGiven
+by_state (Operation (Op.Close a)) = Some (record { given = a.open_stateid; sort = OpenOnly; form = Own })
+by_state (Operation (Op.Lock a)) = Some (of_locker a.locker)
+by_state (Operation (Op.OpenDowngrade a)) = Some (record { given = a.open_stateid; sort = OpenOnly; form = Own })
 by_state (Operation (Op.Read a)) = Some (record { given = a.stateid; sort = Either; form = Any })
+by_state (Operation (Op.SetAttr a)) = if sets_size a then Some (record { given = a.stateid; sort = Either; form = Any }) else None
 by_state (Operation (Op.Write a)) = Some (record { given = a.stateid; sort = Either; form = Any })
 by_state (Operation (Op.LockU a)) = Some (record { given = a.lock_stateid; sort = LockOnly; form = Any })
 by_state item = None
@@ -163,9 +217,50 @@ pub record IsAsked (x : Context) (i : Item) (n : ℕ) : Type 0 where
   pub special : IsSpecial id
   pub at : x.current ≡ Some n
 
+-- Whose objects they are: that is for the owner to set, and another owner for user 0 alone (sections 6.2.4 and 18.30.3).
+
+abbrev pub Owns : Caller → Rights → Type 0
+Owns who r = (who.uid ≡ 0) ⊎ (who.uid ≡ r.owner)
+
+pub record MaySet (who : Caller) (r : Rights) (w : Wanted) : Type 0 where
+  pub owner : (new : ℕ) → w.owner ≡ Some new → (who.uid ≡ 0) ⊎ (new ≡ r.owner)
+  pub group : (new : ℕ) → w.group ≡ Some new → (who.uid ≡ 0) ⊎ ((new ≡ r.group) ⊎ ((who.uid ≡ r.owner) × IsIn new who))
+  pub mode : (new : ℕ) → w.mode ≡ Some new → Owns who r
+  pub accessed : (t : Time) → w.access ≡ Some (Given t) → Owns who r
+  pub modified : (t : Time) → w.modify ≡ Some (Given t) → Owns who r
+
+-- a new object is the caller's, and of the caller's first group
+abbrev pub own : Caller → Rights
+own who = record { mode = 0; owner = who.uid; group = who.gid }
+
+abbrev pub attributes_of : OpenHow → Attributes
+attributes_of (Create (Unchecked a)) = a
+attributes_of (Create (Guarded a)) = a
+attributes_of (Create (Exclusive41 v a)) = a
+attributes_of how = record { attrmask = []; attr_vals = [] }
+
+-- what is set, of an object that is whose
+pub data Sets (s : State) (x : Context) : Item → Rights → Wanted → Type 0 where
+  ToSet : (n : ℕ) (a : SetAttr) (r : Rights) (w : Wanted) → x.current ≡ Some n → rights_at s.tree n ≡ Some r → attributes_in a.obj_attributes ≡ Ok w
+      → Sets s x (Operation (Op.SetAttr a)) r w
+  ToCreate : (c : args.Create) (w : Wanted) → attributes_in c.createattrs ≡ Ok w → Sets s x (Operation (Op.Create c)) (own x.who) w
+  ToMakeAs : (n : ℕ) (a : Open) (name : List ℕ) (w : Wanted) → a.claim ≡ Null name → x.current ≡ Some n → object_named s.tree n name ≡ None
+      → attributes_in (attributes_of a.openhow) ≡ Ok w → Sets s x (Operation (Op.Open a)) (own x.who) w
+
+-- the server's own time is set, which whoever may write may do
+pub data Touches (w : Wanted) : Type 0 where
+  Access : w.access ≡ Some Now → Touches w
+  Modify : w.modify ≡ Some Now → Touches w
+
 -- which object has to grant which rights to the caller
 pub data Needs (s : State) (x : Context) : Item → ℕ → List Right → Type 0 where
   ToFind : (n : ℕ) (i : Item) (name : List ℕ) → named i ≡ Some name → x.current ≡ Some n → Needs s x i n (Executes ∷ [])
+  ToList : (n : ℕ) (a : ReadDir) → x.current ≡ Some n → Needs s x (Operation (Op.ReadDir a)) n (Reads ∷ [])
+  ToLeave : (n : ℕ) → x.current ≡ Some n → Needs s x (Operation Op.LookupP) n (Executes ∷ [])
+  ToTouch : (n : ℕ) (a : SetAttr) (r : Rights) (w : Wanted) → x.current ≡ Some n → rights_at s.tree n ≡ Some r → attributes_in a.obj_attributes ≡ Ok w → Touches w
+      → (Owns x.who r → ⊥) → Needs s x (Operation (Op.SetAttr a)) n (Writes ∷ [])
+  ToSize : (n : ℕ) (a : SetAttr) → IsAsked x (Operation (Op.SetAttr a)) n → Needs s x (Operation (Op.SetAttr a)) n (Writes ∷ [])
+  ToAdd : (n : ℕ) (i : Item) (name : List ℕ) → made i ≡ Some name → x.current ≡ Some n → Needs s x i n (Writes ∷ Executes ∷ [])
   ToRemove : (n : ℕ) (name : List ℕ) → x.current ≡ Some n → Needs s x (Operation (Op.Remove name)) n (Writes ∷ Executes ∷ [])
   ToTake : (n : ℕ) (a : Rename) (saved : Saved) → x.saved ≡ Some saved → saved.object ≡ n → Needs s x (Operation (Op.Rename a)) n (Writes ∷ Executes ∷ [])
   ToPut : (n : ℕ) (a : Rename) → x.current ≡ Some n → Needs s x (Operation (Op.Rename a)) n (Writes ∷ Executes ∷ [])
