@@ -10,3 +10,5 @@ pub mod WalkReasons
 pub mod OpenReasons
 pub mod Reasons
 pub mod ReasonsWorked
+pub mod YesIsTrue
+pub mod YesIsTrueWorked

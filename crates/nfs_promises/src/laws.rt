@@ -10,8 +10,11 @@ mod network;
 mod permission;
 
 pub use answers::each_no_has_its_reason;
+pub use answers::each_yes_is_true;
+pub use answers::questions_are_answered;
 pub use answers::refusals_have_reasons;
 pub use answers::wrong_reasons_are_refused;
+pub use answers::wrong_yeses_are_refused;
 pub use bytes::a_change_is_seen;
 pub use bytes::a_change_tells;
 pub use bytes::a_file_is_read_whole;

@@ -1,6 +1,6 @@
 //! What is promised of answers, whatever was asked.
 
-ghost use Rattle.nfs_promises.specs.Answers.{Reasons.EachNoHasItsReason, ReasonsWorked.{AreAnsweredSo, AnswersRefused}};
+ghost use Rattle.nfs_promises.specs.Answers.{Reasons.EachNoHasItsReason, ReasonsWorked.{AreAnsweredSo, AnswersRefused}, YesIsTrue.EachYesIsTrue, YesIsTrueWorked.{AreAsked, YesesRefused}};
 
 /// In every run what an operation behind a SEQUENCE is refused with has its reason, a row of the table of statuses, for all operations but FREE_STATEID and RECLAIM_COMPLETE;
 /// and what is answered NFS4_OK was granted: to LOOKUP, REMOVE and RENAME by the modes, to SETATTR by whose the object is, and a guarded create found the name free.
@@ -24,4 +24,25 @@ pub fn refusals_have_reasons()
 #[tactic(auto, using(crate::proofs::Answers::ReasonsWorked::answers_refused))]
 pub fn wrong_reasons_are_refused()
     ensures { AnswersRefused }
+{}
+
+/// In every run what an operation answers with NFS4_OK is so: ACCESS of the user's rights, GETATTR of each attribute of the object, GETFH of its filehandle, LOCKT of the locks
+/// of others, LOOKUP of the name, READLINK of the link's text and TEST_STATEID of the client's states.
+#[tactic(auto, using(crate::proofs::Answers::YesIsTrue::each_yes_is_true))]
+pub fn each_yes_is_true()
+    ensures { EachYesIsTrue }
+{}
+
+/// The definitions compute: LOCKT is denied for the lock of another client, and GETATTR, ACCESS, READLINK and TEST_STATEID are answered.
+#[tactic(auto, using(crate::proofs::Answers::YesIsTrueWorked::are_asked))]
+pub fn questions_are_answered()
+    ensures { AreAsked }
+{}
+
+/// The definitions compute: `each_yes_is_true` refuses a LOCKT that finds no lock where another client has locked the byte, a GETATTR that answers the root's fileid or
+/// another mode, an ACCESS that grants the owner nothing, a READLINK that answers no text, a TEST_STATEID that calls an open's stateid bad, and a LOOKUP of a name that is not
+/// there that is answered NFS4_OK.
+#[tactic(auto, using(crate::proofs::Answers::YesIsTrueWorked::yeses_refused))]
+pub fn wrong_yeses_are_refused()
+    ensures { YesesRefused }
 {}

@@ -1,0 +1,219 @@
+-- Answers that are true and answers that are not, computed.
+use Rattle.std.proofs.Common.{◌≡◌, ◌≢◌, ℕ, true, false, List, [], ◌∷◌, Option, Some, None, get_or, refl, sym, ◌∙◌, ap, subst, arith, inl, inr}
+use Rattle.std.proofs.lemmas.{Bool.{cases_Bool}, Option.same_Some}
+use Rattle.std.specs.{Prelude.{◌+◌, ◌*◌, ◌^◌, bit_and, take, option_map}}
+use Rattle.nfs_xdr.specs.{Caller.Caller, Tables.In, Spelling.{number, hyper}}
+use Rattle.nfs_xdr.specs.declared.status.Status.TheVariants as S
+use Rattle.nfs_compound.specs.{ArgCodecs.{lock_t_args, create_args, create_type}, declared.stateid.Stateid.Stateid, declared.lock_args.LockT.LockT}
+use Rattle.nfs_compound.specs.declared.lock_args.LockType.TheVariants as LockTypes
+use Rattle.nfs_compound.specs.Stateid as wire_ids
+use Rattle.nfs_results.specs.Items as results
+use Rattle.nfs_results.specs.declared.res.Res.TheVariants as Res
+use Rattle.nfs_results.specs.Results.{spell_result}
+use Rattle.nfs_ranges.specs.declared.Kind.TheVariants.{Write}
+use Rattle.nfs_tree.specs.{declared.object.Object.Object, declared.object.FileType.TheVariants.Regular, Files.{most_text, data_at, object_at, object_named}}
+use Rattle.nfs_attrs.specs.{Mask.mask_of, Attributes.values}
+use Rattle.nfs_opens.specs.{declared.records.LockState.LockState, declared.judging.Sort.TheVariants.OpenOnly}
+use Rattle.nfs_names.specs.{declared.context.Context.Context, State.State, Access.access, Create.create, GetAttr.get_attr, ReadLink.read_link}
+use Rattle.nfs_files.specs.{Ranges.kind_of, LockT.lock_t, TestStateid.{code, test_stateid}}
+use Rattle.nfs_exec.specs.Runs.Ops.{RanOp}
+use Rattle.nfs_promises.specs.{Runs.{Requests.stateid, Points.ops_of}, Locks.LockKeptWorked.{asked, last_of, statuses}, Bytes.WrittenStaysWorked.made, Names.FileStaysWorked.with_status}
+use Rattle.nfs_promises.specs.Permission.Permitted.{Reads, Writes, Executes, Rights, rights_of, Grants, ToRoot, ToOwner, ToGroup, ToOthers}
+use Rattle.nfs_promises.specs.Answers.YesIsTrue.{TellsSo, IsFree, InRange, LiesBeside, AreTold, IsText, IsJudged, bits, Stands, AreTested}
+use Rattle.nfs_promises.specs.Answers.{Asked.{IsCurrent, IsSpecial, AllZeros, AllOnes}, YesIsTrueWorked.{AreAsked, YesesRefused, telling, tests, fileid, mode, may_read, reads_link, tests_stateid, misses}}
+use Rattle.nfs_promises.proofs.Runs.Computing.{computing}
+
+denied : statuses (ops_of asked tests) ≡ S.Nfs4Ok ∷ S.Nfs4Ok ∷ S.Denied ∷ []
+unfolding computing lock_t lock_t_args
+denied = refl
+
+told : statuses (ops_of made fileid) ≡ S.Nfs4Ok ∷ S.Nfs4Ok ∷ S.Nfs4Ok ∷ []
+unfolding computing get_attr values results.fattr
+told = refl
+
+judged : statuses (ops_of made may_read) ≡ S.Nfs4Ok ∷ S.Nfs4Ok ∷ S.Nfs4Ok ∷ []
+unfolding computing access results.access
+judged = refl
+
+read : statuses (ops_of made reads_link) ≡ S.Nfs4Ok ∷ S.Nfs4Ok ∷ S.Nfs4Ok ∷ []
+unfolding computing create create_args create_type read_link results.create
+read = refl
+
+tested : statuses (ops_of made tests_stateid) ≡ S.Nfs4Ok ∷ []
+unfolding computing test_stateid code wire_ids.stateids results.status_codes
+tested = refl
+
+missed : statuses (ops_of made misses) ≡ S.Nfs4Ok ∷ S.NoEnt ∷ []
+unfolding computing
+missed = refl
+
+pub are_asked : AreAsked
+are_asked = record { denied = denied; told = told; judged = judged; read = read; tested = tested; missed = missed }
+
+-- The wrong answers.
+
+other_client : ◌≢◌ {A = ℕ} (7 * 2 ^ 32 + 1) (7 * 2 ^ 32 + 2)
+other_client e = absurd (omega arith)
+
+clashing : LiesBeside Write (Some Write) → ⊥
+clashing (inl none) = cc
+clashing (inr both) = cc
+
+-- a lock state of another owner holds a byte of the range to write
+free_not : (s : State) (x : Context) (a : LockT) (l : LockState) (b : ℕ) → x.current ≡ Some 2 → In l s.opens.locks → ((l.client ≡ x.client) × (l.owner ≡ a.owner.owner) → ⊥)
+    → InRange a.offset a.length b → kind_of a.locktype ≡ Write → s.opens.held 2 l.number b ≡ Some Write → IsFree s x a → ⊥
+free_not s x a l b at there other within kind held why =
+    let two : why.file ≡ 2 = same_Some why.file 2 (sym why.at ∙ at) in
+    let beside = subst (λ file. LiesBeside (kind_of a.locktype) (s.opens.held file l.number b)) two (why.free l b there other within) in
+    clashing (subst (λ kind. LiesBeside kind (Some Write)) kind (subst (LiesBeside (kind_of a.locktype)) held beside))
+
+abbrev its_lock : LockState
+its_lock = record { number = 2; client = 7 * 2 ^ 32 + 1; owner = 0x6c ∷ []; file = 2; opened = 1; seqid = 1 }
+
+abbrev testing : LockT
+testing = record { locktype = LockTypes.Write; offset = 0; length = 1; owner = record { clientid = 0; owner = 0x6c ∷ [] } }
+
+free : (d : RanOp) → TellsSo (with_status S.Nfs4Ok (last_of d (ops_of asked tests))) → ⊥
+unfolding computing lock_t lock_t_args
+free d is = let e = last_of d (ops_of asked tests) in
+    free_not e.before.store e.context testing its_lock 0 refl (inl refl) (λ same. other_client same.0) (omega arith, omega arith, inr (omega arith)) refl refl (is refl)
+
+-- GETATTR
+
+abbrev mode_of : Option Object → Option ℕ
+mode_of o = option_map (λ (o : Object). o.mode) o
+
+fileid_not : (s : State) (x : Context) → x.current ≡ Some 2
+    → AreTold s x (mask_of (0x10_0000 ∷ [])) (spell_result (Res.GetAttr (record { attrmask = 0x10_0000 ∷ []; attr_vals = hyper 1 }))) → ⊥
+unfolding number hyper results.fattr results.attr_set
+fileid_not s x at why =
+    let two : why.number ≡ 2 = same_Some why.number 2 (sym why.here.at ∙ at) in
+    let told = subst (λ n. spell_result (Res.GetAttr (record { attrmask = 0x10_0000 ∷ []; attr_vals = hyper 1 }))
+    ≡ spell_result (Res.GetAttr (record { attrmask = 0x10_0000 ∷ []; attr_vals = hyper n }))) two why.told in
+    let bad : ◌≡◌ {A = ℕ} 1 2 = ap (λ (t : List ℕ). get_or t 27 0) told in
+    absurd (omega arith)
+
+mode_not : (s : State) (x : Context) → x.current ≡ Some 2 → mode_of (object_at s.tree 2) ≡ Some 420
+    → AreTold s x (mask_of (0 ∷ 2 ∷ [])) (spell_result (Res.GetAttr (record { attrmask = 0 ∷ 2 ∷ []; attr_vals = number 384 }))) → ⊥
+unfolding number hyper results.fattr results.attr_set
+mode_not s x at is why =
+    let two : why.number ≡ 2 = same_Some why.number 2 (sym why.here.at ∙ at) in
+    let mode : why.object.mode ≡ 420 = same_Some why.object.mode 420 (ap mode_of (sym why.here.is) ∙ (ap (λ n. mode_of (object_at s.tree n)) two ∙ is)) in
+    let told = subst (λ m. spell_result (Res.GetAttr (record { attrmask = 0 ∷ 2 ∷ []; attr_vals = number 384 }))
+    ≡ spell_result (Res.GetAttr (record { attrmask = 0 ∷ 2 ∷ []; attr_vals = number m }))) mode why.told in
+    let bad : ◌≡◌ {A = ℕ} 128 164 = ap (λ (t : List ℕ). get_or t 27 0) told in
+    absurd (omega arith)
+
+another : (d : RanOp) → TellsSo (telling (Res.GetAttr (record { attrmask = 0x10_0000 ∷ []; attr_vals = hyper 1 })) (last_of d (ops_of made fileid))) → ⊥
+unfolding computing get_attr values results.fattr
+another d is = let e = last_of d (ops_of made fileid) in fileid_not e.before.store e.context refl (is refl)
+
+unset : (d : RanOp) → TellsSo (telling (Res.GetAttr (record { attrmask = 0 ∷ 2 ∷ []; attr_vals = number 384 })) (last_of d (ops_of made mode))) → ⊥
+unfolding computing get_attr values results.fattr
+unset d is = let e = last_of d (ops_of made mode) in mode_not e.before.store e.context refl refl (is refl)
+
+-- ACCESS
+
+abbrev owner : Caller
+owner = record { uid = 5; gid = 6; gids = [] }
+
+abbrev file_rights : Rights
+file_rights = record { mode = 420; owner = 5; group = 6 }
+
+no_root : ◌≢◌ {A = ℕ} 5 0
+no_root e = absurd (omega arith)
+
+no_bit : ◌≢◌ {A = ℕ} 0 1
+no_bit e = absurd (omega arith)
+
+not_executes : Grants file_rights owner Executes → ⊥
+not_executes (ToRoot root) = no_root root
+not_executes (ToOwner own bit) = no_bit bit
+not_executes (ToGroup other within bit) = other refl
+not_executes (ToOthers other out bit) = other refl
+
+access_not : (s : State) (x : Context) (o : Object) → x.current ≡ Some 2 → object_at s.tree 2 ≡ Some o → o.kind ≡ Regular → rights_of o ≡ file_rights → x.who ≡ owner
+    → IsJudged s x 1 (spell_result (Res.Access (record { supported = 1; access = 0 }))) → ⊥
+unfolding number hyper results.access
+access_not s x o at is kind rights who why =
+    let two : why.number ≡ 2 = same_Some why.number 2 (sym why.here.at ∙ at) in
+    let one : o ≡ why.object = same_Some o why.object (sym is ∙ (ap (object_at s.tree) (sym two) ∙ why.here.is)) in
+    let same : file_rights ≡ rights_of why.object = sym rights ∙ ap rights_of one in
+    let r : why.reads ≡ true = why.may_read.1 (subst (λ q. Grants q x.who Reads) same (subst (λ w. Grants file_rights w Reads) (sym who) (ToOwner refl refl))) in
+    let w : why.writes ≡ true = why.may_write.1 (subst (λ q. Grants q x.who Writes) same (subst (λ w. Grants file_rights w Writes) (sym who) (ToOwner refl refl))) in
+    let k : why.object.kind ≡ Regular = ap (λ (o : Object). o.kind) (sym one) ∙ kind in
+    let e : why.executes ≡ false = elim (cases_Bool why.executes) [
+      | inr off ↦ off
+      | inl on ↦ absurd (not_executes (subst (λ w. Grants file_rights w Executes) who (subst (λ q. Grants q x.who Executes) (sym same) (why.may_execute.0 on))))
+    ] in
+    let lie = spell_result (Res.Access (record { supported = 1; access = 0 })) in
+    let a = subst (λ k. lie ≡ spell_result (Res.Access (record { supported = bit_and 1 (bits k true true true); access = bit_and 1 (bits k why.reads why.writes why.executes) }))) k why.told in
+    let b = subst (λ r. lie ≡ spell_result (Res.Access (record { supported = bit_and 1 (bits Regular true true true); access = bit_and 1 (bits Regular r why.writes why.executes) }))) r a in
+    let c = subst (λ w. lie ≡ spell_result (Res.Access (record { supported = bit_and 1 (bits Regular true true true); access = bit_and 1 (bits Regular true w why.executes) }))) w b in
+    let f = subst (λ e. lie ≡ spell_result (Res.Access (record { supported = bit_and 1 (bits Regular true true true); access = bit_and 1 (bits Regular true true e) }))) e c in
+    let bad : ◌≡◌ {A = ℕ} 0 1 = ap (λ (t : List ℕ). get_or t 15 0) f in
+    absurd (omega arith)
+
+nothing : (d : RanOp) → TellsSo (telling (Res.Access (record { supported = 1; access = 0 })) (last_of d (ops_of made may_read))) → ⊥
+unfolding computing access results.access
+nothing d is = let e = last_of d (ops_of made may_read) in access_not e.before.store e.context _ refl refl refl refl refl (is refl)
+
+-- READLINK
+
+text_not : (s : State) (x : Context) → x.current ≡ Some 3 → data_at s.tree 3 ≡ 0x66 ∷ [] → IsText s x (spell_result (Res.ReadLink [])) → ⊥
+unfolding number hyper
+text_not s x at is why =
+    let three : why.number ≡ 3 = same_Some why.number 3 (sym why.here.at ∙ at) in
+    let bytes : data_at s.tree why.number ≡ 0x66 ∷ [] = ap (data_at s.tree) three ∙ is in
+    let told = subst (λ b. spell_result (Res.ReadLink []) ≡ spell_result (Res.ReadLink (take most_text b))) bytes why.told in
+    let bad : ◌≡◌ {A = ℕ} 0 1 = ap (λ (t : List ℕ). get_or t 11 0) told in
+    absurd (omega arith)
+
+empty : (d : RanOp) → TellsSo (telling (Res.ReadLink []) (last_of d (ops_of made reads_link))) → ⊥
+unfolding computing create create_args create_type read_link results.create
+empty d is = let e = last_of d (ops_of made reads_link) in text_not e.before.store e.context refl refl (is refl)
+
+-- TEST_STATEID
+
+open_id : IsSpecial (record { seqid = 1; instance = 7; number = 1 }) → ⊥
+open_id (AllZeros a b c) = (let bad : ◌≡◌ {A = ℕ} 7 0 = b in absurd (omega arith))
+open_id (AllOnes a b c) = (let bad : ◌≡◌ {A = ℕ} 7 0xffff_ffff = b in absurd (omega arith))
+
+no_current : IsCurrent (record { seqid = 1; instance = 7; number = 1 }) → ⊥
+no_current is = (let bad : ◌≡◌ {A = ℕ} 7 0 = is.1 in absurd (omega arith))
+
+code_not : (s : State) (x : Context) (g : Stateid) (codes : List ℕ) → Stands s x g → AreTested s x (g ∷ []) codes
+    → spell_result (Res.TestStateid (10025 ∷ [])) ≡ spell_result (Res.TestStateid codes) → ⊥
+unfolding number hyper results.status_codes
+code_not s x g [] stands are told = absurd are
+code_not s x g (c ∷ []) stands are told =
+    let zero = subst (λ c. spell_result (Res.TestStateid (10025 ∷ [])) ≡ spell_result (Res.TestStateid (c ∷ []))) (are.1 stands) told in
+    let bad : ◌≡◌ {A = ℕ} 41 0 = ap (λ (t : List ℕ). get_or t 15 0) zero in
+    absurd (omega arith)
+code_not s x g (c ∷ b ∷ more) stands are told = absurd are.2
+
+bad : (d : RanOp) → TellsSo (telling (Res.TestStateid (10025 ∷ [])) (last_of d (ops_of made tests_stateid))) → ⊥
+unfolding computing test_stateid code wire_ids.stateids results.status_codes
+bad d is = let e = last_of d (ops_of made tests_stateid) in let w = is refl in code_not e.before.store e.context (stateid 1 1) w.0 (record {
+  current = no_current;
+  special = open_id;
+  state = record { sort = OpenOnly; client = 7 * 2 ^ 32 + 1; file = 2; seqid = 1 };
+  names = refl;
+  client = refl;
+  seqid = inr refl;
+}) w.1 w.2
+
+-- LOOKUP
+
+name_not : (s : State) (x : Context) (name : List ℕ) (n : ℕ) → x.current ≡ Some n → object_named s.tree n name ≡ None
+    → (directory : ℕ) × (m : ℕ) × (x.current ≡ Some directory) × (object_named s.tree directory name ≡ Some m) → ⊥
+name_not s x name n at none why =
+    let bad : None ≡ Some why.1 = sym none ∙ (ap (λ d. object_named s.tree d name) (same_Some n why.0 (sym at ∙ why.2)) ∙ why.3) in
+    cc
+
+found : (d : RanOp) → TellsSo (with_status S.Nfs4Ok (last_of d (ops_of made misses))) → ⊥
+unfolding computing
+found d is = let e = last_of d (ops_of made misses) in name_not e.before.store e.context (0x67 ∷ []) 1 refl refl (is refl)
+
+pub yeses_refused : YesesRefused
+yeses_refused = record { free = free; another = another; unset = unset; nothing = nothing; empty = empty; bad = bad; found = found }

@@ -1,0 +1,151 @@
+-- Each yes is true: what an operation that is answered NFS4_OK answers is so, by what the server has (RFC 8881 sections 5, 6.2.4, 18.1, 18.7, 18.8, 18.11, 18.13, 18.24 and
+-- 18.48). A table with a row for each kind of answer.
+use Rattle.std.specs.Prelude.{◌≡◌, ◌⊎◌, ℕ, ◌+◌, ◌<◌, ◌≤◌, ◌==◌, ◌&&◌, Bool, true, bit_and, List, [], ◌∷◌, length, take, Option, Some, None, if◌then◌else◌}
+use Rattle.std.specs.{List.flat_map, Fmt.decimal}
+use Rattle.nfs_xdr.specs.{Limits.fhsize, Tables.In, Text.{uint32, uint64, opaque, most}, Wire.nfstime4}
+use Rattle.nfs_compound.specs.{declared.lock_args.LockT.LockT, declared.stateid.Stateid.Stateid, declared.op.Item.Item, declared.op.Item.TheVariants.Operation}
+use Rattle.nfs_compound.specs.declared.op.Op.TheVariants as Op
+use Rattle.nfs_results.specs.Results.{spell_result}
+use Rattle.nfs_results.specs.declared.res.Res.TheVariants as Res
+use Rattle.nfs_ranges.specs.declared.Kind.{Kind, TheVariants.{Read}}
+use Rattle.nfs_tree.specs.{declared.object.FileType.FileType, declared.object.FileType.TheVariants.{Directory}, declared.object.Object.Object}
+use Rattle.nfs_tree.specs.{Object.{is_directory, is_link}, Files.{most_text, data_at, links_in, object_at, object_named}}
+use Rattle.nfs_attrs.specs.{declared.mask.Mask.Mask, Mask.{has, mask_of, trimmed_words, common}, Attributes.{readable, attributes, value_at, type_number}, Wire.nfs_fh4}
+use Rattle.nfs_opens.specs.declared.records.LockState.{LockState}
+use Rattle.nfs_names.specs.{declared.{start.Start.Start, context.Context.Context}, Attributes.about, Outcome.is_ok, State.State}
+use Rattle.nfs_files.specs.{Ranges.kind_of, StateIds.state_id}
+use Rattle.nfs_exec.specs.Runs.Ops.{RanOp}
+use Rattle.nfs_promises.specs.{Network.Endpoint.Arrival, Runs.Points.{reached, ops_of}, Permission.Permitted.{Reads, Writes, Executes, Grants, rights_of}}
+use Rattle.nfs_promises.specs.Answers.{Asked.{IsCurrent, IsSpecial}, Reasons.{StateTold, state_of}}
+
+-- Locks.
+
+-- the byte is in the range: a length of all ones goes to the last byte there can be
+abbrev pub InRange : (offset size b : ℕ) → Type 0
+InRange offset size b = (offset ≤ b) × (b ≤ 0xffff_ffff_ffff_ffff) × ((size ≡ 0xffff_ffff_ffff_ffff) ⊎ (b < offset + size))
+
+-- it may be locked in this way beside a holder
+abbrev pub LiesBeside : Kind → Option Kind → Type 0
+LiesBeside kind held = (held ≡ None) ⊎ ((kind ≡ Read) × (held ≡ Some Read))
+
+-- LOCKT: no other lock owner's state holds a byte of the range so that the two clash
+pub record IsFree (s : State) (x : Context) (a : LockT) : Type 0 where
+  pub file : ℕ
+  pub at : x.current ≡ Some file
+  pub free : (l : LockState) (b : ℕ) → In l s.opens.locks → ((l.client ≡ x.client) × (l.owner ≡ a.owner.owner) → ⊥) → InRange a.offset a.length b
+      → LiesBeside (kind_of a.locktype) (s.opens.held file l.number b)
+
+-- Objects.
+
+-- the current filehandle's
+pub record IsHere (s : State) (x : Context) (n : ℕ) (o : Object) : Type 0 where
+  pub at : x.current ≡ Some n
+  pub is : object_at s.tree n ≡ Some o
+
+-- the filehandle of an object: GETFH gives it
+abbrev pub handle_text : State → ℕ → List ℕ
+handle_text s n = (nfs_fh4 (record { instance = s.opens.instance; number = n })).bytes
+
+-- as many links as there are names; a directory has one
+abbrev pub names_of : State → ℕ → Object → ℕ
+names_of s n o = if is_directory o.kind then 1 else links_in s.tree.rows n
+
+-- What an attribute of an object is. Of the others, which are the same of all objects, and of the lease, the table of attributes says it.
+abbrev pub value : State → ℕ → Object → ℕ → List ℕ
+value s n o k =
+    if k == 1 then (uint32 (type_number o.kind)).bytes
+    else if k == 3 then (uint64 o.change).bytes
+    else if k == 4 then (uint64 (length (data_at s.tree n))).bytes
+    else if k == 19 then (opaque fhsize (handle_text s n)).bytes
+    else if k == 20 then (uint64 n).bytes
+    else if k == 33 then (uint32 o.mode).bytes
+    else if k == 35 then (uint32 (names_of s n o)).bytes
+    else if k == 36 then (opaque most (decimal o.owner)).bytes
+    else if k == 37 then (opaque most (decimal o.group)).bytes
+    else if k == 45 then (uint64 (length (data_at s.tree n))).bytes
+    else if k == 47 then (nfstime4 o.access).bytes
+    else if k == 52 then (nfstime4 o.metadata).bytes
+    else if k == 53 then (nfstime4 o.modify).bytes
+    else if k == 55 then (uint64 n).bytes
+    else value_at attributes k (about s (record { number = n; object = o })) o
+
+-- attributes in rising order of their numbers
+abbrev pub numbers : List ℕ
+numbers = 0 ∷ 1 ∷ 2 ∷ 3 ∷ 4 ∷ 5 ∷ 6 ∷ 7 ∷ 8 ∷ 9 ∷ 10 ∷ 11 ∷ 19 ∷ 20 ∷ 27 ∷ 28 ∷ 29 ∷ 30 ∷ 31 ∷ 33 ∷ 35 ∷ 36 ∷ 37 ∷ 45 ∷ 47 ∷ 48 ∷ 52 ∷ 53 ∷ 54 ∷ 55 ∷ 75 ∷ []
+
+-- GETATTR: those that are asked for, each with its value, one behind the other
+pub record AreTold (s : State) (x : Context) (asked : Mask) (result : List ℕ) : Type 0 where
+  pub number : ℕ
+  pub object : Object
+  pub here : IsHere s x number object
+  pub told : result ≡ spell_result (Res.GetAttr (record {
+    attrmask = trimmed_words (common asked readable);
+    attr_vals = flat_map (λ k. if has asked k then value s number object k else []) numbers;
+  }))
+
+-- READLINK: the bytes of the link, of which there are no more
+pub record IsText (s : State) (x : Context) (result : List ℕ) : Type 0 where
+  pub number : ℕ
+  pub object : Object
+  pub here : IsHere s x number object
+  pub link : is_link object.kind ≡ true
+  pub told : result ≡ spell_result (Res.ReadLink (take most_text (data_at s.tree number)))
+
+-- ACCESS: READ is 1, LOOKUP 2, MODIFY 4, EXTEND 8, DELETE 16 and EXECUTE 32. A directory's entries are changed by whoever may write and execute.
+abbrev pub bits : FileType → (reads writes executes : Bool) → ℕ
+bits Directory reads writes executes = (if reads then 1 else 0) + (if executes then 2 else 0) + (if writes && executes then 0x1c else 0)
+bits kind reads writes executes = (if reads then 1 else 0) + (if writes then 0xc else 0) + (if executes then 0x20 else 0)
+
+abbrev pub Decides : Bool → Type 0 → Type 0
+Decides b P = (b ≡ true → P) × (P → b ≡ true)
+
+pub record IsJudged (s : State) (x : Context) (asked : ℕ) (result : List ℕ) : Type 0 where
+  pub number : ℕ
+  pub object : Object
+  pub here : IsHere s x number object
+  pub reads : Bool
+  pub writes : Bool
+  pub executes : Bool
+  pub may_read : Decides reads (Grants (rights_of object) x.who Reads)
+  pub may_write : Decides writes (Grants (rights_of object) x.who Writes)
+  pub may_execute : Decides executes (Grants (rights_of object) x.who Executes)
+  pub told : result ≡ spell_result (Res.Access (record {
+    supported = bit_and asked (bits object.kind true true true);
+    access = bit_and asked (bits object.kind reads writes executes);
+  }))
+
+-- Stateids.
+
+-- it names a state of the client, with any seqid or with the state's
+pub record Stands (s : State) (x : Context) (given : Stateid) : Type 0 where
+  pub current : IsCurrent (state_id given) → ⊥
+  pub special : IsSpecial (state_id given) → ⊥
+  pub state : StateTold
+  pub names : state_of s.opens (state_id given) ≡ Some state
+  pub client : state.client ≡ x.client
+  pub seqid : (given.seqid ≡ 0) ⊎ (given.seqid ≡ state.seqid)
+
+-- TEST_STATEID: a code for each stateid, which is 0 just where it stands
+abbrev pub AreTested : State → Context → List Stateid → List ℕ → Type 0
+AreTested s x [] [] = Unit {0}
+AreTested s x (given ∷ more) (code ∷ codes) = (code ≡ 0 → Stands s x given) × (Stands s x given → code ≡ 0) × AreTested s x more codes
+AreTested s x given codes = ⊥
+
+-- The table of answers.
+abbrev pub IsTrueOf : State → Context → Item → List ℕ → Type 0
+IsTrueOf s x (Operation (Op.Access asked)) result = IsJudged s x asked result
+IsTrueOf s x (Operation (Op.GetAttr words)) result = AreTold s x (mask_of words) result
+IsTrueOf s x (Operation Op.GetFh) result = (n : ℕ) × (x.current ≡ Some n) × (result ≡ spell_result (Res.GetFh (handle_text s n)))
+IsTrueOf s x (Operation (Op.LockT a)) result = IsFree s x a
+IsTrueOf s x (Operation (Op.Lookup name)) result = (directory : ℕ) × (n : ℕ) × (x.current ≡ Some directory) × (object_named s.tree directory name ≡ Some n)
+IsTrueOf s x (Operation Op.ReadLink) result = IsText s x result
+IsTrueOf s x (Operation (Op.TestStateid given)) result = (codes : List ℕ) × AreTested s x given codes × (result ≡ spell_result (Res.TestStateid codes))
+IsTrueOf s x item result = Unit {0}
+
+-- an operation that ran
+abbrev pub TellsSo : RanOp → Type 0
+TellsSo d = is_ok d.status ≡ true → IsTrueOf d.before.store d.context d.item d.result
+
+-- In every run of a server.
+abbrev pub EachYesIsTrue : Type 0
+EachYesIsTrue = (start : Start) (records : List Arrival) (c : Arrival) (d : RanOp) → In d (ops_of (reached start records) c) → TellsSo d

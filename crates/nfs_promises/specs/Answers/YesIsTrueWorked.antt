@@ -1,0 +1,75 @@
+-- Answers that are true and answers that are not, worked by hand over the runs of `LockKeptWorked` and `WrittenStaysWorked` (RFC 8881 sections 5, 18.1, 18.7, 18.11, 18.13,
+-- 18.24 and 18.48).
+use Rattle.std.specs.Prelude.{◌≡◌, List, [], ◌∷◌}
+use Rattle.nfs_xdr.specs.{Spelling.{number, hyper}, declared.status.Status.TheVariants.{Nfs4Ok, Denied, NoEnt}}
+use Rattle.nfs_compound.specs.{declared.lock_args.LockType.TheVariants.Write, declared.name_args.CreateType.TheVariants.Symlink}
+use Rattle.nfs_compound.specs.declared.op.Op.{Op}
+use Rattle.nfs_compound.specs.declared.op.Op.TheVariants as Op
+use Rattle.nfs_results.specs.{declared.res.Res.Res, Results.spell_result}
+use Rattle.nfs_results.specs.declared.res.Res.TheVariants as Res
+use Rattle.nfs_exec.specs.Runs.Ops.{RanOp}
+use Rattle.nfs_promises.specs.{Runs.{Requests.{in_session, stateid}, Points.ops_of}, Network.Endpoint.Arrival, Answers.YesIsTrue.TellsSo}
+use Rattle.nfs_promises.specs.{Locks.LockKeptWorked.{came, asked, last_of, statuses}, Bytes.WrittenStaysWorked.made, Names.FileStaysWorked.with_status}
+
+-- `B` asks who holds the first byte of `f`, which `A` has locked
+abbrev pub tests : Arrival
+tests = came 372 8 (in_session 2 1 (Op.PutRootFh ∷ Op.Lookup (0x66 ∷ [])
+    ∷ Op.LockT (record { locktype = Write; offset = 0; length = 1; owner = record { clientid = 0; owner = 0x6c ∷ [] } }) ∷ []))
+
+abbrev pub asks : List Op → Arrival
+asks ops = came 103 4 (in_session 1 2 ops)
+
+-- an operation on `f`
+abbrev pub of_file : Op → Arrival
+of_file op = asks (Op.PutRootFh ∷ Op.Lookup (0x66 ∷ []) ∷ op ∷ [])
+
+-- attribute 20 is the fileid, and 33 the mode
+abbrev pub fileid : Arrival
+fileid = of_file (Op.GetAttr (0x10_0000 ∷ []))
+
+abbrev pub mode : Arrival
+mode = of_file (Op.GetAttr (0 ∷ 2 ∷ []))
+
+-- whether it may be read
+abbrev pub may_read : Arrival
+may_read = of_file (Op.Access 1)
+
+-- a link `l` to `f` is made, and read
+abbrev pub reads_link : Arrival
+reads_link = asks (Op.PutRootFh ∷ Op.Create (record { objtype = Symlink (0x66 ∷ []); objname = 0x6c ∷ []; createattrs = record { attrmask = []; attr_vals = [] } })
+    ∷ Op.ReadLink ∷ [])
+
+abbrev pub tests_stateid : Arrival
+tests_stateid = asks (Op.TestStateid (stateid 1 1 ∷ []) ∷ [])
+
+abbrev pub misses : Arrival
+misses = asks (Op.PutRootFh ∷ Op.Lookup (0x67 ∷ []) ∷ [])
+
+-- The runs.
+pub record AreAsked : Type 0 where
+  pub denied : statuses (ops_of asked tests) ≡ Nfs4Ok ∷ Nfs4Ok ∷ Denied ∷ []
+  pub told : statuses (ops_of made fileid) ≡ Nfs4Ok ∷ Nfs4Ok ∷ Nfs4Ok ∷ []
+  pub judged : statuses (ops_of made may_read) ≡ Nfs4Ok ∷ Nfs4Ok ∷ Nfs4Ok ∷ []
+  pub read : statuses (ops_of made reads_link) ≡ Nfs4Ok ∷ Nfs4Ok ∷ Nfs4Ok ∷ []
+  pub tested : statuses (ops_of made tests_stateid) ≡ Nfs4Ok ∷ []
+  pub missed : statuses (ops_of made misses) ≡ Nfs4Ok ∷ NoEnt ∷ []
+
+-- an operation that answers NFS4_OK and this
+abbrev pub telling : Res → RanOp → RanOp
+telling r d = record d { status = Nfs4Ok; result = spell_result r }
+
+-- The promise refuses these.
+pub record YesesRefused : Type 0 where
+  -- LOCKT finds no lock
+  pub free : (d : RanOp) → TellsSo (with_status Nfs4Ok (last_of d (ops_of asked tests))) → ⊥
+  -- GETATTR answers the root's fileid, and another mode
+  pub another : (d : RanOp) → TellsSo (telling (Res.GetAttr (record { attrmask = 0x10_0000 ∷ []; attr_vals = hyper 1 })) (last_of d (ops_of made fileid))) → ⊥
+  pub unset : (d : RanOp) → TellsSo (telling (Res.GetAttr (record { attrmask = 0 ∷ 2 ∷ []; attr_vals = number 384 })) (last_of d (ops_of made mode))) → ⊥
+  -- ACCESS grants nothing to the owner, who may read
+  pub nothing : (d : RanOp) → TellsSo (telling (Res.Access (record { supported = 1; access = 0 })) (last_of d (ops_of made may_read))) → ⊥
+  -- READLINK answers no text
+  pub empty : (d : RanOp) → TellsSo (telling (Res.ReadLink []) (last_of d (ops_of made reads_link))) → ⊥
+  -- TEST_STATEID calls an open's stateid bad
+  pub bad : (d : RanOp) → TellsSo (telling (Res.TestStateid (10025 ∷ [])) (last_of d (ops_of made tests_stateid))) → ⊥
+  -- a LOOKUP finds a name that is not there
+  pub found : (d : RanOp) → TellsSo (with_status Nfs4Ok (last_of d (ops_of made misses))) → ⊥
