@@ -10,5 +10,7 @@ pub mod WalkReasons
 pub mod OpenReasons
 pub mod Reasons
 pub mod ReasonsWorked
+pub mod TruthOfAnswers
+pub mod WhatIsDone
 pub mod YesIsTrue
 pub mod YesIsTrueWorked

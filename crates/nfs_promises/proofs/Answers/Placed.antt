@@ -26,7 +26,7 @@ use Rattle.nfs_promises.proofs.{Answers.Blaming.{Blames, AllBlame, then_blames},
 abbrev pub Answers : State → Context → Item → Outcome → Type 0
 Answers s x i o = IsAnswered s x i (status_of_result o.result)
 
-no_reason : (s : State) (x : Context) (i : Item) (f : Status) → Reason s x i f → is_ok f ≡ false
+pub no_reason : (s : State) (x : Context) (i : Item) (f : Status) → Reason s x i f → is_ok f ≡ false
 no_reason s x i S.Nfs4Ok reason = absurd (false≢true reason)
 no_reason s x i f reason = refl
 

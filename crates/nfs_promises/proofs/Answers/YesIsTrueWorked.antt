@@ -1,26 +1,26 @@
 -- Answers that are true and answers that are not, computed.
 use Rattle.std.proofs.Common.{◌≡◌, ◌≢◌, ℕ, true, false, List, [], ◌∷◌, Option, Some, None, get_or, refl, sym, ◌∙◌, ap, subst, arith, inl, inr}
 use Rattle.std.proofs.lemmas.{Bool.{cases_Bool}, Option.same_Some}
-use Rattle.std.specs.{Prelude.{◌+◌, ◌*◌, ◌^◌, bit_and, take, option_map}}
+use Rattle.std.specs.{Prelude.{◌+◌, ◌*◌, ◌^◌, ◌++◌, replicate, bit_and, take, option_map}}
 use Rattle.nfs_xdr.specs.{Caller.Caller, Tables.In, Spelling.{number, hyper}}
 use Rattle.nfs_xdr.specs.declared.status.Status.TheVariants as S
-use Rattle.nfs_compound.specs.{ArgCodecs.{lock_t_args, create_args, create_type}, declared.stateid.Stateid.Stateid, declared.lock_args.LockT.LockT}
+use Rattle.nfs_compound.specs.{ArgCodecs.{lock_t_args, create_args, create_type, commit_args}, declared.file_args.StableHow.TheVariants.Unstable, declared.stateid.Stateid.Stateid, declared.lock_args.LockT.LockT}
 use Rattle.nfs_compound.specs.declared.lock_args.LockType.TheVariants as LockTypes
 use Rattle.nfs_compound.specs.Stateid as wire_ids
 use Rattle.nfs_results.specs.Items as results
 use Rattle.nfs_results.specs.declared.res.Res.TheVariants as Res
 use Rattle.nfs_results.specs.Results.{spell_result}
-use Rattle.nfs_ranges.specs.declared.Kind.TheVariants.{Write}
+use Rattle.nfs_ranges.specs.declared.Kind.{Kind, TheVariants.Write}
 use Rattle.nfs_tree.specs.{declared.object.Object.Object, declared.object.FileType.TheVariants.Regular, Files.{most_text, data_at, object_at, object_named}}
 use Rattle.nfs_attrs.specs.{Mask.mask_of, Attributes.values}
-use Rattle.nfs_opens.specs.{declared.records.LockState.LockState, declared.judging.Sort.TheVariants.OpenOnly}
-use Rattle.nfs_names.specs.{declared.context.Context.Context, State.State, Access.access, Create.create, GetAttr.get_attr, ReadLink.read_link}
-use Rattle.nfs_files.specs.{Ranges.kind_of, LockT.lock_t, TestStateid.{code, test_stateid}}
+use Rattle.nfs_opens.specs.{declared.records.LockState.LockState, declared.judging.Sort.TheVariants.{OpenOnly, LockOnly}, declared.stateid.CurrentSeqid.TheVariants.{Any, Own}}
+use Rattle.nfs_names.specs.{declared.context.Context.Context, State.State, Access.access, Create.create, GetAttr.get_attr, GetFh.get_fh, ReadLink.read_link, Remove.remove}
+use Rattle.nfs_files.specs.{Commit.commit, Ranges.kind_of, LockT.lock_t, TestStateid.{code, test_stateid}}
 use Rattle.nfs_exec.specs.Runs.Ops.{RanOp}
-use Rattle.nfs_promises.specs.{Runs.{Requests.stateid, Points.ops_of}, Locks.LockKeptWorked.{asked, last_of, statuses}, Bytes.WrittenStaysWorked.made, Names.FileStaysWorked.with_status}
+use Rattle.nfs_promises.specs.{Runs.{Requests.stateid, Points.ops_of}, Locks.LockKeptWorked.{asked, gives_up, last_of, statuses}, Bytes.WrittenStaysWorked.{made, writes}, Names.FileStaysWorked.{with_status, missed, closes}}
 use Rattle.nfs_promises.specs.Permission.Permitted.{Reads, Writes, Executes, Rights, rights_of, Grants, ToRoot, ToOwner, ToGroup, ToOthers}
 use Rattle.nfs_promises.specs.Answers.YesIsTrue.{TellsSo, IsFree, InRange, LiesBeside, AreTold, IsText, IsJudged, bits, Stands, AreTested}
-use Rattle.nfs_promises.specs.Answers.{Asked.{IsCurrent, IsSpecial, AllZeros, AllOnes}, YesIsTrueWorked.{AreAsked, YesesRefused, telling, tests, fileid, mode, may_read, reads_link, tests_stateid, misses}}
+use Rattle.nfs_promises.specs.Answers.{Asked.{StateGiven, Itself, IsCurrent, IsSpecial, AllZeros, AllOnes}, YesIsTrueWorked.{AreAsked, YesesRefused, unchanging, telling, commits, tests, fileid, mode, may_read, reads_link, tests_stateid, misses}}
 use Rattle.nfs_promises.proofs.Runs.Computing.{computing}
 
 denied : statuses (ops_of asked tests) ≡ S.Nfs4Ok ∷ S.Nfs4Ok ∷ S.Denied ∷ []
@@ -43,12 +43,16 @@ tested : statuses (ops_of made tests_stateid) ≡ S.Nfs4Ok ∷ []
 unfolding computing test_stateid code wire_ids.stateids results.status_codes
 tested = refl
 
-missed : statuses (ops_of made misses) ≡ S.Nfs4Ok ∷ S.NoEnt ∷ []
+committed : statuses (ops_of made commits) ≡ S.Nfs4Ok ∷ S.Nfs4Ok ∷ S.Nfs4Ok ∷ []
+unfolding computing commit commit_args
+committed = refl
+
+missed_it : statuses (ops_of made misses) ≡ S.Nfs4Ok ∷ S.NoEnt ∷ []
 unfolding computing
-missed = refl
+missed_it = refl
 
 pub are_asked : AreAsked
-are_asked = record { denied = denied; told = told; judged = judged; read = read; tested = tested; missed = missed }
+are_asked = record { denied = denied; told = told; judged = judged; read = read; tested = tested; committed = committed; missed = missed_it }
 
 -- The wrong answers.
 
@@ -179,6 +183,9 @@ open_id : IsSpecial (record { seqid = 1; instance = 7; number = 1 }) → ⊥
 open_id (AllZeros a b c) = (let bad : ◌≡◌ {A = ℕ} 7 0 = b in absurd (omega arith))
 open_id (AllOnes a b c) = (let bad : ◌≡◌ {A = ℕ} 7 0xffff_ffff = b in absurd (omega arith))
 
+seven : ◌≢◌ {A = ℕ} 7 0
+seven e = absurd (omega arith)
+
 no_current : IsCurrent (record { seqid = 1; instance = 7; number = 1 }) → ⊥
 no_current is = (let bad : ◌≡◌ {A = ℕ} 7 0 = is.1 in absurd (omega arith))
 
@@ -203,6 +210,31 @@ bad d is = let e = last_of d (ops_of made tests_stateid) in let w = is refl in c
   seqid = inr refl;
 }) w.1 w.2
 
+-- LOCKU, CLOSE, WRITE and COMMIT
+
+abbrev lock_given : StateGiven
+lock_given = record { given = stateid 1 2; sort = LockOnly; form = Any }
+
+abbrev open_given : StateGiven
+open_given = record { given = stateid 1 1; sort = OpenOnly; form = Own }
+
+still_locked : (d : RanOp) → TellsSo (unchanging (last_of d (ops_of asked gives_up))) → ⊥
+unfolding computing
+still_locked d is = (let held : ◌≡◌ {A = Option Kind} (Some Write) None =
+    is refl lock_given (record { seqid = 1; instance = 7; number = 2 }) 2 0 refl (Itself (λ c. seven c.1) refl) refl (omega arith, omega arith, inr (omega arith)) in cc)
+
+still_open : (d : RanOp) → TellsSo (unchanging (last_of d (ops_of missed closes))) → ⊥
+unfolding computing get_fh remove
+still_open d is = is refl open_given (record { seqid = 1; instance = 7; number = 1 }) refl (Itself (λ c. seven c.1) refl) _ (inl refl) refl
+
+unstable : (d : RanOp) → TellsSo (telling (Res.Write (record { count = 4; committed = Unstable; writeverf = number 7 ++ replicate 4 0 })) (last_of d (ops_of made writes))) → ⊥
+unfolding computing
+unstable d is = (let bad : ◌≡◌ {A = ℕ} 0 2 = ap (λ (t : List ℕ). get_or t 15 0) (is refl) in absurd (omega arith))
+
+restarted : (d : RanOp) → TellsSo (telling (Res.Commit (replicate 8 0)) (last_of d (ops_of made commits))) → ⊥
+unfolding computing commit commit_args
+restarted d is = (let bad : ◌≡◌ {A = ℕ} 0 7 = ap (λ (t : List ℕ). get_or t 11 0) (is refl) in absurd (omega arith))
+
 -- LOOKUP
 
 name_not : (s : State) (x : Context) (name : List ℕ) (n : ℕ) → x.current ≡ Some n → object_named s.tree n name ≡ None
@@ -216,4 +248,4 @@ unfolding computing
 found d is = let e = last_of d (ops_of made misses) in name_not e.before.store e.context (0x67 ∷ []) 1 refl refl (is refl)
 
 pub yeses_refused : YesesRefused
-yeses_refused = record { free = free; another = another; unset = unset; nothing = nothing; empty = empty; bad = bad; found = found }
+yeses_refused = record { free = free; another = another; unset = unset; nothing = nothing; empty = empty; bad = bad; still_locked = still_locked; still_open = still_open; unstable = unstable; restarted = restarted; found = found }

@@ -10,7 +10,7 @@ use Rattle.nfs_compound.specs.declared.name_args.CreateType.TheVariants.{Other}
 use Rattle.nfs_names.specs.Context.{anonymous}
 use Rattle.nfs_exec.specs.Runs.Ops.{RanOp}
 use Rattle.nfs_serve.specs.Step.{ServerState}
-use Rattle.nfs_promises.specs.{Runs.{Requests.{words, in_session, opening_by, unchecked}, Points.{reached, ops_of}}, Network.Endpoint.Arrival, Answers.Reasons.AnswersSo}
+use Rattle.nfs_promises.specs.{Runs.{Requests.{words, in_session, opening_by, unchecked}, Started.usual, Points.{reached, ops_of}}, Network.Endpoint.Arrival, Answers.Reasons.AnswersSo}
 use Rattle.nfs_promises.specs.Locks.LockKeptWorked.{came, earlier, asked, gives_up, last_of, statuses}
 use Rattle.nfs_promises.specs.{Bytes.WrittenStaysWorked.made, Names.FileStaysWorked.{with_status, missed, closes}, Permission.PermittedWorked.to_group}
 
@@ -35,7 +35,7 @@ opens_up = came 103 4 (in_session 1 2 (Op.PutRootFh
 
 -- a root of which others than its owner may read and search: 555
 abbrev pub shut : ServerState
-shut = reached (record { mode = 365; instance = 7; lease = 90 }) earlier
+shut = reached (record usual { mode = 365 }) earlier
 
 abbrev pub moves : (now number : ℕ) → Arrival
 moves now number = came (100 + now) now (in_session 1 number (Op.PutRootFh ∷ Op.SaveFh ∷ Op.Rename (record { oldname = 0x66 ∷ []; newname = 0x67 ∷ [] }) ∷ []))

@@ -1,22 +1,23 @@
 -- Each yes is true: what an operation that is answered NFS4_OK answers is so, by what the server has (RFC 8881 sections 5, 6.2.4, 18.1, 18.7, 18.8, 18.11, 18.13, 18.24 and
 -- 18.48). A table with a row for each kind of answer.
-use Rattle.std.specs.Prelude.{◌≡◌, ◌⊎◌, ℕ, ◌+◌, ◌<◌, ◌≤◌, ◌==◌, ◌&&◌, Bool, true, bit_and, List, [], ◌∷◌, length, take, Option, Some, None, if◌then◌else◌}
+use Rattle.std.specs.Prelude.{◌≡◌, ◌≢◌, ◌⊎◌, ℕ, ◌+◌, ◌<◌, ◌≤◌, ◌==◌, ◌&&◌, Bool, true, bit_and, List, [], ◌∷◌, ◌++◌, length, take, replicate, Option, Some, None, if◌then◌else◌}
 use Rattle.std.specs.{List.flat_map, Fmt.decimal}
-use Rattle.nfs_xdr.specs.{Limits.fhsize, Tables.In, Text.{uint32, uint64, opaque, most}, Wire.nfstime4}
+use Rattle.nfs_xdr.specs.{Limits.fhsize, Tables.In, Spelling.number, Text.{uint32, uint64, opaque, most}, Wire.nfstime4}
 use Rattle.nfs_compound.specs.{declared.lock_args.LockT.LockT, declared.stateid.Stateid.Stateid, declared.op.Item.Item, declared.op.Item.TheVariants.Operation}
 use Rattle.nfs_compound.specs.declared.op.Op.TheVariants as Op
+use Rattle.nfs_compound.specs.{declared.file_args.{StableHow.TheVariants.FileSync, Write.Write}, declared.lock_args.LockU.LockU, declared.open_args.Close.Close}
 use Rattle.nfs_results.specs.Results.{spell_result}
 use Rattle.nfs_results.specs.declared.res.Res.TheVariants as Res
 use Rattle.nfs_ranges.specs.declared.Kind.{Kind, TheVariants.{Read}}
 use Rattle.nfs_tree.specs.{declared.object.FileType.FileType, declared.object.FileType.TheVariants.{Directory}, declared.object.Object.Object}
 use Rattle.nfs_tree.specs.{Object.{is_directory, is_link}, Files.{most_text, data_at, links_in, object_at, object_named}}
 use Rattle.nfs_attrs.specs.{declared.mask.Mask.Mask, Mask.{has, mask_of, trimmed_words, common}, Attributes.{readable, attributes, value_at, type_number}, Wire.nfs_fh4}
-use Rattle.nfs_opens.specs.declared.records.LockState.{LockState}
+use Rattle.nfs_opens.specs.{declared.records.{LockState.LockState, OpenState.OpenState}, declared.stateid.StateId.StateId}
 use Rattle.nfs_names.specs.{declared.{start.Start.Start, context.Context.Context}, Attributes.about, Outcome.is_ok, State.State}
 use Rattle.nfs_files.specs.{Ranges.kind_of, StateIds.state_id}
 use Rattle.nfs_exec.specs.Runs.Ops.{RanOp}
 use Rattle.nfs_promises.specs.{Network.Endpoint.Arrival, Runs.Points.{reached, ops_of}, Permission.Permitted.{Reads, Writes, Executes, Grants, rights_of}}
-use Rattle.nfs_promises.specs.Answers.{Asked.{IsCurrent, IsSpecial}, Reasons.{StateTold, state_of}}
+use Rattle.nfs_promises.specs.Answers.{Asked.{StateGiven, by_state, StandsFor, IsCurrent, IsSpecial}, Reasons.{StateTold, state_of}}
 
 -- Locks.
 
@@ -131,20 +132,39 @@ AreTested s x [] [] = Unit {0}
 AreTested s x (given ∷ more) (code ∷ codes) = (code ≡ 0 → Stands s x given) × (Stands s x given → code ≡ 0) × AreTested s x more codes
 AreTested s x given codes = ⊥
 
--- The table of answers.
-abbrev pub IsTrueOf : State → Context → Item → List ℕ → Type 0
-IsTrueOf s x (Operation (Op.Access asked)) result = IsJudged s x asked result
-IsTrueOf s x (Operation (Op.GetAttr words)) result = AreTold s x (mask_of words) result
-IsTrueOf s x (Operation Op.GetFh) result = (n : ℕ) × (x.current ≡ Some n) × (result ≡ spell_result (Res.GetFh (handle_text s n)))
-IsTrueOf s x (Operation (Op.LockT a)) result = IsFree s x a
-IsTrueOf s x (Operation (Op.Lookup name)) result = (directory : ℕ) × (n : ℕ) × (x.current ≡ Some directory) × (object_named s.tree directory name ≡ Some n)
-IsTrueOf s x (Operation Op.ReadLink) result = IsText s x result
-IsTrueOf s x (Operation (Op.TestStateid given)) result = (codes : List ℕ) × AreTested s x given codes × (result ≡ spell_result (Res.TestStateid codes))
-IsTrueOf s x item result = Unit {0}
+-- What was done, in the state behind the operation.
+
+-- LOCKU: the lock state that is given holds no byte of the range
+abbrev pub HoldsNone : Context → LockU → State → Type 0
+HoldsNone x a t = (k : StateGiven) (id : StateId) (file b : ℕ) → by_state (Operation (Op.LockU a)) ≡ Some k → StandsFor x k id → x.current ≡ Some file → InRange a.offset a.length b
+    → t.opens.held file id.number b ≡ None
+
+-- CLOSE: the open that is given does not stand
+abbrev pub IsClosed : Context → Close → State → Type 0
+IsClosed x a t = (k : StateGiven) (id : StateId) → by_state (Operation (Op.Close a)) ≡ Some k → StandsFor x k id → (o : OpenState) → In o t.opens.opens → o.number ≢ id.number
+
+-- what marks a start of the server off from others, in WRITE and in COMMIT
+abbrev pub verifier : State → List ℕ
+verifier s = number s.opens.instance ++ replicate 4 0
+
+-- The table of answers: by the state before the operation and the one behind it.
+abbrev pub IsTrueOf : State → Context → Item → List ℕ → State → Type 0
+IsTrueOf s x (Operation (Op.Access asked)) result t = IsJudged s x asked result
+IsTrueOf s x (Operation (Op.Close a)) result t = IsClosed x a t
+IsTrueOf s x (Operation (Op.Commit a)) result t = result ≡ spell_result (Res.Commit (verifier s))
+IsTrueOf s x (Operation (Op.GetAttr words)) result t = AreTold s x (mask_of words) result
+IsTrueOf s x (Operation Op.GetFh) result t = (n : ℕ) × (x.current ≡ Some n) × (result ≡ spell_result (Res.GetFh (handle_text s n)))
+IsTrueOf s x (Operation (Op.LockT a)) result t = IsFree s x a
+IsTrueOf s x (Operation (Op.LockU a)) result t = HoldsNone x a t
+IsTrueOf s x (Operation (Op.Lookup name)) result t = (directory : ℕ) × (n : ℕ) × (x.current ≡ Some directory) × (object_named s.tree directory name ≡ Some n)
+IsTrueOf s x (Operation Op.ReadLink) result t = IsText s x result
+IsTrueOf s x (Operation (Op.TestStateid given)) result t = (codes : List ℕ) × AreTested s x given codes × (result ≡ spell_result (Res.TestStateid codes))
+IsTrueOf s x (Operation (Op.Write a)) result t = result ≡ spell_result (Res.Write (record { count = length a.bytes; committed = FileSync; writeverf = verifier s }))
+IsTrueOf s x item result t = Unit {0}
 
 -- an operation that ran
 abbrev pub TellsSo : RanOp → Type 0
-TellsSo d = is_ok d.status ≡ true → IsTrueOf d.before.store d.context d.item d.result
+TellsSo d = is_ok d.status ≡ true → IsTrueOf d.before.store d.context d.item d.result d.behind.store
 
 -- In every run of a server.
 abbrev pub EachYesIsTrue : Type 0

@@ -1,15 +1,15 @@
--- Answers that are true and answers that are not, worked by hand over the runs of `LockKeptWorked` and `WrittenStaysWorked` (RFC 8881 sections 5, 18.1, 18.7, 18.11, 18.13,
--- 18.24 and 18.48).
-use Rattle.std.specs.Prelude.{◌≡◌, List, [], ◌∷◌}
+-- Answers that are true and answers that are not, worked by hand over the runs of `LockKeptWorked`, `FileStaysWorked` and `WrittenStaysWorked` (RFC 8881 sections 5, 18.1 to
+-- 18.3, 18.7, 18.11 to 18.13, 18.24, 18.32 and 18.48).
+use Rattle.std.specs.Prelude.{◌≡◌, List, [], ◌∷◌, ◌++◌, replicate}
 use Rattle.nfs_xdr.specs.{Spelling.{number, hyper}, declared.status.Status.TheVariants.{Nfs4Ok, Denied, NoEnt}}
-use Rattle.nfs_compound.specs.{declared.lock_args.LockType.TheVariants.Write, declared.name_args.CreateType.TheVariants.Symlink}
+use Rattle.nfs_compound.specs.{declared.file_args.StableHow.TheVariants.Unstable, declared.lock_args.LockType.TheVariants.Write, declared.name_args.CreateType.TheVariants.Symlink}
 use Rattle.nfs_compound.specs.declared.op.Op.{Op}
 use Rattle.nfs_compound.specs.declared.op.Op.TheVariants as Op
 use Rattle.nfs_results.specs.{declared.res.Res.Res, Results.spell_result}
 use Rattle.nfs_results.specs.declared.res.Res.TheVariants as Res
 use Rattle.nfs_exec.specs.Runs.Ops.{RanOp}
 use Rattle.nfs_promises.specs.{Runs.{Requests.{in_session, stateid}, Points.ops_of}, Network.Endpoint.Arrival, Answers.YesIsTrue.TellsSo}
-use Rattle.nfs_promises.specs.{Locks.LockKeptWorked.{came, asked, last_of, statuses}, Bytes.WrittenStaysWorked.made, Names.FileStaysWorked.with_status}
+use Rattle.nfs_promises.specs.{Locks.LockKeptWorked.{came, asked, gives_up, last_of, statuses}, Bytes.WrittenStaysWorked.{made, writes}, Names.FileStaysWorked.{with_status, missed, closes}}
 
 -- `B` asks who holds the first byte of `f`, which `A` has locked
 abbrev pub tests : Arrival
@@ -45,6 +45,9 @@ tests_stateid = asks (Op.TestStateid (stateid 1 1 ∷ []) ∷ [])
 abbrev pub misses : Arrival
 misses = asks (Op.PutRootFh ∷ Op.Lookup (0x67 ∷ []) ∷ [])
 
+abbrev pub commits : Arrival
+commits = of_file (Op.Commit (record { offset = 0; count = 0 }))
+
 -- The runs.
 pub record AreAsked : Type 0 where
   pub denied : statuses (ops_of asked tests) ≡ Nfs4Ok ∷ Nfs4Ok ∷ Denied ∷ []
@@ -52,7 +55,12 @@ pub record AreAsked : Type 0 where
   pub judged : statuses (ops_of made may_read) ≡ Nfs4Ok ∷ Nfs4Ok ∷ Nfs4Ok ∷ []
   pub read : statuses (ops_of made reads_link) ≡ Nfs4Ok ∷ Nfs4Ok ∷ Nfs4Ok ∷ []
   pub tested : statuses (ops_of made tests_stateid) ≡ Nfs4Ok ∷ []
+  pub committed : statuses (ops_of made commits) ≡ Nfs4Ok ∷ Nfs4Ok ∷ Nfs4Ok ∷ []
   pub missed : statuses (ops_of made misses) ≡ Nfs4Ok ∷ NoEnt ∷ []
+
+-- an operation that changes nothing
+abbrev pub unchanging : RanOp → RanOp
+unchanging d = record d { behind = d.before }
 
 -- an operation that answers NFS4_OK and this
 abbrev pub telling : Res → RanOp → RanOp
@@ -71,5 +79,12 @@ pub record YesesRefused : Type 0 where
   pub empty : (d : RanOp) → TellsSo (telling (Res.ReadLink []) (last_of d (ops_of made reads_link))) → ⊥
   -- TEST_STATEID calls an open's stateid bad
   pub bad : (d : RanOp) → TellsSo (telling (Res.TestStateid (10025 ∷ [])) (last_of d (ops_of made tests_stateid))) → ⊥
+  -- LOCKU unlocks nothing, and CLOSE closes nothing
+  pub still_locked : (d : RanOp) → TellsSo (unchanging (last_of d (ops_of asked gives_up))) → ⊥
+  pub still_open : (d : RanOp) → TellsSo (unchanging (last_of d (ops_of missed closes))) → ⊥
+  -- WRITE answers UNSTABLE4, and COMMIT another verifier
+  pub unstable : (d : RanOp)
+      → TellsSo (telling (Res.Write (record { count = 4; committed = Unstable; writeverf = number 7 ++ replicate 4 0 })) (last_of d (ops_of made writes))) → ⊥
+  pub restarted : (d : RanOp) → TellsSo (telling (Res.Commit (replicate 8 0)) (last_of d (ops_of made commits))) → ⊥
   -- a LOOKUP finds a name that is not there
   pub found : (d : RanOp) → TellsSo (with_status Nfs4Ok (last_of d (ops_of made misses))) → ⊥
