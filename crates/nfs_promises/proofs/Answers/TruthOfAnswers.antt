@@ -28,8 +28,14 @@ use Rattle.nfs_files.proofs.{Prompt.all_pass, TreeFiles.IsWhole, Wishes.{wish_ra
 use Rattle.nfs_exec.specs.Runs.Ops.{RanOp}
 use Rattle.nfs_exec.proofs.Runs.OneRun.{IsRun}
 use Rattle.nfs_promises.specs.Answers.{Reasons.{StateTold, one_of, state_of}}
-use Rattle.nfs_promises.specs.Answers.YesIsTrue.{IsTrueOf, IsFree, InRange, LiesBeside, IsHere, AreTold, bits, Stands, AreTested}
-use Rattle.nfs_promises.proofs.Runs.AttributesTold.{told}
+use Rattle.nfs_promises.specs.Answers.YesIsTrue.{IsTrueOf, IsFree, InRange, LiesBeside, IsHere, IsEntry, attributes_told, AreTold, bits, Stands, AreTested}
+use Rattle.nfs_promises.proofs.{Names.{PageLists.first_in, PageRows.{entry_at, page_told}}, Runs.AttributesTold.told}
+use Rattle.nfs_names.specs.ReadDir.{attributes_at, entry_of, read_dir}
+use Rattle.nfs_compound.specs.declared.name_args.ReadDir.{ReadDir}
+use Rattle.nfs_results.specs.declared.res.Entry.{Entry}
+use Rattle.nfs_tree.specs.{declared.row.Row.Row, declared.stored.Stored.Stored, Files.{stored_in, is_there}}
+use Rattle.nfs_attrs.specs.declared.mask.Mask.{Mask}
+use Rattle.std.specs.Prelude.{option_map, is_some}
 use Rattle.nfs_promises.proofs.Permission.Granting.{reads, writes, executes, may_read, may_write, may_execute}
 use Rattle.nfs_promises.proofs.Answers.{Blaming.{Blames, AllBlame, held_blames, there_blames, ends_then, ends_checks, answers_blame}, FileReasons.wished_is, Placed.found_now, StateReasons.{current_so, current_not, special_so, special_not}}
 
@@ -107,6 +113,40 @@ read_link_true s x =
     link_is : (b : Bool) → ◌≡◌ {A = Result (Unit {0}) Status} (require b S.WrongType) (Ok tt) → b ≡ true
     link_is true e = refl
     link_is false e = absurd cc
+
+-- an entry, with the attributes of its row's object
+attributes_so : (s : State) (asked : Mask) (n : ℕ) (o : Option Object) → is_some o ≡ true → (k : Object) × (o ≡ Some k) × (attributes_at s asked n o ≡ attributes_told s n k asked)
+unfolding values attributes
+attributes_so s asked n None there = absurd (false≢true there)
+attributes_so s asked n (Some k) there = (k, refl, refl)
+
+some_object : (s : State) (n : ℕ) → is_there s.tree n ≡ true → is_some (object_at s.tree n) ≡ true
+some_object s n there = by (stored_in s.tree.objects n) there
+  where
+    by : (o : Option Stored) → is_some o ≡ true → is_some (option_map (λ (k : Stored). k.object) o) ≡ true
+    by None there = there
+    by (Some k) there = refl
+
+is_entry : (s : State) (n : ℕ) (asked : Mask) (e : Entry) (r : Row) → IsWhole s → In r s.tree.rows → r.directory ≡ n → e ≡ entry_at s asked r → IsEntry s n asked e
+unfolding entry_of
+is_entry s n asked e r whole there within same =
+    let its = attributes_so s asked r.object (object_at s.tree r.object) (some_object s r.object (whole.tree.rows.names r there)) in
+    record {
+      row = r;
+      there = there;
+      within = within;
+      name = ap (λ (e : Entry). e.name) same;
+      cookie = ap (λ (e : Entry). e.cookie) same;
+      object = its.0;
+      is = its.1;
+      attrs = ap (λ (e : Entry). e.attrs) same ∙ its.2;
+    }
+
+pub read_dir_true : (s : State) → IsWhole s → (x : Context) (a : ReadDir) → Yes (IsTrueOf s x (Operation (Op.ReadDir a))) (read_dir s x a)
+read_dir_true s whole x a ok told n valid same at e there =
+    let page = page_told s x a n told whole.tree at valid same in
+    let its = page.from e (first_in told.entries page.rest e there) in
+    is_entry s n (mask_of a.attr_request) e its.0 whole its.1 its.2 its.4
 
 -- ACCESS
 

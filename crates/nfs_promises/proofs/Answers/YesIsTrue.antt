@@ -13,7 +13,7 @@ use Rattle.nfs_exec.specs.Runs.Ops.{RanOp}
 use Rattle.nfs_exec.proofs.Runs.OneRun.{IsRun, by_ok}
 use Rattle.nfs_promises.specs.Answers.YesIsTrue.{EachYesIsTrue, IsTrueOf, IsFree}
 use Rattle.nfs_promises.proofs.Names.NameStays.{ran_in}
-use Rattle.nfs_promises.proofs.Answers.TruthOfAnswers.{Yes, refused_off, get_attr_true, get_fh_true, lookup_true, read_link_true, access_true, test_true, test_stateid_true}
+use Rattle.nfs_promises.proofs.Answers.TruthOfAnswers.{Yes, refused_off, get_attr_true, get_fh_true, lookup_true, read_dir_true, read_link_true, access_true, test_true, test_stateid_true}
 use Rattle.nfs_promises.proofs.Answers.WhatIsDone.{close_true, commit_true, unlock_true, write_true}
 
 by_op : (d : RanOp) → IsRun d → (i : Item) → d.item ≡ i → is_ok d.status ≡ true → IsTrueOf d.before.store d.context i d.result d.behind.store
@@ -35,6 +35,8 @@ by_op d r (Operation (Op.LockU a)) is ok =
     (unlock_true d.before.store r.whole d.context a))
 by_op d r (Operation (Op.Lookup name)) is ok =
     by_ok (IsTrueOf d.before.store d.context (Operation (Op.Lookup name))) d r (Operation (Op.Lookup name)) is ok (lookup_true d.before.store d.context name)
+by_op d r (Operation (Op.ReadDir a)) is ok =
+    by_ok (IsTrueOf d.before.store d.context (Operation (Op.ReadDir a))) d r (Operation (Op.ReadDir a)) is ok (read_dir_true d.before.store r.whole d.context a)
 by_op d r (Operation Op.ReadLink) is ok =
     by_ok (IsTrueOf d.before.store d.context (Operation Op.ReadLink)) d r (Operation Op.ReadLink) is ok (read_link_true d.before.store d.context)
 by_op d r (Operation (Op.TestStateid given)) is ok =

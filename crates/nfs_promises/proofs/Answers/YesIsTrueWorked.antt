@@ -4,10 +4,15 @@ use Rattle.std.proofs.lemmas.{Bool.{cases_Bool}, Option.same_Some}
 use Rattle.std.specs.{Prelude.{◌+◌, ◌*◌, ◌^◌, ◌++◌, replicate, bit_and, take, option_map}}
 use Rattle.nfs_xdr.specs.{Caller.Caller, Tables.In, Spelling.{number, hyper}}
 use Rattle.nfs_xdr.specs.declared.status.Status.TheVariants as S
-use Rattle.nfs_compound.specs.{ArgCodecs.{lock_t_args, create_args, create_type, commit_args}, declared.file_args.StableHow.TheVariants.Unstable, declared.stateid.Stateid.Stateid, declared.lock_args.LockT.LockT}
+use Rattle.nfs_compound.specs.{ArgCodecs.{read_dir_args, lock_t_args, create_args, create_type, commit_args}, declared.file_args.StableHow.TheVariants.Unstable, declared.stateid.Stateid.Stateid, declared.lock_args.LockT.LockT}
 use Rattle.nfs_compound.specs.declared.lock_args.LockType.TheVariants as LockTypes
 use Rattle.nfs_compound.specs.Stateid as wire_ids
 use Rattle.nfs_results.specs.Items as results
+use Rattle.nfs_results.specs.Listing as listing
+use Rattle.nfs_results.specs.{declared.res.Fattr.Fattr, ResultCodec.FitsResult}
+use Rattle.nfs_tree.specs.declared.row.Row.{Row}
+use Rattle.nfs_names.specs.ReadDir.{entry_of, fitting, read_dir}
+use Rattle.nfs_promises.proofs.Names.ListsAllWorked.{are_bytes}
 use Rattle.nfs_results.specs.declared.res.Res.TheVariants as Res
 use Rattle.nfs_results.specs.Results.{spell_result}
 use Rattle.nfs_ranges.specs.declared.Kind.{Kind, TheVariants.Write}
@@ -19,8 +24,8 @@ use Rattle.nfs_files.specs.{Commit.commit, Ranges.kind_of, LockT.lock_t, TestSta
 use Rattle.nfs_exec.specs.Runs.Ops.{RanOp}
 use Rattle.nfs_promises.specs.{Runs.{Requests.stateid, Points.ops_of}, Locks.LockKeptWorked.{asked, gives_up, last_of, statuses}, Bytes.WrittenStaysWorked.{made, writes}, Names.FileStaysWorked.{with_status, missed, closes}}
 use Rattle.nfs_promises.specs.Permission.Permitted.{Reads, Writes, Executes, Rights, rights_of, Grants, ToRoot, ToOwner, ToGroup, ToOthers}
-use Rattle.nfs_promises.specs.Answers.YesIsTrue.{TellsSo, IsFree, InRange, LiesBeside, AreTold, IsText, IsJudged, bits, Stands, AreTested}
-use Rattle.nfs_promises.specs.Answers.{Asked.{StateGiven, Itself, IsCurrent, IsSpecial, AllZeros, AllOnes}, YesIsTrueWorked.{AreAsked, YesesRefused, unchanging, telling, commits, tests, fileid, mode, may_read, reads_link, tests_stateid, misses}}
+use Rattle.nfs_promises.specs.Answers.YesIsTrue.{TellsSo, IsFree, InRange, LiesBeside, AreTold, IsEntry, IsText, IsJudged, bits, Stands, AreTested}
+use Rattle.nfs_promises.specs.Answers.{Asked.{StateGiven, Itself, IsCurrent, IsSpecial, AllZeros, AllOnes}, YesIsTrueWorked.{AreAsked, YesesRefused, unchanging, telling, commits, lists, page, entry, tests, fileid, mode, may_read, reads_link, tests_stateid, misses}}
 use Rattle.nfs_promises.proofs.Runs.Computing.{computing}
 
 denied : statuses (ops_of asked tests) ≡ S.Nfs4Ok ∷ S.Nfs4Ok ∷ S.Denied ∷ []
@@ -50,9 +55,6 @@ committed = refl
 missed_it : statuses (ops_of made misses) ≡ S.Nfs4Ok ∷ S.NoEnt ∷ []
 unfolding computing
 missed_it = refl
-
-pub are_asked : AreAsked
-are_asked = record { denied = denied; told = told; judged = judged; read = read; tested = tested; committed = committed; missed = missed_it }
 
 -- The wrong answers.
 
@@ -115,6 +117,37 @@ another d is = let e = last_of d (ops_of made fileid) in fileid_not e.before.sto
 unset : (d : RanOp) → TellsSo (telling (Res.GetAttr (record { attrmask = 0 ∷ 2 ∷ []; attr_vals = number 384 })) (last_of d (ops_of made mode))) → ⊥
 unfolding computing get_attr values results.fattr
 unset d is = let e = last_of d (ops_of made mode) in mode_not e.before.store e.context refl refl (is refl)
+
+-- READDIR
+
+listed : (d : RanOp) → (last_of d (ops_of made lists)).result ≡ spell_result (Res.ReadDir (page 2))
+unfolding computing read_dir_args values entry_of fitting read_dir results.entry results.fattr listing.read_dir
+listed d = refl
+
+entry_fits : results.entry.Fits (entry 1)
+unfolding number hyper results.entry results.fattr results.attr_set
+entry_fits = (refl, (omega arith, ((omega arith, are_bytes (0x66 ∷ []) refl), (refl, ((refl, (omega arith, (omega arith, tt))), (omega arith, are_bytes (hyper 1) refl))))))
+
+page_fits : FitsResult (Res.ReadDir (page 1))
+unfolding listing.read_dir
+page_fits = (refl, ((refl, are_bytes (replicate 8 0) refl), ((entry_fits, tt), tt)))
+
+-- an entry of the one row
+entry_not : (s : State) (r : Row) → s.tree.rows ≡ r ∷ [] → r.object ≡ 2 → IsEntry s 1 (mask_of (0x10_0000 ∷ [])) (entry 1) → ⊥
+unfolding number hyper
+entry_not s r rows object why =
+    let one : why.row.object ≡ 2 = by (subst (In why.row) rows why.there) in
+    let told = subst (λ n. hyper 1 ≡ hyper n) one (ap (λ (f : Fattr). f.attr_vals) why.attrs) in
+    let bad : ◌≡◌ {A = ℕ} 1 2 = ap (λ (t : List ℕ). get_or t 7 0) told in
+    absurd (omega arith)
+  where
+    by : In why.row (r ∷ []) → why.row.object ≡ 2
+    by (inl same) = ap (λ (r : Row). r.object) same ∙ object
+    by (inr none) = absurd none
+
+other_entry : (d : RanOp) → TellsSo (telling (Res.ReadDir (page 1)) (last_of d (ops_of made lists))) → ⊥
+unfolding computing read_dir_args values entry_of fitting read_dir results.entry results.fattr listing.read_dir
+other_entry d is = let e = last_of d (ops_of made lists) in entry_not e.before.store _ refl refl (is refl (page 1) 1 page_fits refl refl (entry 1) (inl refl))
 
 -- ACCESS
 
@@ -248,4 +281,7 @@ unfolding computing
 found d is = let e = last_of d (ops_of made misses) in name_not e.before.store e.context (0x67 ∷ []) 1 refl refl (is refl)
 
 pub yeses_refused : YesesRefused
-yeses_refused = record { free = free; another = another; unset = unset; nothing = nothing; empty = empty; bad = bad; still_locked = still_locked; still_open = still_open; unstable = unstable; restarted = restarted; found = found }
+yeses_refused = record { free = free; another = another; unset = unset; other_entry = other_entry; nothing = nothing; empty = empty; bad = bad; still_locked = still_locked; still_open = still_open; unstable = unstable; restarted = restarted; found = found }
+
+pub are_asked : AreAsked
+are_asked = record { denied = denied; told = told; judged = judged; read = read; tested = tested; committed = committed; listed = listed; missed = missed_it }

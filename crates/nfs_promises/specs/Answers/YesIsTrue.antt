@@ -6,10 +6,11 @@ use Rattle.nfs_xdr.specs.{Limits.fhsize, Tables.In, Spelling.number, Text.{uint3
 use Rattle.nfs_compound.specs.{declared.lock_args.LockT.LockT, declared.stateid.Stateid.Stateid, declared.op.Item.Item, declared.op.Item.TheVariants.Operation}
 use Rattle.nfs_compound.specs.declared.op.Op.TheVariants as Op
 use Rattle.nfs_compound.specs.{declared.file_args.{StableHow.TheVariants.FileSync, Write.Write}, declared.lock_args.LockU.LockU, declared.open_args.Close.Close}
-use Rattle.nfs_results.specs.Results.{spell_result}
+use Rattle.nfs_compound.specs.declared.name_args.ReadDir.{ReadDir}
+use Rattle.nfs_results.specs.{declared.res.Entry.Entry, declared.res.Fattr.Fattr, declared.res.ReadDirOk.ReadDirOk, ResultCodec.FitsResult, Results.spell_result}
 use Rattle.nfs_results.specs.declared.res.Res.TheVariants as Res
 use Rattle.nfs_ranges.specs.declared.Kind.{Kind, TheVariants.{Read}}
-use Rattle.nfs_tree.specs.{declared.object.FileType.FileType, declared.object.FileType.TheVariants.{Directory}, declared.object.Object.Object}
+use Rattle.nfs_tree.specs.{declared.object.FileType.FileType, declared.object.FileType.TheVariants.{Directory}, declared.object.Object.Object, declared.row.Row.Row}
 use Rattle.nfs_tree.specs.{Object.{is_directory, is_link}, Files.{most_text, data_at, links_in, object_at, object_named}}
 use Rattle.nfs_attrs.specs.{declared.mask.Mask.Mask, Mask.{has, mask_of, trimmed_words, common}, Attributes.{readable, attributes, value_at, type_number}, Wire.nfs_fh4}
 use Rattle.nfs_opens.specs.{declared.records.{LockState.LockState, OpenState.OpenState}, declared.stateid.StateId.StateId}
@@ -74,15 +75,34 @@ value s n o k =
 abbrev pub numbers : List ℕ
 numbers = 0 ∷ 1 ∷ 2 ∷ 3 ∷ 4 ∷ 5 ∷ 6 ∷ 7 ∷ 8 ∷ 9 ∷ 10 ∷ 11 ∷ 19 ∷ 20 ∷ 27 ∷ 28 ∷ 29 ∷ 30 ∷ 31 ∷ 33 ∷ 35 ∷ 36 ∷ 37 ∷ 45 ∷ 47 ∷ 48 ∷ 52 ∷ 53 ∷ 54 ∷ 55 ∷ 75 ∷ []
 
--- GETATTR: those that are asked for, each with its value, one behind the other
+-- those that are asked for, each with its value, one behind the other
+abbrev pub attributes_told : State → ℕ → Object → Mask → Fattr
+attributes_told s n o asked = record {
+  attrmask = trimmed_words (common asked readable);
+  attr_vals = flat_map (λ k. if has asked k then value s n o k else []) numbers;
+}
+
+-- GETATTR: the current object's
 pub record AreTold (s : State) (x : Context) (asked : Mask) (result : List ℕ) : Type 0 where
   pub number : ℕ
   pub object : Object
   pub here : IsHere s x number object
-  pub told : result ≡ spell_result (Res.GetAttr (record {
-    attrmask = trimmed_words (common asked readable);
-    attr_vals = flat_map (λ k. if has asked k then value s number object k else []) numbers;
-  }))
+  pub told : result ≡ spell_result (Res.GetAttr (attributes_told s number object asked))
+
+-- READDIR: each entry is of a row of the directory, and has the attributes of the row's object
+pub record IsEntry (s : State) (directory : ℕ) (asked : Mask) (e : Entry) : Type 0 where
+  pub row : Row
+  pub there : In row s.tree.rows
+  pub within : row.directory ≡ directory
+  pub name : e.name ≡ row.name
+  pub cookie : e.cookie ≡ row.cookie
+  pub object : Object
+  pub is : object_at s.tree row.object ≡ Some object
+  pub attrs : e.attrs ≡ attributes_told s row.object object asked
+
+abbrev pub ListsTruly : State → Context → ReadDir → List ℕ → Type 0
+ListsTruly s x a result = (told : ReadDirOk) (n : ℕ) → FitsResult (Res.ReadDir told) → result ≡ spell_result (Res.ReadDir told) → x.current ≡ Some n
+    → (e : Entry) → In e told.entries → IsEntry s n (mask_of a.attr_request) e
 
 -- READLINK: the bytes of the link, of which there are no more
 pub record IsText (s : State) (x : Context) (result : List ℕ) : Type 0 where
@@ -157,6 +177,7 @@ IsTrueOf s x (Operation Op.GetFh) result t = (n : ℕ) × (x.current ≡ Some n)
 IsTrueOf s x (Operation (Op.LockT a)) result t = IsFree s x a
 IsTrueOf s x (Operation (Op.LockU a)) result t = HoldsNone x a t
 IsTrueOf s x (Operation (Op.Lookup name)) result t = (directory : ℕ) × (n : ℕ) × (x.current ≡ Some directory) × (object_named s.tree directory name ≡ Some n)
+IsTrueOf s x (Operation (Op.ReadDir a)) result t = ListsTruly s x a result
 IsTrueOf s x (Operation Op.ReadLink) result t = IsText s x result
 IsTrueOf s x (Operation (Op.TestStateid given)) result t = (codes : List ℕ) × AreTested s x given codes × (result ≡ spell_result (Res.TestStateid codes))
 IsTrueOf s x (Operation (Op.Write a)) result t = result ≡ spell_result (Res.Write (record { count = length a.bytes; committed = FileSync; writeverf = verifier s }))

@@ -1,14 +1,14 @@
 -- Answers that are true and answers that are not, worked by hand over the runs of `LockKeptWorked`, `FileStaysWorked` and `WrittenStaysWorked` (RFC 8881 sections 5, 18.1 to
 -- 18.3, 18.7, 18.11 to 18.13, 18.24, 18.32 and 18.48).
-use Rattle.std.specs.Prelude.{◌≡◌, List, [], ◌∷◌, ◌++◌, replicate}
+use Rattle.std.specs.Prelude.{◌≡◌, ℕ, true, List, [], ◌∷◌, ◌++◌, replicate}
 use Rattle.nfs_xdr.specs.{Spelling.{number, hyper}, declared.status.Status.TheVariants.{Nfs4Ok, Denied, NoEnt}}
 use Rattle.nfs_compound.specs.{declared.file_args.StableHow.TheVariants.Unstable, declared.lock_args.LockType.TheVariants.Write, declared.name_args.CreateType.TheVariants.Symlink}
 use Rattle.nfs_compound.specs.declared.op.Op.{Op}
 use Rattle.nfs_compound.specs.declared.op.Op.TheVariants as Op
-use Rattle.nfs_results.specs.{declared.res.Res.Res, Results.spell_result}
+use Rattle.nfs_results.specs.{declared.res.{Res.Res, Entry.Entry, ReadDirOk.ReadDirOk}, Results.spell_result}
 use Rattle.nfs_results.specs.declared.res.Res.TheVariants as Res
 use Rattle.nfs_exec.specs.Runs.Ops.{RanOp}
-use Rattle.nfs_promises.specs.{Runs.{Requests.{in_session, stateid}, Points.ops_of}, Network.Endpoint.Arrival, Answers.YesIsTrue.TellsSo}
+use Rattle.nfs_promises.specs.{Runs.{Requests.{in_session, stateid, listing_from}, Points.ops_of}, Network.Endpoint.Arrival, Answers.YesIsTrue.TellsSo}
 use Rattle.nfs_promises.specs.{Locks.LockKeptWorked.{came, asked, gives_up, last_of, statuses}, Bytes.WrittenStaysWorked.{made, writes}, Names.FileStaysWorked.{with_status, missed, closes}}
 
 -- `B` asks who holds the first byte of `f`, which `A` has locked
@@ -48,6 +48,17 @@ misses = asks (Op.PutRootFh ∷ Op.Lookup (0x67 ∷ []) ∷ [])
 abbrev pub commits : Arrival
 commits = of_file (Op.Commit (record { offset = 0; count = 0 }))
 
+-- the root is listed, with fileids
+abbrev pub lists : Arrival
+lists = asks (Op.PutRootFh ∷ listing_from 0 512 (0x10_0000 ∷ []) ∷ [])
+
+-- `f`, with a fileid, as the one entry of a listing
+abbrev pub entry : (fileid : ℕ) → Entry
+entry n = record { cookie = 3; name = 0x66 ∷ []; attrs = record { attrmask = 0x10_0000 ∷ []; attr_vals = hyper n } }
+
+abbrev pub page : (fileid : ℕ) → ReadDirOk
+page n = record { cookieverf = replicate 8 0; entries = entry n ∷ []; eof = true }
+
 -- The runs.
 pub record AreAsked : Type 0 where
   pub denied : statuses (ops_of asked tests) ≡ Nfs4Ok ∷ Nfs4Ok ∷ Denied ∷ []
@@ -56,6 +67,7 @@ pub record AreAsked : Type 0 where
   pub read : statuses (ops_of made reads_link) ≡ Nfs4Ok ∷ Nfs4Ok ∷ Nfs4Ok ∷ []
   pub tested : statuses (ops_of made tests_stateid) ≡ Nfs4Ok ∷ []
   pub committed : statuses (ops_of made commits) ≡ Nfs4Ok ∷ Nfs4Ok ∷ Nfs4Ok ∷ []
+  pub listed : (d : RanOp) → (last_of d (ops_of made lists)).result ≡ spell_result (Res.ReadDir (page 2))
   pub missed : statuses (ops_of made misses) ≡ Nfs4Ok ∷ NoEnt ∷ []
 
 -- an operation that changes nothing
@@ -73,6 +85,8 @@ pub record YesesRefused : Type 0 where
   -- GETATTR answers the root's fileid, and another mode
   pub another : (d : RanOp) → TellsSo (telling (Res.GetAttr (record { attrmask = 0x10_0000 ∷ []; attr_vals = hyper 1 })) (last_of d (ops_of made fileid))) → ⊥
   pub unset : (d : RanOp) → TellsSo (telling (Res.GetAttr (record { attrmask = 0 ∷ 2 ∷ []; attr_vals = number 384 })) (last_of d (ops_of made mode))) → ⊥
+  -- READDIR answers the root's fileid
+  pub other_entry : (d : RanOp) → TellsSo (telling (Res.ReadDir (page 1)) (last_of d (ops_of made lists))) → ⊥
   -- ACCESS grants nothing to the owner, who may read
   pub nothing : (d : RanOp) → TellsSo (telling (Res.Access (record { supported = 1; access = 0 })) (last_of d (ops_of made may_read))) → ⊥
   -- READLINK answers no text

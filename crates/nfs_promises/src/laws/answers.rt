@@ -26,21 +26,21 @@ pub fn wrong_reasons_are_refused()
     ensures { AnswersRefused }
 {}
 
-/// In every run what an operation answers with NFS4_OK is so: ACCESS of the user's rights, GETATTR of each attribute of the object, GETFH of its filehandle, LOCKT of the locks
+/// In every run what an operation answers with NFS4_OK is so: ACCESS of the user's rights, GETATTR and READDIR of each attribute of an object, GETFH of its filehandle, LOCKT of the locks
 /// of others, LOOKUP of the name, READLINK of the link's text, TEST_STATEID of the client's states, WRITE and COMMIT of the verifier; and LOCKU unlocked, and CLOSE closed.
 #[tactic(auto, using(crate::proofs::Answers::YesIsTrue::each_yes_is_true))]
 pub fn each_yes_is_true()
     ensures { EachYesIsTrue }
 {}
 
-/// The definitions compute: LOCKT is denied for the lock of another client, and GETATTR, ACCESS, READLINK, TEST_STATEID and COMMIT are answered.
+/// The definitions compute: LOCKT is denied for the lock of another client, and GETATTR, READDIR, ACCESS, READLINK, TEST_STATEID and COMMIT are answered.
 #[tactic(auto, using(crate::proofs::Answers::YesIsTrueWorked::are_asked))]
 pub fn questions_are_answered()
     ensures { AreAsked }
 {}
 
 /// The definitions compute: `each_yes_is_true` refuses a LOCKT that finds no lock where another client has locked the byte, a GETATTR that answers the root's fileid or
-/// another mode, an ACCESS that grants the owner nothing, a READLINK that answers no text, a TEST_STATEID that calls an open's stateid bad, a LOCKU and a CLOSE that change
+/// another mode, a READDIR that answers it with an entry, an ACCESS that grants the owner nothing, a READLINK that answers no text, a TEST_STATEID that calls an open's stateid bad, a LOCKU and a CLOSE that change
 /// nothing, a WRITE that answers UNSTABLE4, a COMMIT that answers another verifier, and a LOOKUP of a name that is not there that is answered NFS4_OK.
 #[tactic(auto, using(crate::proofs::Answers::YesIsTrueWorked::yeses_refused))]
 pub fn wrong_yeses_are_refused()
