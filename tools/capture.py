@@ -10,7 +10,7 @@ class Connections:
     """What a capture has of the connections of clients to a server: the script of what came, and what the server answered."""
 
     def __init__(self):
-        self.script, self.replied, self.instance = [], [], None
+        self.script, self.replied, self.known = [], [], None
         self.numbers, self.sides, self.records = {}, {}, {}
         self.free, self.gaps = collections.deque(range(nfs4.MOST_CONNECTIONS)), 0
 
@@ -43,7 +43,7 @@ class Connections:
         elif came and client in self.numbers:
             for reply in self.records.setdefault(client, nfs4.Records()).feed(came):
                 self.replied.append(nfs4.u32(self.numbers[client]) + nfs4.record(reply))
-                self.instance = self.instance or instance_of(reply)
+                self.known = self.known or known_of(reply)
         if flags & (pcap.FIN | pcap.RST) and not from_server or flags & pcap.RST:
             self.close(moment, client)
 
@@ -72,12 +72,13 @@ def heard(path, port, most=4 << 20):
             yield second + part / 1_000_000, client, from_server, record
 
 
-def instance_of(reply):
-    """The first half of the client id that a reply to EXCHANGE_ID gives."""
+def known_of(reply):
+    """The instance of the server, which is the first half of a client id, and its name, as a reply to EXCHANGE_ID gives them."""
     try:
         for name, status, fields in nfs4.Reply(reply).results:
             if name == "EXCHANGE_ID" and status == "NFS4_OK":
-                return int(dict(fields)["clientid"], 0) >> 32
+                known = dict(fields)
+                return int(known["clientid"], 0) >> 32, nfs4.meant(known["major_id"])
     except nfs4.Unreadable:
         pass
     return None

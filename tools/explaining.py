@@ -1,7 +1,8 @@
 """What is wrong with a command line of `nfs41d`: why the program ends with status 1, in words that name the word, the key or the reason.
 
 The program looks at its words first (`bad arguments`), then at the settings file (`bad settings`), then at the address and at memory
-(`cannot start`), and tells the first fault. So does this module, by rules of its own: tests/tools/launcher compares the two."""
+(`cannot start`), and tells the first fault. So does this module, by rules of its own. Where the program says the reason itself (`is_spoken`), it is
+this module's: tests/tools/launcher compares the two."""
 import errno
 import os
 import re
@@ -20,7 +21,9 @@ except ImportError:  # Python before 3.11
 
 MOST_OF_SETTINGS = 65_536
 # the keys of the settings file, each with its least and its greatest number
-KEYS = {"lease": (1, 86_400), "root_mode": (0, 0o7777), "instance": (1, 2**32 - 2)}
+KEYS = {"lease": (1, 86_400), "root_mode": (0, 0o7777), "instance": (1, 2**32 - 2), "server_owner": (1, 1_024), "file_bytes": (1, 2**40), "objects": (1, 2**24)}
+# those of them that are texts, with their bytes in place of a number
+TEXTS = ("server_owner",)
 
 
 class Option(NamedTuple):
@@ -42,6 +45,10 @@ COMMANDS = {
 }
 
 
+# what the program answers without a server
+ANSWERED = (["--help"], ["-h"], ["--version"], ["-V"], ["serve", "--help"], ["serve", "-h"])
+
+
 class Fault(NamedTuple):
     """What the program says, and why."""
     says: str
@@ -52,13 +59,20 @@ class Wrong(Exception):
     """Words that are no order."""
 
 
+def is_spoken(words):
+    """Whether the program says the reason itself: it is asked to serve, and no word is `--connections`."""
+    return words[:1] == ["serve"] and not any(it.startswith("--connections") for it in words)
+
+
 def fault_of(words, binds=True):
     """The first fault of a command line, or none that is seen here. With `binds` the address is tried too, which asks that nobody listens there."""
+    if words in ANSWERED:
+        return None
     try:
         command, given = order(words)
     except Wrong as why:
         return Fault("bad arguments", str(why))
-    if "--settings" in given and (why := wrong_settings(given["--settings"])):
+    if "--settings" in given and (why := wrong_settings(given["--settings"], is_spoken(words))):
         return Fault("bad settings", why)
     if command == "serve" and (why := wrong_address(given["--listen"]) or binds and taken(given["--listen"])):
         return Fault("cannot start", why)
@@ -89,11 +103,9 @@ def order(words):
                     f"there is no command {command!r}{nearest(command, COMMANDS)}: it is serve or replay")
     options, given = COMMANDS[command], {}
     while rest:
-        name, value, rest = next_option(command, rest)
+        name, value, rest = next_option(command, rest, given)
         if not name:
             break
-        if name in given:
-            raise Wrong(f"{name} is given twice")
         given[name] = value
     for name, value in given.items():
         if options[name].most and not is_count(value, options[name].most):
@@ -104,8 +116,8 @@ def order(words):
     return command, given
 
 
-def next_option(command, words):
-    """The option that comes first, its value, and the words after it; no option where `--` ends them."""
+def next_option(command, words, given):
+    """The option that comes first, which is not given yet, its value, and the words after it; no option where `--` ends them."""
     word, *rest = words
     name, equals, value = word.partition("=")
     if word == "--" and not rest:
@@ -117,6 +129,8 @@ def next_option(command, words):
     if not option:
         others = [it for it in COMMANDS if name in COMMANDS[it]]
         raise Wrong(f"{command} has no option {name}" + (f", {others[0]} has" if others else nearest(name, COMMANDS[command])))
+    if name in given:
+        raise Wrong(f"{name} is given twice")
     if equals:
         return name, value, rest
     if not rest:
@@ -138,8 +152,8 @@ def number(text):
 
 # The settings file.
 
-def wrong_settings(path):
-    """What is wrong with a settings file, or none."""
+def wrong_settings(path, lasts=False):
+    """What is wrong with a settings file, or none; `lasts` where it is of a server without a number of connections."""
     try:
         data = start_of(path)
     except OSError as fault:
@@ -153,7 +167,7 @@ def wrong_settings(path):
     except UnicodeDecodeError as fault:
         line = data.count(b"\n", 0, fault.start) + 1
         return f"{path}, line {line}: byte {fault.start} of the file is not UTF-8"
-    return wrong_text(path, text)
+    return wrong_text(path, text, lasts)
 
 
 def start_of(path):
@@ -170,7 +184,7 @@ def start_of(path):
         return data
 
 
-def wrong_text(path, text):
+def wrong_text(path, text, lasts=False):
     """What is wrong with the text of a settings file, or none."""
     if not tomllib:
         return f"{path}: this Python reads no TOML (Python 3.11 does), so the file is not looked at"
@@ -183,12 +197,28 @@ def wrong_text(path, text):
         if key not in KEYS:
             return f"{place}: there is no key {key!r}{nearest(key, KEYS)}: the keys are {', '.join(KEYS)}"
         least, most = KEYS[key]
+        if key in TEXTS:
+            if why := wrong_words(value, least, most):
+                return f"{place}: {key} {why}"
+            continue
         if not isinstance(value, int) or isinstance(value, bool):
             return f"{place}: {key} is {kind_of(value)}, and not a number"
         if not least <= value <= most:
             in_octal = f" (0o{most:o})" if key == "root_mode" else ""
             return f"{place}: {key} is {str(value)[:40]}, and not from {least:,} to {most:,}{in_octal}"
+    written = re.search(r"""^[ \t]*(["']?)root_mode\1[ \t]*=[ \t]*([^0\s#][^\s#]+)""", text, re.MULTILINE)
+    if lasts and written and "instance" not in table:
+        return f"{path}, line {line_of('root_mode', text)}: root_mode is {written[2]} without 0o: write " + (
+            f"0o{written[2]}" if re.fullmatch("[0-7]+", written[2]) else "it in octal, as 0o755")
     return None
+
+
+def wrong_words(value, least, most):
+    """What is wrong with the value of a key that has a text of so many bytes, or none."""
+    if not isinstance(value, str):
+        return f"is {kind_of(value)}, and not a text"
+    count = len(value.encode())
+    return None if least <= count <= most else f"has {count:,} bytes, and not from {least:,} to {most:,}"
 
 
 def line_of(key, text):
@@ -198,7 +228,7 @@ def line_of(key, text):
 
 
 def kind_of(value):
-    kinds = {bool: "true or false", str: "a text", float: "a number with a point", list: "a list", dict: "a table"}
+    kinds = {bool: "true or false", int: "a number", str: "a text", float: "a number with a point", list: "a list", dict: "a table"}
     return next((words for kind, words in kinds.items() if isinstance(value, kind)), "a time")
 
 

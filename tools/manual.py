@@ -40,3 +40,9 @@ def shown(entries):
         lines += [f"  {tag}"] if tag else []
         lines += textwrap.wrap(text, WIDTH, initial_indent="      " if tag else "", subsequent_indent="      " if tag else "", break_on_hyphens=False)
     return "\n".join(lines)
+
+
+def of_program():
+    """What `nfs41d --help` prints: the forms of the synopsis, and the options."""
+    forms = "\n       ".join(re.split(r" (?=nfs41d )", section("SYNOPSIS")[0][1]))
+    return f"usage: {forms}\n\n{shown(section('OPTIONS'))}\n\nnfs41d(8) has the settings file, the status lines and more.\n"

@@ -792,6 +792,7 @@ static void play(const char *part, int first, char *options) {
     if (!strcmp(part, "cut")) over_cuts();
     if (!strcmp(part, "database")) database();
     if (!strcmp(part, "mounts")) two_mounts(options);
+    if (!strcmp(part, "servers")) two_servers(options);
     if (getenv("life")) life(getenv("life"));
     if (!strcmp(part, "killed")) killed();
     if (!strcmp(part, "expired")) lease_runs_out();

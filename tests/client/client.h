@@ -31,5 +31,8 @@ void database(void);
 void life(char *what);
 void two_mounts(char *options);
 
+/* client_servers.c */
+void two_servers(const char *options);
+
 /* client_killed.c */
 void killed(void);

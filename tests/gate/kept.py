@@ -165,8 +165,9 @@ class Store:
         shutil.rmtree(os.path.dirname(crate.rlib), ignore_errors=True)
         # (a program is a file of its own, so that whoever asks sees that it was made)
         put = functools.partial(linked, is_own=crate.is_program)
-        shutil.copytree(kept, f"{crate.folder}/out", copy_function=put, ignore=shutil.ignore_patterns("key"),
-                        dirs_exist_ok=True)
+        # (the key alone is not what a build makes; a folder of proofs may have that name)
+        shutil.copytree(kept, f"{crate.folder}/out", copy_function=put, dirs_exist_ok=True,
+                        ignore=lambda at, names: ["key"] if at == kept else [])
         return True
 
     def like(self, crate):

@@ -81,7 +81,7 @@ COUNTS = {
     "bugs planted to try the gate": lambda: most("tests/gate/selftest"),
 }
 
-# rows of the table of limits, each with its crate, its file and its constant
+# rows of the table of limits, each with its crate, its file and its constant, or the field of one
 LIMITS = {
     "Reads of one connection": "nfs_serve talking MAX_READS",
     "Client records": "nfs_clients exchange_id MAX_RECORDS",
@@ -91,8 +91,8 @@ LIMITS = {
     "Operations of one request": "nfs_sessions channel MAX_OPERATIONS",
     "The name of an owner": "nfs_xdr limits OPAQUE_LIMIT",
     "One READ or WRITE": "nfs_xdr limits MAX_TRANSFER",
-    "Files, directories and links, with the root": "nfs_tree tree MAX_OBJECTS",
-    "A file": "nfs_tree tree MAX_BYTES",
+    "Files, directories and links, with the root": "nfs_tree limits objects",
+    "A file": "nfs_tree limits bytes",
     "Names of one object": "nfs_tree tree MAX_LINKS",
     "A name": "nfs_tree tree MAX_NAME",
     "The text of a symbolic link": "nfs_tree tree MAX_TEXT",
@@ -104,7 +104,7 @@ def limits(lines):
     told = {what: number.split(" ")[0] for what, number in (re.findall(r"[^|]+", it)[:2] for it in (re.sub(r" *\| *", "|", it) for it in lines[2:]))}
     for what, place in LIMITS.items():
         crate, file, name = place.split(" ")
-        number = int(re.search(rf"\bconst {name}: \w+ = ([\d_]+);", rattle.text_of(TOP / f"crates/{crate}/src/{file}.rt"))[1])
+        number = int(re.search(rf"\b(?:const {name}: \w+ =|{name}:) ([\d_]+)[;,]", rattle.text_of(TOP / f"crates/{crate}/src/{file}.rt"))[1])
         yield None if told.get(what) == f"{number:,}" else f"{what}: it has {told.get(what)}, and the sources {number:,}"
 
 

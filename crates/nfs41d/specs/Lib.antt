@@ -1,7 +1,7 @@
 pub mod CommandLine
 pub mod ExitStatus
 pub mod Accepting
-pub mod Places
+pub mod Seen
 pub mod Tally
 pub mod Left
 pub mod SettingsFile

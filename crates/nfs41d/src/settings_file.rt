@@ -1,12 +1,14 @@
 //! The settings of a server, as a TOML document gives them.
 
-ghost use Rattle.std.specs.Prelude.{◌≡◌, IfOk, Some, None, Err};
+ghost use Rattle.std.specs.Prelude.{◌≡◌, ◌≢◌, IfOk, Some, None, Err, true, false};
 ghost use Rattle.toml.specs.Data.{get};
 ghost use Rattle.toml.specs.Errors.{IsBlank};
 ghost use Rattle.toml.specs.View.{view, table_view};
-ghost use Rattle.nfs41d.specs.SettingsFile.{settings_in, number_of, all_known, is_known};
+ghost use Rattle.nfs41d.specs.SettingsFile.{settings_in, number_of, owner_of, is_owner, lasts, default_bytes, default_objects, all_known, is_known};
 
+use nfs_names::ServerOwner;
 use nfs_serve::Settings;
+use nfs_tree::Limits;
 use std::alloc::Global;
 use toml::{Table, Value};
 
@@ -19,35 +21,92 @@ pub enum Bad {
     Memory,
 }
 
-/// The least and the greatest number that may stand at a key, and the one where the key is left out.
-#[derive(Clone, Copy)]
-struct Number {
-    low: u32,
-    high: u32,
-    default: u32,
+/// What a text gives to a server.
+#[derive(Drop)]
+pub struct Given {
+    pub settings: Settings,
+    /// Marks this start off from other starts of the server.
+    pub instance: u32,
+    /// By what the server names itself, if the text says it.
+    pub owner: Option<ServerOwner>,
+    /// The server lasts: it is for no run that is to be the same twice.
+    pub lasting: bool,
+    /// How many objects there may be, and how many bytes a file may have.
+    pub limits: Limits,
 }
 
+/// The least and the greatest number that may stand at a key, and the one where the key is left out.
+#[derive(Clone, Copy)]
+pub struct Number {
+    pub low: u32,
+    pub high: u32,
+    pub default: u32,
+}
+
+/// The keys.
+pub const KEYS: &str = "lease, root_mode, instance, server_owner, file_bytes, objects";
+
 /// Seconds.
-const LEASE: Number = Number {
+pub const LEASE: Number = Number {
     low: 1,
     high: 86_400,
     default: 90,
 };
 
 /// Permission bits.
-const ROOT_MODE: Number = Number {
+pub const ROOT_MODE: Number = Number {
     low: 0,
     high: 0o7777,
     default: 0o777,
 };
 
-/// The settings that a text gives, and the server's instance: `start` where the text gives none.
+/// The most bytes of a name.
+pub const MOST_OF_OWNER: usize = 1_024;
+
+/// The most objects that may be asked for.
+pub const MOST_OBJECTS: u32 = 16_777_216;
+
+/// The objects of a server that lasts, where the settings leave them out.
+const LASTING_OBJECTS: u32 = 1_048_576;
+
+/// Whether a server lasts: it is asked to serve without a number of connections, and its settings name no instance. Every other
+/// is for a run that is to be the same twice.
+pub fn lasts(endless: bool, named: bool) -> bool
+    ensures { result ≡ lasts endless named }
+{
+    endless && !named
+}
+
+/// The most bytes of a file, where the settings leave them out.
+fn default_bytes(lasting: bool) -> u64
+    ensures { result ≡ default_bytes lasting }
+{
+    if lasting {
+        Limits::MOST_BYTES
+    } else {
+        Limits::PROFILE.bytes
+    }
+}
+
+/// The most objects, where the settings leave them out.
+fn default_objects(lasting: bool) -> u32
+    ensures { result ≡ default_objects lasting }
+{
+    if lasting {
+        LASTING_OBJECTS
+    } else {
+        Limits::PROFILE.objects
+    }
+}
+
+/// What a text gives to a server, `endless` where it is asked to serve without a number of connections. Its instance is `start`
+/// where the text gives none.
 ///
-/// `Text` where it is no TOML document or has another key, type or number than may be; `Memory` where memory was refused, which
-/// a text of blanks and comments never asks for.
-pub fn settings(alloc: Global, text: &str, start: u32) -> Result<(Settings, u32), Bad>
-    ensures given { IfOk result (λ found. settings_in start text.now ≡ Some found) }
-    ensures text { result ≡ Err Bad.Text → settings_in start text.now ≡ None }
+/// `Text` where it is no TOML document or has another key, type, number or length than may be; `Memory` where memory was refused,
+/// which a text of blanks and comments never asks for.
+pub fn settings(alloc: Global, text: &str, start: u32, endless: bool) -> Result<Given, Bad>
+    ensures given { IfOk result (λ found. settings_in start endless text.now ≡ Some found) }
+    ensures text { result ≡ Err Bad.Text → settings_in start endless text.now ≡ None }
     ensures memory { result ≡ Err Bad.Memory → ¬ IsBlank text.now }
 {
     let table = match toml::table_from_str(alloc, text) {
@@ -64,13 +123,28 @@ pub fn settings(alloc: Global, text: &str, start: u32) -> Result<(Settings, u32)
         default: start,
     };
     let root = Value::Table(table);
+    let lasting = lasts(endless, root.get("instance").is_some());
+    let counts = Number {
+        low: 1,
+        high: MOST_OBJECTS,
+        default: default_objects(lasting),
+    };
     let lease = number_at(&root, "lease", LEASE).ok_or(Bad::Text)?;
     let root_mode = number_at(&root, "root_mode", ROOT_MODE).ok_or(Bad::Text)?;
     let instance = number_at(&root, "instance", instances).ok_or(Bad::Text)?;
-    Ok((Settings { lease, root_mode }, instance))
+    let bytes = bytes_at(&root, "file_bytes", default_bytes(lasting)).ok_or(Bad::Text)?;
+    let objects = number_at(&root, "objects", counts).ok_or(Bad::Text)?;
+    let owner = owner_at(alloc, &root, "server_owner")?;
+    Ok(Given {
+        settings: Settings { lease, root_mode },
+        instance,
+        owner,
+        lasting,
+        limits: Limits { objects, bytes },
+    })
 }
 
-/// Whether every key is one of the three.
+/// Whether every key is one of the six.
 fn only_known(table: &Table) -> bool
     ensures { result ≡ all_known (table_view table.now) }
 {
@@ -82,14 +156,20 @@ fn only_known(table: &Table) -> bool
     true
 }
 
-fn is_known(key: &str) -> bool
+/// Whether a key is one of them.
+pub fn is_known(key: &str) -> bool
     ensures { result ≡ is_known key.now }
 {
-    key == "lease" || key == "root_mode" || key == "instance"
+    key == "lease"
+        || key == "root_mode"
+        || key == "instance"
+        || key == "server_owner"
+        || key == "file_bytes"
+        || key == "objects"
 }
 
 /// The number at a key, where it is an integer that may stand there, or the default where the key is left out.
-fn number_at(root: &Value, key: &str, number: Number) -> Option<u32>
+pub fn number_at(root: &Value, key: &str, number: Number) -> Option<u32>
     ensures { result ≡ number_of number.low number.high number.default (get key.now (view root.now)) }
 {
     match root.get(key) {
@@ -102,4 +182,52 @@ fn number_at(root: &Value, key: &str, number: Number) -> Option<u32>
             _ => None,
         },
     }
+}
+
+/// The bytes of a file at a key, from 1 to 2^40, or the default where the key is left out.
+pub fn bytes_at(root: &Value, key: &str, default: u64) -> Option<u64>
+    ensures { result ≡ number_of 1 1099511627776 default (get key.now (view root.now)) }
+{
+    match root.get(key) {
+        None => Some(default),
+        Some(value) => match value {
+            Value::Integer(n) => match u64::try_from(*n) {
+                Ok(n) if n >= 1 && n <= Limits::MOST_BYTES => Some(n),
+                _ => None,
+            },
+            _ => None,
+        },
+    }
+}
+
+/// The name at a key, if it is a text that a server may have, or none where the key is left out.
+///
+/// `Text` where something else stands there; `Memory` where memory was refused.
+fn owner_at(alloc: Global, root: &Value, key: &str) -> Result<Option<ServerOwner>, Bad>
+    ensures given { IfOk result (λ owner. owner_of (get key.now (view root.now)) ≡ Some owner) }
+    ensures text { result ≡ Err Bad.Text → owner_of (get key.now (view root.now)) ≡ None }
+    ensures memory { result ≡ Err Bad.Memory → get key.now (view root.now) ≢ None }
+{
+    match root.get(key) {
+        None => Ok(None),
+        Some(value) => match value {
+            Value::String(text) => match named(alloc, text.as_str()) {
+                Ok(owner) => Ok(Some(owner)),
+                Err(bad) => Err(bad),
+            },
+            _ => Err(Bad::Text),
+        },
+    }
+}
+
+/// The name that a text is. `Text` where a server may not have it; `Memory` where memory was refused.
+pub fn named(alloc: Global, text: &str) -> Result<ServerOwner, Bad>
+    ensures given { IfOk result (λ owner. (owner ≡ text.now) × (is_owner text.now ≡ true)) }
+    ensures text { result ≡ Err Bad.Text → is_owner text.now ≡ false }
+{
+    let bytes = text.as_bytes();
+    if bytes.is_empty() || bytes.len() > MOST_OF_OWNER {
+        return Err(Bad::Text);
+    }
+    ServerOwner::of(alloc, bytes).map_err(|_| Bad::Memory)
 }

@@ -1,25 +1,31 @@
 //! TCP connections as the ports of a hub, by readiness.
 
-ghost use Rattle.std.specs.Prelude.{◌≡◌, ◌≤◌, ◌<◌, None, Some, IfSome, IfOk, unwrap_or, not, nat_eq, length};
+ghost use Rattle.std.specs.Prelude.{◌≡◌, ◌≤◌, ◌<◌, ◌&&◌, None, Some, IfSome, IfOk, unwrap_or, not, nat_eq, length};
 ghost use Rattle.nfs_serve.specs.Script.{last_connection, connection_count};
 ghost use Rattle.nfs_serve.specs.Shows.{ComesWithin, TakesWithin};
 ghost use Rattle.nfs41d.specs.Accepting.{lasts};
 ghost use Rattle.nfs41d.specs.Tally.{no_calls};
 
 use crate::left::Left;
-use crate::places::{MOST_PLACES, Places};
+use crate::seen::{Seen, seen_in};
 use crate::tally::Tally;
 use mio::net::{TcpListener, TcpStream};
 use mio::{Events, Interest, Poll, Token};
-use nfs_pace::{MICROS, patience};
-use nfs_serve::{Came, Next, Ports, Took};
+use nfs_pace::{MICROS, Paced, Places, patience};
+use nfs_serve::{Came, LAST_CONNECTION, Next, Ports, Took};
 use std::io::{ErrorKind, Read, Write};
 use std::net::{Net, SocketAddr};
 use std::time::{Duration, Instant};
 use std::{io, rt};
 
+/// The most places.
+pub const MOST_PLACES: u32 = LAST_CONNECTION + 1;
+
 /// How many ports there are.
 const PORTS: usize = MOST_PLACES as usize;
+
+/// How many wait for a port. Further ones wait in the system's queue.
+const OUTSIDE: usize = 64;
 
 /// The token of the listener; those of connections are their ports.
 const LISTENER: Token = Token(PORTS);
@@ -131,9 +137,15 @@ pub struct Sockets<'a, R: rt::Clock> {
     listener: TcpListener,
     /// Whether somebody may be waiting to be accepted.
     calling: bool,
+    /// Whether somebody was let in where a sweep began last, so that more may be.
+    let_in: bool,
     connections: [Option<Connection>; PORTS],
-    /// Who has a port, and who gives way.
+    /// Who has a port, who has a seat, and who gives way.
     places: Places,
+    /// What leases go by, as it is shown here: who has a seat is judged by it.
+    pace: Paced,
+    /// How many sweeps began.
+    sweep: u64,
     /// Who waits for a port, in the order in which they came.
     newcomers: Vec<Newcomer>,
     /// How many connections are still to count.
@@ -150,8 +162,8 @@ pub struct Sockets<'a, R: rt::Clock> {
 }
 
 impl<'a, R: Net + AllocGlobal + rt::Clock> Sockets<'a, R> {
-    /// Listens on an address for so many connections that count, or without end, and so many of them at once. Where all places are taken, one that was
-    /// silent for a lease (seconds) gives way to a new one, and one of the address that has most to one whose address has none.
+    /// Listens on an address for so many connections that count, or without end, and so many of them at once, of a server whose lease lasts so many
+    /// seconds.
     pub fn new(
         rt: &'a R,
         addr: SocketAddr,
@@ -171,9 +183,12 @@ impl<'a, R: Net + AllocGlobal + rt::Clock> Sockets<'a, R> {
             events: Events::with_capacity(rt.alloc(), PORTS + 1)?,
             listener,
             calling: true,
+            let_in: true,
             connections: [const { None }; PORTS],
             places: Places::new(rt.alloc(), at_once, lease)?,
-            newcomers: Vec::with_capacity(rt.alloc(), PORTS)?,
+            pace: Paced::new(lease, 0),
+            sweep: 0,
+            newcomers: Vec::with_capacity(rt.alloc(), OUTSIDE + 1)?,
             left: Left::new(connections, at_once),
             patience: Duration::from_micros(patience(lease)),
             begun: Instant::now(rt).ok(),
@@ -213,11 +228,11 @@ impl<R: rt::Clock> Sockets<'_, R> {
         &self.places
     }
 
-    /// Whether a connection waits for a place.
+    /// Whether a connection waits, and there was no place for it.
     pub fn is_awaited(&self) -> bool
-        ensures { result ≡ not (nat_eq (length self.entry.now.newcomers.items) 0) }
+        ensures { result ≡ (not self.entry.now.let_in && not (nat_eq (length self.entry.now.newcomers.items) 0)) }
     {
-        !self.newcomers.is_empty()
+        !self.let_in && !self.newcomers.is_empty()
     }
 
     /// The connection on a port.
@@ -228,51 +243,112 @@ impl<R: rt::Clock> Sockets<'_, R> {
         }
     }
 
-    /// Gives a port to whoever waits for one, or calls, if there is one for it.
+    /// Gives a port to one of those that wait for one, if there is one for it.
     fn accept(&mut self) -> io::Result<Option<u32>>
         ensures { IfOk result (λ taken. IfSome taken (λ port. port ≤ last_connection)) }
     {
+        let stuck = !self.let_in;
+        self.let_in = false;
         if self.left.is_over() {
             return Ok(None);
         }
-        for at in 0..self.newcomers.len() {
-            if let Some(place) = self.places.place_for(self.newcomers[at].address, self.now) {
+        self.let_in = self.call_in(stuck)?;
+        let at = match self.next_in() {
+            Some(at) if at < self.newcomers.len() => at,
+            _ => return Ok(None),
+        };
+        let shown = self.pace.shown();
+        let address = self.newcomers[at].address;
+        match self.places.place_for(address, self.now, shown, self.sweep) {
+            Some(place) if place < PORTS => {
+                self.let_in = true;
                 let newcomer = self.newcomers.remove(at);
-                return Ok(self.take_on(place, newcomer));
+                Ok(self.take_on(place, newcomer))
             }
+            _ => Ok(None),
         }
-        self.accept_new()
     }
 
-    /// Takes those that call, up to the first for which there is a port. Others wait, as far as there is room. Where there is none, and an address
-    /// has more than one port, they are closed, so that somebody behind them whose address has none is heard.
-    fn accept_new(&mut self) -> io::Result<Option<u32>>
-        ensures { IfOk result (λ taken. IfSome taken (λ port. port ≤ last_connection)) }
-    {
-        for _ in 0..PORTS {
-            let is_full = self.newcomers.len() >= PORTS;
-            if !self.calling || is_full && !self.places.is_crowded() {
-                return Ok(None);
+    /// Takes those that call, as far as there is room for them outside: whether more may call. Where there is none, and nobody was let in before, one of
+    /// an address of which two are there makes room for the next; else who calls keeps its turn in the system's queue.
+    fn call_in(&mut self, stuck: bool) -> io::Result<bool> {
+        for _ in 0..OUTSIDE {
+            let is_full = self.newcomers.len() >= OUTSIDE;
+            if !self.calling || is_full && !(stuck && self.is_crowded()) {
+                return Ok(false);
             }
             match self.listener.accept() {
                 Ok((stream, addr)) => {
-                    let newcomer = Newcomer {
-                        stream,
-                        address: bits_of(addr),
-                    };
-                    if let Some(place) = self.places.place_for(newcomer.address, self.now) {
-                        return Ok(self.take_on(place, newcomer));
-                    }
-                    if !is_full {
-                        self.newcomers.push(newcomer)?;
+                    let address = bits_of(addr);
+                    self.newcomers.push(Newcomer { stream, address })?;
+                    if self.newcomers.len() > OUTSIDE {
+                        self.turn_away();
                     }
                 }
                 Err(e) if e.kind() == ErrorKind::WouldBlock => self.calling = false,
                 Err(e) if ends(&e) => return Err(e),
-                Err(_) => return Ok(None),
+                Err(_) => return Ok(false),
             }
         }
-        Ok(None)
+        Ok(true)
+    }
+
+    /// How many of an address wait outside.
+    fn outside(&self, address: u32) -> usize {
+        self.newcomers
+            .iter()
+            .filter(|newcomer| newcomer.address == address)
+            .count()
+    }
+
+    /// Whether two of one address do.
+    fn is_crowded(&self) -> bool {
+        for at in 0..self.newcomers.len() {
+            if self.outside(self.newcomers[at].address) > 1 {
+                return true;
+            }
+        }
+        false
+    }
+
+    /// The last one outside of an address of which most are there is closed.
+    fn turn_away(&mut self) {
+        let mut last = 0;
+        let mut most = 0;
+        for at in 0..self.newcomers.len() {
+            let crowd = self.outside(self.newcomers[at].address);
+            if crowd >= most {
+                most = crowd;
+                last = at;
+            }
+        }
+        if last < self.newcomers.len() {
+            let _ = self.newcomers.remove(last);
+        }
+    }
+
+    /// Who comes in next of those outside: of the address of which fewest stand in the hall, and of such the one that came first.
+    fn next_in(&self) -> Option<usize> {
+        let mut found = None;
+        let mut fewest = usize::MAX;
+        for at in 0..self.newcomers.len() {
+            let here = self.places.in_hall(self.newcomers[at].address);
+            if here < fewest {
+                fewest = here;
+                found = Some(at);
+            }
+        }
+        found
+    }
+
+    /// Gives seats to those of the hall that have none, as far as there are some for them.
+    fn seat(&mut self) {
+        let shown = self.pace.shown();
+        for _ in 0..PORTS {
+            if !self.places.seat_next(shown) {
+                return;
+            }
+        }
     }
 
     /// Serves a connection in a place, and answers its port. One that was there is closed. Where the system has no room to watch it, it is closed itself.
@@ -299,7 +375,9 @@ impl<R: rt::Clock> Sockets<'_, R> {
             ending: false,
             over: false,
         });
-        self.places.seat(place, newcomer.address, self.now);
+        let shown = self.pace.shown();
+        self.places
+            .stand(place, newcomer.address, self.now, shown, self.sweep);
         self.left.take();
         Some(place as u32)
     }
@@ -312,7 +390,7 @@ impl<R: rt::Clock> Sockets<'_, R> {
             Err(e) if e.kind() == ErrorKind::Interrupted => {}
             Err(e) => return Err(e),
         }
-        self.read_clock();
+        self.begin();
         for event in &self.events {
             match self.connections.get_mut(event.token().0) {
                 Some(Some(connection)) => {
@@ -333,7 +411,7 @@ impl<R: rt::Clock> Sockets<'_, R> {
             .iter()
             .flatten()
             .any(|connection| connection.ready);
-        if ready || !may_wait {
+        if ready || !may_wait || self.calling && self.let_in {
             Duration::ZERO
         } else if self.calling || !self.newcomers.is_empty() || self.left.is_over() {
             Duration::from_millis(TICK).min(self.patience)
@@ -342,19 +420,37 @@ impl<R: rt::Clock> Sockets<'_, R> {
         }
     }
 
-    /// Notes the moment; where the clock cannot be read, the last one stays.
-    fn read_clock(&mut self) {
+    /// How many microseconds after the begin it is; where the clock cannot be read, the last one stays.
+    fn micros(&self) -> u64 {
         if let (Some(begun), Ok(now)) = (self.begun, Instant::now(self.rt)) {
             let since = now.saturating_duration_since(begun);
             let seconds = since.as_secs().saturating_mul(MICROS);
-            self.now = seconds.saturating_add(u64::from(since.subsec_micros()));
+            seconds.saturating_add(u64::from(since.subsec_micros()))
+        } else {
+            self.now
         }
+    }
+
+    /// Notes the moment at which a sweep begins.
+    fn begin(&mut self) {
+        self.now = self.micros();
+        self.sweep = self.sweep.saturating_add(1);
+        self.pace.begin_sweep(self.now);
+    }
+
+    /// The moment at which something is answered, by what leases go by.
+    fn moment(&mut self) -> u64 {
+        let read = self.micros();
+        let _ = self.pace.is_late(read);
+        let _ = self.pace.now();
+        self.pace.shown()
     }
 
     /// Connections that were silent for too long are to be closed.
     fn end_silent(&mut self) {
+        let shown = self.pace.shown();
         for port in 0..PORTS {
-            if self.places.is_overdue(port, self.now) {
+            if self.places.is_over(port, shown) {
                 if let Some(connection) = &mut self.connections[port] {
                     connection.end();
                 }
@@ -405,10 +501,6 @@ impl<R: rt::Clock> Ports for Sockets<'_, R> {
     ghost log = { λ _. None };
 
     fn next(&mut self, may_wait: bool) -> Next {
-        let Ok(opened) = self.accept() else {
-            self.failed = true;
-            return Next::Over;
-        };
         if self.left.is_over() && self.places.is_empty() {
             return Next::Over;
         }
@@ -416,12 +508,17 @@ impl<R: rt::Clock> Ports for Sockets<'_, R> {
             self.failed = true;
             return Next::Over;
         }
+        self.seat();
         if self.left.is_over() {
             self.end_silent();
         }
-        match opened {
-            Some(port) => Next::Opened(port),
-            None => Next::Nobody,
+        match self.accept() {
+            Ok(Some(port)) => Next::Opened(port),
+            Ok(None) => Next::Nobody,
+            Err(_) => {
+                self.failed = true;
+                Next::Over
+            }
         }
     }
 
@@ -436,28 +533,28 @@ impl<R: rt::Clock> Ports for Sockets<'_, R> {
         let Some(connection) = self.connection(port) else {
             return Came::Failed;
         };
-        let came = connection.read(buf);
-        if matches!(came, Came::Bytes(_)) {
-            self.places.came(port as usize);
-        }
-        came
+        connection.read(buf)
     }
 
     fn write(&mut self, port: u32, bytes: &[u8]) -> Took {
         let Some(connection) = self.connection(port) else {
             return Took::Failed;
         };
-        let took = connection.write(bytes);
-        if matches!(took, Took::Bytes(_)) {
-            self.places.took(port as usize, self.now);
-        }
-        took
+        connection.write(bytes)
     }
 
     fn answered(&mut self, port: u32, reply: &[u8]) {
-        let _ = port;
         if let Some(tally) = &mut self.tally {
             tally.note(reply);
+        }
+        if reply.is_empty() {
+            return;
+        }
+        let (port, shown) = (port as usize, self.moment());
+        match seen_in(reply) {
+            Seen::Sequence(client) => self.places.answered(port, client, shown),
+            Seen::End => self.places.ended(port),
+            Seen::Other => self.places.heard(port, shown),
         }
     }
 
@@ -470,6 +567,7 @@ impl<R: rt::Clock> Ports for Sockets<'_, R> {
         if let Some(connection) = self.connections.get_mut(port as usize) {
             *connection = None;
         }
-        self.places.leave(port as usize);
+        let shown = self.pace.shown();
+        self.places.leave(port as usize, shown);
     }
 }

@@ -8,8 +8,9 @@ use crate::tally::{DELAY, FBIG, MLINK, NOSPC, SERVERFAULT, Tally};
 use nfs_exec::Held;
 use nfs_pace::MICROS;
 use nfs_serve::Watch;
-use std::fs;
+use nfs_tree::Limits;
 use std::io::Write;
+use std::{fmt, fs};
 
 /// Where Linux says how much memory of a process is resident, and the word before the number of kilobytes.
 const OWN_STATUS: &str = "/proc/self/status";
@@ -21,7 +22,31 @@ const MOST_CLIENTS: usize = 1_024;
 
 const MOST_SESSIONS: usize = 64;
 
-const MOST_OBJECTS: usize = 65_536;
+/// A number below 10^15 that is written in groups of three digits.
+#[derive(Clone, Copy)]
+struct Grouped(u64);
+
+impl fmt::Display for Grouped {
+    fn fmt<W: fmt::Write>(&self, f: &mut fmt::Formatter<W>) -> fmt::Result {
+        let (units, thousands) = (self.0 % 1_000, self.0 / 1_000 % 1_000);
+        let (millions, billions) = (self.0 / 1_000_000 % 1_000, self.0 / 1_000_000_000 % 1_000);
+        if self.0 < 1_000 {
+            write!(f, "{units}")
+        } else if self.0 < 1_000_000 {
+            write!(f, "{thousands},{units:03}")
+        } else if self.0 < 1_000_000_000 {
+            write!(f, "{millions},{thousands:03},{units:03}")
+        } else if self.0 < 1_000_000_000_000 {
+            write!(f, "{billions},{millions:03},{thousands:03},{units:03}")
+        } else {
+            let most = self.0 / 1_000_000_000_000;
+            write!(
+                f,
+                "{most},{billions:03},{millions:03},{thousands:03},{units:03}"
+            )
+        }
+    }
+}
 
 /// The limits that are told, each once.
 #[derive(Clone, Copy)]
@@ -40,6 +65,8 @@ struct Met {
 pub struct Status<'a, W: Write + Drop> {
     rt: &'a HostRuntime,
     told: W,
+    /// How many objects there may be, and how many bytes a file may have.
+    limits: Limits,
     /// How many microseconds lie between two lines; `None` where nothing is said.
     every: Option<u64>,
     /// When the next line is due, and when the last one was written, in microseconds since the ports began.
@@ -55,8 +82,8 @@ pub struct Status<'a, W: Write + Drop> {
 }
 
 impl<'a, W: Write + Drop> Status<'a, W> {
-    /// Says so on `told` after so many seconds each; `None` says nothing.
-    pub fn new(rt: &'a HostRuntime, told: W, seconds: Option<u32>) -> Status<'a, W>
+    /// Says so on `told` after so many seconds each; `None` says nothing. The server has these limits.
+    pub fn new(rt: &'a HostRuntime, told: W, seconds: Option<u32>, limits: Limits) -> Status<'a, W>
         ensures { result.every ≡ option_map (λ s. s * 1000000) seconds }
     {
         let every = match seconds {
@@ -66,6 +93,7 @@ impl<'a, W: Write + Drop> Status<'a, W> {
         Status {
             rt,
             told,
+            limits,
             every,
             due: every.unwrap_or(0),
             begun: 0,
@@ -109,9 +137,13 @@ impl<'a, W: Write + Drop> Status<'a, W> {
                 "limit: 64 sessions; unmount where nobody works, or wait a lease for clients that are gone",
             );
         }
-        if full == NOSPC && held.objects >= MOST_OBJECTS && !self.met.objects {
+        if full == NOSPC && held.objects >= self.limits.objects as usize && !self.met.objects {
             self.met.objects = true;
-            self.say("limit: 65,536 files, directories and links; remove some");
+            let most = Grouped(u64::from(self.limits.objects));
+            let _ = writeln!(
+                self.told,
+                "nfs41d: limit: {most} files, directories and links; remove some"
+            );
         }
         self.say_sizes(full);
     }
@@ -120,7 +152,11 @@ impl<'a, W: Write + Drop> Status<'a, W> {
     fn say_sizes(&mut self, full: u32) {
         if full == FBIG && !self.met.bytes {
             self.met.bytes = true;
-            self.say("limit: 1,048,576 bytes of a file; keep larger ones elsewhere");
+            let most = Grouped(self.limits.bytes);
+            let _ = writeln!(
+                self.told,
+                "nfs41d: limit: {most} bytes of a file; keep larger ones elsewhere"
+            );
         }
         if full == MLINK && !self.met.names {
             self.met.names = true;

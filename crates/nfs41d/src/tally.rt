@@ -87,7 +87,7 @@ fn status_in(reply: &[u8]) -> Option<u32>
 }
 
 /// The number of four bytes at a place.
-fn word_at(bytes: &[u8], place: usize) -> Option<u32>
+pub(crate) fn word_at(bytes: &[u8], place: usize) -> Option<u32>
     ensures { result ≡ word_at place bytes.now }
 {
     if bytes.len() <= place {

@@ -179,10 +179,45 @@ fn texts_that_are_no_settings_are_refused(rt: HostRuntime) -> Result<(), Fail> {
         "root_mode = 0o10000",
         "instance = 0",
         "instance = 4294967295",
+        "file_bytes = 0",
+        "file_bytes = 1099511627777",
+        "objects = 0",
+        "objects = 16777217",
         "lease = 1\nlease = 1",
         "lease",
     ] {
-        assert!(rt; matches!(settings(rt.alloc(), text, 5), Err(Bad::Text)));
+        assert!(rt; matches!(settings(rt.alloc(), text, 5, true), Err(Bad::Text)));
+    }
+    Ok(())
+}
+
+/// The limits that a text gives, as objects and bytes of a file.
+fn limits(rt: &HostRuntime, text: &str, endless: bool) -> Option<(u32, u64)> {
+    match settings(rt.alloc(), text, 5, endless) {
+        Ok(given) => Some((given.limits.objects, given.limits.bytes)),
+        Err(_) => None,
+    }
+}
+
+#[test]
+fn limits_are_those_of_a_repeatable_run_unless_the_server_lasts_or_they_are_set(
+    rt: HostRuntime,
+) -> Result<(), Fail> {
+    for (text, endless, objects, bytes) in [
+        ("", false, 65_536, 1_048_576),
+        ("", true, 1_048_576, 1_099_511_627_776),
+        ("instance = 9", true, 65_536, 1_048_576),
+        ("lease = 9", true, 1_048_576, 1_099_511_627_776),
+        ("objects = 1", true, 1, 1_099_511_627_776),
+        ("file_bytes = 1", false, 65_536, 1),
+        (
+            "objects = 16777216\nfile_bytes = 1099511627776",
+            false,
+            16_777_216,
+            1_099_511_627_776,
+        ),
+    ] {
+        assert!(rt; limits(&rt, text, endless) == Some((objects, bytes)));
     }
     Ok(())
 }

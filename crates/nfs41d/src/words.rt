@@ -7,7 +7,7 @@ ghost use Rattle.nfs41d.specs.Left.{at_once};
 
 use crate::asked::Order;
 use crate::fault::Fault;
-use crate::places::MOST_PLACES;
+use crate::sockets::MOST_PLACES;
 use clap::error::ErrorKind;
 use clap::{Arg, ArgAction, ArgMatches, Command};
 use std::alloc::{AllocError, Global};
@@ -16,7 +16,7 @@ use std::alloc::{AllocError, Global};
 const MAX_CONNECTIONS: u32 = 1_000_000;
 
 /// The most seconds from one line of status to the next.
-const MAX_STATUS: u32 = 86_400;
+pub const MAX_STATUS: u32 = 86_400;
 
 /// Reads the words of a command line, the program's name first.
 ///
@@ -119,7 +119,7 @@ fn given(text: Option<&str>, most: u32) -> Option<Option<u32>>
 }
 
 /// A count of connections.
-fn count_of(text: &str, most: u32) -> Option<u32>
+pub fn count_of(text: &str, most: u32) -> Option<u32>
     ensures { IfSome result (λ count. (1 ≤ count) × (count ≤ most)) }
 {
     let count = text.parse::<u32>().ok()?;

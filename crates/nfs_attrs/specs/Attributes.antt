@@ -2,7 +2,7 @@
 use Rattle.std.specs.{Prelude.{◌≡◌, ℕ, ◌==◌, List, [], ◌∷◌, ◌++◌, Bool, true, false, Option, Some, None, is_some, if◌then◌else◌}, Fmt.decimal, List.flat_map}
 use Rattle.nfs_xdr.specs.Spelling as spelling
 use Rattle.nfs_xdr.specs.{Text.{Text, ◌then◌, void, uint32, uint64, bool, opaque, most}, Wire.nfstime4, Limits.{fhsize, most_transfer}}
-use Rattle.nfs_tree.specs.{Files.{most_bytes, most_links, most_name}, declared.object.FileType.FileType}
+use Rattle.nfs_tree.specs.{Files.{most_links, most_name}, declared.object.FileType.FileType}
 use Rattle.nfs_tree.specs.{declared.object.FileType.TheVariants.{Regular, Directory, Link}, declared.object.Object.Object}
 use Rattle.nfs_attrs.specs.{Mask.{has, trimmed_words, common, spell_mask}, Wire.{nfs_fh4, settime4, bitmap4, fsid4}, declared.about.About.About}
 use Rattle.nfs_attrs.specs.{declared.mask.Mask.Mask, declared.set_time.SetTime.SetTime}
@@ -60,7 +60,7 @@ attributes =
     ∷ read_only 11 uint32 (λ a o. 0)  -- rdattr_error
     ∷ read_only 19 (opaque fhsize) (λ a o. (nfs_fh4 (record { instance = a.instance; number = a.number })).bytes)  -- filehandle
     ∷ read_only 20 uint64 (λ a o. a.number)  -- fileid
-    ∷ read_only 27 uint64 (λ a o. most_bytes)  -- maxfilesize
+    ∷ read_only 27 uint64 (λ a o. a.most_bytes)  -- maxfilesize
     ∷ read_only 28 uint32 (λ a o. most_links)  -- maxlink
     ∷ read_only 29 uint32 (λ a o. most_name)  -- maxname
     ∷ read_only 30 uint64 (λ a o. most_transfer)  -- maxread

@@ -13,4 +13,6 @@ pub struct About {
     pub instance: u32,
     /// The lease, in seconds.
     pub lease: u32,
+    /// The most bytes of a file.
+    pub most_bytes: u64,
 }

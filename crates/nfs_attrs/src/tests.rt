@@ -34,6 +34,7 @@ const ABOUT: About = About {
     links: 3,
     instance: 11,
     lease: 90,
+    most_bytes: 1_048_576,
 };
 
 fn object(kind: FileType, mode: u32, owner: u32, group: u32) -> Object {
@@ -166,6 +167,7 @@ fn writes_what_is_asked(rt: HostRuntime) -> Result<(), Fail> {
         links: 1,
         instance: 7,
         lease: 90,
+        most_bytes: 1_048_576,
     };
     let some: [u8; 40] = [
         0, 0, 0, 2, 0, 0, 0, 0x18, 0, 0, 0, 0x0a, 0, 0, 0, 0x18, 0, 0, 0, 0, 0, 0, 0, 1, 0, 0, 0,

@@ -226,7 +226,7 @@ pub(crate) fn value_of(number: u32, object: &Object, about: &About) -> Option<Va
         attribute::RDATTR_ERROR => Value::Number(0),
         attribute::FILEHANDLE => Value::Handle(handle),
         attribute::FILEID => Value::Hyper(about.number),
-        attribute::MAXFILESIZE => Value::Hyper(Tree::MAX_BYTES),
+        attribute::MAXFILESIZE => Value::Hyper(about.most_bytes),
         attribute::MAXLINK => Value::Number(Tree::MAX_LINKS),
         attribute::MAXNAME => Value::Number(Tree::MAX_NAME as u32),
         attribute::MAXREAD => Value::Hyper(u64::from(MAX_TRANSFER)),

@@ -122,8 +122,8 @@ impl Tables {
         let res = match place_fault(op, declared) {
             Some(status) => Res::refusal(op.number(), status),
             None => match op {
+                Op::ExchangeId(asked) => return self.exchange_id(alloc, asked, who, now, out),
                 Op::CreateSession(asked) => return self.create_session(alloc, asked, who, now, out),
-                Op::ExchangeId(asked) => self.exchange_id(alloc, asked, who, now),
                 Op::DestroySession { sessionid } => self.destroy_session(sessionid),
                 Op::DestroyClientId { clientid } => self.destroy_client(*clientid),
                 _ => Res::refusal(op.number(), Status::NotSupp),

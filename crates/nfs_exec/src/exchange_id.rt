@@ -2,48 +2,67 @@
 
 ghost use Rattle.std.specs.Prelude.{◌≡◌};
 ghost use Rattle.nfs_xdr.specs.Caller.{caller};
+ghost use Rattle.nfs_xdr.specs.SheetState.{Puts};
 ghost use Rattle.nfs_compound.specs.OpNum.{op_number};
 ghost use Rattle.nfs_compound.specs.declared.op_num.OpNum.TheVariants as Num;
-ghost use Rattle.nfs_compound.specs.declared.op.Item.TheVariants.{Operation};
-ghost use Rattle.nfs_compound.specs.declared.op.Op.TheVariants as Op;
 ghost use Rattle.nfs_clients.specs.ExchangeId.{client_fault_status};
 ghost use Rattle.nfs_lease.specs.Renewals.{leases_of};
 ghost use Rattle.nfs_lease.specs.Queue.{IsLatest};
-ghost use Rattle.nfs_results.specs.MayAnswer.{MayAnswer};
 ghost use Rattle.nfs_results.specs.declared.res.Res.TheVariants as Res;
-ghost use Rattle.nfs_results.specs.Results.{status_of_result};
+ghost use Rattle.nfs_results.specs.Results.{status_of_result, spell_result};
 ghost use Rattle.nfs_names.specs.Outcome.{is_delay};
-ghost use Rattle.nfs_exec.specs.Step.Machine.{IsMachine, with_result, machine_of};
-ghost use Rattle.nfs_exec.specs.Step.Compound.{carried_out};
-ghost use Rattle.nfs_exec.specs.Step.View.{settled};
-ghost use Rattle.nfs_exec.specs.Step.Parts.{granted_of, owner_has_open};
+ghost use Rattle.nfs_exec.specs.Step.Machine.{IsMachine, with_result, or_with_delay, machine_of};
+ghost use Rattle.nfs_exec.specs.Step.ExchangeId.{exchange_id};
+ghost use Rattle.nfs_exec.specs.Step.View.{settled, Does, HasLoneRoom};
+ghost use Rattle.nfs_exec.specs.Step.Parts.{granted_of, answered, owner_has_open};
 
 use crate::tables::Tables;
 use nfs_clients::{CONFIRMED_R, ClientFault, Exchanged};
 use nfs_compound::{ExchangeId, Lent, OpNum};
 use nfs_lease::Leases;
-use nfs_results::{ExchangeIdOk, Res};
-use nfs_xdr::Who;
+use nfs_names::ServerOwner;
+use nfs_results::{ExchangeIdOk, Res, write};
+use nfs_xdr::{Sheet, Status, Who};
 use std::alloc::Global;
 
 /// EXCHGID4_FLAG_USE_NON_PNFS.
 const USE_NON_PNFS: u32 = 0x0001_0000;
 
 impl Tables {
-    /// Has the table of clients decide at the moment `now`, in seconds. The lease of the record that would be added is made
-    /// first and taken back where none is, so that where memory is refused the answer is `Delay` and nothing has changed.
+    /// Has the table of clients decide at the moment `now`, in seconds, puts the result and returns its status.
     pub(crate) fn exchange_id(
         &mut self,
         alloc: Global,
         asked: &ExchangeId<'_>,
         who: &Who<'_>,
         now: u64,
-    ) -> Res<'static>
+        out: &mut Sheet,
+    ) -> Status
         requires machine { IsMachine (machine_of self.old) }
         requires latest { IsLatest (machine_of self.old).leases now }
-        ensures outcome { with_result (machine_of self.new) result
-            ≡ carried_out (machine_of self.old) (caller who.now) now (is_delay (status_of_result result)) (Operation (Op.ExchangeId asked.now)) }
-        ensures size { MayAnswer (Operation (Op.ExchangeId asked.now)) result }
+        requires room { HasLoneRoom out.old }
+        ensures { Does (or_with_delay (is_delay result) (machine_of self.old) (op_number Num.ExchangeId)
+            (exchange_id (machine_of self.old) (caller who.now) now asked.now)) result (machine_of self.new) out.old out.new }
+    {
+        let exchanged = self.exchange(alloc, asked, who, now);
+        put_exchanged(&self.owner, &exchanged, out)
+    }
+
+    /// Has the table of clients decide. The lease of the record that would be added is made first and taken back where none is, so
+    /// that where memory is refused the fault is `Memory` and nothing has changed.
+    fn exchange(
+        &mut self,
+        alloc: Global,
+        asked: &ExchangeId<'_>,
+        who: &Who<'_>,
+        now: u64,
+    ) -> Result<Exchanged, ClientFault>
+        requires machine { IsMachine (machine_of self.old) }
+        requires latest { IsLatest (machine_of self.old).leases now }
+        ensures outcome { with_result (machine_of self.new) (answered self.old.owner result)
+            ≡ or_with_delay (is_delay (status_of_result (answered self.old.owner result))) (machine_of self.old) (op_number Num.ExchangeId)
+            (exchange_id (machine_of self.old) (caller who.now) now asked.now) }
+        ensures owner { self.new.owner ≡ self.old.owner }
     {
         let (owner, verifier, flags) = (asked.ownerid.bytes(), asked.verifier, asked.flags);
         let has_open = self.owner_has_open(owner);
@@ -51,11 +70,11 @@ impl Tables {
             .clients
             .judge_exchange(owner, verifier, flags, who.uid, has_open)
         {
-            return refused(fault);
+            return Err(fault);
         }
         let next = self.clients.next_id();
         let Ok(()) = self.leases.add(alloc, next, now) else {
-            return refused(ClientFault::Memory);
+            return Err(ClientFault::Memory);
         };
         match self
             .clients
@@ -63,11 +82,11 @@ impl Tables {
         {
             Ok(exchanged) => {
                 settle(&mut self.leases, next, &exchanged);
-                Res::ExchangeId(granted(&exchanged))
+                Ok(exchanged)
             }
             Err(fault) => {
                 self.leases.remove(next);
-                refused(fault)
+                Err(fault)
             }
         }
     }
@@ -94,6 +113,31 @@ fn settle(leases: &mut Leases, next: u64, exchanged: &Exchanged)
     }
 }
 
+/// Puts what came of the call, and returns its status.
+fn put_exchanged(
+    owner: &ServerOwner,
+    exchanged: &Result<Exchanged, ClientFault>,
+    out: &mut Sheet,
+) -> Status
+    requires { HasLoneRoom out.old }
+    ensures status { result ≡ status_of_result (answered owner.now exchanged.now) }
+    ensures put { Puts out.old out.new (spell_result (answered owner.now exchanged.now)) }
+{
+    let res = told(owner.bytes(), exchanged);
+    write(&res, out);
+    res.status()
+}
+
+/// What came of the call, as a result.
+fn told<'a>(name: &'a [u8], exchanged: &Result<Exchanged, ClientFault>) -> Res<'a>
+    ensures { result ≡ answered name.now exchanged.now }
+{
+    match exchanged {
+        Ok(exchanged) => Res::ExchangeId(granted(name, exchanged)),
+        Err(fault) => refused(*fault),
+    }
+}
+
 fn refused(fault: ClientFault) -> Res<'static>
     ensures { result ≡ Res.Refused (op_number Num.ExchangeId) (client_fault_status fault) }
 {
@@ -103,8 +147,8 @@ fn refused(fault: ClientFault) -> Res<'static>
     }
 }
 
-fn granted(exchanged: &Exchanged) -> ExchangeIdOk<'static>
-    ensures { result ≡ granted_of exchanged.now }
+fn granted<'a>(name: &'a [u8], exchanged: &Exchanged) -> ExchangeIdOk<'a>
+    ensures { result ≡ granted_of name.now exchanged.now }
 {
     ExchangeIdOk {
         clientid: exchanged.id,
@@ -115,7 +159,7 @@ fn granted(exchanged: &Exchanged) -> ExchangeIdOk<'static>
             USE_NON_PNFS
         },
         minor_id: 0,
-        major_id: Lent::of(b"nfs41d"),
-        server_scope: Lent::of(b"nfs41d"),
+        major_id: Lent::of(name),
+        server_scope: Lent::of(name),
     }
 }

@@ -7,7 +7,7 @@ ghost use Rattle.nfs_exec.specs.Step.Machine.{starts, machine_of};
 
 use nfs_clients::Clients;
 use nfs_lease::Leases;
-use nfs_names::{Start, Store};
+use nfs_names::{ServerOwner, Start, Store};
 use nfs_sessions::Sessions;
 use nfs_xdr::Time;
 use std::alloc::{AllocError, Global};
@@ -19,6 +19,7 @@ pub(crate) struct Tables {
     pub(crate) sessions: Sessions,
     pub(crate) leases: Leases,
     pub(crate) store: Store,
+    pub(crate) owner: ServerOwner,
 }
 
 /// The first moment.
@@ -37,7 +38,8 @@ impl Tables {
             clients: Clients::new(alloc, start.instance),
             sessions: Sessions::new(alloc),
             leases: Leases::new(alloc)?,
-            store: Store::new(alloc, start, FIRST)?,
+            store: Store::new(alloc, &start, FIRST)?,
+            owner: start.owner,
         })
     }
 }

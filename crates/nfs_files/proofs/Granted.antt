@@ -1,8 +1,8 @@
 -- OPEN: where its own checks pass, the tree refuses nothing; and what the code looks at in their place.
-use Rattle.std.proofs.Common.{◌≡◌, ℕ, Bool, true, false, cond, not, Option, Some, None, refl, ◌∙◌, ap, subst}
-use Rattle.std.proofs.lemmas.Bool.{and_parts, not-false, false≢true}
+use Rattle.std.proofs.Common.{◌≡◌, ℕ, Bool, true, false, cond, not, Option, Some, None, refl, ◌∙◌, ap, subst, arith}
+use Rattle.std.proofs.lemmas.Bool.{and_parts, le-ltb, not-false, false≢true}
 use Rattle.std.proofs.lemmas.List.{length-replicate}
-use Rattle.std.specs.{Prelude.{Ok, Err, is_some, option_map, unwrap_or}, Option.option_map_or}
+use Rattle.std.specs.{Prelude.{Ok, Err, is_some, nat_lt, option_map, unwrap_or}, Option.option_map_or}
 use Rattle.nfs_xdr.specs.{Checks.first_fault, declared.status.Status.TheVariants.Inval}
 use Rattle.nfs_xdr.proofs.Checks.{all_passed}
 use Rattle.nfs_compound.specs.{declared.open_args.Open.Open, declared.open_args.OpenClaim.OpenClaim}
@@ -41,8 +41,9 @@ cut_free t o place f true file can =
     let there : not (is_there t n) ≡ false = ap not parts.0 in
     let directory : is_directory_at t n ≡ false = parts.1 in
     let regular : not (is_regular_at t n) ≡ false = ap not file in
+    let small : nat_lt t.limits.bytes 0 ≡ false = le-ltb t.limits.bytes 0 (omega arith) in
     let counted : not (can_change t n) ≡ false = (all_passed (room_checks t (There place f true)) can).0 in
-    rw (there, directory, regular, counted) refl
+    rw (there, directory, regular, small, counted) refl
 
 -- what is to be made stands in a directory that is there, under a name that is free
 pub record IsFree (s : State) (x : Context) (o : Open) (m : Making) : Type 0 where

@@ -7,7 +7,7 @@ use Rattle.nfs_xdr.proofs.Checks.{all_passed}
 use Rattle.nfs_compound.specs.declared.op_num.OpNum.TheVariants as Num
 use Rattle.nfs_compound.specs.{declared.stateid.Stateid.Stateid, declared.file_args.SetAttr.SetAttr}
 use Rattle.nfs_tree.specs.{declared.fault.TreeFault.TreeFault, declared.object.FileType.FileType, declared.object.Object.Object, declared.stored.Stored.Stored}
-use Rattle.nfs_tree.specs.{Object.{is_directory, is_regular, is_link}, Files.{Files, most_bytes, stored_in, is_there, is_directory_at, can_change}, Calls.is_regular_at}
+use Rattle.nfs_tree.specs.{Object.{is_directory, is_regular, is_link}, Files.{Files, stored_in, is_there, is_directory_at, can_change}, Calls.is_regular_at}
 use Rattle.nfs_tree.specs.declared.fault.TreeFault.TheVariants as F
 use Rattle.nfs_tree.specs.declared.object.FileType.TheVariants as Kind
 use Rattle.nfs_attrs.specs.declared.wanted.Wanted.{Wanted}
@@ -45,17 +45,17 @@ writable_ok s x given v d e = checked_ok v file_checks d (if_passed_ok (checked 
 sized_rows : (s : State) (d : Node) (w : Wanted) (size : ℕ) → IsHeld s.tree d
     → is_regular_at s.tree d.number ≡ true → first_fault (file_checks d) ≡ None → gives_some w ≡ true
     → option_map tree_fault_status (tree_fault s.tree d.number w (Some size))
-    ≡ first_fault ((nat_lt most_bytes size, tree_fault_status F.Fbig) ∷ (gives_some w && not (can_change s.tree d.number), tree_fault_status F.Counter) ∷ [])
+    ≡ first_fault ((nat_lt s.tree.limits.bytes size, tree_fault_status F.Fbig) ∷ (gives_some w && not (can_change s.tree d.number), tree_fault_status F.Counter) ∷ [])
 sized_rows s d w size is file e some =
     let t = s.tree in
     let checks = all_passed (file_checks d) e in
     let there : not (is_there t d.number) ≡ false = ap not is.there in
     let directory : is_directory_at t d.number ≡ false = is.directory ∙ checks.0 in
     let regular : not (is_regular_at t d.number) ≡ false = ap not file in
-    let tail : List (Bool × TreeFault) = (nat_lt most_bytes size, F.Fbig) ∷ (not (can_change t d.number), F.Counter) ∷ [] in
+    let tail : List (Bool × TreeFault) = (nat_lt s.tree.limits.bytes size, F.Fbig) ∷ (not (can_change t d.number), F.Counter) ∷ [] in
     let same : tree_fault t d.number w (Some size) ≡ first_fault tail = rw (there, directory, regular) refl in
     ap (option_map tree_fault_status) same ∙ fault_map tree_fault_status tail
-    ∙ sym (ap (λ b. first_fault ((nat_lt most_bytes size, tree_fault_status F.Fbig) ∷ (b && not (can_change t d.number), tree_fault_status F.Counter) ∷ [])) some)
+    ∙ sym (ap (λ b. first_fault ((nat_lt s.tree.limits.bytes size, tree_fault_status F.Fbig) ∷ (b && not (can_change t d.number), tree_fault_status F.Counter) ∷ [])) some)
 
 plain_rows : (s : State) (d : Node) (w : Wanted) → IsHeld s.tree d
     → option_map tree_fault_status (tree_fault s.tree d.number w None) ≡ first_fault ((gives_some w && not (can_change s.tree d.number), tree_fault_status F.Counter) ∷ [])
@@ -73,7 +73,7 @@ given_some w size e = rw e refl
 set_rows : (s : State) (x : Context) (given : Stateid) (m : Setting) (o : Option ℕ) (k : Node)
     → m.wanted.size ≡ o → IsHeld s.tree m.node → sized_by s x given m.node o ≡ Ok k
     → option_map tree_fault_status (tree_fault s.tree m.node.number m.wanted o)
-    ≡ first_fault ((option_map_or (nat_lt most_bytes) o false, tree_fault_status F.Fbig) ∷ (gives_some m.wanted && not (can_change s.tree m.node.number), tree_fault_status F.Counter) ∷ [])
+    ≡ first_fault ((option_map_or (nat_lt s.tree.limits.bytes) o false, tree_fault_status F.Fbig) ∷ (gives_some m.wanted && not (can_change s.tree m.node.number), tree_fault_status F.Counter) ∷ [])
 set_rows s x given m None k h is e = plain_rows s m.node m.wanted is
 set_rows s x given m (Some size) k h is e =
     let found = writable_ok s x given (Ok m.node) k e in

@@ -1,11 +1,12 @@
 -- What a state keeps; the end of clients leaves a tree that is one.
 use Rattle.std.proofs.Common.{◌≡◌, ℕ, ◌+◌, Bool, true, false, List, [], ◌∷◌, Option, refl, sym, ◌∙◌, ap, subst, inl, inr, arith}
-use Rattle.std.proofs.lemmas.Bool.{cases_Bool, eq-eqb, eqb-true}
+use Rattle.std.proofs.lemmas.Bool.{cases_Bool, eq-eqb, eqb-true, and_parts, leb-true}
 use Rattle.std.specs.{Prelude.{◌==◌, ◌||◌, filter, is_some}, Option.option_map_or}
 use Rattle.nfs_xdr.specs.{Tables.In, declared.time.Time.Time}
 use Rattle.nfs_xdr.proofs.{Lists.{any_in, in_filter, length_filter}, Tables.IsRising-filter}
 use Rattle.nfs_tree.specs.{declared.stored.Stored.Stored, declared.row.Row.Row, Object.is_directory}
-use Rattle.nfs_tree.proofs.Objects.{IsSized}
+use Rattle.nfs_tree.specs.{declared.limits.Limits.Limits, Limits.bounded}
+use Rattle.nfs_tree.proofs.{Objects.IsSized, Trees.bounded_is}
 use Rattle.nfs_tree.specs.{Files.{root, has_row, stored_in, is_there, is_directory_at}, Create.new_tree, TreeInvariants.IsTree}
 use Rattle.nfs_tree.proofs.RowsKept.{rows_same}
 use Rattle.nfs_opens.specs.TableInvariants.{IsTable}
@@ -63,6 +64,7 @@ tree_used s is all =
       objects = IsRising-filter (λ (s : Stored). s.number) (λ o. p o.number) root (t.last_object + 1) t.objects is.objects;
       cookies = is.cookies;
       counters = is.counters;
+      limits = is.limits;
       few = (let le = length_filter (λ (o : Stored). p o.number) t.objects in let most = is.few in omega arith);
       sized = λ x there. is.sized x (in_filter (λ (o : Stored). p o.number) t.objects x there).0;
       root = ap as_directory (same root (used_root (root == root) (has_row t.rows root) (is_open s root) (eq-eqb root root refl))) ∙ is.root;
@@ -72,13 +74,14 @@ tree_used s is all =
           (λ r there. ap is_some (same r.object (names r there)));
     }
 
-pub tree_new : (mode : ℕ) (now : Time) → IsTree (new_tree mode now)
-tree_new mode now = record {
+pub tree_new : (mode : ℕ) (now : Time) (limits : Limits) → IsTree (new_tree mode now limits)
+tree_new mode now limits = record {
+  limits = bounded_is limits;
   objects = omega arith;
   cookies = omega arith;
   counters = (omega arith, omega arith);
-  few = omega arith;
-  sized = λ s there. elim there [ inl is ↦ subst IsSized (sym is) (omega arith) | inr more ↦ absurd more ];
+  few = (let p = and_parts _ _ (bounded_is limits) in leb-true _ _ p.0);
+  sized = λ s there. elim there [ inl is ↦ subst (IsSized (bounded limits)) (sym is) (omega arith) | inr more ↦ absurd more ];
   root = refl;
   rows = record {
     found = λ r there. absurd there;

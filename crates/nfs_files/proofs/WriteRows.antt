@@ -1,12 +1,12 @@
 -- WRITE: the tree's own checks are its last ones.
-use Rattle.std.proofs.Common.{◌≡◌, Bool, false, not, List, [], ◌∷◌, length, Some, None, refl, sym, ◌∙◌, ap}
-use Rattle.std.specs.Prelude.{Ok, option_map, nat_lt, ◌+◌, ◌&&◌}
+use Rattle.std.proofs.Common.{◌≡◌, Bool, false, not, List, [], ◌∷◌, Some, None, refl, sym, ◌∙◌, ap}
+use Rattle.std.specs.Prelude.{Ok, option_map, ◌&&◌}
 use Rattle.nfs_xdr.specs.{Checks.first_fault, declared.time.Time.Time}
 use Rattle.nfs_xdr.proofs.Checks.{all_passed}
 use Rattle.nfs_compound.specs.declared.op_num.OpNum.TheVariants as Num
 use Rattle.nfs_compound.specs.declared.file_args.Write.{Write}
-use Rattle.nfs_tree.specs.{declared.fault.TreeFault.TreeFault, Bytes.has_bytes, Calls.{write_fault, is_regular_at}}
-use Rattle.nfs_tree.specs.Files.{most_bytes, is_there, is_directory_at, can_change}
+use Rattle.nfs_tree.specs.{declared.fault.TreeFault.TreeFault, Bytes.{has_bytes, is_too_long}, Calls.{write_fault, is_regular_at}}
+use Rattle.nfs_tree.specs.Files.{is_there, is_directory_at, can_change}
 use Rattle.nfs_tree.specs.declared.fault.TreeFault.TheVariants as F
 use Rattle.nfs_names.specs.{declared.context.Context.Context, declared.node.Node.Node, State.State, Faults.tree_fault_status, Outcome.refuses, Checks.current}
 use Rattle.nfs_names.proofs.{Found.{IsHeld, current_is}, Rows.fault_map, Faulted.{by_last, by_refusal}}
@@ -24,7 +24,7 @@ write_rows s w d is e =
     let directory : is_directory_at t n ≡ false = is.directory ∙ checks.0 in
     let regular : not (is_regular_at t n) ≡ false = ap not (file_regular t d is e) in
     let tail : List (Bool × TreeFault) =
-    (has_bytes w.bytes && nat_lt most_bytes (w.offset + length w.bytes), F.Fbig) ∷ (has_bytes w.bytes && not (can_change t n), F.Counter) ∷ [] in
+    (has_bytes w.bytes && is_too_long t w.offset w.bytes, F.Fbig) ∷ (has_bytes w.bytes && not (can_change t n), F.Counter) ∷ [] in
     let same : write_fault t n w.offset w.bytes ≡ first_fault tail = rw (there, directory, regular) refl in
     ap (option_map tree_fault_status) same ∙ fault_map tree_fault_status tail
 

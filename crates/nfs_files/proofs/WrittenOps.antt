@@ -1,6 +1,6 @@
 -- What the current filehandle's object is, and how a WRITE is answered.
-use Rattle.std.proofs.Common.{◌≡◌, ℕ, ◌+◌, ◌<◌, ◌^◌, Bool, true, false, ltb, List, ◌++◌, length, Option, Some, None, refl, ap, arith}
-use Rattle.std.proofs.{lemmas.Bool.{ltb-false, false≢true}, lemmas.Nat.from_be_bytes-to_be_bytes_4}
+use Rattle.std.proofs.Common.{◌≡◌, ℕ, ◌+◌, ◌<◌, ◌≤◌, ◌^◌, Bool, true, false, ltb, List, ◌++◌, length, Option, Some, None, refl, ap, arith}
+use Rattle.std.proofs.{lemmas.Bool.{ltb-false, or_parts, false≢true}, lemmas.Nat.from_be_bytes-to_be_bytes_4}
 use Rattle.std.specs.{Prelude.{◌&&◌, Result, Ok, Err}, Int.{w32, from_be_bytes}}
 use Rattle.nfs_xdr.specs.{Checks.first_fault, Spelling.number, declared.status.Status.Status}
 use Rattle.nfs_xdr.proofs.Checks.{all_passed}
@@ -8,7 +8,7 @@ use Rattle.nfs_compound.specs.{declared.file_args.Write.Write, declared.op_num.O
 use Rattle.nfs_compound.specs.declared.op_num.OpNum.TheVariants as Num
 use Rattle.nfs_results.specs.Items as item
 use Rattle.nfs_results.specs.{declared.res.Res.Res, declared.res.WriteOk.WriteOk, Results.{spell_result, done_head}}
-use Rattle.nfs_tree.specs.{declared.object.Object.Object, Files.object_at, Bytes.has_bytes}
+use Rattle.nfs_tree.specs.{declared.object.Object.Object, Files.object_at, Bytes.{has_bytes, is_too_long}}
 use Rattle.nfs_names.specs.{declared.context.Context.Context, declared.node.Node.Node, State.State, Outcome.{Outcome, answers, checked, refuses}}
 use Rattle.nfs_names.specs.Checks.{node_as, node_at, current}
 use Rattle.nfs_names.proofs.Found.{checked_ok}
@@ -56,5 +56,7 @@ guarded false b e is = absurd (false≢true is)
 pub few_written : (s : State) (w : Write) (d : Node) → first_fault (of_write.last_checks s w d) ≡ None → has_bytes w.bytes ≡ true → length w.bytes < 2 ^ 32
 few_written s w d none some =
     let checks = all_passed (of_write.last_checks s w d) none in
-    let most = ltb-false _ _ (guarded (has_bytes w.bytes) (ltb 1048576 (w.offset + length w.bytes)) checks.0 some) in
+    let parts = or_parts (ltb s.tree.limits.bytes (w.offset + length w.bytes)) (ltb 4294967295 (length w.bytes))
+    (guarded (has_bytes w.bytes) (is_too_long s.tree w.offset w.bytes) checks.0 some) in
+    let most : length w.bytes ≤ 4294967295 = ltb-false 4294967295 (length w.bytes) parts.1 in
     omega arith

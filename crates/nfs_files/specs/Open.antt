@@ -11,7 +11,7 @@ use Rattle.nfs_compound.specs.declared.open_args.OpenClaim.TheVariants.{Null, Pr
 use Rattle.nfs_results.specs.declared.res.ChangeInfo.{ChangeInfo}
 use Rattle.nfs_results.specs.declared.res.Res.TheVariants as Res
 use Rattle.nfs_tree.specs.{declared.sets.Sets.Sets, Object.no_sets}
-use Rattle.nfs_tree.specs.{Files.{Files, most_bytes, object_named, can_change, raised, unraised}, Create.{New, new_file, with_new}, Bytes.with_resized}
+use Rattle.nfs_tree.specs.{Files.{Files, object_named, can_change, raised, unraised}, Create.{New, new_file, with_new}, Bytes.with_resized}
 use Rattle.nfs_attrs.specs.{declared.wanted.Wanted.Wanted, Mask.{mask_of, trimmed_words}, Setting.make_checks, Permissions.{execute, write}}
 use Rattle.nfs_opens.specs.{declared.share.Share.Share, Share.{neither, share_of}, StateId.last_number, Table.{Asked, clashes_with}, Opening.{own_open, opens}}
 use Rattle.nfs_opens.specs.Steps.{require, in_order, ◌>>=◌, ◌>>◌}
@@ -109,7 +109,7 @@ sets_of x now o wanted = record (create.sets_of x now (new_of o wanted) wanted) 
 -- last the share reservations, whether there is room and what changes can be counted, and whether a number is left for a new open
 abbrev pub room_checks : Files → Found → List (Bool × Status)
 room_checks t (There place f cut) = (cut && not (can_change t f.number), ServerFault) ∷ []
-room_checks t (Absent m) = (nat_lt most_bytes (unwrap_or m.wanted.size 0), FBig) ∷ create.room_checks t m.place.number
+room_checks t (Absent m) = (nat_lt t.limits.bytes (unwrap_or m.wanted.size 0), FBig) ∷ create.room_checks t m.place.number
 
 abbrev pub last_checks : State → Context → Open → Found → List (Bool × Status)
 last_checks s x o found =

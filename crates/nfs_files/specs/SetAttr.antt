@@ -5,7 +5,7 @@ use Rattle.nfs_xdr.specs.{declared.time.Time.Time, declared.status.Status.Status
 use Rattle.nfs_compound.specs.declared.op_num.OpNum.TheVariants as Num
 use Rattle.nfs_compound.specs.{declared.stateid.Stateid.Stateid, declared.file_args.SetAttr.SetAttr}
 use Rattle.nfs_results.specs.declared.res.Res.TheVariants as Res
-use Rattle.nfs_tree.specs.{Files.{Files, most_bytes, can_change, with_changed}, Bytes.with_resized}
+use Rattle.nfs_tree.specs.{Files.{Files, can_change, with_changed}, Bytes.with_resized}
 use Rattle.nfs_attrs.specs.{declared.wanted.Wanted.Wanted, Mask.{mask_of, trimmed_words}, Setting.set_checks}
 use Rattle.nfs_opens.specs.Steps.{in_order, ◌>>=◌, ◌>>◌}
 use Rattle.nfs_names.specs.{declared.context.Context.Context, declared.node.Node.Node, State.{State, with_tree}, Outcome.{Outcome, or_refusal}}
@@ -35,7 +35,7 @@ set_attr s x now a = or_refusal s x Num.SetAttr (do
   wanted ← attributes_in a.obj_attributes
   in_order (set_checks d.object wanted x.who)
   may_resize s x a.stateid d wanted.size
-  in_order ((option_map_or (nat_lt most_bytes) wanted.size false, FBig) ∷ (gives_some wanted && not (can_change s.tree d.number), ServerFault) ∷ [])
+  in_order ((option_map_or (nat_lt s.tree.limits.bytes) wanted.size false, FBig) ∷ (gives_some wanted && not (can_change s.tree d.number), ServerFault) ∷ [])
   Ok (record {
     result = Res.SetAttr Nfs4Ok (trimmed_words (mask_of a.obj_attributes.attrmask));
     state = with_tree s (with_set s.tree d.number now wanted wanted.size);

@@ -3,7 +3,7 @@ use Rattle.std.specs.{Prelude.{ℕ, ◌&&◌, Bool, false, not, List, [], ◌∷
 use Rattle.nfs_xdr.specs.{declared.time.Time.Time, declared.status.Status.Status, declared.status.Status.TheVariants.{Nfs4Ok, FBig, ServerFault}}
 use Rattle.nfs_compound.specs.{declared.stateid.Stateid.Stateid, declared.file_args.SetAttr.SetAttr}
 use Rattle.nfs_results.specs.declared.res.Res.TheVariants as Res
-use Rattle.nfs_tree.specs.{Files.{Files, most_bytes, can_change}, declared.fault.TreeFault.TreeFault, Calls.{Did, does_unless, resize_fault, set_fault}}
+use Rattle.nfs_tree.specs.{Files.{Files, can_change}, declared.fault.TreeFault.TreeFault, Calls.{Did, does_unless, resize_fault, set_fault}}
 use Rattle.nfs_attrs.specs.{declared.wanted.Wanted.Wanted, Mask.{mask_of, trimmed_words}, Setting.set_checks}
 use Rattle.nfs_opens.specs.Steps.{◌>>=◌}
 use Rattle.nfs_names.specs.{declared.context.Context.Context, declared.node.Node.Node, State.{State, with_tree}, Outcome.{Outcome, checked}}
@@ -31,7 +31,7 @@ asked_for s x a = if_passed (setting s x a) (sized s x a.stateid)
 
 abbrev pub last_checks : State → Setting → List (Bool × Status)
 last_checks s m =
-    (option_map_or (nat_lt most_bytes) m.wanted.size false, FBig)
+    (option_map_or (nat_lt s.tree.limits.bytes) m.wanted.size false, FBig)
     ∷ (gives_some m.wanted && not (can_change s.tree m.node.number), ServerFault)
     ∷ []
 

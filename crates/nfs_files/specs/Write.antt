@@ -1,11 +1,11 @@
 -- WRITE (RFC 8881 section 18.32): bytes are written over those of a file. A gap behind its old end is zeros.
-use Rattle.std.specs.Prelude.{◌+◌, ◌&&◌, Bool, not, List, [], ◌∷◌, length, nat_lt, Ok, if◌then◌else◌}
+use Rattle.std.specs.Prelude.{◌&&◌, Bool, not, List, [], ◌∷◌, length, Ok, if◌then◌else◌}
 use Rattle.nfs_xdr.specs.{declared.time.Time.Time, declared.status.Status.Status, declared.status.Status.TheVariants.{FBig, ServerFault}}
 use Rattle.nfs_compound.specs.declared.op_num.OpNum.TheVariants as Num
 use Rattle.nfs_compound.specs.{declared.file_args.StableHow.TheVariants.FileSync, declared.file_args.Write.Write}
 use Rattle.nfs_results.specs.declared.res.WriteOk.{WriteOk}
 use Rattle.nfs_results.specs.declared.res.Res.TheVariants as Res
-use Rattle.nfs_tree.specs.{Files.{Files, most_bytes, can_change}, Bytes.{has_bytes, with_written}}
+use Rattle.nfs_tree.specs.{Files.{Files, can_change}, Bytes.{has_bytes, is_too_long, with_written}}
 use Rattle.nfs_opens.specs.Steps.{in_order, ◌>>=◌, ◌>>◌}
 use Rattle.nfs_names.specs.{declared.context.Context.Context, declared.node.Node.Node, State.{State, with_tree}, Outcome.{Outcome, or_refusal}}
 use Rattle.nfs_files.specs.{Bytes.{writing, may_use}, Commit.write_verifier, Target.the_file}
@@ -13,7 +13,7 @@ use Rattle.nfs_files.specs.{Bytes.{writing, may_use}, Commit.write_verifier, Tar
 -- no bytes change nothing, at whatever offset
 abbrev pub last_checks : State → Write → Node → List (Bool × Status)
 last_checks s w d =
-    (has_bytes w.bytes && nat_lt most_bytes (w.offset + length w.bytes), FBig)
+    (has_bytes w.bytes && is_too_long s.tree w.offset w.bytes, FBig)
     ∷ (has_bytes w.bytes && not (can_change s.tree d.number), ServerFault)
     ∷ []
 

@@ -1,6 +1,6 @@
 //! Operations on the bytes of files (RFC 8881 sections 18.3, 18.22 and 18.32).
 
-ghost use Rattle.std.specs.Prelude.{◌≡◌, ◌+◌, ◌≤◌, length};
+ghost use Rattle.std.specs.Prelude.{◌≡◌, ◌+◌, ◌≤◌, ◌<◌, ◌^◌, length};
 ghost use Rattle.nfs_xdr.specs.SheetState.{Puts};
 ghost use Rattle.nfs_xdr.specs.Spelling.{padding};
 ghost use Rattle.nfs_compound.specs.declared.op_num.OpNum.TheVariants as Num;
@@ -8,7 +8,6 @@ ghost use Rattle.nfs_results.specs.Largest.{given};
 ghost use Rattle.nfs_results.specs.declared.res.Res.TheVariants as Res;
 ghost use Rattle.nfs_results.specs.Results.{spell_result};
 ghost use Rattle.nfs_tree.specs.Bytes.{has_bytes};
-ghost use Rattle.nfs_tree.specs.Files.{most_bytes};
 ghost use Rattle.nfs_names.specs.State.{state_of};
 ghost use Rattle.nfs_names.specs.Comes.{Comes};
 ghost use Rattle.nfs_names.specs.Outcome.{checked};
@@ -65,7 +64,7 @@ fn to_write(store: &Store, context: &Context<'_>, asked: &Write<'_>) -> Result<N
 
 /// All bytes were written, as lastingly as any are.
 fn write_ok(store: &Store, asked: &Write<'_>) -> WriteOk
-    requires { length asked.now.bytes ≤ most_bytes }
+    requires { length asked.now.bytes < 2 ^ 32 }
     ensures { result ≡ of_write.write_ok (state_of store.now) asked.now }
 {
     WriteOk {

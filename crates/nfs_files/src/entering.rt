@@ -60,7 +60,7 @@ fn judge_room(tree: &Tree, found: &Found) -> Result<(), Status>
             Ok(())
         }
         Found::Absent(making) => {
-            if making.wanted.size.unwrap_or(0) > Tree::MAX_BYTES {
+            if making.wanted.size.unwrap_or(0) > tree.limits().bytes {
                 return Err(Status::FBig);
             }
             judge_new(tree, making.place.number)

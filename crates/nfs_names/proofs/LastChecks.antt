@@ -6,6 +6,7 @@ use Rattle.nfs_xdr.specs.{Checks.first_fault, declared.status.Status.TheVariants
 use Rattle.nfs_xdr.proofs.Checks.{all_passed}
 use Rattle.nfs_compound.specs.{declared.name_args.Create.Create, declared.name_args.CreateType.CreateType, declared.name_args.Rename.Rename}
 use Rattle.nfs_compound.specs.declared.name_args.CreateType.TheVariants.{Block, Character, Symlink, Other}
+use Rattle.nfs_tree.specs.declared.limits.Limits.{Limits}
 use Rattle.nfs_tree.specs.{Files.{most_text, is_name, is_there, is_directory_at, has_name}, Create.{create_checks, is_bad_text, is_too_big}}
 use Rattle.nfs_tree.specs.{Names.{link_checks, remove_checks, rename_checks}, Object.is_directory}
 use Rattle.nfs_attrs.specs.Permissions.{change_entries}
@@ -17,12 +18,12 @@ use Rattle.nfs_names.specs.Rename as of_rename
 use Rattle.nfs_names.proofs.Found.{current_is, both_is, short_list, short_name}
 
 -- the text of a link is neither empty nor too long
-good_text : (type : CreateType) → text_is (λ n. n == 0) type ≡ false → text_is (nat_lt most_text) type ≡ false
-    → (is_bad_text (new_of type) ≡ false) × (is_too_big (new_of type) ≡ false)
-good_text (Symlink text) full short = (ap not (short_list most_text text full short), short)
-good_text (Block device) full short = (refl, refl)
-good_text (Character device) full short = (refl, refl)
-good_text (Other type) full short = (refl, refl)
+good_text : (limits : Limits) (type : CreateType) → text_is (λ n. n == 0) type ≡ false → text_is (nat_lt most_text) type ≡ false
+    → (is_bad_text (new_of type) ≡ false) × (is_too_big limits (new_of type) ≡ false)
+good_text limits (Symlink text) full short = (ap not (short_list most_text text full short), short)
+good_text limits (Block device) full short = (refl, refl)
+good_text limits (Character device) full short = (refl, refl)
+good_text limits (Other type) full short = (refl, refl)
 
 pub create_last : (s : State) (x : Context) (c : Create) (d : Node) → current s x ≡ Ok d → first_fault (place_checks x c d) ≡ None
     → first_fault (by_tree (create_checks s.tree d.number c.objname (new_of c.objtype)))
@@ -31,7 +32,7 @@ create_last s x c d found placed =
     let is = current_is s x d found in
     let places = all_passed (place_checks x c d) placed in
     let names = places.1.1.1.1.1 in
-    let text = good_text c.objtype places.1.1.1.0 places.1.1.1.1.0 in
+    let text = good_text s.tree.limits c.objtype places.1.1.1.0 places.1.1.1.1.0 in
     let there : is_there s.tree d.number ≡ true = is.there in
     let directory : is_directory_at s.tree d.number ≡ true = is.directory ∙ not-false _ places.0 in
     let short : is_name c.objname ≡ true = short_name c.objname names.0 names.1.0 in

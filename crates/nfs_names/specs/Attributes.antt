@@ -10,7 +10,7 @@ abbrev pub links_of : State → Node → ℕ
 links_of s d = if is_directory d.object.kind then 1 else links_in s.tree.rows d.number
 
 abbrev pub about : State → Node → About
-about s d = record { number = d.number; size = length (data_at s.tree d.number); links = links_of s d; instance = s.opens.instance; lease = s.lease }
+about s d = record { number = d.number; size = length (data_at s.tree d.number); links = links_of s d; instance = s.opens.instance; lease = s.lease; most_bytes = s.tree.limits.bytes }
 
 -- those that are asked for, and their values
 abbrev pub attributes_of : State → Mask → Node → Fattr

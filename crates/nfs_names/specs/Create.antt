@@ -9,7 +9,7 @@ use Rattle.nfs_compound.specs.declared.name_args.CreateType.TheVariants.{Symlink
 use Rattle.nfs_results.specs.declared.res.ChangeInfo.{ChangeInfo}
 use Rattle.nfs_results.specs.declared.res.Res.TheVariants as Res
 use Rattle.nfs_tree.specs.{declared.done.Change.Change, declared.sets.Sets.Sets, Object.is_link}
-use Rattle.nfs_tree.specs.Files.{Files, last_count, most_objects, most_text, can_change, has_name, raised}
+use Rattle.nfs_tree.specs.Files.{Files, last_count, most_text, can_change, has_name, raised}
 use Rattle.nfs_tree.specs.Create.{New, new_directory, new_link, with_new}
 use Rattle.nfs_attrs.specs.{declared.set_time.SetTime.SetTime, declared.set_time.SetTime.TheVariants.{Now, Given}, declared.wanted.Wanted.Wanted}
 use Rattle.nfs_attrs.specs.{Mask.{mask_of, trimmed_words}, Permissions.change_entries, Reading.read_attrs, Setting.make_checks}
@@ -48,7 +48,7 @@ place_checks x c d =
 -- whether a directory can get one more object: there is room for it, and neither a counter nor `change` has its last value
 abbrev pub room_checks : Files → ℕ → List (Bool × Status)
 room_checks t d =
-    (nat_le most_objects (length t.objects), NoSpc)
+    (nat_le t.limits.objects (length t.objects), NoSpc)
     ∷ (not (can_change t d && (nat_lt t.last_object last_count && nat_lt t.last_cookie last_count)), ServerFault)
     ∷ []
 

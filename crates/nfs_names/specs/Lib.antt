@@ -1,3 +1,4 @@
+pub mod ServerOwner
 pub mod State
 pub mod Context
 pub mod Outcome

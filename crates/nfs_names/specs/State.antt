@@ -15,7 +15,7 @@ state_of s = record { tree = s.tree; opens = table s.opens; lease = s.lease }
 
 -- a new server's: nothing but the root, and nothing is open
 abbrev pub new_store : Start → Time → State
-new_store start now = record { tree = new_tree start.mode now; opens = no_opens start.instance; lease = start.lease }
+new_store start now = record { tree = new_tree start.mode now start.limits; opens = no_opens start.instance; lease = start.lease }
 
 abbrev pub with_tree : State → Files → State
 with_tree s t = record { tree = t; opens = s.opens; lease = s.lease }

@@ -64,6 +64,7 @@ pub(crate) fn about(store: &Store, node: &Node, size: u64, asked: Mask) -> About
         links,
         instance: store.opens.instance(),
         lease: store.lease,
+        most_bytes: store.tree.limits().bytes,
     }
 }
 

@@ -31,5 +31,5 @@ pub use context::{Caller, Context, Saved};
 pub use making::{Making, attr_set, change_info, status_of, time_of, wanted_of};
 pub use node::Node;
 pub use operation::{moment, name_op};
-pub use start::Start;
+pub use start::{ServerOwner, Start};
 pub use store::Store;

@@ -1,6 +1,6 @@
 //! What operations act on.
 
-ghost use Rattle.std.specs.Prelude.{◌≡◌, false, IfOk};
+ghost use Rattle.std.specs.Prelude.{◌≡◌, true, false, IfOk};
 ghost use Rattle.nfs_tree.specs.Files.{has_row, has_entries};
 ghost use Rattle.nfs_names.specs.State.{state_of, new_store, is_open, is_used, without_unused};
 ghost use Rattle.nfs_names.specs.StoreInvariants.{IsRooted, IsStore, IsStoreBut};
@@ -25,11 +25,11 @@ pub struct Store {
 impl Store {
     /// The store of a new server: nothing but the root, with the mode of its start and three times `now`, and nothing is open. Fails
     /// only for want of memory.
-    pub fn new(alloc: Global, start: Start, now: Time) -> Result<Store, AllocError>
-        ensures state { IfOk result (λ s. state_of s ≡ new_store start now) }
+    pub fn new(alloc: Global, start: &Start, now: Time) -> Result<Store, AllocError>
+        ensures state { IfOk result (λ s. state_of s ≡ new_store start.now now) }
         ensures store { IfOk result (λ s. IsStore (state_of s)) }
     {
-        let tree = Tree::new(alloc, start.mode, now)?;
+        let tree = Tree::new(alloc, start.mode, now, start.limits)?;
         Ok(Store {
             tree,
             opens: Opens::new(alloc, start.instance),

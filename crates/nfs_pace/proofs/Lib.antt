@@ -1,2 +1,4 @@
+mod Found
+mod Seats
 mod Sums
 mod WrongClocks

@@ -1,3 +1,5 @@
 pub mod Paced
 pub mod Laws
 pub mod Worked
+pub mod Places
+pub mod Seated

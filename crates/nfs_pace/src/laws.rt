@@ -2,6 +2,7 @@
 
 ghost use Rattle.nfs_pace.specs.Paced.{risen};
 ghost use Rattle.nfs_pace.specs.Laws.{AlwaysAddsUp, KeepsWhoRenews};
+ghost use Rattle.nfs_pace.specs.Seated.{KeepsSeats, SeatsAreHad};
 ghost use Rattle.nfs_pace.specs.Worked.{WorkedRun, WrongClocks};
 
 /// From one sweep to a later one the clock rises by what passed and a sixteenth of it at most, and by a sixteenth of a lease a sweep.
@@ -22,4 +23,17 @@ pub fn keeps_who_renews()
 pub fn wrong_clocks_are_refused()
     ensures worked { WorkedRun }
     ensures wrong { WrongClocks }
+{}
+
+/// Whoever has a seat, or is kept one, has it as long as no more than a lease has passed since a SEQUENCE of it was answered there, whoever comes and
+/// whatever is answered to others.
+#[tactic(auto, using(crate::proofs::Seats::keeps_seats))]
+pub fn keeps_seats()
+    ensures { KeepsSeats }
+{}
+
+/// If one in the hall whose client is known is given no seat, each seat is had by a client, or kept for it, in its lease; and no client has two more than
+/// its own.
+pub fn seats_are_had()
+    ensures { SeatsAreHad }
 {}

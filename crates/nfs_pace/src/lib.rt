@@ -15,5 +15,7 @@
 
 pub mod laws;
 mod paced;
+mod places;
 
 pub use paced::{MICROS, Paced, patience};
+pub use places::{Guest, Places, Seat};

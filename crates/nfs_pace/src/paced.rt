@@ -100,6 +100,13 @@ impl Paced {
         self.last / MICROS
     }
 
+    /// What it showed last.
+    pub fn shown(&self) -> u64
+        ensures { result ≡ self.now.last }
+    {
+        self.last
+    }
+
     /// What was read last.
     pub fn read(&self) -> u64
         ensures { result ≡ self.now.read }

@@ -14,6 +14,8 @@ pub mod SessionStaysWorked
 pub mod SessionMade
 pub mod SessionsOnce
 pub mod SessionsOnceWorked
+pub mod OwnIds
+pub mod OwnIdsWorked
 pub mod SessionsDenied
 pub mod SessionsDeniedWorked
 pub mod NeverExpired

@@ -2,6 +2,7 @@ pub mod AttributesListed
 pub mod AttributesTold
 pub mod Handles
 pub mod LeaseTold
+pub mod LimitsKept
 pub mod LockHeld
 pub mod LockOwners
 pub mod LockStates

@@ -9,6 +9,8 @@ pub mod SessionStays
 pub mod SessionStaysWorked
 pub mod SessionsOnce
 pub mod SessionsOnceWorked
+pub mod OwnIds
+pub mod OwnIdsWorked
 pub mod SessionsDenied
 pub mod SessionsDeniedWorked
 pub mod NeverExpired

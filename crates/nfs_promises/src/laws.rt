@@ -57,6 +57,8 @@ pub use calls::each_form_runs_records;
 pub use calls::each_makes_one_session;
 pub use calls::each_session_was_made;
 pub use calls::exchange_id;
+pub use calls::ids_are_ones;
+pub use calls::ids_are_own;
 pub use calls::lease_is_told;
 pub use calls::next_number_makes_a_session;
 pub use calls::nothing_is_lost;

@@ -1,4 +1,4 @@
--- How many bytes the result of an operation takes at most, from its operation number on (RFC 8881 section 2.10.6.4; this server's profile).
+-- How many bytes the result of an operation behind a SEQUENCE takes at most, from its operation number on (RFC 8881 section 2.10.6.4; this server's profile).
 use Rattle.std.specs.Prelude.{ℕ, ◌+◌, ◌*◌, length, nat_lt, Option, Some, None, if◌then◌else◌}
 use Rattle.nfs_xdr.specs.{Spelling.padding, Limits.most_transfer}
 use Rattle.nfs_compound.specs.declared.op_num.OpNum.TheVariants as Num

@@ -1,4 +1,5 @@
--- The results that an operation of this server may have, by their sizes.
+-- The results that an operation of this server may have behind a SEQUENCE, by their sizes. EXCHANGE_ID is refused there: its answer outside a session is
+-- as long as the server's name makes it.
 use Rattle.std.specs.Prelude.{◌≡◌, ℕ, ◌≤◌, length, None}
 use Rattle.nfs_xdr.specs.Limits.{opaque_limit}
 use Rattle.nfs_compound.specs.{declared.op.Item.Item, declared.op.Item.TheVariants.{Operation, Fault}}

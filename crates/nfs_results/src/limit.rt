@@ -13,8 +13,8 @@ ghost use Rattle.nfs_results.specs.MayAnswer as may_answer;
 use nfs_compound::{Item, Op};
 use nfs_xdr::MAX_TRANSFER;
 
-/// How many bytes the result of an operation takes at most, from its operation number on (this server's
-/// profile). A refusal always fits.
+/// How many bytes the result of an operation behind a SEQUENCE takes at most, from its operation number on
+/// (this server's profile). A refusal always fits.
 pub fn largest(item: &Item<'_>) -> u64
     ensures value { result ≡ limit.largest item.now }
     ensures within { (r : Res) → HasArrays r → may_answer.MayAnswer item.now r → length (spell_result r) ≤ result }

@@ -1,12 +1,14 @@
 //! A server: records, connections and scripts over one state.
 
 ghost use Rattle.std.specs.Prelude.{◌≡◌, ◌≢◌, ◌≤◌, [], false, IfOk, OnErr, replicate};
+ghost use Rattle.nfs_tree.specs.Limits.{profile};
 ghost use Rattle.nfs_exec.specs.Step.Held.{held};
 ghost use Rattle.nfs_exec.specs.Step.Machine.{IsMachine, HasNoClashes};
 ghost use Rattle.nfs_serve.specs.Server.{fresh, held_on, IsWith, Steps, FeedsOn, Closes, IsNew, state_of};
 ghost use Rattle.nfs_serve.specs.Replay.{IsReplay};
 ghost use Rattle.nfs_serve.specs.Talk.{Talks, TalkReports};
 ghost use Rattle.nfs_serve.specs.Hub.{Serves};
+ghost use Rattle.nfs_names.specs.ServerOwner.{usual_owner};
 ghost use Rattle.nfs_serve.specs.Script.{last_moment, last_connection, connection_count};
 
 use crate::connection::Connection;
@@ -21,7 +23,8 @@ use crate::script::{Entry, LAST_CONNECTION, MAX_PIECE};
 use crate::talking::{Talk, converse};
 use crate::{BufSource, Clock, Ports, Sink, Source, Watch};
 use nfs_exec::Held;
-use nfs_names::Start;
+use nfs_names::{ServerOwner, Start};
+use nfs_tree::Limits;
 use std::alloc::{AllocError, Global};
 use std::marker::Model;
 
@@ -61,17 +64,20 @@ impl Model for Server {
 }
 
 impl Server {
-    /// A server that is started with these settings. `instance` marks it off from other starts of the server. `AllocError` where
-    /// memory is refused, as in [`Server::starting`].
+    /// A server that is started with these settings, and names itself `nfs41d`. `instance` marks it off from other starts of the
+    /// server. `AllocError` where memory is refused, as in [`Server::starting`].
     pub fn new(alloc: Global, settings: Settings, instance: u32) -> Result<Server, AllocError>
-        ensures { IfOk result (λ s. IsNew (record { mode = settings.root_mode; instance = instance; lease = settings.lease }) s) }
+        ensures { IfOk result (λ s. IsNew (record { mode = settings.root_mode; instance = instance; lease = settings.lease; limits = profile; owner = usual_owner }) s) }
     {
+        let owner = ServerOwner::of(alloc, b"nfs41d")?;
         Server::starting(
             alloc,
             Start {
                 mode: settings.root_mode,
                 instance,
                 lease: settings.lease,
+                limits: Limits::PROFILE,
+                owner,
             },
         )
     }

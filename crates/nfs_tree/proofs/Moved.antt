@@ -164,6 +164,7 @@ tree_moved t m now is granted go condition =
       cookies = IsRising-push (λ (r : Row). r.cookie) 3 (t.last_cookie + 1) (t.last_cookie + 1 + 1) (without_entry m.source m.old left.rows) to refl refl
           (IsRising-filter (λ (r : Row). r.cookie) (λ r. not (is_entry m.source m.old r)) 3 (t.last_cookie + 1) left.rows is_left.cookies);
       counters = (is.counters.0, (let less = can.cookie in omega arith));
+      limits = is.limits;
       few = is.few;
       sized = is.sized;
       root = is.root;

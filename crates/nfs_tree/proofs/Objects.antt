@@ -3,9 +3,10 @@ use Rattle.std.proofs.Common.{◌≡◌, ◌≢◌, ℕ, ◌<◌, ◌≤◌, ltb
 use Rattle.std.proofs.{Common.{Option, Some, None, refl, sym, ◌∙◌, ap, subst, arith}, lemmas.Bool.{eqb-true, eq-eqb, ne_eqb, ltb-true}}
 use Rattle.std.proofs.{lemmas.List.Elements.All-from_recursion, lemmas.List.{get_or-map, length-map}}
 use Rattle.std.specs.{Prelude.{◌==◌, filter, option_map, is_some}, Option.option_map_or}
-use Rattle.nfs_xdr.specs.{declared.time.Time.Time, Tables.{IsRising, In}}
+use Rattle.nfs_xdr.specs.{declared.time.Time.Time, Tables.{IsRising}}
 use Rattle.nfs_xdr.proofs.{Lists.{find_map, find_in, find_past, find_push_some, find_push_none}, Tables.{all_one, at_above, in_bounds, none_below}}
 use Rattle.nfs_tree.specs.{declared.sets.Sets.Sets, declared.stored.Stored.Stored, Object.{is_directory, changed}}
+use Rattle.nfs_tree.specs.declared.limits.Limits.{Limits}
 use Rattle.nfs_tree.specs.{Files.{last_count, most_of, stored_in, change_at, with_changed}, Calls.CanChange}
 
 -- the object of a number is a directory
@@ -13,23 +14,25 @@ abbrev pub is_directory_in : List Stored → ℕ → Bool
 is_directory_in objects n = option_map_or (λ s. is_directory s.object.kind) (stored_in objects n) false
 
 -- an object has no more bytes than its type may have
-abbrev pub IsSized : Stored → Type 0
-IsSized s = length s.bytes ≤ most_of s.object.kind
+abbrev pub IsSized : Limits → Stored → Type 0
+IsSized limits s = length s.bytes ≤ most_of limits s.object.kind
 
--- a change of objects that keeps numbers, types and bounds of bytes
+-- a change of objects that keeps numbers and types
 pub record Keeps (objects : List Stored) (f : Stored → Stored) : Type 0 where
   pub number : (s : Stored) → (f s).number ≡ s.number
   pub kind : (s : Stored) → (f s).object.kind ≡ s.object.kind
-  pub sized : (s : Stored) → In s objects → IsSized s → IsSized (f s)
 
 pub keeps_changed : (n : ℕ) (now : Time) (sets : Sets) (objects : List Stored) → Keeps objects (change_at n now sets)
 keeps_changed n now sets objects = record {
   number = λ s. elim (s.number == n) as (λ v. (cond v (record s { object = changed now sets s.object }) s).number ≡ s.number) [ true ↦ refl | false ↦ refl ];
   kind = λ s. elim (s.number == n) as (λ v. (cond v (record s { object = changed now sets s.object }) s).object.kind ≡ s.object.kind)
       [ true ↦ refl | false ↦ refl ];
-  sized = λ s is sized. elim (s.number == n) as (λ v. IsSized (cond v (record s { object = changed now sets s.object }) s))
-      [ true ↦ sized | false ↦ sized ];
 }
+
+-- .. and bounds of bytes
+pub sized_changed : (limits : Limits) (n : ℕ) (now : Time) (sets : Sets) (s : Stored) → IsSized limits s → IsSized limits (change_at n now sets s)
+sized_changed limits n now sets s sized = elim (s.number == n) as (λ v. IsSized limits (cond v (record s { object = changed now sets s.object }) s))
+    [ true ↦ sized | false ↦ sized ]
 
 pub stored_map : (objects : List Stored) (f : Stored → Stored) (n : ℕ)
     → ((s : Stored) → (f s).number ≡ s.number) → stored_in (map f objects) n ≡ option_map f (stored_in objects n)

@@ -7,7 +7,7 @@ use Rattle.std.specs.{Prelude.{nat_le, ◌==◌, is_some}, List.list_any, Option
 use Rattle.nfs_xdr.proofs.{Checks.all_passed, Lists.in_push, Tables.IsRising-push}
 use Rattle.nfs_xdr.specs.{Tables.In, declared.time.Time.Time}
 use Rattle.nfs_tree.specs.{declared.row.Row.Row, declared.sets.Sets.Sets, declared.stored.Stored.Stored, Object.{is_directory, no_sets, modified}}
-use Rattle.nfs_tree.specs.Files.{Files, root, last_count, most_objects, most_links, is_name, stored_in, is_there}
+use Rattle.nfs_tree.specs.Files.{Files, root, last_count, most_links, is_name, stored_in, is_there}
 use Rattle.nfs_tree.specs.Files.{is_directory_at, can_change, entry, has_row, links_in, change_at, with_entries_changed, with_links_changed}
 use Rattle.nfs_tree.specs.Calls.{IsReached, create_fault, link_fault}
 use Rattle.nfs_tree.specs.Create.{New, new_object, is_bad_text, is_too_big, create_checks, with_new}
@@ -35,13 +35,14 @@ tree_put_row t to is cookie less can = record {
   cookies = IsRising-push (λ (r : Row). r.cookie) 3 (t.last_cookie + 1) (t.last_cookie + 1 + 1) t.rows to cookie refl is.cookies;
   counters = (is.counters.0, omega arith);
   few = is.few;
+  limits = is.limits;
   sized = is.sized;
   root = is.root;
   rows = rows_put t.rows (λ n. is_directory_at t n) (λ n. is_there t n) to is.rows can;
 }
 
 pub tree_put_object : (t : Files) (x : Stored) → IsTree t → x.number ≡ t.last_object + 1
-    → t.last_object < last_count → length t.objects < most_objects → IsSized x
+    → t.last_object < last_count → length t.objects < t.limits.objects → IsSized t.limits x
     → IsTree (record t { objects = t.objects ++ x ∷ []; last_object = t.last_object + 1 })
 tree_put_object t x is number less room sized =
     let more = t.objects ++ x ∷ [] in
@@ -53,7 +54,8 @@ tree_put_object t x is number less room sized =
       cookies = is.cookies;
       counters = (omega arith, is.counters.1);
       few = (let l : length more ≡ length t.objects + 1 = length-append t.objects (x ∷ []) in omega arith);
-      sized = λ s there. elim (in_push t.objects x s there) [ inl new ↦ subst IsSized (sym new) sized | inr old ↦ is.sized s old ];
+      limits = is.limits;
+      sized = λ s there. elim (in_push t.objects x s there) [ inl new ↦ subst (IsSized t.limits) (sym new) sized | inr old ↦ is.sized s old ];
       root = directory root (directory_there t root is.root) ∙ is.root;
       rows = rows_same t.rows (λ n. is_directory_at t n) (λ n. is_there t n) (λ n. is_directory_in more n) (λ n. is_some (stored_in more n)) is.rows
           (λ r there. directory r.directory (stands r there)) (λ r there. directory r.object (is.rows.names r there))
@@ -133,8 +135,8 @@ pub record CreateGranted (t : Files) (d : ℕ) (name : List ℕ) (new : New) : T
   pub short : is_name name ≡ true
   pub good : is_bad_text new ≡ false
   pub vacant : entry t.rows d name ≡ None
-  pub small : is_too_big new ≡ false
-  pub room : length t.objects < most_objects
+  pub small : is_too_big t.limits new ≡ false
+  pub room : length t.objects < t.limits.objects
   pub change : can_change t d ≡ true
   pub object : t.last_object < last_count
   pub cookie : t.last_cookie < last_count
@@ -150,7 +152,7 @@ create_granted t d name new e =
       good = checks.1.1.1.0;
       vacant = vacant_of _ checks.1.1.1.1.0;
       small = checks.1.1.1.1.1.0;
-      room = more_than most_objects (length t.objects) checks.1.1.1.1.1.1.0;
+      room = more_than t.limits.objects (length t.objects) checks.1.1.1.1.1.1.0;
       change = change.0;
       object = ltb-true _ _ rest.0;
       cookie = ltb-true _ _ rest.1;
@@ -168,8 +170,8 @@ tree_created t d name new sets now is granted condition =
     let is_one : IsTree one = tree_changed t d now (modified now no_sets) is in
     let x : Stored = record { number = t.last_object + 1; object = new_object now new sets; bytes = new.bytes } in
     let two = record one { objects = one.objects ++ x ∷ []; last_object = t.last_object + 1 } in
-    let room : length one.objects < most_objects =
-    subst (λ l. l < most_objects) (sym (length-map t.objects (change_at d now (modified now no_sets)))) can.room in
+    let room : length one.objects < t.limits.objects =
+    subst (λ l. l < t.limits.objects) (sym (length-map t.objects (change_at d now (modified now no_sets)))) can.room in
     let is_two : IsTree two = tree_put_object one x is_one refl can.object room (ltb-false _ _ can.small) in
     let kind = directory_map t.objects (change_at d now (modified now no_sets)) d (keeps_changed d now (modified now no_sets) t.objects) ∙ can.directory in
     let pushed = stored_push one.objects x d (directory_there one d kind) in

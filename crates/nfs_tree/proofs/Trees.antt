@@ -1,29 +1,36 @@
 -- Each call's tree keeps what every tree keeps.
 use Rattle.std.proofs.Common.{◌≡◌, ◌≢◌, ℕ, ◌+◌, true, false, not, List, map, Option, Some, None, refl, sym, ◌∙◌, ap, subst, arith}
-use Rattle.std.proofs.{lemmas.Bool.{and_parts, eq-eqb, not-false, false≢true}, lemmas.List.length-map}
-use Rattle.std.specs.{Prelude.{◌==◌, filter, option_map, is_some, unwrap_or}, Option.option_map_or}
+use Rattle.std.proofs.{lemmas.Bool.{and_from, and_parts, le-leb, eq-eqb, not-false, false≢true}, lemmas.List.length-map}
+use Rattle.std.specs.{Prelude.{◌==◌, max, min, filter, option_map, is_some, unwrap_or}, Option.option_map_or}
 use Rattle.nfs_xdr.specs.{Tables.In, declared.time.Time.Time}
 use Rattle.nfs_xdr.proofs.{Lists.{in_filter, in_map, find_in, length_filter, any_in}, Tables.{IsRising-map, IsRising-filter}, Checks.all_passed}
 use Rattle.nfs_tree.specs.{declared.row.Row.Row, declared.sets.Sets.Sets, declared.stored.Stored.Stored, Object.{is_directory, no_sets, modified}}
+use Rattle.nfs_tree.specs.{declared.limits.Limits.Limits, Limits.{bounded, is_limits}}
 use Rattle.nfs_tree.specs.Files.{Files, root, stored_in, is_there, is_directory_at, can_change, is_entry, with_links_changed, without_entry}
 use Rattle.nfs_tree.specs.Files.{entry, has_name, number_named, has_row, has_entries, change_at, with_changed, with_entries_changed}
 use Rattle.nfs_tree.specs.{Names.{forget, remove_checks, without_name}, Calls.{remove_fault, set_checks, set_fault}, TreeInvariants.IsTree}
 use Rattle.nfs_tree.proofs.RowsKept.{rows_same, rows_dropped, no_entries, no_row, only_entry, entry_parts}
-use Rattle.nfs_tree.proofs.Objects.{IsSized, Keeps, is_directory_in, keeps_changed, there_map, directory_map, stored_dropped}
+use Rattle.nfs_tree.proofs.Objects.{IsSized, Keeps, is_directory_in, keeps_changed, sized_changed, there_map, directory_map, stored_dropped}
+
+-- a tree can have those that it is given
+pub bounded_is : (l : Limits) → is_limits (bounded l) ≡ true
+bounded_is l = and_from _ _ (le-leb 1 (max l.objects 1) (omega arith)) (le-leb (min l.bytes 1099511627776) 1099511627776 (omega arith))
 
 -- the same of parts that are equal to those
-pub tree_of : (t : Files) → IsTree t → (objects : List Stored) (rows : List Row) (n k : ℕ)
-    → objects ≡ t.objects → rows ≡ t.rows → n ≡ t.last_object → k ≡ t.last_cookie
-    → IsTree (record { objects = objects; rows = rows; last_object = n; last_cookie = k })
-tree_of t is objects rows n k eo er en ek = rw (eo, er, en, ek) is
+pub tree_of : (t : Files) → IsTree t → (objects : List Stored) (rows : List Row) (n k : ℕ) (limits : Limits)
+    → objects ≡ t.objects → rows ≡ t.rows → n ≡ t.last_object → k ≡ t.last_cookie → limits ≡ t.limits
+    → IsTree (record { objects = objects; rows = rows; last_object = n; last_cookie = k; limits = limits })
+tree_of t is objects rows n k limits eo er en ek el = rw (eo, er, en, ek, el) is
 
-pub tree_mapped : (t : Files) (f : Stored → Stored) → IsTree t → Keeps t.objects f → IsTree (record t { objects = map f t.objects })
-tree_mapped t f is keeps = record {
+pub tree_mapped : (t : Files) (f : Stored → Stored) → IsTree t → Keeps t.objects f
+    → ((s : Stored) → In s t.objects → IsSized t.limits s → IsSized t.limits (f s)) → IsTree (record t { objects = map f t.objects })
+tree_mapped t f is keeps sized = record {
   objects = IsRising-map (λ (s : Stored). s.number) f keeps.number root (t.last_object + 1) t.objects is.objects;
   cookies = is.cookies;
   counters = is.counters;
   few = rw (length-map t.objects f) is.few;
-  sized = λ s there. let old = in_map f t.objects s there in subst IsSized (sym old.2) (keeps.sized old.0 old.1 (is.sized old.0 old.1));
+  limits = is.limits;
+  sized = λ s there. let old = in_map f t.objects s there in subst (IsSized t.limits) (sym old.2) (sized old.0 old.1 (is.sized old.0 old.1));
   root = directory_map t.objects f root keeps ∙ is.root;
   rows = rows_same t.rows (λ n. is_directory_at t n) (λ n. is_there t n)
       (λ n. is_directory_in (map f t.objects) n) (λ n. is_some (stored_in (map f t.objects) n)) is.rows
@@ -32,7 +39,7 @@ tree_mapped t f is keeps = record {
 }
 
 pub tree_changed : (t : Files) (n : ℕ) (now : Time) (sets : Sets) → IsTree t → IsTree (record t { objects = with_changed n now sets t.objects })
-tree_changed t n now sets is = tree_mapped t (change_at n now sets) is (keeps_changed n now sets t.objects)
+tree_changed t n now sets is = tree_mapped t (change_at n now sets) is (keeps_changed n now sets t.objects) (λ s there. sized_changed t.limits n now sets s)
 
 pub tree_forgets : (t : Files) (n : ℕ) → IsTree t → has_row t.rows n ≡ false → has_entries t.rows n ≡ false → n ≢ root → IsTree (forget t n)
 tree_forgets t n is unnamed empty other =
@@ -44,6 +51,7 @@ tree_forgets t n is unnamed empty other =
       objects = IsRising-filter (λ (s : Stored). s.number) (λ s. not (s.number == n)) root (t.last_object + 1) t.objects is.objects;
       cookies = is.cookies;
       counters = is.counters;
+      limits = is.limits;
       few = (let le = length_filter (λ (s : Stored). not (s.number == n)) t.objects in let most = is.few in omega arith);
       sized = λ s there. is.sized s (in_filter (λ (s : Stored). not (s.number == n)) t.objects s there).0;
       root = ap (λ o. option_map_or (λ (s : Stored). is_directory s.object.kind) o false) (same root (λ e. other (sym e))) ∙ is.root;
@@ -97,6 +105,7 @@ tree_dropped t d name is empty = record {
   cookies = IsRising-filter (λ (r : Row). r.cookie) (λ r. not (is_entry d name r)) 3 (t.last_cookie + 1) t.rows is.cookies;
   counters = is.counters;
   few = is.few;
+  limits = is.limits;
   sized = is.sized;
   root = is.root;
   rows = rows_dropped t.rows (λ n. is_directory_at t n) (λ n. is_there t n) d name

@@ -1,15 +1,15 @@
 -- What each call of a tree answers and leaves. A refusal leaves the tree; want of memory is answered only where the call grows, and leaves it too.
 use Rattle.std.specs.Prelude.{◌≡◌, Bool, true, Option, Some, None, Result, Ok, Err, IsOk, ◌||◌, All, ℕ, ◌==◌, ◌<◌, false, List, ◌+◌, if◌then◌else◌, nat_lt, not}
-use Rattle.std.specs.{Prelude.{◌&&◌, [], ◌∷◌, length}, Option.option_map_or}
+use Rattle.std.specs.{Prelude.{◌&&◌, [], ◌∷◌}, Option.option_map_or}
 use Rattle.nfs_xdr.specs.{Checks.first_fault, declared.time.Time.Time}
 use Rattle.nfs_tree.specs.{declared.fault.TreeFault.TreeFault, declared.fault.TreeFault.TheVariants.{Memory, NoEnt, IsDir, Inval, Fbig, Counter}}
-use Rattle.nfs_tree.specs.Files.{Files, root, last_count, stored_in, is_directory_at, has_row, raised, object_named, number_named, unraised, most_bytes}
+use Rattle.nfs_tree.specs.Files.{Files, root, last_count, stored_in, is_directory_at, has_row, raised, object_named, number_named, unraised}
 use Rattle.nfs_tree.specs.Files.{is_there, can_change}
 use Rattle.nfs_tree.specs.{Files.with_changed, declared.stored.Stored.Stored, Object.is_regular, Create.{New, new_file, new_directory, new_link, create_checks, with_new}}
 use Rattle.nfs_tree.specs.{declared.sets.Sets.Sets, declared.create.New.{New as Code}, declared.done.Created.Created}
 use Rattle.nfs_tree.specs.{Names.{link_checks, with_link, remove_checks, without_name, Move, moves, rename_checks, with_moved}, declared.rename.Place.Place}
 use Rattle.nfs_tree.specs.{declared.done.Change.Change, declared.done.Removed.Removed, declared.done.Renamed.Renamed}
-use Rattle.nfs_tree.specs.Bytes.{with_written, has_bytes, with_resized}
+use Rattle.nfs_tree.specs.Bytes.{with_written, has_bytes, is_too_long, with_resized}
 use Rattle.nfs_tree.specs.declared.create.New.TheVariants as code
 
 pub record Did (A : Type 0) : Type 0 where
@@ -91,7 +91,7 @@ write_checks t n offset text =
     (not (is_there t n), NoEnt)
     ∷ (is_directory_at t n, IsDir)
     ∷ (not (is_regular_at t n), Inval)
-    ∷ (has_bytes text && nat_lt most_bytes (offset + length text), Fbig)
+    ∷ (has_bytes text && is_too_long t offset text, Fbig)
     ∷ (has_bytes text && not (can_change t n), Counter)
     ∷ []
 
@@ -107,7 +107,7 @@ resize_checks t n size =
     (not (is_there t n), NoEnt)
     ∷ (is_directory_at t n, IsDir)
     ∷ (not (is_regular_at t n), Inval)
-    ∷ (nat_lt most_bytes size, Fbig)
+    ∷ (nat_lt t.limits.bytes size, Fbig)
     ∷ (not (can_change t n), Counter)
     ∷ []
 

@@ -3,8 +3,9 @@ use Rattle.std.specs.Prelude.{ℕ, ◌+◌, nat_lt, nat_le, Bool, not, ◌&&◌,
 use Rattle.nfs_xdr.specs.declared.time.Time.{Time}
 use Rattle.nfs_tree.specs.{declared.object.FileType.FileType, declared.object.Object.Object, declared.sets.Sets.Sets, declared.fault.TreeFault.TreeFault}
 use Rattle.nfs_tree.specs.{declared.fault.TreeFault.TheVariants.{NoEnt, Exist, NotDir, Inval, Fbig, NoSpc, Counter}, Object.{is_link, no_sets}}
-use Rattle.nfs_tree.specs.Files.{Files, root, last_count, most_objects, most_text, most_of, is_name, is_there, is_directory_at, has_name, can_change}
+use Rattle.nfs_tree.specs.Files.{Files, root, last_count, most_text, most_of, is_name, is_there, is_directory_at, has_name, can_change}
 use Rattle.nfs_tree.specs.Files.{with_entries_changed}
+use Rattle.nfs_tree.specs.{declared.limits.Limits.Limits, Limits.bounded}
 use Rattle.nfs_tree.specs.declared.object.FileType.TheVariants.{Regular, Directory, Link}
 
 -- What is made: its type, the bytes that it begins with, and the verifier of an exclusive create.
@@ -38,12 +39,13 @@ new_object now new sets = record {
 }
 
 -- a tree of nothing but the root
-abbrev pub new_tree : ℕ → Time → Files
-new_tree mode now = record {
+abbrev pub new_tree : ℕ → Time → Limits → Files
+new_tree mode now limits = record {
   objects = record { number = root; object = new_object now new_directory (record no_sets { mode = Some mode }); bytes = [] } ∷ [];
   rows = [];
   last_object = root;
   last_cookie = 2;
+  limits = bounded limits;
 }
 
 -- a symbolic link's text that is empty or too long
@@ -51,13 +53,13 @@ abbrev pub is_bad_text : New → Bool
 is_bad_text new = is_link new.kind && not (nat_lt 0 (length new.bytes) && nat_le (length new.bytes) most_text)
 
 -- more bytes than an object of the type may have
-abbrev pub is_too_big : New → Bool
-is_too_big new = nat_lt (most_of new.kind) (length new.bytes)
+abbrev pub is_too_big : Limits → New → Bool
+is_too_big limits new = nat_lt (most_of limits new.kind) (length new.bytes)
 
 -- whether a directory can get one more object
 abbrev pub room_checks : Files → ℕ → List (Bool × TreeFault)
 room_checks t d =
-    (nat_le most_objects (length t.objects), NoSpc)
+    (nat_le t.limits.objects (length t.objects), NoSpc)
     ∷ (not (can_change t d && (nat_lt t.last_object last_count && nat_lt t.last_cookie last_count)), Counter)
     ∷ []
 
@@ -68,12 +70,12 @@ create_checks t d name new =
     ∷ (not (is_name name), Inval)
     ∷ (is_bad_text new, Inval)
     ∷ (has_name t d name, Exist)
-    ∷ (is_too_big new, Fbig)
+    ∷ (is_too_big t.limits new, Fbig)
     ∷ room_checks t d
 
 -- the directory changes, and the new object and its row get the next number and cookie
 abbrev pub with_new : Files → ℕ → List ℕ → New → Sets → Time → Files
-with_new t d name new sets now = record {
+with_new t d name new sets now = record t {
   objects = with_entries_changed d now t.objects ++ record { number = t.last_object + 1; object = new_object now new sets; bytes = new.bytes } ∷ [];
   rows = t.rows ++ record { directory = d; name = name; object = t.last_object + 1; cookie = t.last_cookie + 1 } ∷ [];
   last_object = t.last_object + 1;

@@ -3,33 +3,29 @@ use Rattle.std.specs.Prelude.{ℕ, ◌==◌, nat_lt, nat_le, Bool, false, not, �
 use Rattle.std.specs.{Prelude.{unwrap_or, bytes_eq, ◌+◌}, List.list_any, Option.option_map_or}
 use Rattle.nfs_xdr.specs.declared.time.Time.{Time}
 use Rattle.nfs_tree.specs.{declared.object.FileType.FileType, declared.object.FileType.TheVariants.{Regular, Directory, Link}}
+use Rattle.nfs_tree.specs.declared.limits.Limits.{Limits}
 use Rattle.nfs_tree.specs.{declared.object.Object.Object, declared.row.Row.Row, declared.sets.Sets.Sets, declared.stored.Stored.Stored}
 use Rattle.nfs_tree.specs.{Object.{is_directory, changed, modified, no_sets}, declared.done.Change.Change}
 
--- Objects in rising order of their numbers, rows in rising order of their cookies, and the last number of each kind that was given.
+-- Objects in rising order of their numbers, rows in rising order of their cookies, the last number of each kind that was given, and how much there may be.
 pub record Files : Type 0 where
   pub objects : List Stored
   pub rows : List Row
   pub last_object : ℕ
   pub last_cookie : ℕ
+  pub limits : Limits
 
 -- the number of the root
 abbrev pub root : ℕ
 root = 1
 
--- Limits (this server's profile): the last value of a counter and of `change`; objects, the root among them; rows that name one object; bytes of a file;
+-- Limits (this server's profile): the last value of a counter and of `change`; rows that name one object;
 -- bytes of a name; bytes of a symbolic link's text.
 abbrev pub last_count : ℕ
 last_count = 0xffff_ffff_ffff_ffff
 
-abbrev pub most_objects : ℕ
-most_objects = 65536
-
 abbrev pub most_links : ℕ
 most_links = 1024
-
-abbrev pub most_bytes : ℕ
-most_bytes = 1048576
 
 abbrev pub most_name : ℕ
 most_name = 255
@@ -38,10 +34,10 @@ abbrev pub most_text : ℕ
 most_text = 1024
 
 -- the most bytes that an object of a type may have
-abbrev pub most_of : FileType → ℕ
-most_of Regular = most_bytes
-most_of Directory = 0
-most_of Link = most_text
+abbrev pub most_of : Limits → FileType → ℕ
+most_of l Regular = l.bytes
+most_of l Directory = 0
+most_of l Link = most_text
 
 -- a name that a row can have
 abbrev pub is_name : List ℕ → Bool

@@ -2,7 +2,8 @@
 use Rattle.std.specs.Prelude.{◌≡◌, ◌≢◌, ℕ, ◌+◌, ◌≤◌, zero, suc, Bool, true, List, length, Some}
 use Rattle.nfs_tree.specs.declared.row.Row.{Row}
 use Rattle.nfs_tree.specs.declared.stored.Stored.{Stored}
-use Rattle.nfs_tree.specs.Files.{Files, root, last_count, most_objects, most_links, most_of, is_name, entry, is_there, is_directory_at, links_in}
+use Rattle.nfs_tree.specs.Limits.{is_limits}
+use Rattle.nfs_tree.specs.Files.{Files, root, last_count, most_links, most_of, is_name, entry, is_there, is_directory_at, links_in}
 use Rattle.nfs_xdr.specs.Tables.{IsRising, In}
 
 -- n rows lead from the root down to d
@@ -29,8 +30,10 @@ pub record IsTree (t : Files) : Type 0 where
   pub objects : IsRising (λ s. s.number) root t.objects (t.last_object + 1)
   pub cookies : IsRising (λ r. r.cookie) 3 t.rows (t.last_cookie + 1)
   pub counters : (t.last_object ≤ last_count) × (t.last_cookie ≤ last_count)
-  pub few : length t.objects ≤ most_objects
+  pub few : length t.objects ≤ t.limits.objects
   -- an object has no more bytes than its type may have
-  pub sized : (s : Stored) → In s t.objects → length s.bytes ≤ most_of s.object.kind
+  pub sized : (s : Stored) → In s t.objects → length s.bytes ≤ most_of t.limits s.object.kind
+  -- what the representation allows
+  pub limits : is_limits t.limits ≡ true
   pub root : is_directory_at t root ≡ true
   pub rows : AreRows t.rows (λ n. is_directory_at t n) (λ n. is_there t n)

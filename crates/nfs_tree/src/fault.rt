@@ -20,9 +20,9 @@ pub enum TreeFault {
     NotEmpty,
     /// NFS4ERR_INVAL: a name or a text of a length that none has; bytes of a symbolic link; a directory moved below itself.
     Inval,
-    /// NFS4ERR_FBIG: a file of more than 1,048,576 bytes.
+    /// NFS4ERR_FBIG: a file of more bytes than the limits allow.
     Fbig,
-    /// NFS4ERR_NOSPC: there are 65,536 objects.
+    /// NFS4ERR_NOSPC: there are as many objects as the limits allow.
     NoSpc,
     /// NFS4ERR_MLINK: the object has 1,024 names.
     Mlink,

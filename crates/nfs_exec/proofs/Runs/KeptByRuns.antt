@@ -141,7 +141,7 @@ whole_events m (e ∷ more) is = whole_events (stepped m e) more (whole_event m 
 -- nothing but the root, and nothing is open
 pub start_whole : (start : Start) → Is (starts start)
 start_whole start = record {
-  tree = tree_new start.mode (moment 0);
+  tree = tree_new start.mode (moment 0) start.limits;
   store = store_at_first start (moment 0);
   table = table_new start.instance;
   few = omega arith;

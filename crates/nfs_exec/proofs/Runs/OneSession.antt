@@ -73,7 +73,7 @@ module _ (n : ℕ) (P : Roster → Type 0) (held : IsCarried n P) where
   all_carried : (m : Machine) (x : Context) → P m.clients → P (of_all m x).machine.clients
   all_carried m x a = elim (cases_Bool (has_reclaimed m.clients x.client)) [
     | inl again ↦ rw again a
-    | inr once ↦ rw once (held.quiet m.clients x.client (λ c. record c { reclaimed = true }) (record { id = λ c. refl; number = λ c. refl; kept = λ c. refl }) a)
+    | inr once ↦ rw once (held.quiet m.clients x.client (λ c. record c { reclaimed = true }) (record { id = λ c. refl; owner = λ c. refl; verifier = λ c. refl; number = λ c. refl; kept = λ c. refl }) a)
   ]
 
   reclaim_carried : (m : Machine) (x : Context) (one : Bool) → P m.clients → P (reclaim_complete m x one).machine.clients
@@ -344,7 +344,7 @@ item_either m declared who now refused c id behind long = go (place_fault declar
     go (Some status) = λ told. absurd (refused_short status id behind long told)
 
 -- behind a compound's head
-behind_head : (a b : Status) (tag : List ℕ) (count : ℕ) (xs ys : List ℕ) → spell_compound_head a tag count ++ xs ≡ spell_compound_head b tag 1 ++ ys → xs ≡ ys
+pub behind_head : (a b : Status) (tag : List ℕ) (count : ℕ) (xs ys : List ℕ) → spell_compound_head a tag count ++ xs ≡ spell_compound_head b tag 1 ++ ys → xs ≡ ys
 behind_head a b tag count xs ys e =
     let n = 8 + length (opaque tag) in
     sym (drop_at (spell_compound_head a tag count) xs n (heads.length_head a tag count))

@@ -41,18 +41,26 @@ after_fewer n number most body t p a = record {
   };
 }
 
--- a change that leaves id, number and what is kept
+-- a change that leaves id, owner, verifier, number and what is kept
 pub record IsQuiet (f : ClientRecord → ClientRecord) : Type 0 where
   pub id : (c : ClientRecord) → (f c).id ≡ c.id
+  pub owner : (c : ClientRecord) → (f c).owner ≡ c.owner
+  pub verifier : (c : ClientRecord) → (f c).verifier ≡ c.verifier
   pub number : (c : ClientRecord) → (f c).number ≡ c.number
   pub kept : (c : ClientRecord) → (f c).kept ≡ c.kept
 
-quiet_at : (f : ClientRecord → ClientRecord) (n : ℕ) → IsQuiet f → IsQuiet (λ c. cond (c.id == n) (f c) c)
+pub quiet_at : (f : ClientRecord → ClientRecord) (n : ℕ) → IsQuiet f → IsQuiet (λ c. cond (c.id == n) (f c) c)
 quiet_at f n q = record {
   id = λ c. elim (c.id == n) as (λ v. (cond v (f c) c).id ≡ c.id) [ true ↦ q.id c | false ↦ refl ];
+  owner = λ c. elim (c.id == n) as (λ v. (cond v (f c) c).owner ≡ c.owner) [ true ↦ q.owner c | false ↦ refl ];
+  verifier = λ c. elim (c.id == n) as (λ v. (cond v (f c) c).verifier ≡ c.verifier) [ true ↦ q.verifier c | false ↦ refl ];
   number = λ c. elim (c.id == n) as (λ v. (cond v (f c) c).number ≡ c.number) [ true ↦ q.number c | false ↦ refl ];
   kept = λ c. elim (c.id == n) as (λ v. (cond v (f c) c).kept ≡ c.kept) [ true ↦ q.kept c | false ↦ refl ];
 }
+
+-- the mark of a confirmation
+quiet_mark : IsQuiet confirms
+quiet_mark = record { id = λ c. refl; owner = λ c. refl; verifier = λ c. refl; number = λ c. refl; kept = λ c. refl }
 
 -- What holds of the records whatever comes that asks for no session of the client.
 pub record IsCarried (n : ℕ) (P : Roster → Type 0) : Type 0 where
@@ -193,7 +201,7 @@ module _ (n : ℕ) (P : Roster → Type 0) (held : IsCarried n P) where
 
   pub carried_confirmed : (t : Roster) (at : ℕ) → P t → P (with_confirmed t at)
   carried_confirmed t at a =
-      held.quiet (without_any t (leaving t at)) at confirms (record { id = λ c. refl; number = λ c. refl; kept = λ c. refl }) (carried_gone t (leaving t at) a)
+      held.quiet (without_any t (leaving t at)) at confirms quiet_mark (carried_gone t (leaving t at) a)
 
 -- What a number comes to.
 

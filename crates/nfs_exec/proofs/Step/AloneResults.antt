@@ -9,7 +9,7 @@ use Rattle.nfs_exec.specs.Step.Compound.{carried_out, first_item}
 use Rattle.nfs_exec.specs.Step.View.{Does, IsSmall}
 use Rattle.nfs_exec.proofs.Step.Terms.{by_fault}
 
-pub small_fits : (sheet : SheetState) (r : Res) → length sheet.bytes + 92 ≤ sheet.room → IsSmall r → HasArrays r → HasRoom sheet (spell_result r)
+pub small_fits : (sheet : SheetState) (r : Res) → length sheet.bytes + 2096 ≤ sheet.room → IsSmall r → HasArrays r → HasRoom sheet (spell_result r)
 small_fits sheet r room small arrays = (let long = small.1 arrays in omega (arith, room, long))
 
 -- a result that was put
@@ -19,6 +19,13 @@ pub put_does : (m left : Machine) (declared : ℕ) (who : Caller) (now : ℕ) (i
 put_does m left declared who now i r s old new is status put =
     subst (λ (t : Status). Does (first_item m declared who now (is_delay t) i) t left old new) (sym status)
     (subst (λ (o : MachineOutcome). Does o (status_of_result r) left old new) is (record { status = refl; machine = refl; put = put }))
+
+-- the same of one operation, whatever its place
+pub result_does : (o : Bool → MachineOutcome) (left : Machine) (r : Res) (s : Status) (old new : SheetState) → with_result left r ≡ o (is_delay (status_of_result r))
+    → s ≡ status_of_result r → Puts old new (spell_result r) → Does (o (is_delay s)) s left old new
+result_does o left r s old new is status put =
+    subst (λ (t : Status). Does (o (is_delay t)) t left old new) (sym status)
+    (subst (λ (u : MachineOutcome). Does u (status_of_result r) left old new) is (record { status = refl; machine = refl; put = put }))
 
 -- an item that cannot stand in the first place
 pub misplaced : (m : Machine) (declared : ℕ) (who : Caller) (now : ℕ) (refused : Bool) (i : Item) (s : Status) → place_fault declared i ≡ Some s →

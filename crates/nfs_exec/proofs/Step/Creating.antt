@@ -27,7 +27,7 @@ pub made_long : (c : CreateSession) (id : SessionId) → length (spell_result (R
 made_long c id = length_result (Operation (Op.CreateSession c)) (Res.CreateSession (session_made c id)) (length_id id) (refl, tt, refl)
 
 pub made_fits : (sheet : SheetState) (c : CreateSession) (id : SessionId) (r : Res)
-    → length sheet.bytes + 92 ≤ sheet.room → r ≡ Res.CreateSession (session_made c id) → HasRoom sheet (spell_result r)
+    → length sheet.bytes + 2096 ≤ sheet.room → r ≡ Res.CreateSession (session_made c id) → HasRoom sheet (spell_result r)
 made_fits sheet c id r room is =
     let long : length (spell_result r) ≤ 92 = subst (λ (r : Res). length (spell_result r) ≤ 92) (sym is) (made_long c id) in
     omega (arith, room, long)

@@ -43,7 +43,7 @@ room_of true case e = refl
 room_of false case e = absurd (no_room case e)
 
 -- a record is added only where an id is left
-adds_below : (t : Roster) (a : Ask) → case_of t a ≡ Adds → counter_of t.last < last_counter
+pub adds_below : (t : Roster) (a : Ask) → case_of t a ≡ Adds → counter_of t.last < last_counter
 adds_below t a e =
     let parts = and_parts (nat_lt (counter_of t.last) last_counter) (is_some (unconfirmed_of t a.owner) || nat_lt (length t.records) most_records)
     (room_of (has_room t a.owner) (case_by a (confirmed_of t a.owner)) e) in
@@ -55,7 +55,7 @@ pub answered_ok : (m : Machine) (who : Caller) (now : ℕ) (e : ExchangeId) (nex
     case_of m.clients (ask_of m who e) ≡ case →
     Ok x ≡ (does m.clients (ask_of m who e) case).answer →
     after ≡ (does m.clients (ask_of m who e) case).after → b ≡ settled (with_lease m.leases next now) next x →
-    with_result (record m { clients = after; leases = b }) (Res.ExchangeId (granted_of x)) ≡ did_exchange m now (does m.clients (ask_of m who e) case)
+    with_result (record m { clients = after; leases = b }) (Res.ExchangeId (granted_of m.owner x)) ≡ did_exchange m now (does m.clients (ask_of m who e) case)
 answered_ok m who now e next x after b (Refuses fault) is none value at answer left book = absurd cc
 answered_ok m who now e next x after b (Stays c) is none value at answer left book =
     let same : x ≡ answer_standing c = cc in

@@ -30,7 +30,7 @@ refused_anyway m now a true fault = refl
 refused_anyway m now a false fault = refl
 
 stands_anyway : (m : Machine) (now : ℕ) (a : Ask) (room : Bool) (c : ClientRecord)
-    → with_result m (Res.ExchangeId (granted c.id c.number true)) ≡ did_exchange m now (does m.clients a (if_room room (Stays c)))
+    → with_result m (Res.ExchangeId (granted m.owner c.id c.number true)) ≡ did_exchange m now (does m.clients a (if_room room (Stays c)))
 stands_anyway m now a true c = refl
 stands_anyway m now a false c = refl
 

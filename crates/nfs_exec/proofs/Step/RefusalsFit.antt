@@ -1,23 +1,26 @@
 -- Refusals are results that a reply can bear, of no more than their largest size.
-use Rattle.std.proofs.Common.{◌≡◌, ℕ, ◌≤◌, zero, suc, Bool, true, false, eqb, leb, ltb, cond, ◌&&◌, ◌||◌, List, [], ◌∷◌, Option, Some, None, refl, sym, ◌∙◌, ap}
+use Rattle.std.proofs.Common.{◌≡◌, ℕ, ◌+◌, ◌≤◌, zero, suc, Bool, true, false, eqb, leb, ltb, cond, ◌&&◌, ◌||◌, List, [], ◌∷◌, Option, Some, None, Result, Ok, Err, refl, sym, ◌∙◌, ap}
 use Rattle.std.proofs.{Common.{subst, arith, inl, inr, length}, lemmas.Bool.{cases_Bool, and_right, le-leb, leb-true, eqb-true, ne_eqb, and_parts}}
 use Rattle.std.proofs.lemmas.List.{length-append, append-nil}
 use Rattle.std.specs.Prelude.{IsTrue, not, is_some}
 use Rattle.nfs_xdr.specs.declared.status.Status.{Status}
 use Rattle.nfs_xdr.specs.declared.status.Status.TheVariants.{NotSupp, Inval, BadXdr, NotOnlyOp, OpNotInSession, SequencePos, RepTooBig, BadSession}
-use Rattle.nfs_xdr.specs.{declared.status.Status.TheVariants.{StaleClientId, ClientIdBusy}, Status.status_number, Spelling.number, Tables.In}
+use Rattle.nfs_xdr.specs.{declared.status.Status.TheVariants.{StaleClientId, ClientIdBusy, NoEnt, NotSame, Perm, ClidInUse, ServerFault, Delay}, Status.status_number, Spelling.number, Tables.In}
 use Rattle.nfs_xdr.specs.Combinators.{listed_at}
 use Rattle.nfs_compound.specs.{declared.op_num.OpNum.OpNum, declared.op_num.OpNum.TheVariants.ExchangeId, OpNum.{op_number, op_nums, op_num}, declared.op.Op.Op}
 use Rattle.nfs_compound.specs.{declared.op.Item.Item, declared.op.Item.TheVariants.{Operation, Fault}, Arguments.arguments, OpCodec.{flaw, fault_of, fault_at}}
 use Rattle.nfs_compound.specs.{Request.{Request, Lists, HasBody, item_number}, ArgCodecs.protected}
-use Rattle.nfs_compound.specs.declared.session_args.ExchangeId.{ExchangeId as ExchangeArgs}
 use Rattle.nfs_compound.proofs.{OpNumLaws.op_between, GrammarLaws.some_answer}
-use Rattle.nfs_results.specs.{Results.{refusal, head, spell_result}, Refusals.{may_return, tells, can_refuse}, Parts.is_legal}
-use Rattle.nfs_results.specs.{declared.res.Res.Res, ResultCodec.IsBounded, Largest.number_of, MayAnswer.MayAnswer, Items.attr_set}
-use Rattle.nfs_results.proofs.Lengths.{length_result, length_head}
+use Rattle.nfs_results.specs.{Results.{refusal, head, spell_result}, Refusals.{may_return, tells, can_refuse}, Parts.{is_legal, parts}}
+use Rattle.nfs_results.specs.{declared.res.Res.Res, ResultCodec.IsBounded, Largest.number_of, MayAnswer.MayAnswer, Items.{attr_set, exchange_id}, declared.res.ExchangeIdOk.ExchangeIdOk}
+use Rattle.nfs_results.proofs.Lengths.{length_result, length_head, length_spelled, lengths}
 use Rattle.nfs_xdr.proofs.Putting.{length_number}
 use Rattle.nfs_clients.specs.{declared.destroy.DestroyFault.DestroyFault, declared.destroy.DestroyFault.TheVariants.{Stale, Busy}}
-use Rattle.nfs_clients.specs.DestroyClientId.{destroy_status}
+use Rattle.nfs_clients.specs.{DestroyClientId.destroy_status, ExchangeId.client_fault_status, declared.exchange_id.Exchanged.Exchanged}
+use Rattle.nfs_clients.specs.declared.exchange_id.ClientFault.{ClientFault}
+use Rattle.nfs_clients.specs.declared.exchange_id.ClientFault.TheVariants as ClientFault
+use Rattle.nfs_names.specs.ServerOwner.{IsOwner}
+use Rattle.nfs_exec.specs.Step.Parts.{answered, granted_of}
 use Rattle.nfs_exec.specs.Step.{Place.{stands_alone, is_sequence, status_behind, place_fault}, View.{CanBear, IsSmall, IsOpened}}
 
 -- a status that every operation of the minor version can be refused with, with nothing behind it
@@ -116,8 +119,28 @@ not_supp op = op_small op NotSupp (refl, refl, refl)
 pub not_in_session : (op : Op) → IsSmall (refusal (number_of op) OpNotInSession)
 not_in_session op = op_small op OpNotInSession (refl, refl, refl)
 
-pub exchanged_small : (e : ExchangeArgs) (r : Res) → MayAnswer (Operation (Op.ExchangeId e)) r → IsSmall r
-exchanged_small e r may = (may.1, λ arrays. length_result (Operation (Op.ExchangeId e)) r arrays may)
+exchange_small : (fault : ClientFault) → IsSmall (refusal 42 (client_fault_status fault))
+exchange_small ClientFault.Inval = refusal_small 42 Inval refl
+exchange_small ClientFault.NoEnt = refusal_small 42 NoEnt refl
+exchange_small ClientFault.NotSame = refusal_small 42 NotSame refl
+exchange_small ClientFault.Perm = refusal_small 42 Perm refl
+exchange_small ClientFault.ClidInUse = refusal_small 42 ClidInUse refl
+exchange_small ClientFault.ServerFault = refusal_small 42 ServerFault refl
+exchange_small ClientFault.Memory = refusal_small 42 Delay refl
+
+exchanged_behind : (r : ExchangeIdOk) → length r.major_id ≤ 1024 → length r.server_scope ≤ 1024 → 8 + length (parts (Res.ExchangeId r)).behind ≤ 2096
+unfolding exchange_id
+exchanged_behind r major scope = simp lengths (omega (arith, major, scope))
+
+-- what an EXCHANGE_ID comes to is bounded, and no longer than with the longest name
+pub exchanged_bounded : (name : List ℕ) (x : Result Exchanged ClientFault) → IsOwner name → IsBounded (answered name x)
+exchanged_bounded name (Ok x) is = (is.1, is.1)
+exchanged_bounded name (Err fault) is = (exchange_small fault).0
+
+pub exchanged_long : (name : List ℕ) (x : Result Exchanged ClientFault) → IsOwner name → length (spell_result (answered name x)) ≤ 2096
+exchanged_long name (Ok x) is =
+    omega (arith, exchanged_behind (granted_of name x) is.1 is.1, length_spelled (Res.ExchangeId (granted_of name x)))
+exchanged_long name (Err fault) is = (let long = (exchange_small fault).1 tt in omega (arith, long))
 
 -- the status that the first place refuses an item with is one that a reply can bear
 pub place_small : (i : Item) (declared : ℕ) (s : Status) → CanBear i → place_fault declared i ≡ Some s → IsSmall (refusal (item_number i) s)

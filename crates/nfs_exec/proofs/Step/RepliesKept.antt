@@ -252,7 +252,7 @@ refusal_fits old mid status tag count n s r short room put is =
 
 -- room for the result of an operation that stands alone
 pub alone_fits : (old mid : SheetState) (tag : List ℕ) → length tag ≤ 1024 → HasReplyRoom old
-    → Puts old mid (spell_compound_head Nfs4Ok tag 0) → length mid.bytes + 92 ≤ mid.room
+    → Puts old mid (spell_compound_head Nfs4Ok tag 0) → length mid.bytes + 2096 ≤ mid.room
 alone_fits old mid tag short room put =
     let h = first_long old mid tag [] short put in
     let same = put.room in

@@ -46,6 +46,7 @@ confirmed m now client body =
       sessions = option_map_or (without_client m.sessions) gone m.sessions;
       leases = with_renewal (option_map_or (without_lease m.leases) gone m.leases) client now;
       store = option_map_or (λ other. staying (λ c. not (c == other)) m.store) gone m.store;
+      owner = m.owner;
     }
 
 -- a result that was kept is answered again

@@ -1,5 +1,5 @@
 -- EXCHANGE_ID (RFC 8881 section 18.35; which of its cases there are is this server's profile): a record that stands is answered, or a new one is added.
-use Rattle.std.specs.Prelude.{ℕ, ◌==◌, not, bit_and, bytes_eq, [], ◌∷◌, Bool, true, false, Option, Some, None, Result, Ok, option_map, if◌then◌else◌}
+use Rattle.std.specs.Prelude.{ℕ, ◌==◌, not, bit_and, bytes_eq, List, Bool, true, false, Option, Some, None, Result, Ok, option_map, if◌then◌else◌}
 use Rattle.std.specs.Option.{option_map_or}
 use Rattle.nfs_xdr.specs.{Caller.Caller, declared.status.Status.Status}
 use Rattle.nfs_xdr.specs.declared.status.Status.TheVariants.{Inval, NoEnt, NotSame, Perm, ClidInUse, ServerFault}
@@ -33,9 +33,9 @@ standing m who e (Some c) =
       Ok None
 
 -- The answer, with no state protection and no implementation named: EXCHGID4_FLAG_USE_NON_PNFS, and EXCHGID4_FLAG_CONFIRMED_R where the record is confirmed.
--- The server names itself and its scope by the text `nfs41d`.
-abbrev pub granted : (client number : ℕ) → (confirmed : Bool) → ExchangeIdOk
-granted client number confirmed = let name = 110 ∷ 102 ∷ 115 ∷ 52 ∷ 49 ∷ 100 ∷ [] in record {
+-- The server names itself and its scope by one text.
+abbrev pub granted : (name : List ℕ) → (client number : ℕ) → (confirmed : Bool) → ExchangeIdOk
+granted name client number confirmed = record {
   clientid = client;
   sequenceid = number;
   flags = if confirmed then 0x8001_0000 else 0x0001_0000;
@@ -46,13 +46,13 @@ granted client number confirmed = let name = 110 ∷ 102 ∷ 115 ∷ 52 ∷ 49 �
 
 -- A new record begins its lease. The owner's unconfirmed one, which it replaces, loses its own.
 abbrev pub exchanged : Machine → Caller → (now : ℕ) → ExchangeId → Option ClientRecord → Result MachineOutcome Status
-exchanged m who now e (Some c) = Ok (with_result m (Res.ExchangeId (granted c.id c.number true)))
+exchanged m who now e (Some c) = Ok (with_result m (Res.ExchangeId (granted m.owner c.id c.number true)))
 exchanged m who now e None = do
   require (has_room m.clients e.ownerid) ServerFault
   let begun = with_lease m.leases (next_id m.clients) now in Ok (with_result (record m {
     clients = with_new m.clients e.ownerid e.verifier who.uid;
     leases = option_map_or (without_lease begun) (option_map (λ c. c.id) (unconfirmed_of m.clients e.ownerid)) begun;
-  }) (Res.ExchangeId (granted (next_id m.clients) 1 false)))
+  }) (Res.ExchangeId (granted m.owner (next_id m.clients) 1 false)))
 
 -- no call may carry EXCHGID4_FLAG_CONFIRMED_R
 abbrev pub exchange_id : Machine → Caller → (now : ℕ) → ExchangeId → MachineOutcome

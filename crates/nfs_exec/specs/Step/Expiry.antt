@@ -11,4 +11,5 @@ expired now m = record {
   sessions = record m.sessions { sessions = filter (λ s. not (has_run_out m.store.lease m.leases now s.client)) m.sessions.sessions };
   leases = λ client. if has_run_out m.store.lease m.leases now client then None else m.leases client;
   store = staying (λ client. not (has_run_out m.store.lease m.leases now client)) m.store;
+  owner = m.owner;
 }

@@ -1,4 +1,4 @@
--- What stands between two records: the meanings of the server's tables; and what one operation comes to.
+-- What stands between two records: the meanings of the server's tables, and by what it names itself; and what one operation comes to.
 use Rattle.std.specs.{Prelude.{◌≡◌, ℕ, Bool, true, false, ◌&&◌, List, Result, Ok, Err, is_some, if◌then◌else◌}, Option.option_map_or}
 use Rattle.nfs_xdr.specs.{declared.status.Status.Status, declared.status.Status.TheVariants.Delay, Tables.In}
 use Rattle.nfs_results.specs.{declared.res.Res.Res, Results.{status_of_result, spell_result, refusal}}
@@ -15,6 +15,7 @@ pub record Machine : Type 0 where
   pub sessions : SessionTable
   pub leases : Book
   pub store : State
+  pub owner : List ℕ
 
 -- the machine of a new server, whose leases last so many seconds, and whose root has a mode and the first moment as its times
 abbrev pub starts : (start : Start) → Machine
@@ -23,6 +24,7 @@ starts start = record {
   sessions = no_sessions;
   leases = no_leases;
   store = new_store start (moment 0);
+  owner = start.owner;
 }
 
 -- What one operation comes to: its status, its result as it is spelled, and the machine behind it.
@@ -67,7 +69,7 @@ pub record IsMachine (m : Machine) : Type 0 where
 
 -- the machine that the tables are
 abbrev pub machine_of : Tables → Machine
-machine_of t = record { clients = t.clients; sessions = t.sessions; leases = leases_of t.leases; store = state_of t.store }
+machine_of t = record { clients = t.clients; sessions = t.sessions; leases = leases_of t.leases; store = state_of t.store; owner = t.owner }
 
 -- what a world is kept as; other crates see it through `machine_of` alone
 abbrev pub KeptTables : Type 0

@@ -91,12 +91,12 @@ created_by m who now refused c = by_number m now refused c (create_verdict m.cli
 
 -- EXCHANGE_ID
 
-abbrev pub granted_of : Exchanged → ExchangeIdOk
-granted_of x = granted x.id x.number x.confirmed
+abbrev pub granted_of : (name : List ℕ) → Exchanged → ExchangeIdOk
+granted_of name x = granted name x.id x.number x.confirmed
 
-abbrev pub answered : Result Exchanged ClientFault → Res
-answered (Ok x) = Res.ExchangeId (granted_of x)
-answered (Err fault) = Res.Refused (op_number Num.ExchangeId) (client_fault_status fault)
+abbrev pub answered : (name : List ℕ) → Result Exchanged ClientFault → Res
+answered name (Ok x) = Res.ExchangeId (granted_of name x)
+answered name (Err fault) = Res.Refused (op_number Num.ExchangeId) (client_fault_status fault)
 
 abbrev pub leases_behind : Book → (now : ℕ) → Result Exchanged ClientFault → Book
 leases_behind b now (Err fault) = b
@@ -112,7 +112,7 @@ ask_of m who e = asks e.ownerid e.verifier e.flags who.uid (owner_has_open m e.o
 
 -- what the table did, told
 abbrev pub did_exchange : Machine → (now : ℕ) → Did → MachineOutcome
-did_exchange m now did = with_result (record m { clients = did.after; leases = leases_behind m.leases now did.answer }) (answered did.answer)
+did_exchange m now did = with_result (record m { clients = did.after; leases = leases_behind m.leases now did.answer }) (answered m.owner did.answer)
 
 abbrev pub exchanged_by : Machine → Caller → (now : ℕ) → ExchangeId → MachineOutcome
 exchanged_by m who now e = did_exchange m now (exchange m.clients (ask_of m who e))

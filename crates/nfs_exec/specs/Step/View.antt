@@ -25,9 +25,9 @@ pub record IsOpened (r : Request) : Type 0 where
 abbrev pub HasReplyRoom : SheetState → Type 0
 HasReplyRoom sheet = length sheet.bytes + 69976 ≤ sheet.room
 
--- room for the largest result outside a session, CREATE_SESSION's
+-- room for the largest result outside a session, EXCHANGE_ID's
 abbrev pub HasLoneRoom : SheetState → Type 0
-HasLoneRoom sheet = length sheet.bytes + 92 ≤ sheet.room
+HasLoneRoom sheet = length sheet.bytes + 2096 ≤ sheet.room
 
 -- The answer was put on the sheet, and its machine was left.
 pub record Answers (answered : Answered) (old new : SheetState) (left : Machine) : Type 0 where
@@ -100,6 +100,7 @@ without_client m client = record {
   sessions = sessions.without_client m.sessions client;
   leases = without_lease m.leases client;
   store = staying (λ c. not (c == client)) m.store;
+  owner = m.owner;
 }
 
 -- who leaves for another record, if anybody, goes with its sessions, its lease, its opens and its locks

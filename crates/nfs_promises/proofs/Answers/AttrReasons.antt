@@ -8,7 +8,7 @@ use Rattle.nfs_xdr.proofs.Checks.{all_passed}
 use Rattle.nfs_compound.specs.{declared.attributes.Attributes.Attributes, declared.file_args.SetAttr.SetAttr, declared.op.Item.Item, declared.op.Item.TheVariants.Operation}
 use Rattle.nfs_compound.specs.declared.op.Op.TheVariants as Op
 use Rattle.nfs_compound.specs.declared.op_num.OpNum.TheVariants as Num
-use Rattle.nfs_tree.specs.{Files.{most_bytes, can_change}}
+use Rattle.nfs_tree.specs.Files.{can_change}
 use Rattle.nfs_attrs.specs.{declared.set_time.SetTime.SetTime, declared.set_time.SetTime.TheVariants.{Now, Given}, declared.wanted.Wanted.Wanted, Mask.mask_of, Permissions.{in_group, may, write as to_write}}
 use Rattle.nfs_attrs.specs.Setting.{owns, takes_owner, takes_group, is_given, is_now, set_checks, make_checks}
 use Rattle.nfs_attrs.proofs.Answered.{by_read}
@@ -245,5 +245,5 @@ module _ (s : State) (whole : IsWhole s) (x : Context) (a : SetAttr) where
       ends_then B Y (attributes_in a.obj_attributes) _ (attributes_blame B refl refl refl refl a.obj_attributes) (λ w gives.
       ends_checks B Y (set_checks d.object w x.who) _ (set_all d e w gives) (λ set.
       ends_then B Y (may_resize s x a.stateid d w.size) _ (size_blames d e w gives w.size refl) (λ u e2.
-      ends_checks B Y ((option_map_or (nat_lt most_bytes) w.size false, S.FBig) ∷ (gives_some w && not (can_change s.tree d.number), S.ServerFault) ∷ []) _
+      ends_checks B Y ((option_map_or (nat_lt s.tree.limits.bytes) w.size false, S.FBig) ∷ (gives_some w && not (can_change s.tree d.number), S.ServerFault) ∷ []) _
       (λ v. refl, λ u. (λ v. refl, λ u. tt)) (λ u. done_so s x i (was_set d e w gives (passed_all (set_checks d.object w x.who) set))))))))

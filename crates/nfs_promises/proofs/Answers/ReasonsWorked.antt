@@ -241,7 +241,7 @@ open_given = record { given = stateid 1 1; sort = OpenOnly; form = Own }
 abbrev open_told : StateTold
 open_told = record { sort = OpenOnly; client = 7 * 2 ^ 32 + 1; file = 2; seqid = 1 }
 
-no_special : IsSpecial (record { seqid = 1; instance = 7; number = 1 }) → ⊥
+pub no_special : IsSpecial (record { seqid = 1; instance = 7; number = 1 }) → ⊥
 no_special (AllZeros a b c) = no_current b
 no_special (AllOnes a b c) = not_all_ones b
 

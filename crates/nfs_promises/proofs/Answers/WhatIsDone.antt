@@ -1,5 +1,5 @@
 -- CLOSE, LOCKU, WRITE and COMMIT did what they answer.
-use Rattle.std.proofs.Common.{◌≡◌, ◌≢◌, ℕ, ◌≤◌, Bool, true, false, cond, not, List, [], Some, None, refl, sym, ◌∙◌, ap, subst}
+use Rattle.std.proofs.Common.{◌≡◌, ◌≢◌, ℕ, ◌≤◌, true, not, List, [], Some, None, refl, sym, ◌∙◌, ap, subst}
 use Rattle.std.proofs.lemmas.{Bool.{false≢true, eq-eqb, not-true, le-leb}, Option.same_Some}
 use Rattle.std.specs.Prelude.{◌==◌, nat_le, Result, Ok, Err, ok_or}
 use Rattle.nfs_xdr.specs.{Tables.In, declared.status.Status.Status, declared.time.Time.Time}
@@ -12,9 +12,8 @@ use Rattle.nfs_compound.specs.declared.op_num.OpNum.TheVariants as Num
 use Rattle.nfs_opens.specs.{declared.judging.Sort.TheVariants.{Either, OpenOnly, LockOnly}, declared.records.OpenState.OpenState, declared.stateid.StateId.StateId}
 use Rattle.nfs_opens.specs.{declared.stateid.CurrentSeqid.TheVariants.{Any, Own}, Judging.judge, Locking.unlock, Table.{Table, lock_at}}
 use Rattle.nfs_opens.specs.Closing as closing
-use Rattle.nfs_names.specs.{declared.context.Context.Context, declared.node.Node.Node, Checks.current, State.{State, is_used, with_tree, without_unused}, Ending.with_opens}
-use Rattle.nfs_tree.specs.Names.{forget}
-use Rattle.nfs_names.proofs.Found.{came, ok_is}
+use Rattle.nfs_names.specs.{declared.context.Context.Context, declared.node.Node.Node, Checks.current, State.{State, without_unused}, Ending.with_opens}
+use Rattle.nfs_names.proofs.{Found.{came, ok_is}, Untouched.unused_opens}
 use Rattle.nfs_files.specs.{Bytes.{writing, file_checks, may_use}, Close.close, Commit.commit, LockU.lock_u, Ranges.wished, StateIds.meant, Target.the_file, Write.{write, last_checks as write_lasts}}
 use Rattle.nfs_files.proofs.{TreeFiles.IsWhole, Wishes.wish_is, WrittenOps.current_number}
 use Rattle.nfs_promises.specs.Permission.Permitted.{Writes}
@@ -37,13 +36,6 @@ stands_one x k a b (TheCurrent at some is) (Itself other so) = absurd (other at)
 stands_one x k a b (TheCurrent at some is) (TheCurrent there else so) = is ∙ sym so
 
 -- CLOSE
-
-opens_left : (s : State) (n : ℕ) → (without_unused s n).opens ≡ s.opens
-opens_left s n = by (is_used s n)
-  where
-    by : (b : Bool) → (cond b s (with_tree s (forget s.tree n))).opens ≡ s.opens
-    by true = refl
-    by false = refl
 
 closed : (t : Table) (n : ℕ) (o : OpenState) → In o (closing.without_open t n).opens → o.number ≢ n
 closed t n o there same = let p = in_filter (λ (o : OpenState). not (o.number == n)) t.opens o there in false≢true (sym (not-true _ p.1) ∙ eq-eqb o.number n same)
@@ -71,7 +63,7 @@ module _ (s : State) (whole : IsWhole s) (x : Context) where
           let n = came (judge s.opens id x.client (Some d.number) OpenOnly) _ did e in
           let left : did.1 ≡ closing.without_open s.opens id.number = ap (λ (p : _ × Table). p.1) (sym (ok_is refl n.then)) in
           let found : In o (closing.without_open s.opens id.number).opens =
-          subst (λ (t : Table). In o t.opens) left (subst (λ (t : Table). In o t.opens) (opens_left (with_opens s did.1) d.number) there) in
+          subst (λ (t : Table). In o t.opens) left (subst (λ (t : Table). In o t.opens) (unused_opens (with_opens s did.1) d.number) there) in
           subst (λ (i : StateId). o.number ≢ i.number) one (closed s.opens id.number o found)
 
   -- LOCKU

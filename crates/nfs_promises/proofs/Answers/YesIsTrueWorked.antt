@@ -25,8 +25,8 @@ use Rattle.nfs_exec.specs.Runs.Ops.{RanOp}
 use Rattle.nfs_promises.specs.{Runs.{Requests.stateid, Points.ops_of}, Locks.LockKeptWorked.{asked, gives_up, last_of, statuses}, Bytes.WrittenStaysWorked.{made, writes}, Names.FileStaysWorked.{with_status, missed, closes}}
 use Rattle.nfs_promises.specs.Permission.Permitted.{Reads, Writes, Executes, Rights, rights_of, Grants, ToRoot, ToOwner, ToGroup, ToOthers}
 use Rattle.nfs_promises.specs.Answers.YesIsTrue.{TellsSo, IsFree, InRange, LiesBeside, AreTold, IsEntry, IsText, IsJudged, bits, Stands, AreTested}
-use Rattle.nfs_promises.specs.Answers.{Asked.{StateGiven, Itself, IsCurrent, IsSpecial, AllZeros, AllOnes}, YesIsTrueWorked.{AreAsked, YesesRefused, unchanging, telling, commits, lists, page, entry, tests, fileid, mode, may_read, reads_link, tests_stateid, misses}}
-use Rattle.nfs_promises.proofs.Runs.Computing.{computing}
+use Rattle.nfs_promises.specs.Answers.{Asked.{StateGiven, Itself, IsCurrent}, YesIsTrueWorked.{AreAsked, YesesRefused, unchanging, telling, commits, lists, page, entry, tests, fileid, mode, may_read, reads_link, tests_stateid, misses}}
+use Rattle.nfs_promises.proofs.{Answers.ReasonsWorked.no_special, Runs.Computing.computing}
 
 denied : statuses (ops_of asked tests) ≡ S.Nfs4Ok ∷ S.Nfs4Ok ∷ S.Denied ∷ []
 unfolding computing lock_t lock_t_args
@@ -212,10 +212,6 @@ empty d is = let e = last_of d (ops_of made reads_link) in text_not e.before.sto
 
 -- TEST_STATEID
 
-open_id : IsSpecial (record { seqid = 1; instance = 7; number = 1 }) → ⊥
-open_id (AllZeros a b c) = (let bad : ◌≡◌ {A = ℕ} 7 0 = b in absurd (omega arith))
-open_id (AllOnes a b c) = (let bad : ◌≡◌ {A = ℕ} 7 0xffff_ffff = b in absurd (omega arith))
-
 seven : ◌≢◌ {A = ℕ} 7 0
 seven e = absurd (omega arith)
 
@@ -236,7 +232,7 @@ bad : (d : RanOp) → TellsSo (telling (Res.TestStateid (10025 ∷ [])) (last_of
 unfolding computing test_stateid code wire_ids.stateids results.status_codes
 bad d is = let e = last_of d (ops_of made tests_stateid) in let w = is refl in code_not e.before.store e.context (stateid 1 1) w.0 (record {
   current = no_current;
-  special = open_id;
+  special = no_special;
   state = record { sort = OpenOnly; client = 7 * 2 ^ 32 + 1; file = 2; seqid = 1 };
   names = refl;
   client = refl;

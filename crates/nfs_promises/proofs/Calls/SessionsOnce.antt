@@ -50,7 +50,7 @@ counted_all s [] is = is
 counted_all s (c ∷ rest) is = counted_all (state_after s c) rest (counted_next s c is)
 
 -- the machine behind a record that asks for something
-next_machine : (s : ServerState) (c : Arrival) (e : MachineEvent) → asked_by s c ≡ Some e → (state_after s c).machine ≡ stepped (before s c) e
+pub next_machine : (s : ServerState) (c : Arrival) (e : MachineEvent) → asked_by s c ≡ Some e → (state_after s c).machine ≡ stepped (before s c) e
 next_machine s c e asks = ap (λ (t : ServerState). t.machine) (next_is s c) ∙ ap (left (before s c)) asks
 
 pub each_makes_one : EachMakesOne

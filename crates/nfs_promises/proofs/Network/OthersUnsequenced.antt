@@ -82,9 +82,9 @@ mute_delayed m refused n o n_small is = elim (cases_Bool (refused && is_ok o.sta
   | inr other ↦ rw other is
 ]
 
-mute_exchanged : (r : Result Exchanged ClientFault) → IsMute (spell_result (answered r))
-mute_exchanged (Ok x) = record { op = 42; first = 0; rest = _; spelled = refl; op_small = omega arith; first_small = omega arith; other = refl }
-mute_exchanged (Err fault) = record { op = 42; first = _; rest = []; spelled = refl; op_small = omega arith; first_small = small _; other = refl }
+mute_exchanged : (name : List ℕ) (r : Result Exchanged ClientFault) → IsMute (spell_result (answered name r))
+mute_exchanged name (Ok x) = record { op = 42; first = 0; rest = _; spelled = refl; op_small = omega arith; first_small = omega arith; other = refl }
+mute_exchanged name (Err fault) = record { op = 42; first = _; rest = []; spelled = refl; op_small = omega arith; first_small = small _; other = refl }
 
 mute_made : (m : Machine) (now : ℕ) (c : CreateSession) (t : SessionTable) (r : Result SessionId SessionFault) → IsMute (by_created m now c t r).result
 mute_made m now c t (Ok id) = record { op = 43; first = 0; rest = _; spelled = refl; op_small = omega arith; first_small = omega arith; other = refl }
@@ -117,7 +117,7 @@ op_small op = is_op_listing.small (arguments op).op
 mute_carried : (m : Machine) (who : Caller) (now : ℕ) (refused : Bool) (op : Op) → IsMute (carried_out m who now refused (Operation op)).result
 mute_carried m who now refused (Op.ExchangeId e) =
     mute_delayed m refused 42 (exchange_id m who now e) (omega arith)
-    (subst (λ (o : MachineOutcome). IsMute o.result) (sym (exchange_id_is m who now e)) (mute_exchanged (exchange m.clients (ask_of m who e)).answer))
+    (subst (λ (o : MachineOutcome). IsMute o.result) (sym (exchange_id_is m who now e)) (mute_exchanged m.owner (exchange m.clients (ask_of m who e)).answer))
 mute_carried m who now refused (Op.CreateSession c) =
     subst (λ (o : MachineOutcome). IsMute o.result) (sym (create_session_is m who now refused c))
     (mute_created m now refused c (clients.create_verdict m.clients c.clientid c.sequence who.uid))

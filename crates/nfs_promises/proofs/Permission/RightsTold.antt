@@ -14,7 +14,7 @@ use Rattle.nfs_compound.specs.declared.op_num.OpNum.TheVariants as Num
 use Rattle.nfs_results.specs.Results.{status_of_result}
 use Rattle.nfs_tree.specs.{declared.sets.Sets.Sets, declared.stored.Stored.Stored, Object.{modified, no_sets}}
 use Rattle.nfs_tree.specs.Files.{Files, root, stored_in, is_there, change_at, with_changed, with_entries_changed, object_named}
-use Rattle.nfs_tree.specs.{Create.{New, with_new, new_object, new_directory, new_tree}, Bytes.{resized, with_bytes, with_resized}}
+use Rattle.nfs_tree.specs.{declared.limits.Limits.Limits, Create.{New, with_new, new_object, new_directory, new_tree}, Bytes.{resized, with_bytes, with_resized}}
 use Rattle.nfs_tree.proofs.Objects.{keeps_changed, stored_map}
 use Rattle.nfs_attrs.specs.declared.wanted.Wanted.{Wanted}
 use Rattle.nfs_names.specs.{declared.context.Context.Context, declared.making.Making.Making, declared.node.Node.Node, Checks.{node_at, current}}
@@ -322,8 +322,8 @@ pub rights_are_told : RightsAreTold
 rights_are_told start earlier c front d back n r same making absent there =
     from (HasRights n) (rights_after n) (λ r s. Have n r s.tree) (follows n) start earlier c front d back r same (λ run. run_made n r d run making absent there)
 
-root_has : (mode : ℕ) (now : Time) → Have root (record { mode = mode; owner = 0; group = 0 }) (new_tree mode now)
-root_has mode now = record {
+root_has : (mode : ℕ) (now : Time) (limits : Limits) → Have root (record { mode = mode; owner = 0; group = 0 }) (new_tree mode now limits)
+root_has mode now limits = record {
   given = omega arith;
   rights = λ k e. (let one : record { number = root; object = new_object now new_directory (record no_sets { mode = Some mode }); bytes = [] } ≡ k = cc in
       ap (λ (k : Stored). rights_of k.object) (sym one));
@@ -332,4 +332,4 @@ root_has mode now = record {
 pub root_is_told : RootIsTold
 root_is_told start records =
     through (HasRights root) (rights_after root) (λ r s. Have root r s.tree) (follows root) (record { mode = start.mode; owner = 0; group = 0 }) (new_state start) records
-    (sound_new start) (root_has start.mode (moment 0))
+    (sound_new start) (root_has start.mode (moment 0) start.limits)

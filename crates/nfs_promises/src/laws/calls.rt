@@ -6,6 +6,7 @@ ghost use Rattle.nfs_promises.specs.Calls.{Streams.{BringsOnce, ConnectionsAreSt
 ghost use Rattle.nfs_promises.specs.Calls.{LeaseToldWorked.IsListed, SessionsOnce.{EachMakesOne, EachWasMade, RepeatsMakeNone, NextMakesOne}};
 ghost use Rattle.nfs_promises.specs.Calls.{SessionsOnceWorked.IsGivenOnce, NeverExpired.NoneIsExpired, SessionsDenied.BadSessionIsTrue};
 ghost use Rattle.nfs_promises.specs.Calls.{SessionsDeniedWorked.{IsLeft, EndsAreRefused}, SessionStays.SessionsStay, SessionStaysWorked.StaysToLast};
+ghost use Rattle.nfs_promises.specs.Calls.{OwnIds.IdsAreOnes, OwnIdsWorked.AreOwn};
 ghost use Rattle.nfs_promises.specs.Calls.WholeRuns.{HubRunsScript, NothingIsLostInARun, NothingIsLostInATurn};
 
 /// Which fault a script has, if any, and its whole entries before it are decided by its bytes.
@@ -123,6 +124,19 @@ pub fn sessions_are_denied_truly()
 pub fn a_session_is_denied()
     ensures left { IsLeft }
     ensures refused { EndsAreRefused }
+{}
+
+/// In every run what one client was told is told to no other: whoever is told a client id that was told before is the same owner with the same verifier, and whoever
+/// is told a session id that was told before is the same client.
+pub fn ids_are_ones()
+    ensures { IdsAreOnes }
+{}
+
+/// The definitions compute: five owners are told five client ids, and two clients two session ids. That run meets the premises of `ids_are_ones`, which refuses a server
+/// that tells every newcomer past the fourth the id of the first client, and one that tells each client the session of the first.
+#[tactic(auto, using(crate::proofs::Calls::OwnIdsWorked::are_own))]
+pub fn ids_are_own()
+    ensures { AreOwn }
 {}
 
 /// A CREATE_SESSION that is answered NFS4_OK makes one session of its client, of the id that is answered, which did not stand before; or it changes nothing.

@@ -5,10 +5,10 @@ use Rattle.nfs_results.specs.{declared.res.Res.Res, Results.{refusal, status_of_
 use Rattle.nfs_compound.specs.declared.op.Op.TheVariants as Op
 use Rattle.nfs_names.specs.Outcome.{is_delay}
 use Rattle.nfs_exec.specs.{Step.Machine.{Machine, with_result, machine_of}, Step.View.IsSmall}
-use Rattle.nfs_exec.proofs.Step.RefusalsFit.{place_small, rest_small, exchanged_small}
+use Rattle.nfs_exec.proofs.Step.RefusalsFit.{place_small, rest_small}
 use Rattle.nfs_exec.proofs.Step.AloneResults.{small_fits, put_does, misplaced, branch_done, not_carried}
 use Rattle.nfs_exec.proofs.tables.Tables.alone_as.Goals as goal
-use Rattle.nfs_exec.proofs.tables.Tables.alone_as.Goals.{in-Some, in-None+in-ExchangeId, in-None+in-DestroySession, in-None+in-DestroyClientId, in-None+in_default}
+use Rattle.nfs_exec.proofs.tables.Tables.alone_as.Goals.{in-Some, in-None+in-DestroySession, in-None+in-DestroyClientId, in-None+in_default}
 
 pub write-requires-clause-bounds : goal.write-requires-clause-bounds
 write-requires-clause-bounds c = elim c.match-place_fault.branch [
@@ -17,8 +17,6 @@ write-requires-clause-bounds c = elim c.match-place_fault.branch [
       subst (λ (r : Res). IsBounded r) (sym w.res-is) (subst IsBounded (sym same)
       (place_small (Operation c.args.op.now) c.args.declared w.in-Some.status c.requires.bears (sym c.place_fault.ensures ∙ w.in-Some.is)).0)
       )
-  | in-None+in-ExchangeId w ↦ subst (λ (r : Res). IsBounded r) (sym w.res-is)
-      (exchanged_small w.in-ExchangeId.asked w.exchange_id.result w.exchange_id.ensures.size).0
   | in-None+in-DestroySession w ↦ subst (λ (r : Res). IsBounded r) (sym w.res-is) w.destroy_session.ensures.size.0
   | in-None+in-DestroyClientId w ↦ subst (λ (r : Res). IsBounded r) (sym w.res-is) w.destroy_client.ensures.size.0
   | in-None+in_default w ↦ (
@@ -35,8 +33,6 @@ write-requires-clause-room c = small_fits c.args.out.now c.match-place_fault.res
       subst (λ (r : Res). IsSmall r) (sym w.res-is) (subst IsSmall (sym same)
       (place_small (Operation c.args.op.now) c.args.declared w.in-Some.status c.requires.bears (sym c.place_fault.ensures ∙ w.in-Some.is)))
       )
-  | in-None+in-ExchangeId w ↦ subst (λ (r : Res). IsSmall r) (sym w.res-is)
-      (exchanged_small w.in-ExchangeId.asked w.exchange_id.result w.exchange_id.ensures.size)
   | in-None+in-DestroySession w ↦ subst (λ (r : Res). IsSmall r) (sym w.res-is) w.destroy_session.ensures.size
   | in-None+in-DestroyClientId w ↦ subst (λ (r : Res). IsSmall r) (sym w.res-is) w.destroy_client.ensures.size
   | in-None+in_default w ↦ (
@@ -60,9 +56,6 @@ returns c =
           ap (λ (k : Machine). with_result k r) (ap machine_of w.self-is) ∙ ap (with_result m) (w.res-is ∙ same)
           ∙ misplaced m c.args.declared who c.args.now (is_delay (status_of_result r)) i w.in-Some.status (sym c.place_fault.ensures ∙ w.in-Some.is)
           )
-      | in-None+in-ExchangeId w ↦ branch_done m left (machine_of w.exchange_id.new.self) c.args.declared who c.args.now i
-          (Operation (Op.ExchangeId w.in-ExchangeId.asked)) r w.exchange_id.result (ap machine_of w.self-is) w.res-is
-          (ap Operation w.in-ExchangeId.is) (sym c.place_fault.ensures ∙ w.in-None.is) w.exchange_id.ensures.outcome
       | in-None+in-DestroySession w ↦ branch_done m left (machine_of w.destroy_session.new.self) c.args.declared who c.args.now i
           (Operation (Op.DestroySession w.in-DestroySession.sessionid)) r w.destroy_session.result (ap machine_of w.self-is) w.res-is
           (ap Operation w.in-DestroySession.is) (sym c.place_fault.ensures ∙ w.in-None.is) w.destroy_session.ensures.outcome

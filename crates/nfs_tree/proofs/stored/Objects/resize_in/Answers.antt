@@ -5,9 +5,9 @@ use Rattle.nfs_tree.proofs.IndexedLemmas.{can_of, written_as}
 use Rattle.nfs_tree.proofs.stored.Objects.resize_in.Goals.{in-Some, in_default}
 use Rattle.nfs_tree.proofs.stored.Objects.resize_in.Goals as goal
 
-pub resize-requires : goal.resize-requires
-resize-requires c = can_of c.args.self.now c.args.number (numbered c.args.number c.in-Some.stored.now)
-    (ap (λ xs. stored_in xs c.args.number) (sym c.self.view_is) ∙ sym c.in-Some.ensures.value) c.requires
+pub resize-requires-clause-change : goal.resize-requires-clause-change
+resize-requires-clause-change c = can_of c.args.self.now c.args.number (numbered c.args.number c.in-Some.stored.now)
+    (ap (λ xs. stored_in xs c.args.number) (sym c.self.view_is) ∙ sym c.in-Some.ensures.value) c.requires.change
 
 pub returns : goal.returns
 returns c =

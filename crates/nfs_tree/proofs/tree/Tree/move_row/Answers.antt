@@ -50,5 +50,5 @@ invariant_of-self-2 c =
     let t = c.args.self.now in
     let m = move_of c.args.m.now in
     let is : IsTree t = subst IsTree c.self.view_is c.self.invariant in
-    tree_of (with_moved t m c.args.now) (tree_moved t m c.args.now is c.requires.granted c.requires.moves c.requires.reached) _ _ _ _
-    (grind (arith, common_steps)) (grind (arith, common_steps)) (grind (arith, common_steps)) (grind (arith, common_steps))
+    tree_of (with_moved t m c.args.now) (tree_moved t m c.args.now is c.requires.granted c.requires.moves c.requires.reached) _ _ _ _ _
+    (grind (arith, common_steps)) (grind (arith, common_steps)) (grind (arith, common_steps)) (grind (arith, common_steps)) (grind (arith, common_steps))

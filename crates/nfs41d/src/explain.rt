@@ -1,0 +1,323 @@
+//! Why `serve` does not begin, in a line for whoever started it. The line of the fault itself comes after it
+//! (docs/OPERATING.md).
+
+use crate::asked::Order;
+use crate::fault::Fault;
+use crate::holder::process_on;
+use crate::settings_file::{
+    KEYS, LEASE, MOST_OBJECTS, MOST_OF_OWNER, Number, ROOT_MODE, bytes_at, is_known, number_at,
+};
+use crate::shown::{Grouped, Shown};
+use crate::words::order;
+use crate::{MOST_OF_SETTINGS, start_of};
+use std::io::{ErrorKind, Write};
+use std::net::{SocketAddr, SocketAddrV4, TcpListener};
+use toml::Value;
+
+/// The number of a start of the server; each start has a default of its own.
+const INSTANCE: Number = Number {
+    low: 1,
+    high: u32::MAX - 1,
+    default: 1,
+};
+
+/// How many objects there may be; the form of the program has the default.
+const OBJECTS: Number = Number {
+    low: 1,
+    high: MOST_OBJECTS,
+    default: 1,
+};
+
+/// Writes why the words of a command line, the program's name first, came to a fault, where they ask to serve without a
+/// number of connections. A failure to write is passed over.
+pub fn explain<W: Write>(rt: &HostRuntime, words: &[&str], fault: &Fault, w: &mut W) {
+    if !is_spoken(words) {
+        return;
+    }
+    match fault {
+        Fault::Arguments => explain_words(words, w),
+        Fault::Settings => {
+            if let Some(path) = file_of(rt, words) {
+                explain_file(rt, path, w);
+            }
+        }
+        Fault::Start => {
+            if let Some(listen) = address_of(rt, words) {
+                explain_address(rt, listen, w);
+            }
+        }
+        _ => {}
+    }
+}
+
+/// Whether a command line is one whose faults are explained: it begins with `serve`, and no word is `--connections`.
+fn is_spoken(words: &[&str]) -> bool {
+    for word in words {
+        if word.starts_with("--connections") {
+            return false;
+        }
+    }
+    match words.get(1) {
+        Some(command) => *command == "serve",
+        None => false,
+    }
+}
+
+/// The settings file that words name.
+fn file_of<'a>(rt: &HostRuntime, words: &'a [&'a str]) -> Option<&'a str> {
+    match order(rt.alloc(), words) {
+        Ok(Order::Serve { settings, .. }) => settings,
+        _ => None,
+    }
+}
+
+/// The address that words name.
+fn address_of<'a>(rt: &HostRuntime, words: &'a [&'a str]) -> Option<&'a str> {
+    match order(rt.alloc(), words) {
+        Ok(Order::Serve { listen, .. }) => Some(listen),
+        _ => None,
+    }
+}
+
+/// Writes which word is wrong.
+fn explain_words<W: Write>(words: &[&str], w: &mut W) {
+    if let Some(why) = crate::wrong_words::wrong(words) {
+        let _ = writeln!(w, "nfs41d: {why}");
+    }
+}
+
+/// Writes what is wrong with a settings file.
+fn explain_file<W: Write>(rt: &HostRuntime, path: &str, w: &mut W) {
+    let shown = Shown(path);
+    match start_of(rt, path) {
+        Err(e) => {
+            let _ = writeln!(w, "nfs41d: {shown}: {e}");
+        }
+        Ok(text) => {
+            if text.len() > MOST_OF_SETTINGS {
+                let _ = writeln!(w, "nfs41d: {shown} has more than 65,536 bytes");
+            } else {
+                explain_text(rt, path, text.as_str(), w);
+            }
+        }
+    }
+}
+
+/// Writes what is wrong with the text of a settings file.
+fn explain_text<W: Write>(rt: &HostRuntime, path: &str, text: &str, w: &mut W) {
+    let shown = Shown(path);
+    let table = match toml::table_from_str(rt.alloc(), text) {
+        Ok(table) => table,
+        Err(e) => {
+            if !e.is_memory() {
+                let why = Shown(e.message());
+                let _ = writeln!(w, "nfs41d: {shown} is no TOML: {why}");
+            }
+            return;
+        }
+    };
+    for key in table.keys() {
+        if !is_known(key.as_str()) {
+            let key = Shown(key.as_str());
+            let _ = writeln!(
+                w,
+                "nfs41d: {shown}: there is no key '{key}': the keys are {KEYS}"
+            );
+            return;
+        }
+    }
+    let root = Value::Table(table);
+    let is_told = explain_number(&root, "lease", LEASE, path, w)
+        || explain_number(&root, "root_mode", ROOT_MODE, path, w)
+        || explain_number(&root, "instance", INSTANCE, path, w)
+        || explain_owner(&root, path, w)
+        || explain_bytes(&root, path, w)
+        || explain_number(&root, "objects", OBJECTS, path, w);
+    if let (false, Some(mode)) = (is_told, decimal_mode(text)) {
+        explain_mode(mode, path, w);
+    }
+}
+
+/// Writes what is wrong with the name of the server, and answers whether something is.
+fn explain_owner<W: Write>(root: &Value, path: &str, w: &mut W) -> bool {
+    let shown = Shown(path);
+    match root.get("server_owner") {
+        None => false,
+        Some(Value::String(text)) => {
+            let count = text.len();
+            if count >= 1 && count <= MOST_OF_OWNER {
+                return false;
+            }
+            let _ = writeln!(
+                w,
+                "nfs41d: {shown}: server_owner has {count} bytes, and not from 1 to 1,024"
+            );
+            true
+        }
+        Some(_) => {
+            let _ = writeln!(w, "nfs41d: {shown}: server_owner is no text");
+            true
+        }
+    }
+}
+
+/// Writes what is wrong with the bytes of a file, and answers whether something is.
+fn explain_bytes<W: Write>(root: &Value, path: &str, w: &mut W) -> bool {
+    if bytes_at(root, "file_bytes", 1).is_some() {
+        return false;
+    }
+    let shown = Shown(path);
+    if let Some(Value::Integer(n)) = root.get("file_bytes") {
+        let _ = writeln!(
+            w,
+            "nfs41d: {shown}: file_bytes is {n}, and not from 1 to 1,099,511,627,776"
+        );
+    } else {
+        let _ = writeln!(
+            w,
+            "nfs41d: {shown}: file_bytes is no number from 1 to 1,099,511,627,776"
+        );
+    }
+    true
+}
+
+/// Writes how permission bits are to be written.
+fn explain_mode<W: Write>(mode: &str, path: &str, w: &mut W) {
+    let (shown, number) = (Shown(path), Shown(mode));
+    let _ = if is_octal(mode) {
+        writeln!(
+            w,
+            "nfs41d: {shown}: root_mode is {number} without 0o: write 0o{number}"
+        )
+    } else {
+        writeln!(
+            w,
+            "nfs41d: {shown}: root_mode is {number} without 0o: write it in octal, as 0o755"
+        )
+    };
+}
+
+/// Whether each sign of a number is a digit below 8.
+fn is_octal(text: &str) -> bool {
+    for sign in text.chars() {
+        if !matches!(sign, '0'..='7') {
+            return false;
+        }
+    }
+    true
+}
+
+/// Writes what is wrong with the number at a key, and answers whether something is.
+fn explain_number<W: Write>(
+    root: &Value,
+    key: &str,
+    number: Number,
+    path: &str,
+    w: &mut W,
+) -> bool {
+    if number_at(root, key, number).is_some() {
+        return false;
+    }
+    let (shown, low, high) = (Shown(path), Grouped(number.low), Grouped(number.high));
+    let octal = if key == "root_mode" { " (0o7777)" } else { "" };
+    if let Some(Value::Integer(n)) = root.get(key) {
+        let _ = writeln!(
+            w,
+            "nfs41d: {shown}: {key} is {n}, and not from {low} to {high}{octal}"
+        );
+    } else {
+        let _ = writeln!(
+            w,
+            "nfs41d: {shown}: {key} is no number from {low} to {high}{octal}"
+        );
+    }
+    true
+}
+
+/// The permission bits that a text writes as a decimal number of more than one digit, unless it names an instance.
+pub fn decimal_mode(text: &str) -> Option<&str> {
+    if value_in(text, "instance").is_some() {
+        return None;
+    }
+    let mode = value_in(text, "root_mode")?;
+    if mode.len() > 1 && !mode.starts_with('0') {
+        Some(mode)
+    } else {
+        None
+    }
+}
+
+/// What a text that gives settings has at a key, as it is written.
+fn value_in<'a>(text: &'a str, key: &str) -> Option<&'a str> {
+    for line in text.lines() {
+        if let Some(value) = value_on(line, key) {
+            return Some(value);
+        }
+    }
+    None
+}
+
+/// What a line has at a key, as it is written.
+fn value_on<'a>(line: &'a str, key: &str) -> Option<&'a str> {
+    let (name, rest) = line.split_once('=')?;
+    if name.trim_matches(is_around) != key {
+        return None;
+    }
+    match rest.split_once('#') {
+        Some((value, _)) => Some(value.trim()),
+        None => Some(rest.trim()),
+    }
+}
+
+/// Whether a sign may stand around a key.
+fn is_around(sign: char) -> bool {
+    matches!(sign, ' ' | '\t' | '"' | '\'')
+}
+
+/// Writes why an address cannot be listened on.
+fn explain_address<W: Write>(rt: &HostRuntime, listen: &str, w: &mut W) {
+    let shown = Shown(listen);
+    match listen.parse::<SocketAddrV4>() {
+        Err(_) => {
+            let why = if listen.split_once(':').is_some() {
+                "is no IPv4 address with a port"
+            } else {
+                "has no port"
+            };
+            let _ = writeln!(
+                w,
+                "nfs41d: '{shown}' {why}: it is ADDR:PORT, as 127.0.0.1:2049"
+            );
+        }
+        Ok(addr) => explain_taking(rt, addr, w),
+    }
+}
+
+/// Writes why an address of the right form cannot be listened on.
+fn explain_taking<W: Write>(rt: &HostRuntime, addr: SocketAddrV4, w: &mut W) {
+    let (ip, port) = (addr.ip(), addr.port());
+    let _ = match TcpListener::bind(rt, SocketAddr::V4(addr)) {
+        Ok(_) => writeln!(w, "nfs41d: memory is short"),
+        Err(e) => match e.kind() {
+            ErrorKind::AddrInUse => match process_on(rt, port) {
+                Some(process) => {
+                    let id = process.as_str();
+                    writeln!(
+                        w,
+                        "nfs41d: {addr} is in use by process {id}: end that, or take another port"
+                    )
+                }
+                None => writeln!(w, "nfs41d: {addr} is in use: take another port"),
+            },
+            ErrorKind::AddrNotAvailable => writeln!(
+                w,
+                "nfs41d: no interface of this machine has the address {ip}; 0.0.0.0 is all of them"
+            ),
+            ErrorKind::PermissionDenied => writeln!(
+                w,
+                "nfs41d: port {port} needs a privilege (CAP_NET_BIND_SERVICE), as do ports below 1,024: take another, as 2049"
+            ),
+            _ => writeln!(w, "nfs41d: {addr}: {e}"),
+        },
+    };
+}

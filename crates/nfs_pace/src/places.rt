@@ -1,0 +1,705 @@
+//! Who has a seat among the connections of a server, who stands in the hall, and who gives way to a newcomer.
+//!
+//! Nothing here reads a clock or a socket. `shown` is what the clock shows that leases go by; `now` is what really passed, which bears on the hall alone.
+//! Both are in microseconds. A client is named by its client id, and 0 stands for none.
+
+ghost use Rattle.std.specs.Prelude.{◌≡◌, ◌≤◌, ◌<◌, ◌-◌, ◌+◌, ◌*◌, ℕ, MatchOption, IfOk, IfSome, length, replicate, set, is_some, is_none, nat_le, false, true, None, Some};
+ghost use Rattle.std.specs.List.{count_by, list_any, position};
+ghost use Rattle.nfs_pace.specs.Places.{hall_of, is_over, has_ended, answers, hears, ends, sits, left, is_at, is_of, is_kept_for, is_dead, is_run_out, has_stood, guest_at, seat_at, AreEach, newcomer, given_to, seats_of, used_at, crowd_of, IsMost, NoneMany, stands, stood, hall_count, crowd, IsFirstToGo, NoneToGo, GivesPort, Spares, GivesSeat, SeatsNext, NoneNext, IsNext};
+
+use crate::paced::MICROS;
+use std::alloc::{AllocError, Global};
+use std::marker::Model;
+
+/// For how many microseconds one is spared of whom no client is known.
+const STRANGER: u64 = 10 * MICROS;
+
+/// For how many microseconds, and how many sweeps, one stands in the hall before it gives way to another.
+const STAY: u64 = MICROS;
+
+const STAY_SWEEPS: u64 = 8;
+
+/// For how many microseconds a connection is unanswered before another of its client and address has its seat.
+const DEAD: u64 = MICROS;
+
+/// Who is on a port.
+#[derive(Clone, Copy)]
+pub struct Guest {
+    /// Where its peer is: the 32 bits of an IPv4 address.
+    address: u32,
+    /// The client of the last SEQUENCE that was answered on it.
+    client: u64,
+    /// What was shown at that; of a stranger, at its last answer, and at first when it came.
+    used: u64,
+    /// What was shown when it came.
+    since: u64,
+    /// When it came.
+    came: u64,
+    /// In which sweep it came.
+    sweep: u64,
+    /// Whether a session or a client was ended on it since.
+    ended: bool,
+}
+
+/// A seat that somebody has.
+#[derive(Clone, Copy)]
+pub struct Seat {
+    client: u64,
+    address: u32,
+    /// What was shown when a SEQUENCE of its client was last answered there.
+    used: u64,
+    /// Where its connection is; `None` where it is kept for its client, whose connection has ended.
+    port: Option<usize>,
+}
+
+/// Who is on each port, and who has each seat.
+#[derive(Drop)]
+pub struct Places {
+    guests: Vec<Option<Guest>>,
+    seats: Vec<Option<Seat>>,
+    /// How long one is spared: a lease, and a second more, as leases go by whole seconds.
+    lease: u64,
+}
+
+impl Model for Places {
+    ghost use Rattle.nfs_pace.specs.Places.{PlacesModel};
+
+    ghost Value = { PlacesModel };
+
+    ghost view = { λ p. record { guests = p.guests.items; seats = p.seats.items; lease = p.lease } };
+}
+
+impl Places {
+    /// So many ports, which are free, of a server whose lease lasts so many seconds. There are as many seats but one of eight ports, and one at least
+    /// where there are two ports.
+    ///
+    /// `AllocError` where memory is refused.
+    pub fn new(alloc: Global, ports: u32, lease: u32) -> Result<Places, AllocError>
+        ensures { IfOk result (λ p. p ≡ record { guests = replicate ports None; seats = replicate (ports - hall_of ports) None; lease = (lease + 1) * 1000000 }) }
+    {
+        let guests = vec![in alloc; None; ports as usize]?;
+        let seats = vec![in alloc; None; (ports - hall_of(ports)) as usize]?;
+        Ok(Places {
+            guests,
+            seats,
+            lease: (u64::from(lease) + 1) * MICROS,
+        })
+    }
+
+    /// How many ports there are, free or not.
+    pub fn count(&self) -> usize
+        ensures { result ≡ length self.now.guests }
+    {
+        self.guests.len()
+    }
+
+    /// How many of them have a connection.
+    pub fn taken(&self) -> usize
+        ensures { result ≡ count_by is_some self.now.guests }
+    {
+        self.guests.iter().filter(|guest| guest.is_some()).count()
+    }
+
+    /// Whether no port has one.
+    pub fn is_empty(&self) -> bool
+        ensures { result ≡ true → (port : ℕ) → port < length self.now.guests → is_none (guest_at self.now.guests port) ≡ true }
+    {
+        self.guests.iter().all(|guest| guest.is_none())
+    }
+
+    /// Whether who is on the port was silent for longer than it is spared.
+    pub fn is_over(&self, port: usize, shown: u64) -> bool
+        ensures { result ≡ is_over self.now.lease shown (guest_at self.now.guests port) }
+    {
+        match self.guests.get(port) {
+            Some(guest) => is_over(*guest, self.lease, shown),
+            None => false,
+        }
+    }
+
+    /// A SEQUENCE of this client was answered on the port. A seat there is that client's from now on.
+    pub fn answered(&mut self, port: usize, client: u64, shown: u64)
+        ensures guests { self.new.guests ≡ set self.old.guests port (answers client shown (guest_at self.old.guests port)) }
+        ensures seats { AreEach (sits port client shown) self.old.seats self.new.seats }
+        ensures lease { self.new.lease ≡ self.old.lease }
+    {
+        if port < self.guests.len() {
+            self.guests[port] = answers(self.guests[port], client, shown);
+        }
+        each_sits(&mut self.seats, port, client, shown);
+    }
+
+    /// Something else was answered there: that counts of a stranger.
+    pub fn heard(&mut self, port: usize, shown: u64)
+        ensures { self.new ≡ record self.old { guests = set self.old.guests port (hears shown (guest_at self.old.guests port)) } }
+    {
+        if port < self.guests.len() {
+            self.guests[port] = hears(self.guests[port], shown);
+        }
+    }
+
+    /// A session or a client was ended there: no seat is kept for it.
+    pub fn ended(&mut self, port: usize)
+        ensures { self.new ≡ record self.old { guests = set self.old.guests port (ends (guest_at self.old.guests port)) } }
+    {
+        if port < self.guests.len() {
+            self.guests[port] = ends(self.guests[port]);
+        }
+    }
+
+    /// The connection of the port is gone. A seat there is kept for its client as long as its lease lasts, unless its session was ended there.
+    pub fn leave(&mut self, port: usize, shown: u64)
+        ensures guests { self.new.guests ≡ set self.old.guests port None }
+        ensures seats { AreEach (left port (has_ended (guest_at self.old.guests port)) self.old.lease shown) self.old.seats self.new.seats }
+        ensures lease { self.new.lease ≡ self.old.lease }
+    {
+        self.vacate(port, shown);
+        if port < self.guests.len() {
+            self.guests[port] = None;
+        }
+    }
+
+    /// The seat of who is on the port is kept for its client, or is free.
+    fn vacate(&mut self, port: usize, shown: u64)
+        ensures guests { self.new.guests ≡ self.old.guests }
+        ensures seats { AreEach (left port (has_ended (guest_at self.old.guests port)) self.old.lease shown) self.old.seats self.new.seats }
+        ensures lease { self.new.lease ≡ self.old.lease }
+    {
+        let ended = match self.guests.get(port) {
+            Some(guest) => has_ended(*guest),
+            None => false,
+        };
+        each_left(&mut self.seats, port, ended, self.lease, shown);
+    }
+
+    /// A newcomer of this address has the port from now on, and stands in the hall.
+    pub fn stand(&mut self, port: usize, address: u32, now: u64, shown: u64, sweep: u64)
+        ensures guests { self.new.guests ≡ set self.old.guests port (Some (newcomer address now shown sweep)) }
+        ensures seats { AreEach (left port (has_ended (guest_at self.old.guests port)) self.old.lease shown) self.old.seats self.new.seats }
+        ensures lease { self.new.lease ≡ self.old.lease }
+    {
+        self.vacate(port, shown);
+        if port < self.guests.len() {
+            self.guests[port] = Some(Guest {
+                address,
+                client: 0,
+                used: shown,
+                since: shown,
+                came: now,
+                sweep,
+                ended: false,
+            });
+        }
+    }
+
+    /// The port that a newcomer of this address is given now, if there is one for it. Who has it gives way. Who has a seat gives way to none before it
+    /// was silent for longer than it is spared.
+    #[tactic(auto, using(crate::proofs::Found::free_is_none, crate::proofs::Found::silent_is_over), unfolding(crate::specs::Places::crowd))]
+    pub fn place_for(&self, address: u32, now: u64, shown: u64, sweep: u64) -> Option<usize>
+        ensures given { GivesPort self.now address now shown sweep result }
+        ensures spares { Spares self.now shown result }
+        ensures bound { IfSome result (λ port. port < length self.now.guests) }
+    {
+        if let Some(port) = self.free() {
+            return Some(port);
+        }
+        if let Some(port) = self.silent(shown) {
+            return Some(port);
+        }
+        if self.seats.len() == self.guests.len() {
+            return None;
+        }
+        if let Some(port) = self.first_to_go(true, address, now, sweep) {
+            return Some(port);
+        }
+        self.first_to_go(false, address, now, sweep)
+    }
+
+    /// Gives a seat to one of the hall whose client is known, if there is one for it: whether it did.
+    pub fn seat_next(&mut self, shown: u64) -> bool
+        ensures { SeatsNext self.old shown result self.new }
+    {
+        match self.next_seat(shown) {
+            Some((port, j)) => {
+                self.seats[j] = given_to(self.guests[port], port, self.seats[j]);
+                true
+            }
+            None => false,
+        }
+    }
+
+    /// The first port, in their order, for which there is a seat, and that seat.
+    fn next_seat(&self, shown: u64) -> Option<(usize, usize)>
+        ensures { MatchOption result (NoneNext self.now shown) (λ found. IsNext self.now shown found.0 found.1) }
+    {
+        for port in 0..self.guests.len() {
+            if let Some(j) = self.seat_for(port, shown) {
+                return Some((port, j));
+            }
+        }
+        None
+    }
+
+    /// The seat that who is on the port is given, if its client is known and it has none.
+    fn seat_for(&self, port: usize, shown: u64) -> Option<usize>
+        requires { port < length self.now.guests }
+        ensures gives { GivesSeat self.now shown port result }
+        ensures bound { IfSome result (λ j. j < length self.now.seats) }
+    {
+        let guest = self.guests[port]?;
+        if guest.client == 0 || self.is_seated(port) {
+            return None;
+        }
+        let (client, address, since) = (guest.client, guest.address, guest.since);
+        if let Some(j) = self.kept_for(client) {
+            return Some(j);
+        }
+        if let Some(j) = self.free_seat() {
+            return Some(j);
+        }
+        if let Some(j) = self.dead(client, address, since, shown) {
+            return Some(j);
+        }
+        if let Some(j) = self.run_out(shown) {
+            return Some(j);
+        }
+        self.most(client)
+    }
+
+    /// A port that has no connection.
+    fn free(&self) -> Option<usize>
+        ensures { result ≡ position is_none self.now.guests }
+    {
+        self.guests.iter().position(|guest| guest.is_none())
+    }
+
+    /// A port whose connection was silent for longer than it is spared.
+    fn silent(&self, shown: u64) -> Option<usize>
+        ensures { result ≡ position (is_over self.now.lease shown) self.now.guests }
+    {
+        let lease = self.lease;
+        self.guests
+            .iter()
+            .position(|guest| is_over(*guest, lease, shown))
+    }
+
+    /// Whether who is on the port has a seat.
+    fn is_seated(&self, port: usize) -> bool
+        ensures { result ≡ list_any (is_at port) self.now.seats }
+    {
+        self.seats.iter().any(|seat| is_at(*seat, port))
+    }
+
+    /// The seat that is kept for a client.
+    fn kept_for(&self, client: u64) -> Option<usize>
+        ensures { result ≡ position (is_kept_for client) self.now.seats }
+    {
+        self.seats
+            .iter()
+            .position(|seat| is_kept_for(*seat, client))
+    }
+
+    /// A seat that nobody has.
+    fn free_seat(&self) -> Option<usize>
+        ensures { result ≡ position is_none self.now.seats }
+    {
+        self.seats.iter().position(|seat| seat.is_none())
+    }
+
+    /// The seat of a connection of the same client and address that was answered nothing since another of them came.
+    fn dead(&self, client: u64, address: u32, since: u64, shown: u64) -> Option<usize>
+        ensures { result ≡ position (is_dead client address since shown) self.now.seats }
+    {
+        self.seats
+            .iter()
+            .position(|seat| is_dead(*seat, client, address, since, shown))
+    }
+
+    /// A seat whose client was answered nothing there for longer than a lease.
+    fn run_out(&self, shown: u64) -> Option<usize>
+        ensures { result ≡ position (is_run_out self.now.lease shown) self.now.seats }
+    {
+        let lease = self.lease;
+        self.seats
+            .iter()
+            .position(|seat| is_run_out(*seat, lease, shown))
+    }
+
+    /// How many seats a client has.
+    fn seats_of(&self, client: u64) -> usize
+        ensures count { result ≡ seats_of client self.now.seats }
+        ensures bound { result ≤ length self.now.seats }
+    {
+        self.seats
+            .iter()
+            .filter(|seat| is_of(**seat, client))
+            .count()
+    }
+
+    /// How many seats the client of this one has.
+    fn crowd_of(&self, seat: Option<Seat>) -> usize
+        ensures { result ≡ crowd_of self.now.seats seat }
+    {
+        match seat {
+            Some(seat) => self.seats_of(seat.client),
+            None => 0,
+        }
+    }
+
+    /// Of the client that has most seats, and two more than this one at least, the one that was answered nothing for longest.
+    fn most(&self, client: u64) -> Option<usize>
+        ensures { MatchOption result (NoneMany self.now.seats (seats_of client self.now.seats + 1)) (λ j. IsMost self.now.seats (seats_of client self.now.seats + 1) j) }
+    {
+        let count = self.seats.len();
+        let base = self.seats_of(client) + 1;
+        let mut found = None;
+        let mut most = base;
+        let mut least = u64::MAX;
+        for j in 0..count {
+            let seat = self.seats[j];
+            let (crowd, used) = (self.crowd_of(seat), used_at(seat));
+            if goes_before(crowd, used, most, least, base) {
+                most = crowd;
+                least = used;
+                found = Some(j);
+            }
+        }
+        found
+    }
+
+    /// Whether the port is in the hall, with one of this address.
+    fn stands(&self, port: usize, address: u32) -> bool
+        requires { port < length self.now.guests }
+        ensures { result ≡ stands self.now address port }
+    {
+        match self.guests[port] {
+            Some(guest) => guest.address == address && !self.is_seated(port),
+            None => false,
+        }
+    }
+
+    /// How many of an address stand in the hall.
+    pub fn in_hall(&self, address: u32) -> usize
+        ensures count { result ≡ hall_count self.now address (length self.now.guests) }
+        ensures bound { result ≤ length self.now.guests }
+    {
+        let mut count = 0;
+        for port in 0..self.guests.len() {
+            if self.stands(port, address) {
+                count += 1;
+            }
+        }
+        count
+    }
+
+    /// How many of the address of who is on the port stand in the hall, and the newcomer with them if it is of that; 0 where who is there does not give
+    /// way to it.
+    #[tactic(auto, unfolding(crate::specs::Places::crowd))]
+    fn crowd(&self, port: usize, strangers: bool, address: u32, now: u64, sweep: u64) -> usize
+        requires { port < length self.now.guests }
+        ensures { result ≡ crowd self.now strangers address now sweep port }
+    {
+        match self.guests[port] {
+            Some(guest) => {
+                let known = guest.client != 0;
+                if known == strangers || !has_stood(guest, now, sweep) || self.is_seated(port) {
+                    0
+                } else {
+                    self.in_hall(guest.address) + usize::from(guest.address == address)
+                }
+            }
+            None => 0,
+        }
+    }
+
+    /// Of the strangers in the hall, or of the others, who gives way first to a newcomer of this address: of the address of which most stand there, and
+    /// more than of the newcomer's, the one that came first.
+    fn first_to_go(&self, strangers: bool, address: u32, now: u64, sweep: u64) -> Option<usize>
+        ensures { MatchOption result (NoneToGo self.now strangers address now sweep) (λ port. IsFirstToGo self.now strangers address now sweep port) }
+    {
+        let base = self.in_hall(address);
+        let mut found = None;
+        let mut most = base;
+        let mut longest = 0;
+        for port in 0..self.guests.len() {
+            let (crowd, stood) = (
+                self.crowd(port, strangers, address, now, sweep),
+                stood(self.guests[port], now),
+            );
+            if leads(crowd, stood, most, longest, base) {
+                most = crowd;
+                longest = stood;
+                found = Some(port);
+            }
+        }
+        found
+    }
+}
+
+/// Each seat is as `sits` makes it.
+fn each_sits(seats: &mut [Option<Seat>], port: usize, client: u64, shown: u64)
+    ensures { AreEach (sits port client shown) seats.old seats.new }
+{
+    for j in 0..seats.len() {
+        seats[j] = sits(seats[j], port, client, shown);
+    }
+}
+
+/// Each seat is as `left` makes it.
+fn each_left(seats: &mut [Option<Seat>], port: usize, ended: bool, lease: u64, shown: u64)
+    ensures { AreEach (left port ended lease shown) seats.old seats.new }
+{
+    for j in 0..seats.len() {
+        seats[j] = left(seats[j], port, ended, lease, shown);
+    }
+}
+
+/// How many of so many ports have no seat at least.
+fn hall_of(ports: u32) -> u32
+    ensures count { result ≡ hall_of ports }
+    ensures bound { result ≤ ports }
+{
+    if ports < 2 { 0 } else { (ports / 8).max(1) }
+}
+
+/// Whether a crowd of more than so many leads: it is larger than the largest so far, or as large, and older.
+fn leads(crowd: usize, age: u64, most: usize, longest: u64, base: usize) -> bool
+    requires { base ≤ most }
+    ensures leads { result ≡ true → (base < crowd) × (most ≤ crowd) × (crowd ≡ most → longest ≤ age) }
+    ensures follows { result ≡ false → (crowd ≤ most) × (crowd ≡ most → base < crowd → age ≤ longest) }
+{
+    if crowd == most {
+        crowd > base && age >= longest
+    } else {
+        crowd > most
+    }
+}
+
+/// The same, where what was answered last first leads.
+fn goes_before(crowd: usize, used: u64, most: usize, least: u64, base: usize) -> bool
+    requires { base ≤ most }
+    ensures leads { result ≡ true → (base < crowd) × (most ≤ crowd) × (crowd ≡ most → used ≤ least) }
+    ensures follows { result ≡ false → (crowd ≤ most) × (crowd ≡ most → base < crowd → least ≤ used) }
+{
+    if crowd == most {
+        crowd > base && used <= least
+    } else {
+        crowd > most
+    }
+}
+
+/// What was shown when something was last answered there.
+fn used_at(seat: Option<Seat>) -> u64
+    ensures { result ≡ used_at seat }
+{
+    match seat {
+        Some(seat) => seat.used,
+        None => 0,
+    }
+}
+
+/// How long ago one came.
+fn stood(guest: Option<Guest>, now: u64) -> u64
+    ensures { result ≡ stood now guest }
+{
+    match guest {
+        Some(guest) => now.saturating_sub(guest.came),
+        None => 0,
+    }
+}
+
+/// Whether it stood long enough to give way to another.
+fn has_stood(guest: Guest, now: u64, sweep: u64) -> bool
+    ensures { result ≡ has_stood now sweep guest }
+{
+    now.saturating_sub(guest.came) >= STAY && sweep.saturating_sub(guest.sweep) >= STAY_SWEEPS
+}
+
+/// Whether it was silent for longer than it is spared: a stranger for ten seconds, where a lease is longer.
+fn is_over(guest: Option<Guest>, lease: u64, shown: u64) -> bool
+    ensures { result ≡ is_over lease shown guest }
+{
+    match guest {
+        Some(guest) => {
+            let spared = if guest.client == 0 {
+                lease.min(STRANGER)
+            } else {
+                lease
+            };
+            spared < shown.saturating_sub(guest.used)
+        }
+        None => false,
+    }
+}
+
+/// Whether a session or a client was ended there.
+fn has_ended(guest: Option<Guest>) -> bool
+    ensures { result ≡ has_ended guest }
+{
+    match guest {
+        Some(guest) => guest.ended,
+        None => false,
+    }
+}
+
+/// The same, where a SEQUENCE of this client was answered.
+fn answers(guest: Option<Guest>, client: u64, shown: u64) -> Option<Guest>
+    ensures { result ≡ answers client shown guest }
+{
+    match guest {
+        Some(guest) => Some(Guest {
+            client,
+            used: shown,
+            ended: false,
+            ..guest
+        }),
+        None => None,
+    }
+}
+
+/// The same, where something else was answered.
+fn hears(guest: Option<Guest>, shown: u64) -> Option<Guest>
+    ensures { result ≡ hears shown guest }
+{
+    match guest {
+        Some(guest) => {
+            let used = if guest.client == 0 { shown } else { guest.used };
+            Some(Guest { used, ..guest })
+        }
+        None => None,
+    }
+}
+
+/// The same, where a session or a client was ended.
+fn ends(guest: Option<Guest>) -> Option<Guest>
+    ensures { result ≡ ends guest }
+{
+    match guest {
+        Some(guest) => Some(Guest {
+            ended: true,
+            ..guest
+        }),
+        None => None,
+    }
+}
+
+/// Whether the seat is that of who is on the port.
+fn is_at(seat: Option<Seat>, port: usize) -> bool
+    ensures { result ≡ is_at port seat }
+{
+    match seat {
+        Some(seat) => match seat.port {
+            Some(at) => at == port,
+            None => false,
+        },
+        None => false,
+    }
+}
+
+/// Whether it is a client's.
+fn is_of(seat: Option<Seat>, client: u64) -> bool
+    ensures { result ≡ is_of client seat }
+{
+    match seat {
+        Some(seat) => seat.client == client,
+        None => false,
+    }
+}
+
+/// Whether it is kept for a client.
+fn is_kept_for(seat: Option<Seat>, client: u64) -> bool
+    ensures { result ≡ is_kept_for client seat }
+{
+    match seat {
+        Some(seat) => seat.client == client && seat.port.is_none(),
+        None => false,
+    }
+}
+
+/// Whether it is of this client and address, and was answered nothing since another connection of them came, and for a second.
+fn is_dead(seat: Option<Seat>, client: u64, address: u32, since: u64, shown: u64) -> bool
+    ensures { result ≡ is_dead client address since shown seat }
+{
+    match seat {
+        Some(seat) => {
+            let same = seat.client == client && seat.address == address;
+            same && seat.used <= since && shown.saturating_sub(seat.used) >= DEAD
+        }
+        None => false,
+    }
+}
+
+/// Whether nothing was answered there for longer than a lease.
+fn is_run_out(seat: Option<Seat>, lease: u64, shown: u64) -> bool
+    ensures { result ≡ is_run_out lease shown seat }
+{
+    match seat {
+        Some(seat) => lease < shown.saturating_sub(seat.used),
+        None => false,
+    }
+}
+
+/// The same, where a SEQUENCE of this client was answered on the port.
+fn sits(seat: Option<Seat>, port: usize, client: u64, shown: u64) -> Option<Seat>
+    ensures { result ≡ sits port client shown seat }
+{
+    match seat {
+        Some(seat) => {
+            if is_at(Some(seat), port) {
+                Some(Seat {
+                    client,
+                    used: shown,
+                    ..seat
+                })
+            } else {
+                Some(seat)
+            }
+        }
+        None => None,
+    }
+}
+
+/// The same, where the connection of the port is gone, on which a session had ended or not.
+fn left(seat: Option<Seat>, port: usize, ended: bool, lease: u64, shown: u64) -> Option<Seat>
+    ensures { result ≡ left port ended lease shown seat }
+{
+    match seat {
+        Some(seat) => {
+            if !is_at(Some(seat), port) {
+                Some(seat)
+            } else if ended || is_run_out(Some(seat), lease, shown) {
+                None
+            } else {
+                Some(Seat { port: None, ..seat })
+            }
+        }
+        None => None,
+    }
+}
+
+/// The seat, given to who is on the port. Where it was of the same client, it was last answered there or here.
+fn given_to(guest: Option<Guest>, port: usize, seat: Option<Seat>) -> Option<Seat>
+    ensures { result ≡ given_to port guest seat }
+{
+    match guest {
+        Some(guest) => {
+            let before = match seat {
+                Some(seat) => {
+                    if seat.client == guest.client {
+                        seat.used
+                    } else {
+                        0
+                    }
+                }
+                None => 0,
+            };
+            Some(Seat {
+                client: guest.client,
+                address: guest.address,
+                used: guest.used.max(before),
+                port: Some(port),
+            })
+        }
+        None => seat,
+    }
+}

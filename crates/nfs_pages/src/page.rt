@@ -1,0 +1,103 @@
+//! A page of bytes.
+
+ghost use Rattle.std.specs.Prelude.{◌≡◌, ℕ, ◌+◌, ◌≤◌, ◌++◌, [], length, take, map, replicate, slice_index_or, IfOk, OnOk};
+ghost use Rattle.std.specs.List.{range_with_len};
+ghost use Rattle.nfs_pages.specs.Page.{page_size, put_in};
+
+use nfs_xdr::Sheet;
+use std::alloc::{AllocError, Global};
+use std::marker::Model;
+
+/// How many bytes a page holds at most.
+pub(crate) const PAGE: usize = 4096;
+
+static ZEROS: [u8; 4096] = [0; 4096];
+
+/// At most 4,096 bytes. What is behind its end is zeros.
+#[derive(Drop)]
+pub(crate) struct Page {
+    pub(crate) bytes: Vec<u8>,
+}
+
+impl Model for Page {
+    ghost use Rattle.std.specs.Prelude.{ℕ, List, length, ◌≤◌};
+    ghost use Rattle.nfs_pages.specs.Page.{page_size};
+
+    ghost Value = { List ℕ };
+
+    ghost view = { λ p. p.bytes.items };
+
+    ghost invariant = { λ p. length p.bytes.items ≤ page_size };
+}
+
+/// Puts so many zeros on a sheet.
+pub(crate) fn put_zeros(out: &mut Sheet, count: usize)
+    requires few { count ≤ page_size }
+    requires room { length out.old.bytes + count ≤ out.old.room }
+    ensures bytes { out.new.bytes ≡ out.old.bytes ++ replicate count 0 }
+    ensures room { out.new.room ≡ out.old.room }
+    ensures len { length out.new.bytes ≡ length out.old.bytes + count }
+{
+    out.put_bytes(&ZEROS[..count]);
+}
+
+impl Page {
+    /// No bytes, which take no memory.
+    pub(crate) fn new(alloc: Global) -> Page
+        ensures { result ≡ [] }
+    {
+        Page {
+            bytes: Vec::new(alloc),
+        }
+    }
+
+    /// A copy of `bytes`.
+    pub(crate) fn of(alloc: Global, bytes: &[u8]) -> Result<Page, AllocError>
+        requires { length bytes.now ≤ page_size }
+        ensures { IfOk result (λ p. p ≡ bytes.now) }
+    {
+        let bytes = Vec::from_slice(alloc, bytes)?;
+        Ok(Page { bytes })
+    }
+
+    /// Puts so many of the page's bytes on a sheet, from a place on.
+    pub(crate) fn read(&self, from: usize, count: usize, out: &mut Sheet)
+        requires few { from + count ≤ page_size }
+        requires room { length out.old.bytes + count ≤ out.old.room }
+        ensures bytes { out.new.bytes ≡ out.old.bytes ++ map (λ j. slice_index_or self.now j 0) (range_with_len from count) }
+        ensures room { out.new.room ≡ out.old.room }
+        ensures len { length out.new.bytes ≡ length out.old.bytes + count }
+    {
+        let end = self.bytes.len().min(from + count);
+        if from < end {
+            out.put_bytes(&self.bytes[from..end]);
+            put_zeros(out, from + count - end);
+        } else {
+            put_zeros(out, count);
+        }
+    }
+
+    /// Makes the page whole: its bytes stay.
+    pub(crate) fn make(&mut self) -> Result<(), AllocError>
+        ensures same { (j : ℕ) → slice_index_or self.new j 0 ≡ slice_index_or self.old j 0 }
+        ensures whole { OnOk result (length self.new ≡ page_size) }
+        ensures longer { length self.old ≤ length self.new }
+    {
+        self.bytes.resize(PAGE, 0)
+    }
+
+    /// Writes over some of the page's bytes.
+    pub(crate) fn put(&mut self, at: usize, text: &[u8])
+        requires { at + length text.now ≤ length self.old }
+        ensures { self.new ≡ put_in self.old at text.now }
+    {
+        self.bytes[at..at + text.len()].copy_from_slice(text);
+    }
+
+    /// Drops the bytes from a place on.
+    pub(crate) fn cut(&mut self, count: usize)
+        ensures { self.new ≡ take count self.old }
+    {
+        self.bytes.truncate(count);
+    }
+}

@@ -1,0 +1,15 @@
+-- How much a tree may hold: objects, the root among them, and bytes of a file (this server's profile).
+use Rattle.std.specs.Prelude.{nat_le, Bool, ◌&&◌, max, min}
+use Rattle.nfs_tree.specs.declared.limits.Limits.{Limits}
+
+-- where nothing else is set
+abbrev pub profile : Limits
+profile = record { objects = 65536; bytes = 1048576 }
+
+-- those that a tree can have
+abbrev pub is_limits : Limits → Bool
+is_limits l = nat_le 1 l.objects && nat_le l.bytes 1099511627776
+
+-- those that a tree has which is given these
+abbrev pub bounded : Limits → Limits
+bounded l = record { objects = max l.objects 1; bytes = min l.bytes 1099511627776 }
