@@ -3,6 +3,7 @@ import fnmatch
 import os
 import random
 import sys
+import threading
 import traceback
 
 from wire import needed
@@ -13,14 +14,15 @@ class Judged:
     """What a part has judged: how much held, and the names of what did not."""
 
     def __init__(self):
-        self.passed, self.failed = 0, []
+        self.passed, self.failed, self.one_by_one = 0, [], threading.Lock()
 
     def __call__(self, name, holds, shown=""):
-        if holds:
-            self.passed += 1
-        else:
-            self.failed.append(name)
-            print(f"{name}: {shown}" if shown else name)
+        with self.one_by_one:
+            if holds:
+                self.passed += 1
+            else:
+                self.failed.append(name)
+                print(f"{name}: {shown}" if shown else name)
 
     def last_line(self):
         """Prints the last line of a part, and returns the exit status."""

@@ -20,8 +20,9 @@ except ImportError:  # Python before 3.11
     tomllib = None
 
 MOST_OF_SETTINGS = 65_536
-# the keys of the settings file, each with its least and its greatest number
-KEYS = {"lease": (1, 86_400), "root_mode": (0, 0o7777), "instance": (1, 2**32 - 2), "server_owner": (1, 1_024), "file_bytes": (1, 2**40), "objects": (1, 2**24)}
+# the keys of the settings file, each with its least and its greatest number, or with the words that may stand there
+KEYS = {"lease": (1, 86_400), "root_mode": (0, 0o7777), "instance": (1, 2**32 - 2), "server_owner": (1, 1_024), "file_bytes": (1, 2**40), "objects": (1, 2**24),
+        "memory": (0, 2**46), "connections": (1, 1_024), "profile": ("exact", "unix"), "clients": (1, 65_536), "sessions": (1, 1_024)}
 # those of them that are texts, with their bytes in place of a number
 TEXTS = ("server_owner",)
 
@@ -40,6 +41,8 @@ COMMANDS = {
         "--at-once": Option("K", most=16),
         "--settings": Option("FILE"),
         "--status": Option("S", most=86_400),
+        "--metrics": Option("FILE"),
+        "--client-list": Option("FILE"),
     },
     "replay": {"--settings": Option("FILE")},
 }
@@ -197,6 +200,10 @@ def wrong_text(path, text, lasts=False):
         if key not in KEYS:
             return f"{place}: there is no key {key!r}{nearest(key, KEYS)}: the keys are {', '.join(KEYS)}"
         least, most = KEYS[key]
+        if isinstance(least, str):
+            if value not in (least, most):
+                return f'{place}: {key} is neither "{least}" nor "{most}"'
+            continue
         if key in TEXTS:
             if why := wrong_words(value, least, most):
                 return f"{place}: {key} {why}"
@@ -206,6 +213,9 @@ def wrong_text(path, text, lasts=False):
         if not least <= value <= most:
             in_octal = f" (0o{most:o})" if key == "root_mode" else ""
             return f"{place}: {key} is {str(value)[:40]}, and not from {least:,} to {most:,}{in_octal}"
+    if table.get("sessions", 1) > table.get("connections", 1_024):
+        place = f"{path}, line {line_of('sessions', text)}" if line_of("sessions", text) else path
+        return f"{place}: sessions is greater than connections, which is {table['connections']}"
     written = re.search(r"""^[ \t]*(["']?)root_mode\1[ \t]*=[ \t]*([^0\s#][^\s#]+)""", text, re.MULTILINE)
     if lasts and written and "instance" not in table:
         return f"{path}, line {line_of('root_mode', text)}: root_mode is {written[2]} without 0o: write " + (

@@ -120,11 +120,12 @@ def whole(file):
 
 class Served:
     """The program, serving on a port of the loopback that it took itself: so many connections, or until it is stopped if no number is given, so many at
-    once, under these settings. `words` are further ones, `files` limits how many files it may have open, and `under` is the words of a tool that runs
+    once, under these settings. `seats` is the setting `connections`, `words` are further ones, `files` limits how many files it may have open, and `under` is the words of a tool that runs
     it. Where a fault ends its block, what it said is printed."""
 
-    def __init__(self, connections=None, at_once=None, *, words=(), files=None, program=PROGRAM, under=(), **settings):
+    def __init__(self, connections=None, at_once=None, *, seats=None, words=(), files=None, program=PROGRAM, under=(), **settings):
         self.told, self.settings = tempfile.TemporaryFile(), tempfile.NamedTemporaryFile("w", suffix=".toml")
+        settings |= {"connections": seats} if seats else {}
         self.settings.write("".join(f"{name} = {value}\n" for name, value in settings.items()))
         self.settings.flush()
         limited = ["sh", "-c", f'ulimit -n {files} && exec "$@"', "sh"] if files else []

@@ -796,6 +796,8 @@ static void play(const char *part, int first, char *options) {
     if (getenv("life")) life(getenv("life"));
     if (!strcmp(part, "killed")) killed();
     if (!strcmp(part, "expired")) lease_runs_out();
+    if (!strcmp(part, "unix") || !strcmp(part, "exact")) by_profile(!strcmp(part, "unix"));
+    if (!strcmp(part, "random")) random_calls(88);
     if (!strcmp(part, "restart")) server_restarts(options);
     unmounted();
 }

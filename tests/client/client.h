@@ -36,3 +36,7 @@ void two_servers(const char *options);
 
 /* client_killed.c */
 void killed(void);
+
+/* client_unix.c */
+void by_profile(int profile_is_unix);
+void random_calls(unsigned seed);

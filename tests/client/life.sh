@@ -94,6 +94,19 @@ in_make() {
     says "but for what was touched" "cc    -c -o f3.o f3.c;cc -o sum main.o f1.o f2.o f3.o f4.o f5.o f6.o" sh -c "make | tr '\n' ';' | sed 's/;\$//'"
 }
 
+# Thirty times a source changes right behind a build of it, and the next build is to see that.
+in_again() {
+    printf 'built: source\n\tcp source built\n' > Makefile
+    local round stale=0
+    for round in $(seq 30); do
+        echo "$round" > source
+        make -s > "$log" 2>&1 || { echo "step a build ends: FAILED $(tail -c 200 "$log")"; return; }
+        [ "$(cat built)" = "$round" ] || stale=$((stale + 1))
+    done
+    well "make sees each change within a second" [ "$stale" = 0 ]
+    echo "note: $stale of 30 builds were stale"
+}
+
 # Stressors of stress-ng, each with the number of its operations: those that an NFS mount has and that check what they find. An operation of `link`
 # and of `symlink` is 8,192 names, and the smallest file of `seek` passes 1 MiB, so they are not here. All run side by side from one start, which
 # takes longer than most of them.

@@ -17,9 +17,9 @@ DENIED = 10_010
 SMALL = (4_096, 4_096, 4_096, 64, 1)
 
 
-def Served(lease=30, connections=None, at_once=None):  # noqa: N802 (it stands for the class)
+def Served(lease=30, connections=None, at_once=None, seats=None):  # noqa: N802 (it stands for the class)
     """The program as instance 7. (A number of connections alone would be served one after the other.)"""
-    return wire.Served(connections, at_once or (16 if connections else None), instance=7, lease=lease)
+    return wire.Served(connections, at_once or (16 if connections else None), seats=seats, instance=7, lease=lease)
 
 
 def field(told, operation, name):
@@ -103,8 +103,8 @@ class Good:
 
     TEXT = b"good bytes"
 
-    def __init__(self, server, pause=0.1, name=b"good", delay=0):
-        self.peer, self.pause, self.delay = Peer(server, name), pause, delay
+    def __init__(self, server, pause=0.1, name=b"good", delay=0, source=HERE):
+        self.peer, self.pause, self.delay = Peer(server, name, source), pause, delay
         self.opened, self.file = self.peer.opens(name + b" file", b"good owner")
         told = nfs4.Reply(self.peer.asks(at(self.file), write(self.opened, 0, self.TEXT),
                                          lock_first(0, self.opened, b"good locker", size=10)))

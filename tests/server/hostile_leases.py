@@ -19,10 +19,10 @@ HERE = Path(__file__).resolve().parent
 found = []
 
 
-def spread_owners(peer, count):
+def spread_owners(peer, count, name=b"spread"):
     """A file with so many lock owners, each with a byte before a gap in the middle and a byte behind it: the filehandle, and a LOCKT in the gap,
-    which no other than a walk over all of them can answer."""
-    opened, file = peer.opens(b"spread")
+    about which no single lock owner says anything."""
+    opened, file = peer.opens(name)
     # (in parts, so that its lease does not run out while they are made)
     for first in range(0, count, 2_000):
         peer.does_all([at(file)], [step for n in range(first, min(count, first + 2_000)) for step in (
@@ -34,8 +34,8 @@ class Attack:
     """A client on a connection of its own that asks for the same compounds over and over, in turns, with two calls outstanding. It counts those that
     succeed, and ends with one that does not."""
 
-    def __init__(self, server, owner, *compounds):
-        self.peer, self.compounds, self.came, self.ending = Peer(server, owner), compounds, 0, threading.Event()
+    def __init__(self, server, owner, *compounds, **where):
+        self.peer, self.compounds, self.came, self.ending = Peer(server, owner, **where), compounds, 0, threading.Event()
         self.thread = threading.Thread(target=self.asks, daemon=True)
 
     def asks(self):

@@ -83,9 +83,8 @@ COUNTS = {
 
 # rows of the table of limits, each with its crate, its file and its constant, or the field of one
 LIMITS = {
-    "Reads of one connection": "nfs_serve talking MAX_READS",
-    "Client records": "nfs_clients exchange_id MAX_RECORDS",
-    "Sessions": "nfs_sessions sessions MAX",
+    "Client records": "nfs_names start clients",
+    "Sessions": "nfs_names start sessions",
     "Slots of a session": "nfs_sessions channel MAX_SLOTS",
     "A request or a reply": "nfs_xdr limits MAX_RECORD",
     "Operations of one request": "nfs_sessions channel MAX_OPERATIONS",

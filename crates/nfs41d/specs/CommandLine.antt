@@ -3,8 +3,8 @@ use Rattle.std.specs.Prelude.{◌≤◌, IfSome}
 use Rattle.nfs_serve.specs.Script.{connection_count}
 use Rattle.nfs41d.specs.{declared.asked.Order.Order, declared.asked.Order.TheVariants.{Replay, Serve}}
 
--- 1 to 1,000,000 connections, or no end of them; 1 to 16 at once; a line of status after each 1 to 86,400 seconds, or none
+-- 1 to 1,000,000 connections, or no end of them; 1 to 16 at once, or as many as the settings say; a line of status after each 1 to 86,400 seconds, or none
 abbrev pub MayBeAsked : Order → Type 0
 MayBeAsked (Replay settings) = Unit {0}
-MayBeAsked (Serve listen connections at_once settings status) = IfSome connections (λ n. (1 ≤ n) × (n ≤ 1000000)) × (1 ≤ at_once) × (at_once ≤ connection_count)
-    × IfSome status (λ n. (1 ≤ n) × (n ≤ 86400))
+MayBeAsked (Serve listen connections at_once settings status metrics clients) = IfSome connections (λ n. (1 ≤ n) × (n ≤ 1000000))
+    × IfSome at_once (λ n. (1 ≤ n) × (n ≤ connection_count)) × IfSome status (λ n. (1 ≤ n) × (n ≤ 86400))

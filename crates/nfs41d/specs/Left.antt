@@ -1,13 +1,21 @@
--- How many connections a run still serves (this server's profile).
-use Rattle.std.specs.Prelude.{ℕ, ◌-◌, nat_eq, Bool, false, Option, Some, None, if◌then◌else◌}
-use Rattle.nfs_serve.specs.Script.{connection_count}
-use Rattle.nfs41d.specs.declared.left.Left.{Left}
+-- How many connections a run serves at once, and how many it still serves (this server's profile).
+use Rattle.std.specs.Prelude.{ℕ, ◌+◌, ◌-◌, ◌/◌, min, max, nat_eq, nat_lt, Bool, false, Option, Some, None, if◌then◌else◌}
+use Rattle.nfs41d.specs.declared.left.{Left.Left, Room.Room}
 
--- How many are served at once: what is asked for; else one, where it is said how many there are in all; else as many as there may be.
-abbrev pub at_once : Option ℕ → Option ℕ → ℕ
-at_once connections (Some asked) = asked
-at_once (Some connections) None = 1
-at_once None None = connection_count
+-- How many are asked for: as many as are said; else one, where it is said how many there are in all.
+abbrev pub at_once : Option ℕ → Option ℕ → Option ℕ
+at_once connections (Some asked) = Some asked
+at_once (Some connections) None = Some 1
+at_once None None = None
+
+-- how many of so many ports have no seat at least: one of eight, and one where there are two
+abbrev pub hall_of : ℕ → ℕ
+hall_of ports = if nat_lt ports 2 then 0 else max (ports / 8) 1
+
+-- as many ports as are asked for; else so many seats, 1,024 at most, and eight ports more in the hall
+abbrev pub room_of : Option ℕ → ℕ → Room
+room_of (Some ports) seats = record { ports = ports; seats = ports - hall_of ports }
+room_of None seats = record { ports = min seats 1024 + 8; seats = min seats 1024 }
 
 -- one more has counted
 abbrev pub less : Option ℕ → Option ℕ

@@ -6,3 +6,4 @@ pub mod Tally
 pub mod Left
 pub mod SettingsFile
 pub mod Readings
+pub mod Looking

@@ -1,6 +1,6 @@
 -- What a reply tells of its connection. It stands with its record mark (RFC 5531 sections 9 and 11): the mark, xid, REPLY, reply_stat, a verifier of no
 -- bytes, accept_stat; and of a compound (RFC 8881 section 16.2.2) status, tag, how many results there are, and the first.
-use Rattle.std.specs.Prelude.{ℕ, ◌+◌, ◌*◌, ◌^◌, ◌/◌, ◌==◌, ◌&&◌, ◌||◌, nat_le, Bool, List, Option, Some, None, if◌then◌else◌}
+use Rattle.std.specs.Prelude.{ℕ, ◌+◌, ◌*◌, ◌^◌, ◌/◌, ◌==◌, ◌&&◌, ◌||◌, nat_le, List, Option, Some, if◌then◌else◌}
 use Rattle.nfs41d.specs.{Tally.word_at, declared.seen.Seen.Seen, declared.seen.Seen.TheVariants.{Sequence, End, Other}}
 
 -- of a session's id the first eight bytes name its client

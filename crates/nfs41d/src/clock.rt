@@ -79,6 +79,13 @@ impl<S: Readings> PacedClock<S> {
     }
 }
 
+impl<S: Readings> PacedClock<S> {
+    /// The second of the last reading.
+    pub fn second(&self) -> u64 {
+        self.at.read() / MICROS
+    }
+}
+
 impl<S: Readings> Clock for PacedClock<S> {
     ghost told = { λ _. None };
 

@@ -5,11 +5,13 @@ use crate::asked::Order;
 use crate::fault::Fault;
 use crate::holder::process_on;
 use crate::settings_file::{
-    KEYS, LEASE, MOST_OBJECTS, MOST_OF_OWNER, Number, ROOT_MODE, bytes_at, is_known, number_at,
+    CLIENTS, CONNECTIONS, KEYS, LEASE, MOST_OBJECTS, MOST_OF_OWNER, Number, ROOT_MODE, bytes_at,
+    is_known, memory_at, number_at, profile_at, seats_at, up_to,
 };
 use crate::shown::{Grouped, Shown};
 use crate::words::order;
 use crate::{MOST_OF_SETTINGS, start_of};
+use nfs_tree::Profile;
 use std::io::{ErrorKind, Write};
 use std::net::{SocketAddr, SocketAddrV4, TcpListener};
 use toml::Value;
@@ -132,7 +134,13 @@ fn explain_text<W: Write>(rt: &HostRuntime, path: &str, text: &str, w: &mut W) {
         || explain_number(&root, "instance", INSTANCE, path, w)
         || explain_owner(&root, path, w)
         || explain_bytes(&root, path, w)
-        || explain_number(&root, "objects", OBJECTS, path, w);
+        || explain_number(&root, "objects", OBJECTS, path, w)
+        || explain_memory(&root, path, w)
+        || explain_number(&root, "connections", CONNECTIONS, path, w)
+        || explain_number(&root, "clients", CLIENTS, path, w)
+        || explain_number(&root, "sessions", CONNECTIONS, path, w)
+        || explain_sessions(&root, path, w)
+        || explain_profile(&root, path, w);
     if let (false, Some(mode)) = (is_told, decimal_mode(text)) {
         explain_mode(mode, path, w);
     }
@@ -161,23 +169,60 @@ fn explain_owner<W: Write>(root: &Value, path: &str, w: &mut W) -> bool {
     }
 }
 
+/// Writes that there would be more sessions than seats, and answers whether that is so.
+fn explain_sessions<W: Write>(root: &Value, path: &str, w: &mut W) -> bool {
+    let Some(seats) = seats_at(root) else {
+        return false;
+    };
+    if number_at(root, "sessions", up_to(seats)).is_some() {
+        return false;
+    }
+    let shown = Shown(path);
+    let _ = writeln!(
+        w,
+        "nfs41d: {shown}: sessions is greater than connections, which is {seats}"
+    );
+    true
+}
+
 /// Writes what is wrong with the bytes of a file, and answers whether something is.
 fn explain_bytes<W: Write>(root: &Value, path: &str, w: &mut W) -> bool {
     if bytes_at(root, "file_bytes", 1).is_some() {
         return false;
     }
-    let shown = Shown(path);
-    if let Some(Value::Integer(n)) = root.get("file_bytes") {
-        let _ = writeln!(
-            w,
-            "nfs41d: {shown}: file_bytes is {n}, and not from 1 to 1,099,511,627,776"
-        );
-    } else {
-        let _ = writeln!(
-            w,
-            "nfs41d: {shown}: file_bytes is no number from 1 to 1,099,511,627,776"
-        );
+    explain_wide(root, "file_bytes", "1 to 1,099,511,627,776", path, w);
+    true
+}
+
+/// Writes what is wrong with the bytes of pages, and answers whether something is.
+fn explain_memory<W: Write>(root: &Value, path: &str, w: &mut W) -> bool {
+    if memory_at(root, "memory", 0).is_some() {
+        return false;
     }
+    explain_wide(root, "memory", "0 to 70,368,744,177,664", path, w);
+    true
+}
+
+/// Writes that what stands at a key is no number of a range.
+fn explain_wide<W: Write>(root: &Value, key: &str, range: &str, path: &str, w: &mut W) {
+    let shown = Shown(path);
+    if let Some(Value::Integer(n)) = root.get(key) {
+        let _ = writeln!(w, "nfs41d: {shown}: {key} is {n}, and not from {range}");
+    } else {
+        let _ = writeln!(w, "nfs41d: {shown}: {key} is no number from {range}");
+    }
+}
+
+/// Writes what is wrong with the profile, and answers whether something is.
+fn explain_profile<W: Write>(root: &Value, path: &str, w: &mut W) -> bool {
+    if profile_at(root, "profile", Profile::Unix).is_some() {
+        return false;
+    }
+    let shown = Shown(path);
+    let _ = writeln!(
+        w,
+        "nfs41d: {shown}: profile is neither \"exact\" nor \"unix\""
+    );
     true
 }
 

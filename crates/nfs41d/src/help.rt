@@ -2,7 +2,7 @@
 
 /// The forms of the command line and the options, as the man page docs/nfs41d.8 has them.
 const HELP: &str =
-    "usage: nfs41d serve --listen ADDR [--connections N] [--at-once K] [--settings FILE] [--status S]
+    "usage: nfs41d serve --listen ADDR [--connections N] [--at-once K] [--settings FILE] [--status S] [--metrics FILE] [--client-list FILE]
        nfs41d replay [--settings FILE]
        nfs41d --help
        nfs41d --version
@@ -18,13 +18,17 @@ Options may come in any order.
       --at-once one connection is served at a time, and each that is taken
       counts.
   --at-once K
-      How many connections at once, 1 to 16. Left out it is 16, or 1 if
-      --connections is given.
+      How many connections at once, 1 to 16. Left out it is as many as the
+      settings say, 64 unless they do, or 1 if --connections is given.
   --settings FILE
       A TOML document; see SETTINGS.
   --status S
       Write a line to standard error every S seconds, 1 to 86,400; see STATUS.
       Left out it writes none.
+  --metrics FILE
+      Write what it counts to FILE once a second, for monitors; see METRICS.
+  --client-list FILE
+      Write a line for each client to FILE once a second; see CLIENT LIST.
 
 nfs41d(8) has the settings file, the status lines and more.
 ";

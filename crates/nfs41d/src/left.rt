@@ -1,7 +1,57 @@
 //! How many connections a run still serves.
 
-ghost use Rattle.std.specs.Prelude.{◌≡◌, nat_eq};
-ghost use Rattle.nfs41d.specs.Left.{taken, heard, less, none_left};
+ghost use Rattle.std.specs.Prelude.{◌≡◌, ◌≤◌, IfSome, nat_eq};
+ghost use Rattle.nfs_serve.specs.Script.{connection_count};
+ghost use Rattle.nfs_serve.specs.Desk.{most_ports};
+ghost use Rattle.nfs41d.specs.Left.{hall_of, room_of, taken, heard, less, none_left};
+
+use nfs_serve::MOST_PORTS;
+
+/// How many stand in the hall where all seats are taken.
+const HALL: u32 = 8;
+
+/// The most seats.
+const MOST_SEATS: u32 = MOST_PORTS - HALL;
+
+/// How many connections a server has at once, and how many of them have a seat.
+#[derive(Clone, Copy)]
+pub struct Room {
+    /// How many ports there are.
+    pub ports: u32,
+    /// How many seats.
+    pub seats: u32,
+}
+
+impl Room {
+    /// For as many connections at once as are asked for, or for so many seats, 1,024 at most, and the hall.
+    pub fn of(at_once: Option<u32>, seats: u32) -> Room
+        requires asked { IfSome at_once (λ n. n ≤ connection_count) }
+        ensures room { result ≡ room_of at_once seats }
+        ensures bound { result.ports ≤ most_ports }
+    {
+        match at_once {
+            Some(ports) => Room {
+                ports,
+                seats: ports - hall_of(ports),
+            },
+            None => {
+                let seats = seats.min(MOST_SEATS);
+                Room {
+                    ports: seats + HALL,
+                    seats,
+                }
+            }
+        }
+    }
+}
+
+/// How many of so many ports have no seat at least.
+fn hall_of(ports: u32) -> u32
+    ensures count { result ≡ hall_of ports }
+    ensures bound { result ≤ ports }
+{
+    if ports < 2 { 0 } else { (ports / 8).max(1) }
+}
 
 /// How many connections are still to count before the program ends, if it is to end.
 #[derive(Clone, Copy)]

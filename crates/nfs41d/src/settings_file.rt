@@ -1,14 +1,14 @@
 //! The settings of a server, as a TOML document gives them.
 
-ghost use Rattle.std.specs.Prelude.{◌≡◌, ◌≢◌, IfOk, Some, None, Err, true, false};
+ghost use Rattle.std.specs.Prelude.{◌≡◌, ◌≢◌, IfOk, Some, None, Err, true, false, codes, option_and_then};
 ghost use Rattle.toml.specs.Data.{get};
 ghost use Rattle.toml.specs.Errors.{IsBlank};
 ghost use Rattle.toml.specs.View.{view, table_view};
-ghost use Rattle.nfs41d.specs.SettingsFile.{settings_in, number_of, owner_of, is_owner, lasts, default_bytes, default_objects, all_known, is_known};
+ghost use Rattle.nfs41d.specs.SettingsFile.{settings_in, number_of, owner_of, is_owner, lasts, default_bytes, default_objects, default_memory, default_profile, profile_of, profile_named, all_known, is_known};
 
-use nfs_names::ServerOwner;
+use nfs_names::{Crowd, ServerOwner};
 use nfs_serve::Settings;
-use nfs_tree::Limits;
+use nfs_tree::{Limits, Profile};
 use std::alloc::Global;
 use toml::{Table, Value};
 
@@ -33,6 +33,14 @@ pub struct Given {
     pub lasting: bool,
     /// How many objects there may be, and how many bytes a file may have.
     pub limits: Limits,
+    /// How many bytes the pages of files may take, or 0 where they have no bound.
+    pub memory: u64,
+    /// How many seats for connections there are, where no number is asked for on the command line.
+    pub seats: u32,
+    /// What the server has of what the RFC leaves open.
+    pub profile: Profile,
+    /// How many client records and sessions there may be; no more sessions than seats.
+    pub crowd: Crowd,
 }
 
 /// The least and the greatest number that may stand at a key, and the one where the key is left out.
@@ -44,13 +52,28 @@ pub struct Number {
 }
 
 /// The keys.
-pub const KEYS: &str = "lease, root_mode, instance, server_owner, file_bytes, objects";
+pub const KEYS: &str =
+    "lease, root_mode, instance, server_owner, file_bytes, objects, memory, connections, profile, clients, sessions";
 
 /// Seconds.
 pub const LEASE: Number = Number {
     low: 1,
     high: 86_400,
     default: 90,
+};
+
+/// Seats for connections, and sessions: where one of the two is left out it is as the other.
+pub const CONNECTIONS: Number = Number {
+    low: 1,
+    high: 1_024,
+    default: 64,
+};
+
+/// Client records.
+pub const CLIENTS: Number = Number {
+    low: 1,
+    high: 65_536,
+    default: 1_024,
 };
 
 /// Permission bits.
@@ -65,6 +88,9 @@ pub const MOST_OF_OWNER: usize = 1_024;
 
 /// The most objects that may be asked for.
 pub const MOST_OBJECTS: u32 = 16_777_216;
+
+/// The most bytes of pages that may be asked for.
+pub const MOST_MEMORY: u64 = 70_368_744_177_664;
 
 /// The objects of a server that lasts, where the settings leave them out.
 const LASTING_OBJECTS: u32 = 1_048_576;
@@ -99,14 +125,38 @@ fn default_objects(lasting: bool) -> u32
     }
 }
 
+/// How many bytes the pages of files may take, where the settings leave it out: `half` of the machine's memory.
+fn default_memory(lasting: bool, half: u64) -> u64
+    ensures { result ≡ default_memory lasting half }
+{
+    if lasting { half } else { 0 }
+}
+
+/// What a server has of what the RFC leaves open, where the settings leave it out.
+fn default_profile(lasting: bool) -> Profile
+    ensures { result ≡ default_profile lasting }
+{
+    if lasting {
+        Profile::Unix
+    } else {
+        Profile::Exact
+    }
+}
+
 /// What a text gives to a server, `endless` where it is asked to serve without a number of connections. Its instance is `start`
-/// where the text gives none.
+/// where the text gives none, and a server that lasts has `half` of the machine's memory for pages where the text says no number.
 ///
 /// `Text` where it is no TOML document or has another key, type, number or length than may be; `Memory` where memory was refused,
 /// which a text of blanks and comments never asks for.
-pub fn settings(alloc: Global, text: &str, start: u32, endless: bool) -> Result<Given, Bad>
-    ensures given { IfOk result (λ found. settings_in start endless text.now ≡ Some found) }
-    ensures text { result ≡ Err Bad.Text → settings_in start endless text.now ≡ None }
+pub fn settings(
+    alloc: Global,
+    text: &str,
+    start: u32,
+    half: u64,
+    endless: bool,
+) -> Result<Given, Bad>
+    ensures given { IfOk result (λ found. settings_in start half endless text.now ≡ Some found) }
+    ensures text { result ≡ Err Bad.Text → settings_in start half endless text.now ≡ None }
     ensures memory { result ≡ Err Bad.Memory → ¬ IsBlank text.now }
 {
     let table = match toml::table_from_str(alloc, text) {
@@ -134,6 +184,11 @@ pub fn settings(alloc: Global, text: &str, start: u32, endless: bool) -> Result<
     let instance = number_at(&root, "instance", instances).ok_or(Bad::Text)?;
     let bytes = bytes_at(&root, "file_bytes", default_bytes(lasting)).ok_or(Bad::Text)?;
     let objects = number_at(&root, "objects", counts).ok_or(Bad::Text)?;
+    let memory = memory_at(&root, "memory", default_memory(lasting, half)).ok_or(Bad::Text)?;
+    let seats = seats_at(&root).ok_or(Bad::Text)?;
+    let profile = profile_at(&root, "profile", default_profile(lasting)).ok_or(Bad::Text)?;
+    let clients = number_at(&root, "clients", CLIENTS).ok_or(Bad::Text)?;
+    let sessions = number_at(&root, "sessions", up_to(seats)).ok_or(Bad::Text)?;
     let owner = owner_at(alloc, &root, "server_owner")?;
     Ok(Given {
         settings: Settings { lease, root_mode },
@@ -141,10 +196,38 @@ pub fn settings(alloc: Global, text: &str, start: u32, endless: bool) -> Result<
         owner,
         lasting,
         limits: Limits { objects, bytes },
+        memory,
+        seats,
+        profile,
+        crowd: Crowd { clients, sessions },
     })
 }
 
-/// Whether every key is one of the six.
+/// A number from 1 to this, and this where the key is left out.
+pub fn up_to(most: u32) -> Number
+    ensures { result ≡ record { low = 1; high = most; default = most } }
+{
+    Number {
+        low: 1,
+        high: most,
+        default: most,
+    }
+}
+
+/// The seats for connections: as many as sessions, where they are left out.
+pub fn seats_at(root: &Value) -> Option<u32>
+    ensures { result ≡ option_and_then (λ sessions. number_of 1 1024 sessions (get (codes "connections") (view root.now))) (number_of 1 1024 64 (get (codes "sessions") (view root.now))) }
+{
+    let sessions = number_at(root, "sessions", CONNECTIONS)?;
+    let seats = Number {
+        low: CONNECTIONS.low,
+        high: CONNECTIONS.high,
+        default: sessions,
+    };
+    number_at(root, "connections", seats)
+}
+
+/// Whether every key is one of the eleven.
 fn only_known(table: &Table) -> bool
     ensures { result ≡ all_known (table_view table.now) }
 {
@@ -166,6 +249,11 @@ pub fn is_known(key: &str) -> bool
         || key == "server_owner"
         || key == "file_bytes"
         || key == "objects"
+        || key == "memory"
+        || key == "connections"
+        || key == "profile"
+        || key == "clients"
+        || key == "sessions"
 }
 
 /// The number at a key, where it is an integer that may stand there, or the default where the key is left out.
@@ -188,16 +276,55 @@ pub fn number_at(root: &Value, key: &str, number: Number) -> Option<u32>
 pub fn bytes_at(root: &Value, key: &str, default: u64) -> Option<u64>
     ensures { result ≡ number_of 1 1099511627776 default (get key.now (view root.now)) }
 {
+    wide_at(root, key, 1, Limits::MOST_BYTES, default)
+}
+
+/// The bytes of pages at a key, from 0 to 2^46, or the default where the key is left out.
+pub fn memory_at(root: &Value, key: &str, default: u64) -> Option<u64>
+    ensures { result ≡ number_of 0 70368744177664 default (get key.now (view root.now)) }
+{
+    wide_at(root, key, 0, MOST_MEMORY, default)
+}
+
+/// The bytes at a key, from the least to the most, or the default where the key is left out.
+fn wide_at(root: &Value, key: &str, low: u64, high: u64, default: u64) -> Option<u64>
+    ensures { result ≡ number_of low high default (get key.now (view root.now)) }
+{
     match root.get(key) {
         None => Some(default),
         Some(value) => match value {
             Value::Integer(n) => match u64::try_from(*n) {
-                Ok(n) if n >= 1 && n <= Limits::MOST_BYTES => Some(n),
+                Ok(n) if n >= low && n <= high => Some(n),
                 _ => None,
             },
             _ => None,
         },
     }
+}
+
+/// The profile that a key names, or the default where the key is left out.
+pub fn profile_at(root: &Value, key: &str, default: Profile) -> Option<Profile>
+    ensures { result ≡ profile_of default (get key.now (view root.now)) }
+{
+    match root.get(key) {
+        None => Some(default),
+        Some(value) => match value {
+            Value::String(text) => profile_named(text.as_str()),
+            _ => None,
+        },
+    }
+}
+
+fn profile_named(text: &str) -> Option<Profile>
+    ensures { result ≡ profile_named text.now }
+{
+    if text == "exact" {
+        return Some(Profile::Exact);
+    }
+    if text == "unix" {
+        return Some(Profile::Unix);
+    }
+    None
 }
 
 /// The name at a key, if it is a text that a server may have, or none where the key is left out.

@@ -1,34 +1,36 @@
 //! TCP connections as the ports of a hub, by readiness.
 
-ghost use Rattle.std.specs.Prelude.{◌≡◌, ◌≤◌, ◌<◌, ◌&&◌, None, Some, IfSome, IfOk, unwrap_or, not, nat_eq, length};
-ghost use Rattle.nfs_serve.specs.Script.{last_connection, connection_count};
-ghost use Rattle.nfs_serve.specs.Shows.{ComesWithin, TakesWithin};
-ghost use Rattle.nfs41d.specs.Accepting.{lasts};
+ghost use Rattle.std.specs.Prelude.{◌≡◌, ◌≤◌, ◌<◌, ◌+◌, ◌&&◌, None, Some, IfSome, IfOk, unwrap_or, not, nat_eq, length, min};
+ghost use Rattle.nfs_serve.specs.Desk.{most_ports};
+ghost use Rattle.nfs_serve.specs.Shows.{ComesWithin, TakesWithin, NamesPort, named, passes};
+ghost use Rattle.nfs_serve.specs.Told.{Logs};
+ghost use Rattle.nfs41d.specs.Looking.{Looks, ready_at, NextReady};
 ghost use Rattle.nfs41d.specs.Tally.{no_calls};
 
-use crate::left::Left;
+use crate::left::{Left, Room};
+use crate::looking::Looking;
+use crate::outside::{Newcomer, Outside};
 use crate::seen::{Seen, seen_in};
 use crate::tally::Tally;
 use mio::net::{TcpListener, TcpStream};
-use mio::{Events, Interest, Poll, Token};
+use mio::{Events, Interest, Token};
 use nfs_pace::{MICROS, Paced, Places, patience};
-use nfs_serve::{Came, LAST_CONNECTION, Next, Ports, Took};
+use nfs_serve::{Came, MOST_PORTS, Next, Ports, Took};
+use std::alloc::{AllocError, Global};
 use std::io::{ErrorKind, Read, Write};
 use std::net::{Net, SocketAddr};
 use std::time::{Duration, Instant};
 use std::{io, rt};
 
-/// The most places.
-pub const MOST_PLACES: u32 = LAST_CONNECTION + 1;
-
-/// How many ports there are.
-const PORTS: usize = MOST_PLACES as usize;
-
-/// How many wait for a port. Further ones wait in the system's queue.
-const OUTSIDE: usize = 64;
-
 /// The token of the listener; those of connections are their ports.
-const LISTENER: Token = Token(PORTS);
+const LISTENER: Token = Token(MOST_PORTS as usize);
+
+/// After how many microseconds a port, or a seat, is looked for again where none was found: each takes a pass over the places. A port is looked for
+/// at once where a connection has ended.
+const AGAIN: u64 = 5_000;
+
+/// After how many microseconds a seat is looked for again where nobody came and nobody left.
+const SELDOM: u64 = 100_000;
 
 /// How many milliseconds a wait lasts while somebody may wait for a port, or is to be closed once it was silent for too long.
 const TICK: u64 = 200;
@@ -120,34 +122,24 @@ impl Connection {
     }
 }
 
-/// A connection that was taken and waits for a port.
-#[derive(Drop)]
-struct Newcomer {
-    stream: TcpStream,
-    /// Where its peer is.
-    address: u32,
-}
-
 /// A listener and its connections.
 #[derive(Drop)]
 pub struct Sockets<'a, R: rt::Clock> {
     rt: &'a R,
-    poll: Poll,
-    events: Events,
-    listener: TcpListener,
-    /// Whether somebody may be waiting to be accepted.
-    calling: bool,
+    looking: Looking,
+    outside: Outside,
     /// Whether somebody was let in where a sweep began last, so that more may be.
     let_in: bool,
-    connections: [Option<Connection>; PORTS],
+    connections: Vec<Option<Connection>>,
     /// Who has a port, who has a seat, and who gives way.
     places: Places,
     /// What leases go by, as it is shown here: who has a seat is judged by it.
     pace: Paced,
-    /// How many sweeps began.
-    sweep: u64,
-    /// Who waits for a port, in the order in which they came.
-    newcomers: Vec<Newcomer>,
+    /// When a port for one of them is looked for again.
+    again: u64,
+    /// Whether somebody may have come who wants a seat, or one may have been left, and when seats were looked for last.
+    asked: bool,
+    sought: u64,
     /// How many connections are still to count.
     left: Left,
     /// How long it waits at most: half of what the clock rises by in a sweep, so that an idle server keeps up.
@@ -162,34 +154,34 @@ pub struct Sockets<'a, R: rt::Clock> {
 }
 
 impl<'a, R: Net + AllocGlobal + rt::Clock> Sockets<'a, R> {
-    /// Listens on an address for so many connections that count, or without end, and so many of them at once, of a server whose lease lasts so many
+    /// Listens on an address for so many connections that count, or without end, with so much room for them, of a server whose lease lasts so many
     /// seconds.
     pub fn new(
         rt: &'a R,
         addr: SocketAddr,
         connections: Option<u32>,
-        at_once: u32,
+        room: Room,
         lease: u32,
     ) -> io::Result<Self>
-        requires { at_once ≤ connection_count }
+        requires { room.ports ≤ most_ports }
     {
-        let poll = Poll::new(rt)?;
+        let looking = Looking::new(rt, room.ports as usize + 1)?;
         let mut listener = TcpListener::bind(rt, addr)?;
-        poll.registry()
+        looking
+            .registry()
             .register(&mut listener, LISTENER, Interest::READABLE)?;
         Ok(Sockets {
             rt,
-            poll,
-            events: Events::with_capacity(rt.alloc(), PORTS + 1)?,
-            listener,
-            calling: true,
+            looking,
+            outside: Outside::new(rt.alloc(), listener)?,
             let_in: true,
-            connections: [const { None }; PORTS],
-            places: Places::new(rt.alloc(), at_once, lease)?,
+            connections: no_connections(rt.alloc(), room.ports)?,
+            places: Places::new(rt.alloc(), room.ports, room.seats, lease)?,
             pace: Paced::new(lease, 0),
-            sweep: 0,
-            newcomers: Vec::with_capacity(rt.alloc(), OUTSIDE + 1)?,
-            left: Left::new(connections, at_once),
+            again: 0,
+            asked: true,
+            sought: 0,
+            left: Left::new(connections, room.ports),
             patience: Duration::from_micros(patience(lease)),
             begun: Instant::now(rt).ok(),
             now: 0,
@@ -230,9 +222,9 @@ impl<R: rt::Clock> Sockets<'_, R> {
 
     /// Whether a connection waits, and there was no place for it.
     pub fn is_awaited(&self) -> bool
-        ensures { result ≡ (not self.entry.now.let_in && not (nat_eq (length self.entry.now.newcomers.items) 0)) }
+        ensures { result ≡ (not self.entry.now.let_in && not (nat_eq (length self.entry.now.outside.newcomers.items) 0)) }
     {
-        !self.let_in && !self.newcomers.is_empty()
+        !self.let_in && self.outside.count() != 0
     }
 
     /// The connection on a port.
@@ -243,132 +235,73 @@ impl<R: rt::Clock> Sockets<'_, R> {
         }
     }
 
-    /// Gives a port to one of those that wait for one, if there is one for it.
-    fn accept(&mut self) -> io::Result<Option<u32>>
-        ensures { IfOk result (λ taken. IfSome taken (λ port. port ≤ last_connection)) }
+    /// Gives one of the first `made` ports to one of those that wait for one, if there is one for it.
+    fn accept(&mut self, made: u32) -> io::Result<Option<u32>>
+        requires { made ≤ most_ports }
+        ensures taken { IfOk result (λ taken. IfSome taken (λ port. port < made)) }
+        ensures looking { self.new.looking ≡ self.old.looking }
     {
         let stuck = !self.let_in;
         self.let_in = false;
         if self.left.is_over() {
             return Ok(None);
         }
-        self.let_in = self.call_in(stuck)?;
-        let at = match self.next_in() {
-            Some(at) if at < self.newcomers.len() => at,
-            _ => return Ok(None),
+        self.let_in = self.outside.call_in(stuck)?;
+        if self.now < self.again {
+            return Ok(None);
+        }
+        let Some(at) = self.outside.next_in(&self.places) else {
+            return Ok(None);
         };
-        let shown = self.pace.shown();
-        let address = self.newcomers[at].address;
-        match self.places.place_for(address, self.now, shown, self.sweep) {
-            Some(place) if place < PORTS => {
-                self.let_in = true;
-                let newcomer = self.newcomers.remove(at);
-                Ok(self.take_on(place, newcomer))
-            }
-            _ => Ok(None),
-        }
+        let (shown, looks) = (self.pace.shown(), self.looking.looks());
+        let port = self
+            .places
+            .place_for(self.outside.address(at), self.now, shown, looks);
+        let Some(place) = within(port, made) else {
+            self.again = self.now.saturating_add(AGAIN);
+            return Ok(None);
+        };
+        self.let_in = true;
+        let newcomer = self.outside.take(at);
+        Ok(self.take_on(place, newcomer))
     }
 
-    /// Takes those that call, as far as there is room for them outside: whether more may call. Where there is none, and nobody was let in before, one of
-    /// an address of which two are there makes room for the next; else who calls keeps its turn in the system's queue.
-    fn call_in(&mut self, stuck: bool) -> io::Result<bool> {
-        for _ in 0..OUTSIDE {
-            let is_full = self.newcomers.len() >= OUTSIDE;
-            if !self.calling || is_full && !(stuck && self.is_crowded()) {
-                return Ok(false);
-            }
-            match self.listener.accept() {
-                Ok((stream, addr)) => {
-                    let address = bits_of(addr);
-                    self.newcomers.push(Newcomer { stream, address })?;
-                    if self.newcomers.len() > OUTSIDE {
-                        self.turn_away();
-                    }
-                }
-                Err(e) if e.kind() == ErrorKind::WouldBlock => self.calling = false,
-                Err(e) if ends(&e) => return Err(e),
-                Err(_) => return Ok(false),
-            }
+    /// Gives seats to those of the hall that have none, as far as there are some for them. It looks for some soon where a client came or a connection
+    /// ended, and else now and then.
+    fn seat(&mut self)
+        ensures looking { self.new.looking ≡ self.old.looking }
+    {
+        let since = if self.asked { AGAIN } else { SELDOM };
+        if self.now < self.sought.saturating_add(since) {
+            return;
         }
-        Ok(true)
-    }
-
-    /// How many of an address wait outside.
-    fn outside(&self, address: u32) -> usize {
-        self.newcomers
-            .iter()
-            .filter(|newcomer| newcomer.address == address)
-            .count()
-    }
-
-    /// Whether two of one address do.
-    fn is_crowded(&self) -> bool {
-        for at in 0..self.newcomers.len() {
-            if self.outside(self.newcomers[at].address) > 1 {
-                return true;
-            }
-        }
-        false
-    }
-
-    /// The last one outside of an address of which most are there is closed.
-    fn turn_away(&mut self) {
-        let mut last = 0;
-        let mut most = 0;
-        for at in 0..self.newcomers.len() {
-            let crowd = self.outside(self.newcomers[at].address);
-            if crowd >= most {
-                most = crowd;
-                last = at;
-            }
-        }
-        if last < self.newcomers.len() {
-            let _ = self.newcomers.remove(last);
-        }
-    }
-
-    /// Who comes in next of those outside: of the address of which fewest stand in the hall, and of such the one that came first.
-    fn next_in(&self) -> Option<usize> {
-        let mut found = None;
-        let mut fewest = usize::MAX;
-        for at in 0..self.newcomers.len() {
-            let here = self.places.in_hall(self.newcomers[at].address);
-            if here < fewest {
-                fewest = here;
-                found = Some(at);
-            }
-        }
-        found
-    }
-
-    /// Gives seats to those of the hall that have none, as far as there are some for them.
-    fn seat(&mut self) {
-        let shown = self.pace.shown();
-        for _ in 0..PORTS {
-            if !self.places.seat_next(shown) {
-                return;
-            }
-        }
+        self.asked = false;
+        self.sought = self.now;
+        seat_all(&mut self.places, self.pace.shown());
     }
 
     /// Serves a connection in a place, and answers its port. One that was there is closed. Where the system has no room to watch it, it is closed itself.
     fn take_on(&mut self, place: usize, newcomer: Newcomer) -> Option<u32>
-        requires { place < connection_count }
-        ensures { IfSome result (λ port. port ≤ last_connection) }
+        requires { place < most_ports }
+        ensures port { IfSome result (λ port. port ≡ place) }
+        ensures looking { self.new.looking ≡ self.old.looking }
     {
         let mut stream = newcomer.stream;
         // A reply leaves at once, where the platform lets it.
         let _ = stream.set_nodelay(true);
         let both = Interest::READABLE | Interest::WRITABLE;
         if self
-            .poll
+            .looking
             .registry()
             .register(&mut stream, Token(place), both)
             .is_err()
         {
             return None;
         }
-        self.connections[place] = Some(Connection {
+        let Some(at) = self.connections.get_mut(place) else {
+            return None;
+        };
+        *at = Some(Connection {
             stream,
             ready: true,
             readable: true,
@@ -376,31 +309,27 @@ impl<R: rt::Clock> Sockets<'_, R> {
             over: false,
         });
         let shown = self.pace.shown();
-        self.places
-            .stand(place, newcomer.address, self.now, shown, self.sweep);
+        self.places.stand(
+            place,
+            newcomer.address,
+            self.now,
+            shown,
+            self.looking.looks(),
+        );
         self.left.take();
         Some(place as u32)
     }
 
     /// Looks at which connections are ready, and waits for one or for the listener where none is and it may wait.
-    fn wait(&mut self, may_wait: bool) -> io::Result<()> {
+    fn wait(&mut self, may_wait: bool) -> io::Result<()>
+        ensures looks { self.new.looking.looks ≡ min (self.old.looking.looks + 1) 18446744073709551615 }
+    {
         let timeout = self.timeout(may_wait);
-        match self.poll.poll(&mut self.events, Some(timeout)) {
-            Ok(()) => {}
-            Err(e) if e.kind() == ErrorKind::Interrupted => {}
-            Err(e) => return Err(e),
-        }
-        self.begin();
-        for event in &self.events {
-            match self.connections.get_mut(event.token().0) {
-                Some(Some(connection)) => {
-                    let ending = event.is_read_closed() || event.is_error();
-                    connection.note(event.is_readable(), ending);
-                }
-                Some(None) => {}
-                None => self.calling = true,
-            }
-        }
+        self.looking.look(timeout)?;
+        self.now = self.micros();
+        self.pace.begin_sweep(self.now);
+        let told = note_all(&mut self.connections, self.looking.events());
+        self.outside.note(told);
         Ok(())
     }
 
@@ -411,9 +340,10 @@ impl<R: rt::Clock> Sockets<'_, R> {
             .iter()
             .flatten()
             .any(|connection| connection.ready);
-        if ready || !may_wait || self.calling && self.let_in {
+        let calling = self.outside.is_calling();
+        if ready || !may_wait || calling && self.let_in {
             Duration::ZERO
-        } else if self.calling || !self.newcomers.is_empty() || self.left.is_over() {
+        } else if calling || self.outside.count() != 0 || self.left.is_over() {
             Duration::from_millis(TICK).min(self.patience)
         } else {
             self.patience
@@ -431,13 +361,6 @@ impl<R: rt::Clock> Sockets<'_, R> {
         }
     }
 
-    /// Notes the moment at which a sweep begins.
-    fn begin(&mut self) {
-        self.now = self.micros();
-        self.sweep = self.sweep.saturating_add(1);
-        self.pace.begin_sweep(self.now);
-    }
-
     /// The moment at which something is answered, by what leases go by.
     fn moment(&mut self) -> u64 {
         let read = self.micros();
@@ -445,51 +368,96 @@ impl<R: rt::Clock> Sockets<'_, R> {
         let _ = self.pace.now();
         self.pace.shown()
     }
+}
 
-    /// Connections that were silent for too long are to be closed.
-    fn end_silent(&mut self) {
-        let shown = self.pace.shown();
-        for port in 0..PORTS {
-            if self.places.is_over(port, shown) {
-                if let Some(connection) = &mut self.connections[port] {
-                    connection.end();
-                }
+/// Gives seats to those of the hall that have none, as far as there are some for them.
+fn seat_all(places: &mut Places, shown: u64) {
+    for _ in 0..places.count() {
+        if !places.seat_next(shown) {
+            return;
+        }
+    }
+}
+
+/// Notes on each connection what was told of it: whether something was told of the listener.
+fn note_all(connections: &mut [Option<Connection>], events: &Events) -> bool {
+    let mut calling = false;
+    for event in events {
+        match connections.get_mut(event.token().0) {
+            Some(Some(connection)) => {
+                let ending = event.is_read_closed() || event.is_error();
+                connection.note(event.is_readable(), ending);
+            }
+            Some(None) => {}
+            None => calling = true,
+        }
+    }
+    calling
+}
+
+/// Connections that were silent for too long are to be closed.
+fn end_silent(connections: &mut [Option<Connection>], places: &Places, shown: u64) {
+    for port in 0..connections.len() {
+        if places.is_over(port, shown) {
+            if let Some(connection) = &mut connections[port] {
+                connection.end();
             }
         }
     }
 }
 
-/// The 32 bits of the address; 0 for one that is not of IPv4, of which none comes.
-fn bits_of(addr: SocketAddr) -> u32 {
-    match addr {
-        SocketAddr::V4(addr) => addr.ip().to_bits(),
-        SocketAddr::V6(_) => 0,
-    }
-}
-
-/// Whether no connection can be taken any more behind this failure to take one. Others pass: a connection that its peer gave up, a network that is
-/// down, want of memory or of descriptors.
-fn ends(e: &io::Error) -> bool {
-    match e.raw_os_error() {
-        Some(number) => match u32::try_from(number) {
-            Ok(number) => lasts(number),
-            Err(_) => false,
-        },
-        None => false,
-    }
-}
-
-/// Whether a failure of Linux to take a connection (its number) lasts, as the listener is none, or none any more: EBADF, EFAULT, EINVAL, ENOTSOCK,
-/// EOPNOTSUPP.
-fn lasts(number: u32) -> bool
-    ensures { result ≡ lasts number }
+/// The port, if it is one of the first `made`.
+fn within(port: Option<usize>, made: u32) -> Option<usize>
+    ensures { IfSome result (λ place. (port ≡ Some place) × (place < made)) }
 {
-    matches!(number, 9 | 14 | 22 | 88 | 95)
+    match port {
+        Some(port) => {
+            if port < made as usize {
+                Some(port)
+            } else {
+                None
+            }
+        }
+        None => None,
+    }
+}
+
+/// Whether a read or a write may do something on a port.
+fn is_ready(connections: &[Option<Connection>], port: u32) -> bool
+    ensures { result ≡ ready_at connections.now port }
+{
+    match connections.get(port as usize) {
+        Some(Some(connection)) => connection.ready,
+        _ => false,
+    }
+}
+
+/// The first port from one on and below another on which it may.
+fn first_ready(connections: &[Option<Connection>], from: u32, to: u32) -> Option<u32>
+    requires { from ≤ to }
+    ensures ready { NextReady connections.now from to result }
+    ensures bound { IfSome result (λ port. (from ≤ port) × (port < to)) }
+{
+    for port in from..to {
+        if is_ready(connections, port) {
+            return Some(port);
+        }
+    }
+    None
+}
+
+/// So many ports without a connection.
+fn no_connections(alloc: Global, ports: u32) -> Result<Vec<Option<Connection>>, AllocError> {
+    let mut connections = Vec::with_capacity(alloc, ports as usize)?;
+    for _ in 0..ports {
+        connections.push(None)?;
+    }
+    Ok(connections)
 }
 
 impl<R: rt::Clock> Listening for Sockets<'_, R> {
     fn local_addr(&self) -> io::Result<SocketAddr> {
-        self.listener.local_addr()
+        self.outside.local_addr()
     }
 
     fn failed(&self) -> bool {
@@ -500,7 +468,12 @@ impl<R: rt::Clock> Listening for Sockets<'_, R> {
 impl<R: rt::Clock> Ports for Sockets<'_, R> {
     ghost log = { λ _. None };
 
-    fn next(&mut self, may_wait: bool) -> Next {
+    fn next(&mut self, made: u32, may_wait: bool) -> Next
+        requires { made ≤ most_ports }
+        ensures port { NamesPort made result }
+        ensures logs { Logs None None (named made result) }
+        ensures looks { Looks self.old.looking.looks self.new.looking.looks result }
+    {
         if self.left.is_over() && self.places.is_empty() {
             return Next::Over;
         }
@@ -510,9 +483,10 @@ impl<R: rt::Clock> Ports for Sockets<'_, R> {
         }
         self.seat();
         if self.left.is_over() {
-            self.end_silent();
+            let shown = self.pace.shown();
+            end_silent(&mut self.connections, &self.places, shown);
         }
-        match self.accept() {
+        match self.accept(made) {
             Ok(Some(port)) => Next::Opened(port),
             Ok(None) => Next::Nobody,
             Err(_) => {
@@ -522,11 +496,13 @@ impl<R: rt::Clock> Ports for Sockets<'_, R> {
         }
     }
 
-    fn is_ready(&mut self, port: u32) -> bool {
-        match self.connections.get(port as usize) {
-            Some(Some(connection)) => connection.ready,
-            _ => false,
-        }
+    fn next_ready(&mut self, from: u32, to: u32) -> Option<u32>
+        requires { from ≤ to }
+        ensures found { IfSome result (λ port. (from ≤ port) × (port < to)) }
+        ensures logs { Logs None None (passes from to result) }
+        ensures ready { NextReady self.old.connections.items from to result }
+    {
+        first_ready(&self.connections, from, to)
     }
 
     fn read(&mut self, port: u32, buf: &mut [u8]) -> Came {
@@ -560,6 +536,7 @@ impl<R: rt::Clock> Ports for Sockets<'_, R> {
 
     fn count(&mut self, port: u32) {
         let _ = port;
+        self.asked = true;
         self.left.hear();
     }
 
@@ -567,6 +544,8 @@ impl<R: rt::Clock> Ports for Sockets<'_, R> {
         if let Some(connection) = self.connections.get_mut(port as usize) {
             *connection = None;
         }
+        self.asked = true;
+        self.again = 0;
         let shown = self.pace.shown();
         self.places.leave(port as usize, shown);
     }

@@ -3,9 +3,12 @@
 ghost use Rattle.std.specs.Prelude.{◌≡◌, ◌<◌, ◌*◌, ◌/◌, min, option_map};
 
 use crate::clock::{PacedClock, SystemReadings};
+use crate::shown::Shown;
 use crate::sockets::Sockets;
 use crate::tally::{DELAY, FBIG, MLINK, NOSPC, SERVERFAULT, Tally};
-use nfs_exec::Held;
+use crate::told::Told;
+use nfs_exec::{Held, World};
+use nfs_names::Crowd;
 use nfs_pace::MICROS;
 use nfs_serve::Watch;
 use nfs_tree::Limits;
@@ -16,11 +19,6 @@ use std::{fmt, fs};
 const OWN_STATUS: &str = "/proc/self/status";
 
 const RESIDENT: &str = "VmRSS:";
-
-/// How many of each kind a server has at most (RFC 8881 has no such numbers; docs/OPERATING.md has them).
-const MOST_CLIENTS: usize = 1_024;
-
-const MOST_SESSIONS: usize = 64;
 
 /// A number below 10^15 that is written in groups of three digits.
 #[derive(Clone, Copy)]
@@ -64,9 +62,13 @@ struct Met {
 #[derive(Drop)]
 pub struct Status<'a, W: Write + Drop> {
     rt: &'a HostRuntime,
-    told: W,
+    told: Told<W>,
+    /// How many lines were said to be dropped.
+    dropped: u64,
     /// How many objects there may be, and how many bytes a file may have.
     limits: Limits,
+    /// How many client records and sessions there may be.
+    crowd: Crowd,
     /// How many microseconds lie between two lines; `None` where nothing is said.
     every: Option<u64>,
     /// When the next line is due, and when the last one was written, in microseconds since the ports began.
@@ -83,7 +85,13 @@ pub struct Status<'a, W: Write + Drop> {
 
 impl<'a, W: Write + Drop> Status<'a, W> {
     /// Says so on `told` after so many seconds each; `None` says nothing. The server has these limits.
-    pub fn new(rt: &'a HostRuntime, told: W, seconds: Option<u32>, limits: Limits) -> Status<'a, W>
+    pub fn new(
+        rt: &'a HostRuntime,
+        told: W,
+        seconds: Option<u32>,
+        limits: Limits,
+        crowd: Crowd,
+    ) -> Status<'a, W>
         ensures { result.every ≡ option_map (λ s. s * 1000000) seconds }
     {
         let every = match seconds {
@@ -92,8 +100,10 @@ impl<'a, W: Write + Drop> Status<'a, W> {
         };
         Status {
             rt,
-            told,
+            told: Told::new(told),
+            dropped: 0,
             limits,
+            crowd,
             every,
             due: every.unwrap_or(0),
             begun: 0,
@@ -112,9 +122,44 @@ impl<'a, W: Write + Drop> Status<'a, W> {
         }
     }
 
-    /// Writes a line, whose own failure is passed over.
+    /// Says a line.
     fn say(&mut self, what: &str) {
-        let _ = writeln!(self.told, "nfs41d: {what}");
+        match format!(in self.rt.alloc(); "nfs41d: {what}\n") {
+            Ok(line) => self.told.line(line.as_str()),
+            Err(_) => {}
+        }
+    }
+
+    /// Says that a file cannot be written.
+    pub fn say_unwritten(&mut self, path: &str) {
+        let path = Shown(path);
+        match format!(in self.rt.alloc(); "nfs41d: {path} cannot be written\n") {
+            Ok(line) => self.told.line(line.as_str()),
+            Err(_) => {}
+        }
+    }
+
+    /// Says how many lines were dropped, where that is more than was said before.
+    fn say_dropped(&mut self) {
+        let dropped = self.told.dropped();
+        if dropped > self.dropped {
+            self.dropped = dropped;
+            match format!(in self.rt.alloc();
+                "nfs41d: {dropped} lines were dropped: nobody read them\n"
+            ) {
+                Ok(line) => self.told.line(line.as_str()),
+                Err(_) => {}
+            }
+        }
+    }
+
+    /// Says that a limit is met of so many of something, and what to do.
+    fn say_most(&mut self, most: u64, what: &str) {
+        let most = Grouped(most);
+        match format!(in self.rt.alloc(); "nfs41d: limit: {most} {what}\n") {
+            Ok(line) => self.told.line(line.as_str()),
+            Err(_) => {}
+        }
     }
 
     /// Says of the limits that are met which they are and what to do, where that was not said before.
@@ -125,25 +170,26 @@ impl<'a, W: Write + Drop> Status<'a, W> {
                 "limit: every place is taken and a connection waits; mount on fewer machines, or with a smaller nconnect",
             );
         }
-        if full == SERVERFAULT && held.clients >= MOST_CLIENTS && !self.met.clients {
+        if full == SERVERFAULT && held.clients >= self.crowd.clients as usize && !self.met.clients {
             self.met.clients = true;
-            self.say(
-                "limit: 1,024 client records; those of clients that are gone end a lease after their last renewal",
+            let most = u64::from(self.crowd.clients);
+            self.say_most(
+                most,
+                "client records; those of clients that are gone end a lease after their last renewal",
             );
         }
-        if full == NOSPC && held.sessions >= MOST_SESSIONS && !self.met.sessions {
+        if full == NOSPC && held.sessions >= self.crowd.sessions as usize && !self.met.sessions {
             self.met.sessions = true;
-            self.say(
-                "limit: 64 sessions; unmount where nobody works, or wait a lease for clients that are gone",
+            let most = u64::from(self.crowd.sessions);
+            self.say_most(
+                most,
+                "sessions; unmount where nobody works, or wait a lease for clients that are gone",
             );
         }
         if full == NOSPC && held.objects >= self.limits.objects as usize && !self.met.objects {
             self.met.objects = true;
-            let most = Grouped(u64::from(self.limits.objects));
-            let _ = writeln!(
-                self.told,
-                "nfs41d: limit: {most} files, directories and links; remove some"
-            );
+            let most = u64::from(self.limits.objects);
+            self.say_most(most, "files, directories and links; remove some");
         }
         self.say_sizes(full);
     }
@@ -152,11 +198,8 @@ impl<'a, W: Write + Drop> Status<'a, W> {
     fn say_sizes(&mut self, full: u32) {
         if full == FBIG && !self.met.bytes {
             self.met.bytes = true;
-            let most = Grouped(self.limits.bytes);
-            let _ = writeln!(
-                self.told,
-                "nfs41d: limit: {most} bytes of a file; keep larger ones elsewhere"
-            );
+            let most = self.limits.bytes;
+            self.say_most(most, "bytes of a file; keep larger ones elsewhere");
         }
         if full == MLINK && !self.met.names {
             self.met.names = true;
@@ -192,12 +235,13 @@ impl<'a, W: Write + Drop> Watch<
         &mut self,
         ports: &Sockets<'a, HostRuntime>,
         clock: &PacedClock<SystemReadings<'a, HostRuntime>>,
-        held: &Held,
+        world: &World,
     ) {
         let _ = clock;
+        let held = world.held();
         let (now, tally) = (ports.now(), ports.tally());
         self.full = tally.full;
-        self.say_limits(ports.is_awaited(), tally.full, held);
+        self.say_limits(ports.is_awaited(), tally.full, &held);
         if now < self.due {
             return;
         }
@@ -212,13 +256,16 @@ impl<'a, W: Write + Drop> Watch<
             objects,
             opens,
             locks,
-        } = *held;
+        } = held;
         let longest = self.longest;
         let resident = resident(self.rt).unwrap_or(0);
-        let _ = writeln!(
-            self.told,
-            "nfs41d: status connections={taken}/{places} clients={clients} sessions={sessions} objects={objects} opens={opens} locks={locks} calls={calls} rate={rate} delays={delays} refusals={refusals} longest_us={longest} resident_kb={resident}"
-        );
+        self.say_dropped();
+        match format!(in self.rt.alloc();
+            "nfs41d: status connections={taken}/{places} clients={clients} sessions={sessions} objects={objects} opens={opens} locks={locks} calls={calls} rate={rate} delays={delays} refusals={refusals} longest_us={longest} resident_kb={resident}\n"
+        ) {
+            Ok(line) => self.told.line(line.as_str()),
+            Err(_) => {}
+        }
         self.before = tally;
         self.longest = 0;
         self.begun = now;
@@ -237,7 +284,7 @@ fn a_second(calls: u64, micros: u64) -> u64
 }
 
 /// How many kilobytes of this process are resident, where the system says so.
-fn resident(rt: &HostRuntime) -> Option<u64> {
+pub fn resident(rt: &HostRuntime) -> Option<u64> {
     let text = fs::read_to_string(rt, OWN_STATUS).ok()?;
     for line in text.as_str().lines() {
         if let Some(rest) = line.strip_prefix(RESIDENT) {

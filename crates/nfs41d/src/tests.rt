@@ -8,7 +8,7 @@ use nfs_serve::{ReplayFault, Stop};
 use std::test::Fail;
 
 /// An order to serve in the words given, as the numbers that it has.
-fn numbers(rt: &HostRuntime, words: &[&str]) -> Option<(Option<u32>, u32)> {
+fn numbers(rt: &HostRuntime, words: &[&str]) -> Option<(Option<u32>, Option<u32>)> {
     match order(rt.alloc(), words) {
         Ok(
             Order::Serve {
@@ -36,6 +36,8 @@ fn an_order_to_serve_has_its_address_its_numbers_and_its_settings(
         "1000000",
         "--status",
         "86400",
+        "--metrics",
+        "there.prom",
         "--listen",
         "127.0.0.1:2049",
     ];
@@ -44,9 +46,11 @@ fn an_order_to_serve_has_its_address_its_numbers_and_its_settings(
         Ok(Order::Serve {
             listen: "127.0.0.1:2049",
             connections: Some(1_000_000),
-            at_once: 16,
+            at_once: Some(16),
             settings: Some("there.toml"),
-            status: Some(86_400)
+            status: Some(86_400),
+            metrics: Some("there.prom"),
+            clients: None
         })
     );
     assert!(rt; is_so);
@@ -54,9 +58,7 @@ fn an_order_to_serve_has_its_address_its_numbers_and_its_settings(
 }
 
 #[test]
-fn sixteen_are_served_at_once_without_end_unless_it_is_said_how_many(
-    rt: HostRuntime,
-) -> Result<(), Fail> {
+fn as_many_are_served_at_once_as_is_said_and_one_of_a_number(rt: HostRuntime) -> Result<(), Fail> {
     let words = [
         "nfs41d",
         "serve",
@@ -65,8 +67,8 @@ fn sixteen_are_served_at_once_without_end_unless_it_is_said_how_many(
         "--connections",
         "3",
     ];
-    assert!(rt; numbers(&rt, words.as_slice()) == Some((Some(3), 1)));
-    assert!(rt; numbers(&rt, &words[..4]) == Some((None, 16)));
+    assert!(rt; numbers(&rt, words.as_slice()) == Some((Some(3), Some(1))));
+    assert!(rt; numbers(&rt, &words[..4]) == Some((None, None)));
     let few = [
         "nfs41d",
         "serve",
@@ -75,7 +77,7 @@ fn sixteen_are_served_at_once_without_end_unless_it_is_said_how_many(
         "--at-once",
         "2",
     ];
-    assert!(rt; numbers(&rt, few.as_slice()) == Some((None, 2)));
+    assert!(rt; numbers(&rt, few.as_slice()) == Some((None, Some(2))));
     Ok(())
 }
 
@@ -183,17 +185,44 @@ fn texts_that_are_no_settings_are_refused(rt: HostRuntime) -> Result<(), Fail> {
         "file_bytes = 1099511627777",
         "objects = 0",
         "objects = 16777217",
+        "profile = \"posix\"",
+        "profile = 1",
         "lease = 1\nlease = 1",
         "lease",
     ] {
-        assert!(rt; matches!(settings(rt.alloc(), text, 5, true), Err(Bad::Text)));
+        assert!(rt; matches!(settings(rt.alloc(), text, 5, 0, true), Err(Bad::Text)));
+    }
+    Ok(())
+}
+
+/// Whether a text gives the profile that POSIX describes.
+fn is_unix(rt: &HostRuntime, text: &str, endless: bool) -> Option<bool> {
+    match settings(rt.alloc(), text, 5, 0, endless) {
+        Ok(given) => Some(given.profile.is_unix()),
+        Err(_) => None,
+    }
+}
+
+#[test]
+fn the_profile_is_that_of_a_repeatable_run_unless_the_server_lasts_or_it_is_set(
+    rt: HostRuntime,
+) -> Result<(), Fail> {
+    for (text, endless, unix) in [
+        ("", false, false),
+        ("", true, true),
+        ("instance = 9", true, false),
+        ("profile = \"exact\"", true, false),
+        ("profile = \"unix\"", false, true),
+        ("instance = 9\nprofile = \"unix\"", true, true),
+    ] {
+        assert!(rt; is_unix(&rt, text, endless) == Some(unix));
     }
     Ok(())
 }
 
 /// The limits that a text gives, as objects and bytes of a file.
 fn limits(rt: &HostRuntime, text: &str, endless: bool) -> Option<(u32, u64)> {
-    match settings(rt.alloc(), text, 5, endless) {
+    match settings(rt.alloc(), text, 5, 0, endless) {
         Ok(given) => Some((given.limits.objects, given.limits.bytes)),
         Err(_) => None,
     }

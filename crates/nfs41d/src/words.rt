@@ -1,22 +1,39 @@
 //! What the command line asks for.
 
-ghost use Rattle.std.specs.Prelude.{◌≡◌, ◌≤◌, IfSome, MatchResult};
+ghost use Rattle.std.specs.Prelude.{◌≡◌, ◌≤◌, IfSome, IfOk, MatchResult, Some, None, is_none, true, map};
+ghost use Rattle.std.specs.String.{string_bytes};
 ghost use Rattle.nfs41d.specs.CommandLine.{MayBeAsked};
 ghost use Rattle.nfs41d.specs.ExitStatus.{IsOfCommandLine};
 ghost use Rattle.nfs41d.specs.Left.{at_once};
 
 use crate::asked::Order;
 use crate::fault::Fault;
-use crate::sockets::MOST_PLACES;
 use clap::error::ErrorKind;
 use clap::{Arg, ArgAction, ArgMatches, Command};
+use nfs_serve::LAST_CONNECTION;
 use std::alloc::{AllocError, Global};
+
+/// The most connections at once that a command line asks for.
+pub const MOST_AT_ONCE: u32 = LAST_CONNECTION + 1;
 
 /// The most connections of one run.
 const MAX_CONNECTIONS: u32 = 1_000_000;
 
 /// The most seconds from one line of status to the next.
 pub const MAX_STATUS: u32 = 86_400;
+
+/// The words of a command line as texts, all of them and whole.
+///
+/// `AllocError` for want of memory.
+pub fn texts_of<'a>(alloc: Global, words: &'a [String]) -> Result<Vec<&'a str>, AllocError>
+    ensures { IfOk result (λ texts. map (λ t. t.now) texts.items ≡ map string_bytes words.now) }
+{
+    let mut texts = Vec::new(alloc);
+    for word in words {
+        texts.push(word.as_str())?;
+    }
+    Ok(texts)
+}
 
 /// Reads the words of a command line, the program's name first.
 ///
@@ -58,7 +75,9 @@ fn serve_command<'a>(alloc: Global) -> Result<Command<'a>, AllocError> {
         .arg(option(alloc, "connections"))?
         .arg(option(alloc, "at-once"))?
         .arg(option(alloc, "settings"))?
-        .arg(option(alloc, "status"))
+        .arg(option(alloc, "status"))?
+        .arg(option(alloc, "metrics"))?
+        .arg(option(alloc, "client-list"))
 }
 
 /// An option that takes a value.
@@ -77,7 +96,7 @@ fn order_of<'a>(matches: &ArgMatches<'a>) -> Option<Order<'a>>
         "serve" => {
             let listen = found.get_str("listen")?;
             let connections = given(found.get_str("connections"), MAX_CONNECTIONS)?;
-            let asked = given(found.get_str("at-once"), MOST_PLACES)?;
+            let asked = given(found.get_str("at-once"), MOST_AT_ONCE)?;
             let status = given(found.get_str("status"), MAX_STATUS)?;
             Some(Order::Serve {
                 listen,
@@ -85,29 +104,28 @@ fn order_of<'a>(matches: &ArgMatches<'a>) -> Option<Order<'a>>
                 at_once: at_once(connections, asked),
                 settings: found.get_str("settings"),
                 status,
+                metrics: found.get_str("metrics"),
+                clients: found.get_str("client-list"),
             })
         }
         _ => None,
     }
 }
 
-/// How many connections are served at once: as many as are asked for; else one, where it is said how many there are in all, and as many as there may
-/// be where it is not.
-fn at_once(connections: Option<u32>, asked: Option<u32>) -> u32
+/// How many connections are asked for at once: as many as are said; else one, where it is said how many there are in all.
+fn at_once(connections: Option<u32>, asked: Option<u32>) -> Option<u32>
     ensures { result ≡ at_once connections asked }
 {
     match asked {
-        Some(asked) => asked,
-        None => match connections {
-            Some(_) => 1,
-            None => MOST_PLACES,
-        },
+        Some(asked) => Some(asked),
+        None => connections.and(Some(1)),
     }
 }
 
 /// The count that an option is given, if it is there: `None` where its text is none from 1 on.
 fn given(text: Option<&str>, most: u32) -> Option<Option<u32>>
-    ensures { IfSome result (λ given. IfSome given (λ count. (1 ≤ count) × (count ≤ most))) }
+    ensures range { IfSome result (λ given. IfSome given (λ count. (1 ≤ count) × (count ≤ most))) }
+    ensures none { result ≡ Some None → is_none text.entry ≡ true }
 {
     match text {
         Some(text) => match count_of(text, most) {

@@ -1,8 +1,7 @@
 //! Which word of a command line for `serve` is wrong.
 
 use crate::shown::{Grouped, Shown};
-use crate::sockets::MOST_PLACES;
-use crate::words::{MAX_STATUS, count_of};
+use crate::words::{MAX_STATUS, MOST_AT_ONCE, count_of};
 use std::fmt;
 
 /// Why the words are no order.
@@ -61,7 +60,7 @@ fn value_of(option: &str) -> &'static str {
     match option {
         "--listen" => "ADDR:PORT",
         "--at-once" => "K",
-        "--settings" => "FILE",
+        "--settings" | "--metrics" | "--client-list" => "FILE",
         "--status" => "S",
         _ => "",
     }
@@ -70,7 +69,7 @@ fn value_of(option: &str) -> &'static str {
 /// The greatest number of an option whose value is one.
 fn most_of(option: &str) -> Option<u32> {
     match option {
-        "--at-once" => Some(MOST_PLACES),
+        "--at-once" => Some(MOST_AT_ONCE),
         "--status" => Some(MAX_STATUS),
         _ => None,
     }

@@ -3,9 +3,9 @@ use Rattle.std.proofs.{Common.{ℕ, ◌≤◌, ◌+◌, Bool, true, false, cond,
 use Rattle.std.specs.{Fmt.{decimal, digits, digits_onto, digit_glyph}, List.flat_map}
 use Rattle.nfs_xdr.specs.Spelling as spelling
 use Rattle.nfs_xdr.proofs.Putting.{length_number}
-use Rattle.nfs_tree.specs.declared.object.Object.{Object}
-use Rattle.nfs_attrs.specs.{Attributes.{attributes, values, readable, spell_attrs}, Mask.{has, trimmed_words, common, spell_mask}, Value.asked_at}
-use Rattle.nfs_attrs.specs.{declared.about.About.About, declared.mask.Mask.Mask}
+use Rattle.nfs_tree.specs.{Profile.is_unix, declared.object.Object.Object, declared.profile.Profile.Profile, declared.profile.Profile.TheVariants.{Exact, Unix}}
+use Rattle.nfs_attrs.specs.{Attributes.{attributes, values, supported, readable, spell_attrs}, Mask.{has, trimmed_words, common, spell_mask}, Value.asked_at}
+use Rattle.nfs_attrs.specs.{Wire.bitmap4, declared.about.About.About, declared.mask.Mask.Mask}
 use Rattle.nfs_attrs.proofs.{Lengths.measuring, MaskWords.{length_numbers, length-without_last_zeros}, Values.{numbers, values_by_number}}
 
 -- the text of each number is within its width
@@ -47,15 +47,19 @@ length_decimal n = length_digits 64 10 false n []
 owner_within : (n : ℕ) → length (spelling.opaque (decimal n)) ≤ 72
 owner_within n = let short = length_decimal n in simp measuring (omega arith)
 
+mask_within : (p : Profile) → length (bitmap4 (trimmed_words (supported p))).bytes ≤ 16
+mask_within Exact = simp measuring (omega arith)
+mask_within Unix = simp measuring (omega arith)
+
 -- the widths of the attributes, in the order of the table
 abbrev widths : List ℕ
-widths = 16 ∷ 4 ∷ 4 ∷ 8 ∷ 8 ∷ 4 ∷ 4 ∷ 4 ∷ 16 ∷ 4 ∷ 4 ∷ 4 ∷ 20 ∷ 8 ∷ 8 ∷ 4 ∷ 4 ∷ 8 ∷ 8 ∷ 4 ∷ 4 ∷ 72 ∷ 72 ∷ 8 ∷ 12 ∷ 0 ∷ 12 ∷ 12 ∷ 0 ∷ 8 ∷ 12 ∷ []
+widths = 16 ∷ 4 ∷ 4 ∷ 8 ∷ 8 ∷ 4 ∷ 4 ∷ 4 ∷ 16 ∷ 4 ∷ 4 ∷ 4 ∷ 20 ∷ 8 ∷ 8 ∷ 8 ∷ 8 ∷ 8 ∷ 4 ∷ 4 ∷ 8 ∷ 8 ∷ 4 ∷ 4 ∷ 72 ∷ 72 ∷ 8 ∷ 8 ∷ 8 ∷ 8 ∷ 12 ∷ 0 ∷ 12 ∷ 12 ∷ 12 ∷ 0 ∷ 8 ∷ 12 ∷ []
 
 -- each value is within its width
 values_within : (asked : Mask) (a : About) (o : Object) → EachWithin (asked_at asked a o) numbers widths
 unfolding attributes
 values_within asked a o = (
-  (within_if (has asked 0) _ 16 (simp measuring (omega arith))),
+  (within_if (has asked 0) _ 16 (mask_within a.profile)),
   (
     (within_if (has asked 1) _ 4 (simp measuring (omega arith))),
     (
@@ -83,40 +87,61 @@ values_within asked a o = (
                           (
                             (within_if (has asked 20) _ 8 (simp measuring (omega arith))),
                             (
-                              (within_if (has asked 27) _ 8 (simp measuring (omega arith))),
+                              (within_if (has asked 21) _ 8 (within_if (is_unix a.profile) _ 8 (simp measuring (omega arith)))),
                               (
-                                (within_if (has asked 28) _ 4 (simp measuring (omega arith))),
+                                (within_if (has asked 22) _ 8 (within_if (is_unix a.profile) _ 8 (simp measuring (omega arith)))),
                                 (
-                                  (within_if (has asked 29) _ 4 (simp measuring (omega arith))),
+                                  (within_if (has asked 23) _ 8 (within_if (is_unix a.profile) _ 8 (simp measuring (omega arith)))),
                                   (
-                                    (within_if (has asked 30) _ 8 (simp measuring (omega arith))),
+                                    (within_if (has asked 27) _ 8 (simp measuring (omega arith))),
                                     (
-                                      (within_if (has asked 31) _ 8 (simp measuring (omega arith))),
+                                      (within_if (has asked 28) _ 4 (simp measuring (omega arith))),
                                       (
-                                        (within_if (has asked 33) _ 4 (simp measuring (omega arith))),
+                                        (within_if (has asked 29) _ 4 (simp measuring (omega arith))),
                                         (
-                                          (within_if (has asked 35) _ 4 (simp measuring (omega arith))),
+                                          (within_if (has asked 30) _ 8 (simp measuring (omega arith))),
                                           (
-                                            (within_if (has asked 36) _ 72 (owner_within o.owner)),
+                                            (within_if (has asked 31) _ 8 (simp measuring (omega arith))),
                                             (
-                                              (within_if (has asked 37) _ 72 (owner_within o.group)),
+                                              (within_if (has asked 33) _ 4 (simp measuring (omega arith))),
                                               (
-                                                (within_if (has asked 45) _ 8 (simp measuring (omega arith))),
+                                                (within_if (has asked 35) _ 4 (simp measuring (omega arith))),
                                                 (
-                                                  (within_if (has asked 47) _ 12 (simp measuring (omega arith))),
+                                                  (within_if (has asked 36) _ 72 (owner_within o.owner)),
                                                   (
-                                                    (within_if (has asked 48) _ 0 (omega arith)),
+                                                    (within_if (has asked 37) _ 72 (owner_within o.group)),
                                                     (
-                                                      (within_if (has asked 52) _ 12 (simp measuring (omega arith))),
+                                                      (within_if (has asked 42) _ 8 (within_if (is_unix a.profile) _ 8 (simp measuring (omega arith)))),
                                                       (
-                                                        (within_if (has asked 53) _ 12 (simp measuring (omega arith))),
+                                                        (within_if (has asked 43) _ 8 (within_if (is_unix a.profile) _ 8 (simp measuring (omega arith)))),
                                                         (
-                                                          (within_if (has asked 54) _ 0 (omega arith)),
+                                                          (within_if (has asked 44) _ 8 (within_if (is_unix a.profile) _ 8 (simp measuring (omega arith)))),
                                                           (
-                                                            (within_if (has asked 55) _ 8 (simp measuring (omega arith))),
+                                                            (within_if (has asked 45) _ 8 (simp measuring (omega arith))),
                                                             (
-                                                              (within_if (has asked 75) _ 12 (simp measuring (omega arith))),
-                                                              tt,
+                                                              (within_if (has asked 47) _ 12 (simp measuring (omega arith))),
+                                                              (
+                                                                (within_if (has asked 48) _ 0 (omega arith)),
+                                                                (
+                                                                  (within_if (has asked 51) _ 12 (within_if (is_unix a.profile) _ 12 (simp measuring (omega arith)))),
+                                                                  (
+                                                                    (within_if (has asked 52) _ 12 (simp measuring (omega arith))),
+                                                                    (
+                                                                      (within_if (has asked 53) _ 12 (simp measuring (omega arith))),
+                                                                      (
+                                                                        (within_if (has asked 54) _ 0 (omega arith)),
+                                                                        (
+                                                                          (within_if (has asked 55) _ 8 (simp measuring (omega arith))),
+                                                                          (
+                                                                            (within_if (has asked 75) _ 12 (simp measuring (omega arith))),
+                                                                            tt,
+                                                                          ),
+                                                                        ),
+                                                                      ),
+                                                                    ),
+                                                                  ),
+                                                                ),
+                                                              ),
                                                             ),
                                                           ),
                                                         ),
@@ -149,19 +174,19 @@ values_within asked a o = (
   ),
 )
 
-pub attributes_within : (asked : Mask) (a : About) (o : Object) → length (values asked a o) ≤ 356
+pub attributes_within : (asked : Mask) (a : About) (o : Object) → length (values asked a o) ≤ 416
 attributes_within asked a o = rw values_by_number (within_total (asked_at asked a o) numbers widths (values_within asked a o))
 
 -- an opaque has at most a word of count and three bytes of padding more
 length_opaque : (text : List ℕ) → length (spelling.opaque text) ≤ 7 + length text
 length_opaque text = simp measuring (omega arith)
 
-pub told_within : (asked : Mask) → length (spell_mask (common asked readable)) ≤ 16
-told_within asked =
-    let words = trimmed_words (common asked readable) in
+pub told_within : (asked shown : Mask) → length (spell_mask (common asked shown)) ≤ 16
+told_within asked shown =
+    let words = trimmed_words (common asked shown) in
     omega (
       arith,
-      length-without_last_zeros (common asked readable).words,
+      length-without_last_zeros (common asked shown).words,
       length_numbers words,
       length_number (length words),
       length-append (spelling.number (length words)) (flat_map spelling.number words),
@@ -173,7 +198,7 @@ attrs_within asked a o =
     omega (
       arith,
       attributes_within asked a o,
-      told_within asked,
-      length-append (spell_mask (common asked readable)) (spelling.opaque text),
+      told_within asked (readable a.profile),
+      length-append (spell_mask (common asked (readable a.profile))) (spelling.opaque text),
       length_opaque text,
     )

@@ -4,7 +4,7 @@ use Rattle.std.proofs.lemmas.{Bool.{cases_lt, cases_eq}, List.{get_or-set_same, 
 use Rattle.std.proofs.lemmas.Nat.Bits.{bit_at_and, bit_at-zero, bit_at-lt, bit_at-trailing_zeros, bit_at_clear_same, bit_at_clear_other}
 use Rattle.std.specs.{Prelude.bit_and, Int.{w32, bit_at, bit_not, trailing_zeros}, List.{filter, range_with_len}}
 use Rattle.nfs_attrs.specs.Mask.{has, common, numbers_of}
-use Rattle.nfs_tree.specs.declared.object.Object.{Object}
+use Rattle.nfs_tree.specs.{declared.object.Object.Object, declared.profile.Profile.TheVariants.Unix}
 use Rattle.nfs_attrs.specs.{Asked.values_of, Attributes.{supported, values}, declared.about.About.About, declared.mask.Mask.Mask}
 use Rattle.nfs_attrs.proofs.{Values.numbers, Asking.values_of_asked}
 
@@ -129,13 +129,13 @@ has_both a b i low =
     ∙ both_ones (bit_at x (i % 32)) (bit_at y (i % 32)) (bit_at-lt x (i % 32)) (bit_at-lt y (i % 32))
 
 -- The attributes that are asked for and that the server has.
-pub numbers_of_supported : (asked : Mask) → numbers_of (common asked supported) ≡ filter (has asked) numbers
+pub numbers_of_supported : (asked : Mask) → numbers_of (common asked (supported Unix)) ≡ filter (has asked) numbers
 unfolding numbers_of
 numbers_of_supported asked =
-    same_pass (has (common asked supported)) (λ i. has asked i && has supported i) 0 96 (λ i l h. has_both asked supported i (omega arith))
-    ∙ both_pass (has asked) (has supported) (range_with_len 0 96)
+    same_pass (has (common asked (supported Unix))) (λ i. has asked i && has (supported Unix) i) 0 96 (λ i l h. has_both asked (supported Unix) i (omega arith))
+    ∙ both_pass (has asked) (has (supported Unix)) (range_with_len 0 96)
 
 -- the values of those
-pub same_values : (asked shown : Mask) (a : About) (o : Object) → shown ≡ common asked supported → values_of (numbers_of shown) a o ≡ values asked a o
+pub same_values : (asked shown : Mask) (a : About) (o : Object) → shown ≡ common asked (supported Unix) → values_of (numbers_of shown) a o ≡ values asked a o
 same_values asked shown a o e = ap (λ (m : Mask). values_of (numbers_of m) a o) e
     ∙ ap (λ (ns : List ℕ). values_of ns a o) (numbers_of_supported asked) ∙ values_of_asked asked a o

@@ -128,7 +128,7 @@ are_as_given : (given : Mask) (s : Settings) → is_some s.size ≡ has given 4 
     → is_some s.group ≡ has given 37 → is_some s.access ≡ has given 48 → is_some s.modify ≡ has given 54 → AreAsGiven attributes given s
 unfolding attributes
 are_as_given given s size mode owner group access modify =
-    (tt, (tt, (tt, (tt, (size, (tt, (tt, (tt, (tt, (tt, (tt, (tt, (tt, (tt, (tt, (tt, (tt, (tt, (tt, (mode, (tt, (owner, (group, (tt, (tt, (access, (tt, (tt, (modify, (tt, (tt, tt)))))))))))))))))))))))))))))))
+    (tt, (tt, (tt, (tt, (size, (tt, (tt, (tt, (tt, (tt, (tt, (tt, (tt, (tt, (tt, (tt, (tt, (tt, (tt, (tt, (tt, (tt, (mode, (tt, (owner, (group, (tt, (tt, (tt, (tt, (tt, (access, (tt, (tt, (tt, (modify, (tt, (tt, tt))))))))))))))))))))))))))))))))))))))
 
 -- what the lines say of those that can be set
 abbrev pub Given6 : Mask → Settings → Type 0
@@ -137,7 +137,7 @@ Given6 given s = (is_some s.size ≡ has given 4) × (is_some s.mode ≡ has giv
 
 each_given : (given : Mask) (s : Settings) → AreAsGiven attributes given s → Given6 given s
 unfolding attributes
-each_given given s (u0, (u1, (u2, (u3, (size, (u5, (u6, (u7, (u8, (u9, (u10, (u11, (u19, (u20, (u27, (u28, (u29, (u30, (u31, (mode, (u35, (owner, (group, (u45, (u47, (access, (u52, (u53, (modify, (u55, (u75, u))))))))))))))))))))))))))))))) =
+each_given given s (u0, (u1, (u2, (u3, (size, (u5, (u6, (u7, (u8, (u9, (u10, (u11, (u19, (u20, (u21, (u22, (u23, (u27, (u28, (u29, (u30, (u31, (mode, (u35, (owner, (group, (u42, (u43, (u44, (u45, (u47, (access, (u51, (u52, (u53, (modify, (u55, (u75, u)))))))))))))))))))))))))))))))))))))) =
     (size, mode, owner, group, access, modify)
 
 all_settings : (given : Mask) → Spells (settings given) (settings4 given)

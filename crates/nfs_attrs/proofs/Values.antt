@@ -7,7 +7,7 @@ use Rattle.nfs_tree.specs.declared.object.Object.{Object}
 use Rattle.nfs_attrs.specs.{Attributes.{attributes, values}, Value.asked_at, declared.about.About.About, declared.mask.Mask.Mask}
 
 abbrev pub numbers : List ℕ
-numbers = 0 ∷ 1 ∷ 2 ∷ 3 ∷ 4 ∷ 5 ∷ 6 ∷ 7 ∷ 8 ∷ 9 ∷ 10 ∷ 11 ∷ 19 ∷ 20 ∷ 27 ∷ 28 ∷ 29 ∷ 30 ∷ 31 ∷ 33 ∷ 35 ∷ 36 ∷ 37 ∷ 45 ∷ 47 ∷ 48 ∷ 52 ∷ 53 ∷ 54 ∷ 55 ∷ 75 ∷ []
+numbers = 0 ∷ 1 ∷ 2 ∷ 3 ∷ 4 ∷ 5 ∷ 6 ∷ 7 ∷ 8 ∷ 9 ∷ 10 ∷ 11 ∷ 19 ∷ 20 ∷ 21 ∷ 22 ∷ 23 ∷ 27 ∷ 28 ∷ 29 ∷ 30 ∷ 31 ∷ 33 ∷ 35 ∷ 36 ∷ 37 ∷ 42 ∷ 43 ∷ 44 ∷ 45 ∷ 47 ∷ 48 ∷ 51 ∷ 52 ∷ 53 ∷ 54 ∷ 55 ∷ 75 ∷ []
 
 pub values_by_number : (asked : Mask) (a : About) (o : Object) → values asked a o ≡ flat_map (asked_at asked a o) numbers
 unfolding values attributes

@@ -1,8 +1,9 @@
 -- The table of attributes (RFC 8881 section 5): all that this server has, a line each, in rising order of their numbers.
-use Rattle.std.specs.{Prelude.{◌≡◌, ℕ, ◌==◌, List, [], ◌∷◌, ◌++◌, Bool, true, false, Option, Some, None, is_some, if◌then◌else◌}, Fmt.decimal, List.flat_map}
+use Rattle.std.specs.{Prelude.{◌≡◌, ℕ, ◌==◌, List, [], ◌∷◌, ◌++◌, Bool, true, false, Option, Some, None, is_some, pos, if◌then◌else◌}, Fmt.decimal, List.flat_map}
 use Rattle.nfs_xdr.specs.Spelling as spelling
 use Rattle.nfs_xdr.specs.{Text.{Text, ◌then◌, void, uint32, uint64, bool, opaque, most}, Wire.nfstime4, Limits.{fhsize, most_transfer}}
-use Rattle.nfs_tree.specs.{Files.{most_links, most_name}, declared.object.FileType.FileType}
+use Rattle.nfs_tree.specs.{Files.{most_links, most_name}, Profile.is_unix, declared.profile.Profile.Profile, declared.profile.Profile.TheVariants.{Exact, Unix}}
+use Rattle.nfs_tree.specs.{declared.object.FileType.FileType}
 use Rattle.nfs_tree.specs.{declared.object.FileType.TheVariants.{Regular, Directory, Link}, declared.object.Object.Object}
 use Rattle.nfs_attrs.specs.{Mask.{has, trimmed_words, common, spell_mask}, Wire.{nfs_fh4, settime4, bitmap4, fsid4}, declared.about.About.About}
 use Rattle.nfs_attrs.specs.{declared.mask.Mask.Mask, declared.set_time.SetTime.SetTime}
@@ -22,31 +23,37 @@ pub record Settings : Type 0 where
   pub access : Option SetTime
   pub modify : Option SetTime
 
--- An attribute: its value, where it can be read; and whether it is among those that a request sets, where it can be set.
+-- An attribute: its value, where it can be read; whether it is among those that a request sets, where it can be set; and whether the profile `unix` alone has it.
 pub record Attribute : Type 0 where
   pub number : ℕ
   pub value : Option (About → Object → List ℕ)
   pub set : Option (Settings → Bool)
+  pub unix : Bool
 
 abbrev pub read_only : {A : Type 0} → ℕ → (A → Text) → (About → Object → A) → Attribute
-read_only n text value = record { number = n; value = Some (λ a o. (text (value a o)).bytes); set = None }
+read_only n text value = record { number = n; value = Some (λ a o. (text (value a o)).bytes); set = None; unix = false }
 
 abbrev pub read_write : {A : Type 0} → ℕ → (A → Text) → (About → Object → A) → (Settings → Bool) → Attribute
-read_write n text value set = record { number = n; value = Some (λ a o. (text (value a o)).bytes); set = Some set }
+read_write n text value set = record { number = n; value = Some (λ a o. (text (value a o)).bytes); set = Some set; unix = false }
 
 abbrev pub write_only : ℕ → (Settings → Bool) → Attribute
-write_only n set = record { number = n; value = None; set = Some set }
+write_only n set = record { number = n; value = None; set = Some set; unix = false }
+
+-- one that the profile `exact` does not have: there it has no value
+abbrev pub in_unix : {A : Type 0} → ℕ → (A → Text) → (About → A) → Attribute
+in_unix n text value = record { number = n; value = Some (λ a o. if is_unix a.profile then (text (value a)).bytes else []); set = None; unix = true }
 
 -- the masks of all attributes and of those that can be set, as attributes 0 and 75 report them
-abbrev pub supported : Mask
-supported = record { words = 0xf8180fff ∷ 0x00f1a03a ∷ 0x00000800 ∷ []; beyond = false }
+abbrev pub supported : Profile → Mask
+supported Exact = record { words = 0xf8180fff ∷ 0x00f1a03a ∷ 0x00000800 ∷ []; beyond = false }
+supported Unix = record { words = 0xf8f80fff ∷ 0x00f9bc3a ∷ 0x00000800 ∷ []; beyond = false }
 
 abbrev pub settable : Mask
 settable = record { words = 0x00000010 ∷ 0x00410032 ∷ 0x00000000 ∷ []; beyond = false }
 
 unfoldable pub attributes : List Attribute
 attributes =
-    read_only 0 bitmap4 (λ a o. trimmed_words supported)  -- supported_attrs
+    read_only 0 bitmap4 (λ a o. trimmed_words (supported a.profile))  -- supported_attrs
     ∷ read_only 1 uint32 (λ a o. type_number o.kind)  -- type
     ∷ read_only 2 uint32 (λ a o. 0)  -- fh_expire_type: never
     ∷ read_only 3 uint64 (λ a o. o.change)  -- change
@@ -60,6 +67,9 @@ attributes =
     ∷ read_only 11 uint32 (λ a o. 0)  -- rdattr_error
     ∷ read_only 19 (opaque fhsize) (λ a o. (nfs_fh4 (record { instance = a.instance; number = a.number })).bytes)  -- filehandle
     ∷ read_only 20 uint64 (λ a o. a.number)  -- fileid
+    ∷ in_unix 21 uint64 (λ a. a.files_free)  -- files_avail
+    ∷ in_unix 22 uint64 (λ a. a.files_free)  -- files_free
+    ∷ in_unix 23 uint64 (λ a. a.files_total)  -- files_total
     ∷ read_only 27 uint64 (λ a o. a.most_bytes)  -- maxfilesize
     ∷ read_only 28 uint32 (λ a o. most_links)  -- maxlink
     ∷ read_only 29 uint32 (λ a o. most_name)  -- maxname
@@ -69,9 +79,13 @@ attributes =
     ∷ read_only 35 uint32 (λ a o. a.links)  -- numlinks
     ∷ read_write 36 (opaque most) (λ a o. decimal o.owner) (λ s. is_some s.owner)  -- owner
     ∷ read_write 37 (opaque most) (λ a o. decimal o.group) (λ s. is_some s.group)  -- owner_group
-    ∷ read_only 45 uint64 (λ a o. a.size)  -- space_used
+    ∷ in_unix 42 uint64 (λ a. a.space_free)  -- space_avail
+    ∷ in_unix 43 uint64 (λ a. a.space_free)  -- space_free
+    ∷ in_unix 44 uint64 (λ a. a.space_total)  -- space_total
+    ∷ read_only 45 uint64 (λ a o. a.used)  -- space_used
     ∷ read_only 47 nfstime4 (λ a o. o.access)  -- time_access
     ∷ write_only 48 (λ s. is_some s.access)  -- time_access_set
+    ∷ in_unix 51 nfstime4 (λ a. record { seconds = pos 0; nanoseconds = 1 })  -- time_delta
     ∷ read_only 52 nfstime4 (λ a o. o.metadata)  -- time_metadata
     ∷ read_only 53 nfstime4 (λ a o. o.modify)  -- time_modify
     ∷ write_only 54 (λ s. is_some s.modify)  -- time_modify_set
@@ -80,8 +94,9 @@ attributes =
     ∷ []
 
 -- the attributes that can be read
-abbrev pub readable : Mask
-readable = record { words = 0xf8180fff ∷ 0x00b0a03a ∷ 0x00000800 ∷ []; beyond = false }
+abbrev pub readable : Profile → Mask
+readable Exact = record { words = 0xf8180fff ∷ 0x00b0a03a ∷ 0x00000800 ∷ []; beyond = false }
+readable Unix = record { words = 0xf8f80fff ∷ 0x00b8bc3a ∷ 0x00000800 ∷ []; beyond = false }
 
 abbrev pub value_of : Option (About → Object → List ℕ) → About → Object → List ℕ
 value_of None a o = []
@@ -98,7 +113,7 @@ values asked a o = flat_map (λ line. if has asked line.number then value_of lin
 
 -- What GETATTR and READDIR report (fattr4): the mask of the attributes that are asked for and can be read, and their values.
 abbrev pub spell_attrs : Mask → About → Object → List ℕ
-spell_attrs asked a o = spell_mask (common asked readable) ++ spelling.opaque (values asked a o)
+spell_attrs asked a o = spell_mask (common asked (readable a.profile)) ++ spelling.opaque (values asked a o)
 
 -- The values that a request sets, one behind the other, each where it is there ..
 abbrev pub if_there : {A : Type 0} → (A → Text) → Option A → Text

@@ -7,6 +7,6 @@ use Rattle.nfs_attrs.specs.{Mask.{has, asks_set_only, within}, Attributes.{suppo
 -- whether the bytes are the values as the server itself writes them; rdattr_error and what can only be set are not compared
 abbrev pub same : Mask → List ℕ → About → Object → Result Bool Status
 same asked bytes a o =
-    if not (within asked supported) then Err AttrNotSupp
+    if not (within asked (supported a.profile)) then Err AttrNotSupp
     else if has asked 11 || asks_set_only asked then Err Inval
     else Ok (bytes_eq bytes (values asked a o))

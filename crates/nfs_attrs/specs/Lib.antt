@@ -14,4 +14,5 @@ pub mod Reading
 pub mod Comparing
 pub mod Permissions
 pub mod Setting
+pub mod SetId
 pub mod Laws

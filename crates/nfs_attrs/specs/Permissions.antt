@@ -2,6 +2,7 @@
 use Rattle.std.specs.{Prelude.{ℕ, ◌+◌, ◌/◌, ◌%◌, ◌==◌, ◌||◌, ◌&&◌, Bool, true, false, not, bit_and, if◌then◌else◌}, Int.bit_at, List.list_any}
 use Rattle.nfs_xdr.specs.Caller.{Caller}
 use Rattle.nfs_tree.specs.{declared.object.FileType.FileType, declared.object.FileType.TheVariants.{Regular, Directory, Link}, declared.object.Object.Object}
+use Rattle.nfs_tree.specs.{declared.profile.Profile.Profile, declared.profile.Profile.TheVariants.{Exact, Unix}}
 use Rattle.nfs_attrs.specs.{declared.permission.Want.Want, declared.permission.Access.Access}
 
 abbrev pub in_group : ℕ → Caller → Bool
@@ -32,6 +33,15 @@ execute = record { read = false; write = false; execute = true }
 -- to change a directory's entries
 abbrev pub change_entries : Want
 change_entries = record { read = false; write = true; execute = true }
+
+-- with x in place of r
+abbrev pub by_executing : Want → Want
+by_executing want = record want { read = false; execute = true }
+
+-- Whether the bytes of a regular file may be used so. In `unix` they are read with r or x: no program runs that is not read (RFC 8881 section 6.2.1.3.2).
+abbrev pub may_use_bytes : Profile → Object → Caller → Want → Bool
+may_use_bytes Exact o who want = may o who want
+may_use_bytes Unix o who want = may o who want || may o who (by_executing want)
 
 -- The bits of ACCESS (RFC 8881 section 18.1): READ 1, LOOKUP 2, MODIFY 4, EXTEND 8, DELETE 16, EXECUTE 32.
 abbrev pub supported_access : FileType → ℕ

@@ -1,12 +1,11 @@
 //! What is asked for of one object after another.
 
-ghost use Rattle.std.specs.Prelude.{◌≡◌, ◌≤◌, take, length};
+ghost use Rattle.std.specs.Prelude.{◌≡◌};
 ghost use Rattle.nfs_xdr.specs.SheetState.{HasRoom, Puts};
-ghost use Rattle.nfs_attrs.specs.Mask.{common, spell_mask};
-ghost use Rattle.nfs_attrs.specs.Attributes.{readable, spell_attrs};
+ghost use Rattle.nfs_attrs.specs.Attributes.{spell_attrs};
 
 use crate::about::About;
-use crate::mask::{Mask, READABLE};
+use crate::mask::{Mask, readable};
 use crate::spelled::Spelled;
 use crate::value::put_values;
 use nfs_tree::Object;
@@ -19,32 +18,27 @@ pub struct Asked {
     mask: Mask,
     /// The attributes of the last object as they are spelled, so that those of the next need no room of their own.
     text: Spelled,
-    /// How many bytes of the text are its mask, which is that of each object.
-    front: usize,
 }
 
 impl Model for Asked {
-    ghost use Rattle.std.specs.Prelude.{◌≡◌, ◌≤◌, take, length};
+    ghost use Rattle.std.specs.Prelude.{◌≡◌};
     ghost use Rattle.nfs_attrs.specs.declared.mask.Mask.{Mask};
-    ghost use Rattle.nfs_attrs.specs.Mask.{common, spell_mask};
-    ghost use Rattle.nfs_attrs.specs.Attributes.{readable};
 
     ghost Value = { Mask };
 
     ghost view = { λ a. a.mask };
 
-    ghost invariant = { λ a. (take a.front a.text.bytes ≡ spell_mask (common a.mask readable)) × (a.front ≤ length a.text.bytes) × (a.text.room ≡ 376) };
+    ghost invariant = { λ a. a.text.room ≡ 436 };
 }
 
-/// Spells the attributes of an object behind their mask, which is the first bytes of the text. The count of the values'
-/// bytes is known when they are spelled, and is then written in its place.
-fn spell(mask: &Mask, front: usize, object: &Object, about: &About, text: &mut Spelled)
-    requires mask { take front text.old.bytes ≡ spell_mask (common mask.now readable) }
-    requires within { front ≤ length text.old.bytes }
-    requires room { text.old.room ≡ 376 }
+/// Spells the attributes of an object. The count of the values' bytes is known when they are spelled, and is then written in its place.
+fn spell(mask: &Mask, object: &Object, about: &About, text: &mut Spelled)
+    requires room { text.old.room ≡ 436 }
     ensures { text.new ≡ record text.old { bytes = spell_attrs mask.now about.now object.now } }
 {
-    text.cut(front);
+    text.cut(0);
+    mask.common(&readable(about.profile)).put(text);
+    let front = text.len();
     text.put_u32(0);
     let before = text.len();
     put_values(mask, object, about, text);
@@ -57,14 +51,10 @@ impl Asked {
     pub fn new(mask: Mask) -> Asked
         ensures { result ≡ mask }
     {
-        let mut asked = Asked {
+        Asked {
             mask,
             text: Spelled::new(),
-            front: 0,
-        };
-        mask.common(&READABLE).put(&mut asked.text);
-        asked.front = asked.text.len();
-        asked
+        }
     }
 
     /// The mask.
@@ -80,7 +70,7 @@ impl Asked {
         ensures put { Puts sheet.old sheet.new (spell_attrs self.old about.now object.now) }
         ensures same { self.new ≡ self.old }
     {
-        spell(&self.mask, self.front, object, about, &mut self.text);
+        spell(&self.mask, object, about, &mut self.text);
         sheet.put_bytes(self.text.bytes());
     }
 }

@@ -28,6 +28,12 @@ pub const RDATTR_ERROR: u32 = 11;
 pub const FILEHANDLE: u32 = 19;
 /// The object's number.
 pub const FILEID: u32 = 20;
+/// How many more objects a user may make.
+pub const FILES_AVAIL: u32 = 21;
+/// How many more objects there may be.
+pub const FILES_FREE: u32 = 22;
+/// How many objects there may be.
+pub const FILES_TOTAL: u32 = 23;
 /// The most bytes of a file.
 pub const MAXFILESIZE: u32 = 27;
 /// The most names of an object.
@@ -46,12 +52,20 @@ pub const NUMLINKS: u32 = 35;
 pub const OWNER: u32 = 36;
 /// The group of the object.
 pub const OWNER_GROUP: u32 = 37;
+/// How many more bytes a user may write.
+pub const SPACE_AVAIL: u32 = 42;
+/// How many more bytes there may be.
+pub const SPACE_FREE: u32 = 43;
+/// How many bytes there may be.
+pub const SPACE_TOTAL: u32 = 44;
 /// How many bytes the object takes.
 pub const SPACE_USED: u32 = 45;
 /// When the object was last read.
 pub const TIME_ACCESS: u32 = 47;
 /// Sets when the object was last read.
 pub const TIME_ACCESS_SET: u32 = 48;
+/// How far apart two times of the server are at least.
+pub const TIME_DELTA: u32 = 51;
 /// When the object or its attributes last changed.
 pub const TIME_METADATA: u32 = 52;
 /// When the object last changed.
@@ -64,7 +78,7 @@ pub const MOUNTED_ON_FILEID: u32 = 55;
 pub const SUPPATTR_EXCLCREAT: u32 = 75;
 
 /// All of them, in rising order.
-pub const ALL: [u32; 31] = [
+pub const ALL: [u32; 38] = [
     SUPPORTED_ATTRS,
     TYPE,
     FH_EXPIRE_TYPE,
@@ -79,6 +93,9 @@ pub const ALL: [u32; 31] = [
     RDATTR_ERROR,
     FILEHANDLE,
     FILEID,
+    FILES_AVAIL,
+    FILES_FREE,
+    FILES_TOTAL,
     MAXFILESIZE,
     MAXLINK,
     MAXNAME,
@@ -88,9 +105,13 @@ pub const ALL: [u32; 31] = [
     NUMLINKS,
     OWNER,
     OWNER_GROUP,
+    SPACE_AVAIL,
+    SPACE_FREE,
+    SPACE_TOTAL,
     SPACE_USED,
     TIME_ACCESS,
     TIME_ACCESS_SET,
+    TIME_DELTA,
     TIME_METADATA,
     TIME_MODIFY,
     TIME_MODIFY_SET,

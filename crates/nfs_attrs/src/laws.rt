@@ -1,9 +1,10 @@
 //! Laws of the table of attributes and of what is spelled.
 
-ghost use Rattle.std.specs.Prelude.{◌≡◌, ◌↔◌, ◌≤◌, ℕ, List, Some, true, length, is_some};
+ghost use Rattle.std.specs.Prelude.{◌≡◌, ◌↔◌, ◌≤◌, ◌&&◌, ℕ, List, Some, true, length, is_some, not};
 ghost use Rattle.nfs_xdr.specs.Text.{IsBytes, Leads};
 ghost use Rattle.nfs_xdr.specs.Tables.{IsRising};
 ghost use Rattle.nfs_tree.specs.declared.object.Object.{Object};
+ghost use Rattle.nfs_tree.specs.declared.profile.Profile.TheVariants.{Exact, Unix};
 ghost use Rattle.nfs_attrs.specs.Attributes as table;
 ghost use Rattle.nfs_attrs.specs.Handle.{handle_of};
 ghost use Rattle.nfs_attrs.specs.Laws.{mask_of_lines, AreText};
@@ -15,11 +16,13 @@ ghost use Rattle.nfs_attrs.specs.declared.handle.Handle.{Handle};
 ghost use Rattle.nfs_attrs.specs.declared.mask.Mask.{Mask};
 ghost use Rattle.nfs_attrs.specs.declared.set_time.SetTime.{SetTime};
 
-/// The three masks are those of the table: all attributes, those that can be read, those that can be set; and the table
+/// The masks are those of the table: of each profile all attributes and those that can be read, and those that can be set; and the table
 /// is in rising order.
 pub fn masks()
-    ensures supported { table.supported ≡ mask_of_lines (λ line. true) }
-    ensures readable { table.readable ≡ mask_of_lines (λ line. is_some line.value) }
+    ensures exact { table.supported Exact ≡ mask_of_lines (λ line. not line.unix) }
+    ensures unix { table.supported Unix ≡ mask_of_lines (λ line. true) }
+    ensures readable_exact { table.readable Exact ≡ mask_of_lines (λ line. is_some line.value && not line.unix) }
+    ensures readable_unix { table.readable Unix ≡ mask_of_lines (λ line. is_some line.value) }
     ensures settable { table.settable ≡ mask_of_lines (λ line. is_some line.set) }
     ensures rising { IsRising (λ line. line.number) 0 table.attributes 96 }
 {}

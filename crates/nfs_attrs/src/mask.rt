@@ -4,12 +4,14 @@ ghost use Rattle.std.specs.Prelude.{◌≡◌, ◌≤◌, ◌<◌, ◌*◌, ◌^
 ghost use Rattle.std.specs.Int.{w32, from_be_bytes, bit_not, trailing_zeros};
 ghost use Rattle.std.specs.List.{list_any};
 ghost use Rattle.nfs_xdr.specs.SheetState.{HasRoom, Puts};
+ghost use Rattle.nfs_attrs.specs.Attributes.{supported, readable};
 ghost use Rattle.nfs_attrs.specs.Following.{Follows};
 ghost use Rattle.nfs_attrs.specs.Mask.{mask_of, has, asks_set_only, trimmed_words, spell_mask, common, within, numbers_of};
 
 use crate::attribute;
 use crate::following::{number_follows, numbers_follow};
 use crate::spelled::Spelled;
+use nfs_tree::Profile;
 use nfs_xdr::Cursor;
 
 /// A set of attributes by their numbers: attribute n is bit n mod 32 of word n / 32.
@@ -47,17 +49,43 @@ fn without_least(word: u32) -> u32
     word & !(1 << word.trailing_zeros())
 }
 
-/// The attributes that the server has.
+/// The attributes that the server has in the profile `exact`.
 pub const SUPPORTED: Mask = Mask {
     words: [0xf818_0fff, 0x00f1_a03a, 0x0000_0800],
     beyond: false,
 };
 
-/// Those of them that can be read: all but the two that only set a time.
-pub const READABLE: Mask = Mask {
-    words: [0xf818_0fff, 0x00b0_a03a, 0x0000_0800],
+/// Those that it has in the profile `unix`, which are all: also how many objects and bytes there may be (21 to 23, 42 to 44), and 51.
+pub const ALL_SUPPORTED: Mask = Mask {
+    words: [0xf8f8_0fff, 0x00f9_bc3a, 0x0000_0800],
     beyond: false,
 };
+
+/// The attributes that the server has.
+pub fn supported(profile: Profile) -> Mask
+    ensures { result ≡ supported profile }
+{
+    match profile {
+        Profile::Exact => SUPPORTED,
+        Profile::Unix => ALL_SUPPORTED,
+    }
+}
+
+/// Those of them that can be read: all but the two that only set a time.
+pub fn readable(profile: Profile) -> Mask
+    ensures { result ≡ readable profile }
+{
+    match profile {
+        Profile::Exact => Mask {
+            words: [0xf818_0fff, 0x00b0_a03a, 0x0000_0800],
+            beyond: false,
+        },
+        Profile::Unix => Mask {
+            words: [0xf8f8_0fff, 0x00b8_bc3a, 0x0000_0800],
+            beyond: false,
+        },
+    }
+}
 
 /// Those of them that can be set.
 pub const SETTABLE: Mask = Mask {

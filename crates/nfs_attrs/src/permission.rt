@@ -5,7 +5,7 @@ ghost use Rattle.std.specs.List.{list_any};
 ghost use Rattle.nfs_xdr.specs.Caller.{caller};
 ghost use Rattle.nfs_attrs.specs.Permissions as permission;
 
-use nfs_tree::{FileType, Object};
+use nfs_tree::{FileType, Object, Profile};
 use nfs_xdr::Who;
 
 /// What a caller wants to do with an object: any of the three kinds of permission bits.
@@ -98,6 +98,25 @@ pub fn may(object: &Object, who: &Who<'_>, want: Want) -> bool
     (!want.read || (bits >> 2) % 2 == 1)
         && (!want.write || (bits >> 1) % 2 == 1)
         && (!want.execute || bits % 2 == 1)
+}
+
+/// The same with x in place of r.
+fn by_executing(want: Want) -> Want
+    ensures { result ≡ permission.by_executing want }
+{
+    Want {
+        read: false,
+        execute: true,
+        ..want
+    }
+}
+
+/// Whether the permission bits let the caller use the bytes of a regular file as it is wanted. In [`Profile::Unix`] whoever may execute
+/// a file may read it too: no program runs that is not read.
+pub fn may_use_bytes(profile: Profile, object: &Object, who: &Who<'_>, want: Want) -> bool
+    ensures { result ≡ permission.may_use_bytes profile object.now (caller who.now) want }
+{
+    may(object, who, want) || (profile.is_unix() && may(object, who, by_executing(want)))
 }
 
 fn bits_if(granted: bool, bits: u32) -> u32

@@ -13,7 +13,7 @@ use std::marker::Model;
 /// Contracts see them as a sheet.
 #[derive(Drop)]
 pub(crate) struct Spelled {
-    bytes: [u8; 376],
+    bytes: [u8; 436],
     len: usize,
 }
 
@@ -23,18 +23,18 @@ impl Model for Spelled {
 
     ghost Value = { SheetState };
 
-    ghost view = { λ v. record { bytes = take v.len v.bytes; room = 376 } };
+    ghost view = { λ v. record { bytes = take v.len v.bytes; room = 436 } };
 
-    ghost invariant = { λ v. v.len ≤ 376 };
+    ghost invariant = { λ v. v.len ≤ 436 };
 }
 
 impl Spelled {
     /// None yet.
     pub(crate) fn new() -> Spelled
-        ensures { result ≡ record { bytes = []; room = 376 } }
+        ensures { result ≡ record { bytes = []; room = 436 } }
     {
         Spelled {
-            bytes: [0; 376],
+            bytes: [0; 436],
             len: 0,
         }
     }

@@ -1,7 +1,7 @@
 //! Handles, attributes read and written, who may do what, and who may set what (RFC 8881 sections 4, 5 and 6.2.4).
 
 use super::*;
-use nfs_tree::{FileType, Object};
+use nfs_tree::{FileType, Object, Profile};
 use nfs_xdr::{Sheet, Status, Time, Who};
 use std::alloc::{AllocError, Global};
 use std::test::Fail;
@@ -35,6 +35,12 @@ const ABOUT: About = About {
     instance: 11,
     lease: 90,
     most_bytes: 1_048_576,
+    profile: Profile::Exact,
+    used: 9,
+    files_free: 5,
+    files_total: 65_536,
+    space_free: 4_096,
+    space_total: 8_192,
 };
 
 fn object(kind: FileType, mode: u32, owner: u32, group: u32) -> Object {
@@ -166,8 +172,8 @@ fn writes_what_is_asked(rt: HostRuntime) -> Result<(), Fail> {
         size: 0,
         links: 1,
         instance: 7,
-        lease: 90,
-        most_bytes: 1_048_576,
+        used: 0,
+        ..ABOUT
     };
     let some: [u8; 40] = [
         0, 0, 0, 2, 0, 0, 0, 0x18, 0, 0, 0, 0x0a, 0, 0, 0, 0x18, 0, 0, 0, 0, 0, 0, 0, 1, 0, 0, 0,
@@ -181,6 +187,45 @@ fn writes_what_is_asked(rt: HostRuntime) -> Result<(), Fail> {
     ];
     let sheet = written(rt.alloc(), &directory, &about, asking(1, 0, 0))?;
     assert_eq!(rt; sheet.bytes(), all.as_slice());
+    Ok(())
+}
+
+#[test]
+fn tells_how_much_there_may_be_in_unix_alone(rt: HostRuntime) -> Result<(), Fail> {
+    let asked = asking(0x00e0_0000, 0x0008_1c00, 0);
+    let expected: [u32; 19] = [
+        2,
+        0x00e0_0000,
+        0x0008_1c00,
+        60,
+        0,
+        5,
+        0,
+        5,
+        0,
+        65_536, // files_avail, files_free, files_total
+        0,
+        4_096,
+        0,
+        4_096,
+        0,
+        8_192, // space_avail, space_free, space_total
+        0,
+        0,
+        1, // time_delta
+    ];
+    let about = About {
+        profile: Profile::Unix,
+        ..ABOUT
+    };
+    let sheet = written(rt.alloc(), &FILE, &about, asked)?;
+    let (words, _) = sheet.bytes().as_chunks::<4>();
+    assert_eq!(rt; words.len(), expected.len());
+    for (word, number) in words.iter().zip(&expected) {
+        assert_eq!(rt; u32::from_be_bytes(*word), *number);
+    }
+    let sheet = written(rt.alloc(), &FILE, &ABOUT, asked)?;
+    assert_eq!(rt; sheet.bytes(), [0; 8].as_slice());
     Ok(())
 }
 
@@ -205,7 +250,7 @@ fn compares_with_its_own_spelling(rt: HostRuntime) {
         assert_eq!(rt; same(&directory, &ABOUT, asked, values), answer);
     }
     assert!(rt; asking(0, 0x0040_0000, 0).asks_set_only());
-    assert!(rt; !READABLE.asks_set_only());
+    assert!(rt; !readable(Profile::Exact).asks_set_only());
 }
 
 #[test]
@@ -324,6 +369,18 @@ fn one_class_counts(rt: HostRuntime) {
         assert_eq!(rt; may(&file, &who, Want::WRITE), write);
         assert_eq!(rt; may(&file, &who, Want::EXECUTE), execute);
         assert_eq!(rt; may(&file, &who, Want::CHANGE), write && execute);
+        assert_eq!(rt;
+            may_use_bytes(Profile::Exact, &file, &who, Want::READ),
+            read
+        );
+        assert_eq!(rt;
+            may_use_bytes(Profile::Unix, &file, &who, Want::READ),
+            read || execute
+        );
+        assert_eq!(rt;
+            may_use_bytes(Profile::Unix, &file, &who, Want::WRITE),
+            write
+        );
     }
     assert!(rt; in_group(50, &caller(6, 9, FIFTY)) && !in_group(0, &caller(6, 9, FIFTY)));
 }

@@ -1,6 +1,7 @@
 //! The value of each attribute that can be read (RFC 8881 section 5).
 
-ghost use Rattle.std.specs.Prelude.{◌≡◌, ◌≤◌, ◌%◌, ◌++◌, ℕ, List, length};
+ghost use Rattle.std.specs.Prelude.{◌≡◌, ◌≤◌, ◌%◌, ◌++◌, ℕ, List, [], length, if◌then◌else◌};
+ghost use Rattle.nfs_tree.specs.Profile.{is_unix};
 ghost use Rattle.nfs_xdr.specs.SheetState.{HasRoom, Puts};
 ghost use Rattle.nfs_attrs.specs.Asked.{values_of};
 ghost use Rattle.nfs_attrs.specs.Following.{Follows};
@@ -12,7 +13,7 @@ use crate::about::About;
 use crate::attribute;
 use crate::following::{hyper_follows, number_follows, opaque_follows, time_follows};
 use crate::handle::Handle;
-use crate::mask::{Mask, SETTABLE, SUPPORTED};
+use crate::mask::{ALL_SUPPORTED, Mask, SETTABLE, supported};
 use crate::spelled::Spelled;
 use itoa::Buffer;
 use nfs_tree::{FileType, Object, Tree};
@@ -144,7 +145,7 @@ pub(crate) fn values_len(asked: &Mask, object: &Object, about: &About) -> usize
     ensures small { result ≤ 620 }
     ensures words { result % 4 ≡ 0 }
 {
-    let mut left = asked.common(&SUPPORTED);
+    let mut left = asked.common(&ALL_SUPPORTED);
     let mut length = 0;
     while let Some(number) = left.take_least() {
         length += value_len(number, object, about);
@@ -170,7 +171,7 @@ pub(crate) fn put_values(asked: &Mask, object: &Object, about: &About, out: &mut
     ensures put { Puts out.old out.new (table.values asked.now about.now object.now) }
     ensures words { length (table.values asked.now about.now object.now) % 4 ≡ 0 }
 {
-    put_each(asked.common(&SUPPORTED), object, about, out);
+    put_each(asked.common(&ALL_SUPPORTED), object, about, out);
 }
 
 /// Whether the values that are asked for stand at the cursor, which is then behind them.
@@ -201,6 +202,23 @@ fn type_number(kind: FileType) -> u32
     }
 }
 
+/// How far apart two times of the server are at least in the profile `unix`: their nanoseconds count changes.
+const DELTA: Time = Time {
+    seconds: 0,
+    nanoseconds: 1,
+};
+
+/// A value of the profile `unix`; none in the other.
+fn in_unix(value: Value, about: &About) -> Option<Value>
+    ensures { spell_found result ≡ if is_unix about.now.profile then spell_value value else [] }
+{
+    if about.profile.is_unix() {
+        Some(value)
+    } else {
+        None
+    }
+}
+
 /// The value of the attribute of this number; none where it cannot be read.
 #[tactic(auto, unfolding(crate::specs::Attributes::attributes))]
 #[inline(always)]
@@ -212,7 +230,7 @@ pub(crate) fn value_of(number: u32, object: &Object, about: &About) -> Option<Va
         number: about.number,
     };
     Some(match number {
-        attribute::SUPPORTED_ATTRS => Value::Mask(SUPPORTED),
+        attribute::SUPPORTED_ATTRS => Value::Mask(supported(about.profile)),
         attribute::TYPE => Value::Number(type_number(object.kind)),
         attribute::FH_EXPIRE_TYPE => Value::Number(0),
         attribute::CHANGE => Value::Hyper(object.change),
@@ -226,6 +244,9 @@ pub(crate) fn value_of(number: u32, object: &Object, about: &About) -> Option<Va
         attribute::RDATTR_ERROR => Value::Number(0),
         attribute::FILEHANDLE => Value::Handle(handle),
         attribute::FILEID => Value::Hyper(about.number),
+        attribute::FILES_AVAIL => return in_unix(Value::Hyper(about.files_free), about),
+        attribute::FILES_FREE => return in_unix(Value::Hyper(about.files_free), about),
+        attribute::FILES_TOTAL => return in_unix(Value::Hyper(about.files_total), about),
         attribute::MAXFILESIZE => Value::Hyper(about.most_bytes),
         attribute::MAXLINK => Value::Number(Tree::MAX_LINKS),
         attribute::MAXNAME => Value::Number(Tree::MAX_NAME as u32),
@@ -235,8 +256,12 @@ pub(crate) fn value_of(number: u32, object: &Object, about: &About) -> Option<Va
         attribute::NUMLINKS => Value::Number(about.links),
         attribute::OWNER => Value::Owner(object.owner),
         attribute::OWNER_GROUP => Value::Owner(object.group),
-        attribute::SPACE_USED => Value::Hyper(about.size),
+        attribute::SPACE_AVAIL => return in_unix(Value::Hyper(about.space_free), about),
+        attribute::SPACE_FREE => return in_unix(Value::Hyper(about.space_free), about),
+        attribute::SPACE_TOTAL => return in_unix(Value::Hyper(about.space_total), about),
+        attribute::SPACE_USED => Value::Hyper(about.used),
         attribute::TIME_ACCESS => Value::Time(object.access),
+        attribute::TIME_DELTA => return in_unix(Value::Time(DELTA), about),
         attribute::TIME_METADATA => Value::Time(object.metadata),
         attribute::TIME_MODIFY => Value::Time(object.modify),
         attribute::MOUNTED_ON_FILEID => Value::Hyper(about.number),

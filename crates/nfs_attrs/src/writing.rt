@@ -9,7 +9,7 @@ ghost use Rattle.nfs_attrs.specs.View as view;
 use crate::about::About;
 use crate::asked::Asked;
 use crate::attribute;
-use crate::mask::{Mask, READABLE, SUPPORTED};
+use crate::mask::{Mask, readable, supported};
 use crate::value::{values_follow, values_len};
 use crate::wanted::AttrFault;
 use nfs_tree::Object;
@@ -20,7 +20,7 @@ pub fn attrs_len(object: &Object, about: &About, asked: Mask) -> usize
     ensures exact { result ≡ length (table.spell_attrs asked about.now object.now) }
     ensures within { result ≤ 632 }
 {
-    let shown = asked.common(&READABLE);
+    let shown = asked.common(&readable(about.profile));
     let mask = shown.len();
     let count = values_len(&asked, object, about);
     mask + 4 + count
@@ -61,7 +61,7 @@ fn are_values(asked: &Mask, object: &Object, about: &About, bytes: &[u8]) -> boo
 pub fn same(object: &Object, about: &About, asked: Mask, values: &[u8]) -> Result<bool, AttrFault>
     ensures { view.with_status result ≡ comparing.same asked values.now about.now object.now }
 {
-    if !asked.within(&SUPPORTED) {
+    if !asked.within(&supported(about.profile)) {
         return Err(AttrFault::AttrNotSupp);
     }
     if asked.has(attribute::RDATTR_ERROR) || asked.asks_set_only() {

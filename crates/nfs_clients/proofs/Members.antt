@@ -1,7 +1,7 @@
 -- What keeps every fact of a roster.
 use Rattle.std.proofs.Common.{◌≡◌, ℕ, ◌+◌, ◌<◌, ◌≤◌, Bool, true, false, cond, not, eqb, ltb, List, [], ◌∷◌, ◌++◌, map, length, Option, Some, None, refl, sym}
 use Rattle.std.proofs.Common.{◌∙◌, ap, subst, arith, inl, inr, length-append}
-use Rattle.std.proofs.{lemmas.Bool.{cases_Bool, cases_eq, ne_eqb, eq-eqb, ltb-true, and_parts, false≢true}, lemmas.Slice.Eq.bytes_eq-Decides}
+use Rattle.std.proofs.{lemmas.Bool.{cases_Bool, cases_eq, ne_eqb, eq-eqb, ltb-true, not-true, and_parts, false≢true}, lemmas.Slice.Eq.bytes_eq-Decides}
 use Rattle.std.proofs.lemmas.List.{length-map}
 use Rattle.std.specs.Prelude.{◌==◌, if◌then◌else◌, find, filter, is_some, ◌||◌, bytes_eq, option_map, option_and_then}
 use Rattle.nfs_xdr.specs.Tables.{IsRising, In}
@@ -10,7 +10,7 @@ use Rattle.nfs_xdr.proofs.Tables.{IsRising-push, IsRising-map, IsRising-filter, 
 use Rattle.nfs_xdr.specs.Numbers.{next_number}
 use Rattle.nfs_clients.specs.declared.created.CreateResult.{CreateResult}
 use Rattle.nfs_clients.specs.Roster.{ClientRecord, Roster, IsRoster, first_id, next_id, client_at, is_unconfirmed_of, unconfirmed_of, with_changed, without}
-use Rattle.nfs_clients.specs.{Roster.{most_records, last_counter}, ExchangeId.{Ask, has_room, with_new}}
+use Rattle.nfs_clients.specs.{Roster.last_counter, ExchangeId.{Ask, has_room, with_new}}
 use Rattle.nfs_clients.specs.CreateSession.{uses_up, keeps, with_kept, is_other_confirmed_of, leaving}
 use Rattle.nfs_clients.specs.CreateSession.{with_confirmed}
 use Rattle.nfs_clients.proofs.Terms.{counter_of, new_client, without_any, confirms}
@@ -85,10 +85,6 @@ mild_keeps result = record {
       [ true ↦ refl | false ↦ refl ];
 }
 
-pub keeps_used : (result : CreateResult) (c : ClientRecord) → uses_up result ≡ true
-    → record c { number = next_number c.number; kept = Some result } ≡ keeps result c
-keeps_used result c up = rw up refl
-
 pub not_kept : (t : Roster) (n : ℕ) (result : CreateResult) → uses_up result ≡ false → t ≡ with_kept t n result
 not_kept t n result not_up = sym (ap (λ xs. record t { records = xs })
     (map_same (change_at n (keeps result)) (λ c. elim (eqb c.id n) as (λ v. cond v (keeps result c) c ≡ c) [ true ↦ rw not_up refl | false ↦ refl ]) t.records))
@@ -101,7 +97,7 @@ bytes_same xs ys e = (bytes_eq-Decides xs ys).1 e
 is_other : (x y : ClientRecord) → y.owner ≡ x.owner → y.confirmed ≡ true → (y.id ≡ x.id → ⊥) → is_other_confirmed_of x y ≡ true
 is_other x y owner mark other = rw (bytes_same y.owner x.owner owner, mark, ne_eqb y.id x.id other) refl
 
-in_left : (t : Roster) (o : Option ℕ) (y : ClientRecord) → In y (without_any t o).records → In y t.records
+pub in_left : (t : Roster) (o : Option ℕ) (y : ClientRecord) → In y (without_any t o).records → In y t.records
 in_left t None y there = there
 in_left t (Some n) y there = (in_filter (λ c. not (eqb c.id n)) t.records y there).0
 
@@ -109,7 +105,7 @@ not_left : (t : Roster) (n : ℕ) (y : ClientRecord) → In y (without t n).reco
 not_left t n y there same = false≢true (sym (ap not (eq-eqb y.id n same)) ∙ (in_filter (λ c. not (eqb c.id n)) t.records y there).1)
 
 -- what is left has no other confirmed record of the owner
-only_one_left : (t : Roster) (n : ℕ) → IsRoster t → (x y : ClientRecord) → In x t.records
+pub only_one_left : (t : Roster) (n : ℕ) → IsRoster t → (x y : ClientRecord) → In x t.records
     → In y (without_any t (leaving t n)).records → x.id ≡ n → y.owner ≡ x.owner → y.confirmed ≡ true → y.id ≡ n
 only_one_left t n is x y a b here owner mark =
     elim (cases_eq y.id x.id) [
@@ -176,10 +172,6 @@ roster_confirmed t n is =
 
 -- A new record.
 
-not_true : (b : Bool) → not b ≡ true → b ≡ false
-not_true true e = cc
-not_true false e = refl
-
 -- no record has the next id
 pub fresh : (t : Roster) → IsRoster t → client_at t (next_id t) ≡ None
 fresh t is = at_above the_id (first_id t) (next_id t) (next_id t) t.records is.rising (omega arith)
@@ -215,8 +207,8 @@ roster_new t a is room =
         ]
       ];
       few = (let long : length (rest ++ new_client t a.owner a.verifier a.uid ∷ []) ≡ length rest + 1 = length-append rest (new_client t a.owner a.verifier a.uid ∷ []) in
-          let fits = room_few (is_some (unconfirmed_of t a.owner)) (ltb (length t.records) most_records) (length rest) (length t.records) most_records parts.1
-          (length_left (is_unconfirmed_of a.owner) t.records) (ltb-true (length t.records) most_records)
+          let fits = room_few (is_some (unconfirmed_of t a.owner)) (ltb (length t.records) t.most) (length rest) (length t.records) t.most parts.1
+          (length_left (is_unconfirmed_of a.owner) t.records) (ltb-true (length t.records) t.most)
           (length_filter (λ c. not (is_unconfirmed_of a.owner c)) t.records) is.few in omega arith);
       instance = (let small = is.instance in omega arith);
     }
@@ -241,7 +233,7 @@ without_unconfirmed t owner is (Some d) e =
     same_test c there = elim (cases_Bool (is_unconfirmed_of owner c)) [
       | inl passes ↦ (let p = and_parts _ _ passes in let q = and_parts _ _ found.1 in
           let one : c ≡ d = is.alone c d there found.0 ((bytes_eq-Decides c.owner owner).0 p.0 ∙ sym ((bytes_eq-Decides d.owner owner).0 q.0))
-          (not_true c.confirmed p.1 ∙ sym (not_true d.confirmed q.1)) in
+          (not-true c.confirmed p.1 ∙ sym (not-true d.confirmed q.1)) in
           eq-eqb c.id d.id (ap the_id one) ∙ sym passes)
       | inr fails ↦ ne_eqb c.id d.id (λ same. false≢true (sym fails
           ∙ ap (is_unconfirmed_of owner) (in_once the_id (first_id t) (next_id t) t.records c d is.rising there found.0 same) ∙ found.1)) ∙ sym fails

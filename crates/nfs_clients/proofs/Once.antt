@@ -1,5 +1,5 @@
 -- What holds over all changes of a table: an id that was given names the record that it was given to, or none; and each table is in order.
-use Rattle.std.proofs.{Common.{◌≡◌, ℕ, ◌<◌, Bool, true, false, not, eqb, List, [], ◌∷◌, Option, Some, None, refl, arith}, lemmas.Bool.ne_eqb}
+use Rattle.std.proofs.{Common.{◌≡◌, ℕ, ◌<◌, Bool, true, false, not, eqb, List, [], ◌∷◌, Option, Some, None, refl, ◌∙◌, arith}, lemmas.Bool.ne_eqb}
 use Rattle.std.specs.Prelude.{filter}
 use Rattle.nfs_xdr.proofs.Tables.{gone_filter, gone_map, gone_push}
 use Rattle.nfs_clients.specs.Roster.{ClientRecord, Roster, IsRoster, no_clients, next_id, client_at, is_unconfirmed_of, with_changed, confirmed_of}
@@ -84,10 +84,40 @@ order_all : (t : Roster) (changes : List Change) → IsRoster t → IsRoster (af
 order_all t [] is = is
 order_all t (change ∷ changes) is = order_all (changed t change) changes (order_step t change is)
 
+-- No change alters how many there are at most.
+
+most_case : (t : Roster) (a : Ask) (k : Case) → (does t a k).after.most ≡ t.most
+most_case t a (Refuses fault) = refl
+most_case t a (Stays c) = refl
+most_case t a Adds = refl
+
+most_any : (t : Roster) (o : Option ℕ) → (without_any t o).most ≡ t.most
+most_any t None = refl
+most_any t (Some n) = refl
+
+most_unless : (t : Roster) (n : ℕ) (o : Option DestroyFault) → (without_unless o t n).most ≡ t.most
+most_unless t n None = refl
+most_unless t n (Some fault) = refl
+
+most_step : (t : Roster) (change : Change) → (changed t change).most ≡ t.most
+most_step t (Exchanges a) = most_case t a (case_of t a)
+most_step t (Confirms n) = most_any t (leaving t n)
+most_step t (Keeps n result) = refl
+most_step t (Reclaims n) = refl
+most_step t (Destroys n has_session has_open) = most_unless t n (destroy_fault t n has_session has_open)
+most_step t (Removes n) = refl
+
+most_all : (t : Roster) (changes : List Change) → (after_all t changes).most ≡ t.most
+most_all t [] = refl
+most_all t (change ∷ changes) = most_all (changed t change) changes ∙ most_step t change
+
 pub in_order : TablesAreInOrder
-in_order = λ instance changes within. order_all (no_clients instance) changes (record {
-  rising = omega arith;
-  alone = λ c d a b owner mark. absurd a;
-  few = omega arith;
-  instance = omega arith;
-})
+in_order = λ instance most changes within. (
+  order_all (no_clients instance most) changes (record {
+    rising = omega arith;
+    alone = λ c d a b owner mark. absurd a;
+    few = omega arith;
+    instance = omega arith;
+  }),
+  most_all (no_clients instance most) changes,
+)

@@ -4,7 +4,7 @@ use Rattle.std.specs.Prelude.{ℕ, ◌==◌, ◌%◌, ◌^◌, ◌&&◌, ◌||�
 use Rattle.std.specs.Prelude.{filter, option_map, is_some, unwrap_or, bytes_eq, bit_and}
 use Rattle.nfs_xdr.specs.{declared.status.Status.Status, Checks.first_fault}
 use Rattle.nfs_xdr.specs.declared.status.Status.TheVariants as status
-use Rattle.nfs_clients.specs.Roster.{ClientRecord, Roster, most_records, last_counter, next_id, is_unconfirmed_of, confirmed_of, unconfirmed_of}
+use Rattle.nfs_clients.specs.Roster.{ClientRecord, Roster, last_counter, next_id, is_unconfirmed_of, confirmed_of, unconfirmed_of}
 use Rattle.nfs_clients.specs.declared.exchange_id.ClientFault.{ClientFault}
 use Rattle.nfs_clients.specs.declared.exchange_id.ClientFault.TheVariants.{Inval, NoEnt, NotSame, Perm, ClidInUse, ServerFault, Memory}
 use Rattle.nfs_clients.specs.declared.exchange_id.Exchanged.{Exchanged}
@@ -68,7 +68,7 @@ case_by a (Some c) =
 
 -- a record can be added: ids are left (the counter is an id's last four bytes), and it takes the place of the owner's unconfirmed one or finds one free
 abbrev pub has_room : Roster → List ℕ → Bool
-has_room t owner = nat_lt (t.last % 2 ^ 32) last_counter && (is_some (unconfirmed_of t owner) || nat_lt (length t.records) most_records)
+has_room t owner = nat_lt (t.last % 2 ^ 32) last_counter && (is_some (unconfirmed_of t owner) || nat_lt (length t.records) t.most)
 
 -- where there is no room, a new record is refused and nothing else
 abbrev pub if_room : Bool → Case → Case

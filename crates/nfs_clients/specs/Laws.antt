@@ -28,6 +28,8 @@ after_all t (change ∷ changes) = after_all (changed t change) changes
 abbrev pub IdsAreGivenOnce : Type 0
 IdsAreGivenOnce = (t : Roster) (changes : List Change) (id : ℕ) → id < next_id t → client_at t id ≡ None → client_at (after_all t changes) id ≡ None
 
--- Each table that the calls reach is in rising order of its ids, and has at most one confirmed and one unconfirmed record an owner, and at most 1,024 records.
+-- Each table that the calls reach is in rising order of its ids, has at most one confirmed and one unconfirmed record an owner, and at most as many records as
+-- the first was to have.
 abbrev pub TablesAreInOrder : Type 0
-TablesAreInOrder = (instance : ℕ) (changes : List Change) → instance < 2 ^ 32 → IsRoster (after_all (no_clients instance) changes)
+TablesAreInOrder = (instance most : ℕ) (changes : List Change) → instance < 2 ^ 32
+    → IsRoster (after_all (no_clients instance most) changes) × ((after_all (no_clients instance most) changes).most ≡ most)

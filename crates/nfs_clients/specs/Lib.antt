@@ -1,5 +1,5 @@
-pub mod Owner
 pub mod Roster
+pub mod Filed
 pub mod ExchangeId
 pub mod CreateSession
 pub mod DestroyClientId

@@ -1,6 +1,6 @@
 -- The mark of a client record that its reclaim is complete (RFC 8881 section 18.51).
-use Rattle.std.specs.{Prelude.{ℕ, Bool, true, false, Option, is_some}, Option.option_map_or}
-use Rattle.nfs_clients.specs.Roster.{ClientRecord, Roster, client_at, with_changed}
+use Rattle.std.specs.{Prelude.{ℕ, Bool, true, false, is_some}, Option.option_map_or}
+use Rattle.nfs_clients.specs.Roster.{Roster, client_at, with_changed}
 
 abbrev pub has_client : Roster → ℕ → Bool
 has_client t id = is_some (client_at t id)

@@ -15,14 +15,12 @@ pub record ClientRecord : Type 0 where
   pub kept : Option CreateResult
   pub reclaimed : Bool
 
--- the records in rising order of their ids, and the last id that was given, or before the first one the instance with the counter 0
+-- The records in rising order of their ids; the last id that was given, or before the first one the instance with the counter 0; and how many
+-- records there are at most.
 pub record Roster : Type 0 where
   pub records : List ClientRecord
   pub last : ℕ
-
--- how many records there are at most
-abbrev pub most_records : ℕ
-most_records = 1024
+  pub most : ℕ
 
 -- the counter's last value: behind it no more ids are given
 abbrev pub last_counter : ℕ
@@ -40,9 +38,9 @@ first_id t = id_of (t.last / 2 ^ 32) 1
 abbrev pub next_id : Roster → ℕ
 next_id t = t.last + 1
 
--- the table of a new server
-abbrev pub no_clients : ℕ → Roster
-no_clients instance = record { records = []; last = id_of instance 0 }
+-- the table of a new server, which is to have so many records at most
+abbrev pub no_clients : (instance most : ℕ) → Roster
+no_clients instance most = record { records = []; last = id_of instance 0; most = most }
 
 -- the record of an id
 abbrev pub client_at : Roster → ℕ → Option ClientRecord
@@ -73,5 +71,5 @@ with_changed t id change = record t { records = with_record (λ c. c.id) t.recor
 pub record IsRoster (t : Roster) : Type 0 where
   pub rising : IsRising (λ c. c.id) (first_id t) t.records (next_id t)
   pub alone : (c d : ClientRecord) → In c t.records → In d t.records → c.owner ≡ d.owner → c.confirmed ≡ d.confirmed → c ≡ d
-  pub few : length t.records ≤ most_records
+  pub few : length t.records ≤ t.most
   pub instance : t.last / 2 ^ 32 < 2 ^ 32

@@ -1,13 +1,12 @@
 //! One client record (RFC 8881 section 2.4).
 
-ghost use Rattle.std.specs.Prelude.{◌≡◌, false, true, None, Some};
+ghost use Rattle.std.specs.Prelude.{◌≡◌, false, true, None, Some, IfOk};
 ghost use Rattle.nfs_xdr.specs.Numbers.{next_number};
-ghost use Rattle.nfs_clients.specs.Roster.{is_confirmed_of, is_unconfirmed_of};
 ghost use Rattle.nfs_clients.specs.ExchangeId.{answer_standing};
 
 use crate::created::CreateResult;
 use crate::exchange_id::Exchanged;
-use crate::owner::{Name, Owner};
+use std::alloc::{AllocError, Global};
 use std::marker::Model;
 
 /// The record of a client (RFC 8881 section 2.4).
@@ -16,7 +15,7 @@ pub(crate) struct Client {
     /// The client id: the server's instance, and behind it a counter.
     pub(crate) id: u64,
     /// The string by which the client names itself.
-    pub(crate) owner: Owner,
+    owner: Vec<u8>,
     /// The verifier of the client's start: another one means that it began anew.
     pub(crate) verifier: [u8; 8],
     /// The user that made the record.
@@ -36,15 +35,22 @@ impl Model for Client {
 
     ghost Value = { ClientRecord };
 
-    ghost view = { λ c. record { id = c.id; owner = c.owner; verifier = c.verifier; uid = c.uid; confirmed = c.confirmed; number = c.number; kept = c.kept; reclaimed = c.reclaimed } };
+    ghost view = { λ c. record { id = c.id; owner = c.owner.items; verifier = c.verifier; uid = c.uid; confirmed = c.confirmed; number = c.number; kept = c.kept; reclaimed = c.reclaimed } };
 }
 
 impl Client {
     /// A record that no CREATE_SESSION has confirmed.
-    pub(crate) fn new(id: u64, owner: Owner, verifier: [u8; 8], uid: u32) -> Self
-        ensures { result ≡ record { id = id; owner = owner; verifier = verifier; uid = uid; confirmed = false; number = 1; kept = None; reclaimed = false } }
+    pub(crate) fn new(
+        alloc: Global,
+        id: u64,
+        owner: &[u8],
+        verifier: [u8; 8],
+        uid: u32,
+    ) -> Result<Self, AllocError>
+        ensures { IfOk result (λ c. c ≡ record { id = id; owner = owner.now; verifier = verifier; uid = uid; confirmed = false; number = 1; kept = None; reclaimed = false }) }
     {
-        Client {
+        let owner = Vec::from_slice(alloc, owner)?;
+        Ok(Client {
             id,
             owner,
             verifier,
@@ -53,7 +59,7 @@ impl Client {
             number: 1,
             kept: None,
             reclaimed: false,
-        }
+        })
     }
 
     /// The client id.
@@ -63,18 +69,18 @@ impl Client {
         self.id
     }
 
-    /// Whether this is the owner's confirmed record.
-    pub(crate) fn is_confirmed_of(&self, owner: &Name) -> bool
-        ensures { result ≡ is_confirmed_of owner.now self.now }
+    /// The string by which the client names itself.
+    pub(crate) fn owner(&self) -> &[u8]
+        ensures { result.now ≡ self.now.owner }
     {
-        self.confirmed && self.owner.is(owner)
+        self.owner.as_slice()
     }
 
-    /// Whether this is the owner's unconfirmed record.
-    pub(crate) fn is_unconfirmed_of(&self, owner: &Name) -> bool
-        ensures { result ≡ is_unconfirmed_of owner.now self.now }
+    /// Whether a CREATE_SESSION has confirmed the record.
+    pub(crate) fn is_confirmed(&self) -> bool
+        ensures { result ≡ self.now.confirmed }
     {
-        !self.confirmed && self.owner.is(owner)
+        self.confirmed
     }
 
     /// What a granted EXCHANGE_ID answers of a record that stands.

@@ -1,13 +1,13 @@
 //! CREATE_SESSION's part of the client table: its number, what is kept under it, and the confirmation (RFC 8881 section 18.36).
 
-ghost use Rattle.std.specs.Prelude.{◌≡◌, find, Some};
-ghost use Rattle.std.specs.Option.{option_copied};
-ghost use Rattle.nfs_clients.specs.CreateSession.{create_verdict, verdict_by, leaving, with_confirmed, with_kept, is_other_confirmed_of};
+ghost use Rattle.std.specs.Prelude.{◌≡◌, Some};
+ghost use Rattle.nfs_clients.specs.CreateSession.{create_verdict, verdict_by, leaving, with_confirmed, with_kept};
 ghost use Rattle.nfs_clients.specs.Calls.{verdict_of};
 
 use crate::client::Client;
 use crate::clients::Clients;
 use crate::created::CreateResult;
+use crate::owners::Ids;
 
 /// What a CREATE_SESSION comes to by its number and its caller (RFC 8881 section 18.36.4).
 #[derive(Clone, Copy)]
@@ -39,8 +39,12 @@ impl Clients {
     pub fn leaving(&self, client: u64) -> Option<u64>
         ensures { result ≡ leaving self.now client }
     {
-        let other = other_confirmed(&self.records, self.record(client)?)?;
-        Some(other.id())
+        let _ = &self.records;
+        let record = self.record(client)?;
+        match self.ids(record.owner()).confirmed {
+            Some(other) if other != client => Some(other),
+            _ => None,
+        }
     }
 
     /// Confirms the record, and removes its owner's other confirmed one (RFC 8881 section
@@ -51,8 +55,15 @@ impl Clients {
         if let Some(other) = self.leaving(client) {
             self.remove(other);
         }
-        if let Some(place) = self.place(client) {
-            self.records[place].confirm();
+        if let Some(record) = self.records.get(client) {
+            if !record.is_confirmed() {
+                let now = Ids {
+                    confirmed: Some(client),
+                    unconfirmed: None,
+                };
+                self.owners.set(record.owner(), now);
+                self.records.confirm(client);
+            }
         }
     }
 
@@ -65,9 +76,7 @@ impl Clients {
         if !created.uses_up() {
             return;
         }
-        if let Some(place) = self.place(client) {
-            self.records[place].keep(created);
-        }
+        self.records.keep(client, created);
     }
 }
 
@@ -88,17 +97,4 @@ impl Client {
             _ => CreateVerdict::Misordered,
         }
     }
-
-    /// Whether this is another confirmed record of the client's owner.
-    fn is_other_confirmed_of(&self, client: &Client) -> bool
-        ensures { result ≡ is_other_confirmed_of client.now self.now }
-    {
-        self.id != client.id && self.is_confirmed_of(&client.owner.name())
-    }
-}
-
-fn other_confirmed<'a>(records: &'a [Client], client: &Client) -> Option<&'a Client>
-    ensures { option_copied result ≡ find (is_other_confirmed_of client.now) records.now }
-{
-    records.iter().find(|c| c.is_other_confirmed_of(client))
 }

@@ -1,10 +1,11 @@
 //! EXCHANGE_ID (RFC 8881 section 18.35), by the cases of this server's profile.
 
-ghost use Rattle.std.specs.Prelude.{◌≡◌, ℕ, Bool, false, List, IsTrue, OnOk, OnErr, IfOk, find, position, option_map, vec_len, vec_capacity, ◌≤◌};
-ghost use Rattle.std.specs.Option.{option_copied, option_map_or};
-ghost use Rattle.std.specs.List.{remove};
+ghost use Rattle.std.specs.Prelude.{◌≡◌, ◌∷◌, ◌++◌, [], ℕ, Bool, false, List, IsTrue, OnOk, OnErr, IfOk, option_map, Some};
+ghost use Rattle.std.specs.Option.{option_map_or};
+ghost use Rattle.nfs_xdr.specs.Tables.{IsRising, without_record};
+ghost use Rattle.nfs_clients.specs.Filed.{ids_at, OwnersAnew};
 ghost use Rattle.nfs_xdr.specs.Checks.{judged};
-ghost use Rattle.nfs_clients.specs.Roster.{confirmed_of, unconfirmed_of, is_unconfirmed_of, is_confirmed_of};
+ghost use Rattle.nfs_clients.specs.Roster.{confirmed_of};
 ghost use Rattle.nfs_clients.specs.ExchangeId.{asks, case_of, case_by, has_room, with_new, answer_added, client_fault_status};
 ghost use Rattle.nfs_clients.specs.Calls.{exchange_fault, ExchangesOrWants};
 ghost use Rattle.nfs_clients.specs.Seen.{case_seen};
@@ -12,12 +13,10 @@ ghost use Rattle.nfs_clients.specs.declared.exchange_id.ClientFault.TheVariants.
 
 use crate::client::Client;
 use crate::clients::Clients;
-use crate::owner::{Name, Owner};
+use crate::owners::{Ids, Owners};
+use crate::records::Records;
 use nfs_xdr::Status;
 use std::alloc::{AllocError, Global};
-
-/// How many records there are at most (this server's profile).
-const MAX_RECORDS: usize = 1_024;
 
 /// EXCHGID4_FLAG_CONFIRMED_R (RFC 8881 section 18.35.1): the record is confirmed.
 pub const CONFIRMED_R: u32 = 0x8000_0000;
@@ -38,7 +37,7 @@ pub enum ClientFault {
     Perm,
     /// The owner's confirmed record is another user's, and has an open.
     ClidInUse,
-    /// A new record is wanted, and 1,024 stand or no id is left.
+    /// A new record is wanted, and as many stand as may or no id is left.
     ServerFault,
     /// A new record is wanted, and memory was refused.
     Memory,
@@ -89,8 +88,7 @@ impl Clients {
     pub fn confirmed(&self, owner: &[u8]) -> Option<u64>
         ensures { result ≡ option_map (λ c. c.id) (confirmed_of self.now owner.now) }
     {
-        let client = confirmed_in(&self.records, &Name::of(owner))?;
-        Some(client.id())
+        self.ids(owner).confirmed
     }
 
     /// What `exchange` would refuse the call with, but for want of memory; changes nothing.
@@ -104,7 +102,7 @@ impl Clients {
     ) -> Result<(), ClientFault>
         ensures { result ≡ judged (exchange_fault self.now (asks owner.now verifier flags uid has_open)) }
     {
-        if let Case::Refuses(fault) = self.case(&Name::of(owner), verifier, flags, uid, has_open) {
+        if let Case::Refuses(fault) = self.case(owner, verifier, flags, uid, has_open) {
             return Err(fault);
         }
         Ok(())
@@ -127,18 +125,15 @@ impl Clients {
     ) -> Result<Exchanged, ClientFault>
         ensures { ExchangesOrWants self.old (asks owner.now verifier flags uid has_open) result self.new }
     {
-        match self.case(&Name::of(owner), verifier, flags, uid, has_open) {
+        match self.case(owner, verifier, flags, uid, has_open) {
             Case::Refuses(fault) => Err(fault),
             Case::Stays(client) => Ok(client.answer_standing()),
-            Case::Adds => {
-                let owner = Owner::of(alloc, owner)?;
-                Ok(self.add(owner, verifier, uid)?)
-            }
+            Case::Adds => { Ok(self.add(alloc, owner, verifier, uid)?) }
         }
     }
 
     /// What the call comes to.
-    fn case(&self, owner: &Name, verifier: [u8; 8], flags: u32, uid: u32, has_open: bool) -> Case
+    fn case(&self, owner: &[u8], verifier: [u8; 8], flags: u32, uid: u32, has_open: bool) -> Case
         ensures { case_seen result ≡ case_of self.now (asks owner.now verifier flags uid has_open) }
     {
         match self.row(owner, verifier, flags, uid, has_open) {
@@ -154,43 +149,54 @@ impl Clients {
     }
 
     /// The row of the call, but for whether there is room.
-    fn row(&self, owner: &Name, verifier: [u8; 8], flags: u32, uid: u32, has_open: bool) -> Case
+    fn row(&self, owner: &[u8], verifier: [u8; 8], flags: u32, uid: u32, has_open: bool) -> Case
         ensures { case_seen result ≡ case_by (asks owner.now verifier flags uid has_open) (confirmed_of self.now owner.now) }
     {
-        match confirmed_in(&self.records, owner) {
+        match self.confirmed_record(owner) {
             Some(client) => client.case(verifier, flags, uid, has_open),
             None => case_of_unknown(flags),
         }
     }
 
     /// Whether a record of this owner can be added.
-    fn has_room(&self, owner: &Name) -> bool
+    fn has_room(&self, owner: &[u8]) -> bool
         ensures { result ≡ has_room self.now owner.now }
     {
         self.last % 0x1_0000_0000 < u64::from(u32::MAX)
-            && (self.records.len() < MAX_RECORDS || unconfirmed_in(&self.records, owner).is_some())
+            && (self.records.len() < self.most as usize || self.ids(owner).unconfirmed.is_some())
     }
 
     /// Puts a new record in the place of the owner's unconfirmed one.
-    fn add(&mut self, owner: Owner, verifier: [u8; 8], uid: u32) -> Result<Exchanged, AllocError>
-        requires { IsTrue (has_room self.old owner) }
-        ensures ok { OnOk result (self.new ≡ with_new self.old owner verifier uid) }
-        ensures answer { IfOk result (λ e. e ≡ answer_added self.old owner) }
+    fn add(
+        &mut self,
+        alloc: Global,
+        owner: &[u8],
+        verifier: [u8; 8],
+        uid: u32,
+    ) -> Result<Exchanged, AllocError>
+        requires { IsTrue (has_room self.old owner.now) }
+        ensures ok { OnOk result (self.new ≡ with_new self.old owner.now verifier uid) }
+        ensures answer { IfOk result (λ e. e ≡ answer_added self.old owner.now) }
         ensures err { OnErr result (self.new ≡ self.old) }
     {
-        self.records.reserve(1)?;
         let id = self.next_id();
-        let replaced = take_unconfirmed(&mut self.records, &owner.name());
-        self.records
-            .push(Client::new(id, owner, verifier, uid))
-            .unwrap();
+        let ids = self.ids(owner);
+        let client = Client::new(alloc, id, owner, verifier, uid)?;
+        file(
+            alloc,
+            &mut self.records,
+            &mut self.owners,
+            owner,
+            client,
+            ids,
+        )?;
         self.last = id;
         Ok(Exchanged {
             id,
             number: 1,
             confirmed: false,
             added: true,
-            replaced,
+            replaced: ids.unconfirmed,
         })
     }
 }
@@ -233,6 +239,36 @@ impl Client {
     }
 }
 
+/// Puts an unconfirmed record behind the others, in the place of the owner's unconfirmed one, where the owner has these ids.
+fn file(
+    alloc: Global,
+    records: &mut Records,
+    owners: &mut Owners,
+    owner: &[u8],
+    client: Client,
+    ids: Ids,
+) -> Result<(), AllocError>
+    requires { IsRising (λ c. c.id) 0 records.old client.id }
+    ensures filed { OnOk result (records.new ≡ option_map_or (without_record (λ c. c.id) (records.old ++ client ∷ [])) ids.unconfirmed (records.old ++ client ∷ [])) }
+    ensures ids { OnOk result (OwnersAnew (ids_at (λ k. k.items) owners.old.ids.entries) (ids_at (λ k. k.items) owners.new.ids.entries) owner.now (record { confirmed = ids.confirmed; unconfirmed = Some client.id })) }
+    ensures err { OnErr result ((records.new ≡ records.old) × (owners.new.ids.entries ≡ owners.old.ids.entries)) }
+{
+    let id = client.id();
+    records.push(client)?;
+    let now = Ids {
+        confirmed: ids.confirmed,
+        unconfirmed: Some(id),
+    };
+    if owners.put(alloc, owner, now).is_err() {
+        records.remove(id);
+        return Err(AllocError);
+    }
+    if let Some(old) = ids.unconfirmed {
+        records.remove(old);
+    }
+    Ok(())
+}
+
 /// The rows of a call whose owner has no confirmed record.
 fn case_of_unknown<'a>(flags: u32) -> Case<'a>
     ensures { (owner verifier : List ℕ) (uid : ℕ) (has_open : Bool) → case_seen result ≡ case_by (asks owner verifier flags uid has_open) None }
@@ -244,34 +280,4 @@ fn case_of_unknown<'a>(flags: u32) -> Case<'a>
         return Case::Refuses(ClientFault::NoEnt);
     }
     Case::Adds
-}
-
-fn confirmed_in<'a>(records: &'a [Client], owner: &Name) -> Option<&'a Client>
-    ensures { option_copied result ≡ find (is_confirmed_of owner.now) records.now }
-{
-    records.iter().find(|c| c.is_confirmed_of(owner))
-}
-
-fn take_unconfirmed(records: &mut Vec<Client>, owner: &Name) -> Option<u64>
-    ensures replaced { result ≡ option_map (λ c. c.id) (find (is_unconfirmed_of owner.now) records.old.items) }
-    ensures left { records.new.items ≡ option_map_or (remove records.old.items) (position (is_unconfirmed_of owner.now) records.old.items) records.old.items }
-    ensures fewer { vec_len records.new ≤ vec_len records.old }
-    ensures room { vec_capacity records.new ≡ vec_capacity records.old }
-{
-    let place = unconfirmed_place(records, owner)?;
-    let replaced = records.remove(place);
-    Some(replaced.id())
-}
-
-fn unconfirmed_place(records: &[Client], owner: &Name) -> Option<usize>
-    ensures { result ≡ position (is_unconfirmed_of owner.now) records.now }
-{
-    records.iter().position(|c| c.is_unconfirmed_of(owner))
-}
-
-fn unconfirmed_in(records: &[Client], owner: &Name) -> Option<u64>
-    ensures { result ≡ option_map (λ c. c.id) (find (is_unconfirmed_of owner.now) records.now) }
-{
-    let found = records.iter().find(|c| c.is_unconfirmed_of(owner))?;
-    Some(found.id())
 }

@@ -9,8 +9,8 @@ pub fn ids_are_given_once()
     ensures { IdsAreGivenOnce }
 {}
 
-/// Each table that the calls reach is in rising order of its ids and has at most 1,024 records,
-/// and each owner has at most one confirmed and one unconfirmed record.
+/// Each table that the calls reach is in rising order of its ids and has at most as many records as
+/// it was made for, and each owner has at most one confirmed and one unconfirmed record.
 pub fn tables_are_in_order()
     ensures { TablesAreInOrder }
 {}

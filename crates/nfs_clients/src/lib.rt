@@ -1,8 +1,8 @@
 //! Who a client is: the table that decides whose state is whose.
 //!
-//! Contracts see a `Clients` as a `Roster`: the client records in rising order of their ids, and
-//! the last id that was given. An owner has at most one confirmed and one unconfirmed record, the
-//! table has at most 1,024, and an id is never given twice.
+//! Contracts see a `Clients` as a `Roster`: the client records in rising order of their ids, the
+//! last id that was given, and how many records there may be. An owner has at most one confirmed and
+//! one unconfirmed record, and an id is never given twice.
 //!
 //! ```text
 //! let asked = clients.exchange(alloc, owner, verifier, flags, uid, has_open)?;   // EXCHANGE_ID
@@ -24,7 +24,9 @@ mod destroy;
 mod exchange_id;
 pub mod laws;
 mod marks;
-mod owner;
+mod owners;
+mod records;
+mod shown;
 #[cfg(test)]
 mod tests;
 
@@ -33,3 +35,4 @@ pub use create_session::CreateVerdict;
 pub use created::{CreateResult, Resok};
 pub use destroy::DestroyFault;
 pub use exchange_id::{CONFIRMED_R, ClientFault, Exchanged};
+pub use shown::Shown;

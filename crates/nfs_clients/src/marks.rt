@@ -13,13 +13,13 @@ impl Clients {
         ensures before { result ≡ has_reclaimed self.old client }
         ensures after { self.new ≡ (if has_reclaimed self.old client then self.old else with_reclaimed self.old client) }
     {
-        match self.place(client) {
+        match self.records.get(client) {
             None => false,
-            Some(place) => {
-                if self.records[place].is_reclaimed() {
+            Some(record) => {
+                if record.is_reclaimed() {
                     return true;
                 }
-                self.records[place].reclaim();
+                self.records.reclaim(client);
                 false
             }
         }

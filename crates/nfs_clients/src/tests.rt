@@ -23,10 +23,8 @@ fn stands(count: u32, number: u32) -> Result<Exchanged, ClientFault> {
 
 #[test]
 fn the_last_id_is_given_and_none_behind_it(rt: HostRuntime) -> Result<(), Fail> {
-    let mut clients = Clients {
-        records: Vec::new(rt.alloc()),
-        last: id(u32::MAX - 1),
-    };
+    let mut clients = Clients::new(rt.alloc(), 7, 1_024);
+    clients.last = id(u32::MAX - 1);
     for (owner, want) in [
         (b"A", Ok(id(u32::MAX))),
         (b"B", Err(ClientFault::ServerFault)),
@@ -61,7 +59,7 @@ fn verdict_of(clients: &Clients, client: u64, number: u32, uid: u32) -> Said {
 
 #[test]
 fn create_session_numbers(rt: HostRuntime) -> Result<(), Fail> {
-    let mut clients = Clients::new(rt.alloc(), 7);
+    let mut clients = Clients::new(rt.alloc(), 7, 1_024);
     clients.exchange(rt.alloc(), b"A", OLD, 0, 0, false)?;
     let cases = [
         (None, 2, 1, 0, Said::Stale),

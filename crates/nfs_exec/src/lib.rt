@@ -4,7 +4,7 @@
 //! machine, the request, its caller, the length of its record, the moment, and where memory was refused.
 //!
 //! ```text
-//! let mut world = World::new(alloc, Start { mode: 0o777, instance, lease: 90, limits: Limits::PROFILE, owner })?;
+//! let mut world = World::new(alloc, Start { mode: 0o777, instance, lease: 90, limits: Limits::PROFILE, profile: Profile::Exact, crowd: Crowd::USUAL, owner })?;
 //! world.expire(now);
 //! let mut compound = Compound::open(call.args)?;
 //! world.compound(alloc, &mut compound, &call.who, record.len(), now, &mut reply);
@@ -26,8 +26,10 @@ mod receipt;
 mod reclaim_complete;
 mod run;
 mod sequence;
+mod shown;
 mod tables;
 mod world;
 
 pub use held::Held;
+pub use shown::ClientShown;
 pub use world::World;

@@ -35,11 +35,25 @@ impl Tables {
         ensures store { IfOk result (λ t. IsStore (state_of t.store)) }
     {
         Ok(Tables {
-            clients: Clients::new(alloc, start.instance),
-            sessions: Sessions::new(alloc),
+            clients: Clients::new(alloc, start.instance, start.crowd.clients),
+            sessions: Sessions::new(alloc, start.crowd.sessions),
             leases: Leases::new(alloc)?,
             store: Store::new(alloc, &start, FIRST)?,
             owner: start.owner,
         })
+    }
+
+    /// Drops some of what waits to be dropped. Answers false where nothing does any more.
+    pub(crate) fn tidy(&mut self) -> bool
+        ensures { machine_of self.new ≡ machine_of self.old }
+    {
+        self.store.tidy()
+    }
+
+    /// Has so many pages at most for the bytes of files and the texts of links.
+    pub(crate) fn bound_pages(&mut self, pages: u64)
+        ensures { machine_of self.new ≡ machine_of self.old }
+    {
+        self.store.bound_pages(pages);
     }
 }

@@ -81,6 +81,13 @@ impl World {
         &self.tables.sessions
     }
 
+    /// The tables, to be looked at.
+    pub(crate) fn tables(&self) -> &Tables
+        ensures { result.now ≡ self.now }
+    {
+        &self.tables
+    }
+
     /// How much of each kind stands.
     pub fn held(&self) -> Held
         ensures { result ≡ held (machine_of self.now) }
@@ -117,5 +124,21 @@ impl World {
         ensures { machine_of self.new ≡ expired now (machine_of self.old) }
     {
         self.tables.expire(now);
+    }
+
+    /// Drops some of what cuts, removals and ends have left, so much at a time that a record stays short. Answers false where
+    /// nothing waits any more. Contracts do not see what waits.
+    pub fn tidy(&mut self) -> bool
+        ensures { machine_of self.new ≡ machine_of self.old }
+    {
+        self.tables.tidy()
+    }
+
+    /// Has so many pages at most, of 4,096 bytes each, for the bytes of files and the texts of links. What needs one more is refused, as if
+    /// there were no memory for it. Contracts see no more of it than of memory.
+    pub fn bound_pages(&mut self, pages: u64)
+        ensures { machine_of self.new ≡ machine_of self.old }
+    {
+        self.tables.bound_pages(pages);
     }
 }

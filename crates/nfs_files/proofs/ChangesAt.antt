@@ -6,7 +6,7 @@ use Rattle.nfs_xdr.specs.declared.time.Time.{Time}
 use Rattle.nfs_xdr.proofs.Lists.{find_in, find_past, find_push_some}
 use Rattle.nfs_tree.specs.{declared.sets.Sets.Sets, declared.stored.Stored.Stored, Object.{modified, no_sets}}
 use Rattle.nfs_tree.specs.Files.{Files, stored_in, is_there, change_of, change_at, with_changed, with_entries_changed, with_links_changed, number_named}
-use Rattle.nfs_tree.specs.{Create.{New, with_new, new_object}, Names.{with_link, without_name, Move, replaced_object, with_moved}, Bytes.with_bytes}
+use Rattle.nfs_tree.specs.{Create.{New, with_new, new_object}, Names.{with_link, without_name, Move, replaced_object, touched_object, with_moved}, Bytes.with_bytes}
 use Rattle.nfs_tree.proofs.Objects.{keeps_changed, stored_map}
 use Rattle.nfs_names.specs.State.{State, is_used, without_unused}
 
@@ -93,11 +93,13 @@ without_at t d name now change other at =
 -- both directories of a move, of which neither is what is replaced
 module _ (t : Files) (m : Move) (now : Time) (change : ℕ) where
   abbrev lost : List Stored
-  lost = with_links_changed (replaced_object t m) now t.objects
+  lost = with_links_changed (replaced_object t m) now (with_links_changed (touched_object t m) now t.objects)
 
-  pub source_at : replaced_object t m ≢ m.source → At m.source t.objects change → At m.source (with_moved t m now).objects (change + 1)
-  source_at other at =
-      let first = at_other m.source (replaced_object t m) now no_sets t.objects change other at in
+  pub source_at : replaced_object t m ≢ m.source → touched_object t m ≢ m.source → At m.source t.objects change
+      → At m.source (with_moved t m now).objects (change + 1)
+  source_at other apart at =
+      let first = at_other m.source (replaced_object t m) now no_sets (with_links_changed (touched_object t m) now t.objects) change other
+      (at_other m.source (touched_object t m) now no_sets t.objects change apart at) in
       let second = at_here m.source now (modified now no_sets) lost change first in
       elim (cases_eq m.source m.target) [
         | inl same ↦ rw (eq-eqb m.source m.target same) second
@@ -105,9 +107,11 @@ module _ (t : Files) (m : Move) (now : Time) (change : ℕ) where
             (at_other m.source m.target now (modified now no_sets) (with_entries_changed m.source now lost) (change + 1) (λ is. differ (sym is)) second)
       ]
 
-  pub target_at : replaced_object t m ≢ m.target → At m.target t.objects change → At m.target (with_moved t m now).objects (change + 1)
-  target_at other at =
-      let first = at_other m.target (replaced_object t m) now no_sets t.objects change other at in
+  pub target_at : replaced_object t m ≢ m.target → touched_object t m ≢ m.target → At m.target t.objects change
+      → At m.target (with_moved t m now).objects (change + 1)
+  target_at other apart at =
+      let first = at_other m.target (replaced_object t m) now no_sets (with_links_changed (touched_object t m) now t.objects) change other
+      (at_other m.target (touched_object t m) now no_sets t.objects change apart at) in
       elim (cases_eq m.source m.target) [
         | inl same ↦ rw (eq-eqb m.source m.target same) (subst (λ (k : ℕ). At m.target (with_entries_changed k now lost) (change + 1)) (sym same)
             (at_here m.target now (modified now no_sets) lost change first))

@@ -12,23 +12,23 @@ use Rattle.nfs_results.specs.{declared.res.ChangeInfo.ChangeInfo, declared.res.C
 use Rattle.nfs_results.specs.Results.{spell_result, status_of_result}
 use Rattle.nfs_results.specs.declared.res.Res.TheVariants as Res
 use Rattle.nfs_tree.specs.{declared.object.FileType.FileType, declared.object.FileType.TheVariants.{Regular, Directory, Link}, declared.stored.Stored.Stored}
-use Rattle.nfs_tree.specs.{declared.row.Row.Row, Object.{is_directory, is_regular, no_sets}}
+use Rattle.nfs_tree.specs.{declared.row.Row.Row, declared.sets.Sets.Sets, Object.{is_directory, is_regular}}
 use Rattle.nfs_tree.specs.Files.{Files, root, stored_in, is_there, is_directory_at, change_of, entry, has_name, has_entries, number_named, object_named, raised}
-use Rattle.nfs_tree.specs.Files.{unraised, with_changed}
-use Rattle.nfs_tree.specs.{Bytes.{has_bytes, written, resized, with_written, with_resized}, Calls.is_regular_at, Create.with_new}
+use Rattle.nfs_tree.specs.Files.{unraised}
+use Rattle.nfs_tree.specs.{Bytes.{has_bytes, written, resized, with_written, with_resized, with_sets}, Calls.is_regular_at, Create.with_new}
 use Rattle.nfs_tree.specs.Names.{Move, link_checks, rename_checks, moves, replaced_object, is_unlike, is_in_the_way, with_link, without_name, with_moved}
 use Rattle.nfs_tree.specs.TreeInvariants.{IsTree}
-use Rattle.nfs_tree.proofs.{Objects.stored_within, Trees.{remove_granted, has_one, apart}}
+use Rattle.nfs_tree.proofs.{Objects.stored_within, Trees.{remove_granted, has_one, apart}, Moved.{move_granted, touched_source, touched_target}}
 use Rattle.nfs_attrs.specs.{declared.wanted.Wanted.Wanted, Mask.{mask_of, trimmed_words}}
 use Rattle.nfs_opens.specs.Opening.{opens}
 use Rattle.nfs_names.specs.{declared.context.Context.Context, declared.context.Saved.Saved, declared.node.Node.Node, State.{with_tree, without_unused}}
-use Rattle.nfs_names.specs.{Checks.{node_at, current, both, saved_object}, Create.{attributes_in, change_info, given_sets, new_of, sets_of, create}, Link.link}
+use Rattle.nfs_names.specs.{Checks.{node_at, current, both, saved_object}, Create.{attributes_in, change_info, new_of, made_sets, create}, Link.link}
 use Rattle.nfs_names.specs.{Outcome.{Outcome, checked, is_ok}, Remove.remove, Rename.{move_of, rename, without_replaced}}
 use Rattle.nfs_names.specs.State as store
 use Rattle.nfs_names.proofs.{Found.{came, ok_is, checked_ok, current_is}, NameLaws.{current_refuses, by_create, by_link, by_remove, by_rename}, Ones.by_delay}
 use Rattle.nfs_names.proofs.Refusing.{refuses_checked}
 use Rattle.nfs_files.specs.{declared.opening.Found.Found, declared.opening.Found.TheVariants.{There, Absent}, Operation.grows, StateIds.wire_id, Parts.writable}
-use Rattle.nfs_files.specs.FileImage.{claimed, is_number, asks_empty}
+use Rattle.nfs_files.specs.{FileImage.{claimed, is_number, asks_empty}, Bytes.behind_sets}
 use Rattle.nfs_files.specs.OpenParts as open_parts
 use Rattle.nfs_files.specs.Open as of_open
 use Rattle.nfs_files.specs.SetAttrParts as set_parts
@@ -73,12 +73,12 @@ pub create_tells : (n : ℕ) (s : store.State) (x : Context) (now : Time) (a : C
 create_tells n s x now a at =
     by_create (Done (CreateTells n s.tree)) s x now a (λ f h ok. absurd (false≢true (sym h.done ∙ ok))) (λ d wanted there placed read row ok.
     (let new = new_of a.objtype in
-    let u : Files = with_new s.tree d.number a.objname new (sets_of x now new wanted) now in
+    let u : Files = with_new s.tree d.number a.objname new (made_sets s x now d new wanted) now in
     let changed = change_of s.tree d.number in (
       record { cinfo = change_info (raised s.tree d.number); attrset = trimmed_words (mask_of a.createattrs.attrmask) },
       refl,
       same_info d.number n s.tree u (change_info (raised s.tree d.number)) (some_same x.current d.number n (current_number s x d there) at)
-          (was_raised d.number s.tree u (new_at s.tree d.number a.objname new (sets_of x now new wanted) now changed (at_now s.tree d.number (current_is s x d there).there))),
+          (was_raised d.number s.tree u (new_at s.tree d.number a.objname new (made_sets s x now d new wanted) now changed (at_now s.tree d.number (current_is s x d there).there))),
       raises changed,
     )))
 
@@ -184,12 +184,13 @@ are_raised s m now tree from to row is =
     let clear : is_in_the_way t m ≡ false = sym (ap (λ (b : Bool). b && is_in_the_way t m) is) ∙ checks.1.1.1.1.1.0 in
     let not_source = not_replaced t m m.source tree from (λ taken. has_one t m.source m.old old) clear in
     let not_target = not_replaced t m m.target tree to (λ taken. has_one t m.target m.name taken) clear in
+    let granted = move_granted t m row is in
     let moved : store.State = with_tree s (with_moved t m now) in
     record {
       source = was_raised m.source t (behind s m now) (replaced_at m.source moved (object_named t m.target m.name) (change_of t m.source + 1) not_source
-          (source_at t m now (change_of t m.source) not_source (at_now t m.source from)));
+          (source_at t m now (change_of t m.source) not_source (touched_source t m tree granted) (at_now t m.source from)));
       target = was_raised m.target t (behind s m now) (replaced_at m.target moved (object_named t m.target m.name) (change_of t m.target + 1) not_target
-          (target_at t m now (change_of t m.target) not_target (at_now t m.target to)));
+          (target_at t m now (change_of t m.target) not_target (touched_target t m tree granted) (at_now t m.target to)));
     }
 
 pub rename_tells : (from : Saved) (n : ℕ) (s : store.State) (x : Context) (now : Time) (a : Rename) → IsTree s.tree → x.saved ≡ Some from → x.current ≡ Some n
@@ -241,25 +242,25 @@ objects_apart (Some s) regular directory = kinds_apart s.object.kind regular dir
 apart_from : (t : Files) (m n : ℕ) → is_regular_at t m ≡ true → is_directory_at t n ≡ true → m ≢ n
 apart_from t m n regular directory same = objects_apart (stored_in t.objects n) (subst (λ (k : ℕ). is_regular_at t k ≡ true) same regular) directory
 
-cut_info : (t : Files) (place g : ℕ) (now : Time) (cut : Bool) → is_there t place ≡ true → (cut ≡ true → g ≢ place)
-    → Theirs place t (if cut then with_resized t g 0 no_sets now else t) (change_info (unraised t place))
-cut_info t place g now false there other = stayed place t
-cut_info t place g now true there other = record {
+cut_info : (t : Files) (place g : ℕ) (sets : Sets) (now : Time) (cut : Bool) → is_there t place ≡ true → (cut ≡ true → g ≢ place)
+    → Theirs place t (if cut then with_resized t g 0 sets now else t) (change_info (unraised t place))
+cut_info t place g sets now false there other = stayed place t
+cut_info t place g sets now true there other = record {
   atomic = refl;
   before = refl;
-  after = sym (change_is (with_resized t g 0 no_sets now) place (change_of t place)
-      (bytes_other place g now no_sets (λ s. resized s.bytes 0) t.objects (change_of t place) (other refl) (at_now t place there)));
+  after = sym (change_is (with_resized t g 0 sets now) place (change_of t place)
+      (bytes_other place g now sets (λ s. resized s.bytes 0) t.objects (change_of t place) (other refl) (at_now t place there)));
 }
 
 opened_info : (s : store.State) (x : Context) (now : Time) (a : Open) (f : Found) (n : ℕ) → open_parts.asked_for s x a ≡ Ok f → Is s x a f → x.current ≡ Some n
     → Theirs n s.tree (of_open.tree_of s.tree x now a f) (of_open.info_of s.tree f)
 opened_info s x now a (There place g cut) n e is at =
     same_info place n s.tree (of_open.tree_of s.tree x now a (There place g cut)) (change_info (unraised s.tree place)) (some_same x.current place n is.place at)
-    (cut_info s.tree place g.number now cut is.there (λ cuts. apart_from s.tree g.number place (asked_regular s x a place g cut e) (is.directory cuts)))
+    (cut_info s.tree place g.number (behind_sets s.tree x g) now cut is.there (λ cuts. apart_from s.tree g.number place (asked_regular s x a place g cut e) (is.directory cuts)))
 opened_info s x now a (Absent m) n e is at =
     let d = m.place.number in
     let new = of_open.new_of a m.wanted in
-    let sets = of_open.sets_of x now a m.wanted in
+    let sets = of_open.made_sets s.tree x now a m in
     let u : Files = with_new s.tree d (of_open.name_of a.claim) new sets now in
     same_info d n s.tree u (change_info (raised s.tree d)) (some_same x.current d n is.place at)
     (was_raised d s.tree u (new_at s.tree d (of_open.name_of a.claim) new sets now (change_of s.tree d) (at_now s.tree d is.there)))
@@ -271,7 +272,7 @@ open_tells n refused s x now a at =
     (rw (in_steps.open_is s x now a) (by_granted (Done (OpenTells n s.tree)) s x Num.Open (checked (open_parts.asked_for s x a) (of_open.last_checks s x a)) (of_open.opened s x now a)
     (open_refuses s x a) (λ status refuses ok. absurd (false≢true (sym refuses.done ∙ ok)))
     (λ f granted ok. (let e = (checked_ok (open_parts.asked_for s x a) (of_open.last_checks s x a) f granted).0 in (
-      record { stateid = wire_id (opens s.opens (of_open.asking x a (of_open.file_of s.tree f))).id; cinfo = of_open.info_of s.tree f; attrset = of_open.set_of a f },
+      record { stateid = wire_id (opens s.opens (of_open.asking x a (of_open.file_of s.tree f))).id; cinfo = of_open.info_of s.tree f; rflags = of_open.result_flags s.tree.profile; attrset = of_open.set_of a f },
       refl,
       opened_info s x now a f n e (open_is s x a f e) at,
     )))))
@@ -285,11 +286,11 @@ goes_up : (n : ℕ) (t u : Files) → At n u.objects (change_of t n + 1) → Rai
 goes_up n t u at = subst (λ (k : ℕ). change_of t n < k) (sym (change_is u n (change_of t n + 1) at)) (raises (change_of t n))
 
 -- WRITE
-written_raises : (n : ℕ) (s : store.State) (now : Time) (w : Write) (d : Node) → d.number ≡ n → is_there s.tree n ≡ true → has_bytes w.bytes ≡ true
-    → Raises n s.tree (of_write.with_bytes s.tree w d now)
-written_raises n s now w d same there some =
-    rw (some, same) (goes_up n s.tree (with_written s.tree n w.offset w.bytes now)
-    (bytes_here n now no_sets (λ s. written s.bytes w.offset w.bytes) s.tree.objects (change_of s.tree n) (at_now s.tree n there)))
+written_raises : (n : ℕ) (s : store.State) (x : Context) (now : Time) (w : Write) (d : Node) → d.number ≡ n → is_there s.tree n ≡ true → has_bytes w.bytes ≡ true
+    → Raises n s.tree (of_write.with_bytes s.tree x w d now)
+written_raises n s x now w d same there some =
+    rw (some, same) (goes_up n s.tree (with_written s.tree n w.offset w.bytes (behind_sets s.tree x d) now)
+    (bytes_here n now (behind_sets s.tree x d) (λ s. written s.bytes w.offset w.bytes) s.tree.objects (change_of s.tree n) (at_now s.tree n there)))
 
 pub write_raises : (n : ℕ) (refused : Bool) (s : store.State) (x : Context) (now : Time) (w : Write) → x.current ≡ Some n → is_there s.tree n ≡ true → has_bytes w.bytes ≡ true
     → Done (λ o. Raises n s.tree o.state.tree) (one_or_delay refused s x now (Op.Write w))
@@ -299,19 +300,19 @@ write_raises n refused s x now w at there some =
     (refuses_checked (writable s x w.stateid (current s x)) (of_write.last_checks s w) (writable_refuses s x w.stateid (current s x) (current_refuses s x)) (λ d. refl))
     (λ status refuses ok. absurd (false≢true (sym refuses.done ∙ ok)))
     (λ d granted ok. (let here = writable_at s x w.stateid d (checked_ok (writable s x w.stateid (current s x)) (of_write.last_checks s w) d granted).0 in
-    written_raises n s now w d (some_same x.current d.number n (current_number s x d here) at) there some))))
+    written_raises n s x now w d (some_same x.current d.number n (current_number s x d here) at) there some))))
 
 -- SETATTR
-set_raises : (n : ℕ) (t : Files) (now : Time) (wanted : Wanted) (size : Option ℕ) → is_there t n ≡ true → of_set.gives_some wanted ≡ true
-    → Raises n t (of_set.with_set t n now wanted size)
-set_raises n t now wanted (Some size) there some =
-    goes_up n t (with_resized t n size (given_sets now wanted) now)
-    (bytes_here n now (given_sets now wanted) (λ s. resized s.bytes size) t.objects (change_of t n) (at_now t n there))
-set_raises n t now wanted None there some =
-    rw some (goes_up n t (record t { objects = with_changed n now (given_sets now wanted) t.objects })
-    (at_here n now (given_sets now wanted) t.objects (change_of t n) (at_now t n there)))
+set_raises : (t : Files) (x : Context) (d : Node) (now : Time) (wanted : Wanted) (size : Option ℕ) → is_there t d.number ≡ true → of_set.gives_some wanted ≡ true
+    → Raises d.number t (of_set.with_set t x d now wanted size)
+set_raises t x d now wanted (Some size) there some =
+    goes_up d.number t (with_resized t d.number size (of_set.settled_sets t x d now wanted) now)
+    (bytes_here d.number now (of_set.settled_sets t x d now wanted) (λ s. resized s.bytes size) t.objects (change_of t d.number) (at_now t d.number there))
+set_raises t x d now wanted None there some =
+    rw some (goes_up d.number t (with_sets t d.number (of_set.settled_sets t x d now wanted) now)
+    (at_here d.number now (of_set.settled_sets t x d now wanted) t.objects (change_of t d.number) (at_now t d.number there)))
 
-ok_same : (v : Result Wanted Status) (a b : Wanted) → v ≡ Ok a → v ≡ Ok b → a ≡ b
+pub ok_same : (v : Result Wanted Status) (a b : Wanted) → v ≡ Ok a → v ≡ Ok b → a ≡ b
 ok_same v a b e f = (let same : Ok a ≡ Ok b = sym e ∙ f in cc)
 
 pub set_attr_raises : (n : ℕ) (s : store.State) (x : Context) (now : Time) (a : SetAttr) (wanted : Wanted) → x.current ≡ Some n → is_there s.tree n ≡ true
@@ -324,8 +325,8 @@ set_attr_raises n s x now a wanted at there reads some =
     (λ m granted ok. (let is = setting_is s x a m (checked_ok (set_parts.asked_for s x a) (set_parts.last_checks s) m granted).0 in
     let same : m.node.number ≡ n = some_same x.current m.node.number n is.at at in
     let wants : wanted ≡ m.wanted = ok_same (attributes_in a.obj_attributes) wanted m.wanted reads is.reads in
-    subst (λ (k : ℕ). Raises n s.tree (of_set.with_set s.tree k now m.wanted m.wanted.size)) (sym same)
-    (set_raises n s.tree now m.wanted m.wanted.size there (subst (λ (w : Wanted). of_set.gives_some w ≡ true) wants some)))))
+    subst (λ (k : ℕ). Raises k s.tree (of_set.with_set s.tree x m.node now m.wanted m.wanted.size)) same
+    (set_raises s.tree x m.node now m.wanted m.wanted.size (ap (is_there s.tree) same ∙ there) (subst (λ (w : Wanted). of_set.gives_some w ≡ true) wants some)))))
 
 -- OPEN
 opened_raises : (n : ℕ) (s : store.State) (x : Context) (now : Time) (a : Open) (f : Found) → Is s x a f → is_there s.tree n ≡ true
@@ -333,8 +334,8 @@ opened_raises : (n : ℕ) (s : store.State) (x : Context) (now : Time) (a : Open
 opened_raises n s x now a (There place g cut) is there empties =
     let both = and_parts cut (g.number == n) (sym (is.empties n) ∙ empties) in
     let same : g.number ≡ n = eqb-true g.number n both.1 in
-    rw (both.0, same) (goes_up n s.tree (with_resized s.tree n 0 no_sets now)
-    (bytes_here n now no_sets (λ s. resized s.bytes 0) s.tree.objects (change_of s.tree n) (at_now s.tree n there)))
+    rw (both.0, same) (goes_up n s.tree (with_resized s.tree n 0 (behind_sets s.tree x g) now)
+    (bytes_here n now (behind_sets s.tree x g) (λ s. resized s.bytes 0) s.tree.objects (change_of s.tree n) (at_now s.tree n there)))
 opened_raises n s x now a (Absent m) is there empties =
     absurd (false≢true (sym (ap (λ (k : Option ℕ). is_number n k && asks_empty a) is.none) ∙ empties))
 

@@ -10,17 +10,17 @@ use Rattle.nfs_compound.specs.{declared.file_args.Write.Write, declared.file_arg
 use Rattle.nfs_compound.specs.{declared.op.Item.Item, declared.op.Item.TheVariants.{Operation, Fault}}
 use Rattle.nfs_compound.specs.declared.op_num.OpNum.TheVariants as Num
 use Rattle.nfs_results.specs.{declared.res.Res.Res, Results.status_of_result}
-use Rattle.nfs_tree.specs.{Object.no_sets, Bytes.has_bytes, Calls.write_fault}
+use Rattle.nfs_tree.specs.{Bytes.has_bytes, Calls.write_fault}
 use Rattle.nfs_ranges.specs.declared.Held.{Held}
 use Rattle.nfs_opens.specs.{declared.stateid.StateId.StateId, declared.records.OpenState.OpenState, declared.records.LockState.LockState, StateId.last_number}
 use Rattle.nfs_opens.specs.{Table.{Table, open_at, lock_at}, TableInvariants.IsTable}
 use Rattle.nfs_opens.specs.Locking as locking
 use Rattle.nfs_opens.proofs.CallLaws.{IsLocked}
 use Rattle.nfs_names.specs.{declared.context.Context.Context, declared.node.Node.Node, State.{State, with_tree}, Ending.with_opens, Faults.tree_fault_status}
-use Rattle.nfs_names.specs.{Outcome.{Outcome, checked, done, is_ok}, Checks.current, Create.given_sets}
+use Rattle.nfs_names.specs.{Outcome.{Outcome, checked, done, is_ok}, Checks.current}
 use Rattle.nfs_names.proofs.{Found.checked_ok, Ones.by_delay, Effects.Makes, Rows.none_mapped}
 use Rattle.nfs_files.specs.{declared.opening.Found.Found, declared.opening.Found.TheVariants.{There, Absent}, declared.ranges.Wished.Wished}
-use Rattle.nfs_files.specs.{declared.setting.Setting.Setting, Bytes.file_checks, Operation.grows, Close.close, Parts.{readable, writable}}
+use Rattle.nfs_files.specs.{declared.setting.Setting.Setting, Bytes.{file_checks, behind_sets}, Operation.grows, Close.close, Parts.{readable, writable}}
 use Rattle.nfs_files.specs.{Commit.write_verifier, FreeStateid.free_stateid, LockU.lock_u, OpenParts.tree_fault}
 use Rattle.nfs_files.specs.{OpenDowngrade.{bits, open_downgrade}, Read.was_read, TestStateid.test_stateid}
 use Rattle.nfs_files.specs.Parts as parts
@@ -154,9 +154,9 @@ module _ (s : State) (x : Context) where
       let opens : OpensAs s x (Op.Open a) (of_open.opened s x now a (There place f true)).result (There place f true) =
       record { asked = a; is = refl; found = is; ok = _; sets = refl; answers = refl } in
       record {
-        effects = Resizes f.number 0 no_sets now ∷ Opens (of_open.asking x a f.number) ∷ [];
+        effects = Resizes f.number 0 (behind_sets s.tree x f) now ∷ Opens (of_open.asking x a f.number) ∷ [];
         caused = (
-          record { fits = λ table. none; cause = inr (record { place = place; file = f; opens = opens; number = refl; empty = refl }); ok = refl },
+          record { fits = λ table. none; cause = inr (record { place = place; file = f; opens = opens; number = refl; empty = refl; set = refl }); ok = refl },
           (record { fits = fits; cause = (There place f true, opens); ok = refl }, tt),
         );
         state = refl;
@@ -169,7 +169,7 @@ module _ (s : State) (x : Context) where
       let opens : OpensAs s x (Op.Open a) (of_open.opened s x now a (Absent m)).result (Absent m) =
       record { asked = a; is = refl; found = is; ok = _; sets = refl; answers = refl } in
       record {
-        effects = Names (Makes m.place.number (of_open.name_of a.claim) (of_open.new_of a m.wanted) (of_open.sets_of x now a m.wanted) now)
+        effects = Names (Makes m.place.number (of_open.name_of a.claim) (of_open.new_of a m.wanted) (of_open.made_sets s.tree x now a m) now)
             ∷ Opens (of_open.asking x a (s.tree.last_object + 1)) ∷ [];
         caused = (
           record { fits = λ table. none; cause = (Absent m, opens); ok = refl },
@@ -192,7 +192,7 @@ module _ (s : State) (x : Context) where
   written_did : (now : Time) (w : Write) (d : Node) → writable s x w.stateid (current s x) ≡ Ok d → first_fault (of_write.last_checks s w d) ≡ None
       → write_fault s.tree d.number w.offset w.bytes ≡ None → Did s x (Op.Write w) (parts.was_written s x now w d)
   written_did now w d found checks none = elim (cases_Bool (has_bytes w.bytes)) [
-    | inl some ↦ had (Op.Write w) (parts.was_written s x now w d) (Writes d.number w.offset w.bytes now) (λ table. (none, some)) (record {
+    | inl some ↦ had (Op.Write w) (parts.was_written s x now w d) (Writes d.number w.offset w.bytes (behind_sets s.tree x d) now) (λ table. (none, some)) (record {
       asked = w;
       is = refl;
       from = refl;
@@ -202,6 +202,7 @@ module _ (s : State) (x : Context) where
       checked = checks;
       some = some;
       number = refl;
+      set = refl;
       answers = refl;
     }) refl (rw some refl) refl
     | inr empty ↦ record { effects = []; caused = tt; state = rw empty refl; client = refl }
@@ -218,11 +219,11 @@ module _ (s : State) (x : Context) where
   -- SETATTR
   set_did : (now : Time) (a : SetAttr) (m : Setting) (size : Option ℕ) → m.wanted.size ≡ size → set_parts.asked_for s x a ≡ Ok m
       → set_parts.tree_fault s.tree m.node.number m.wanted size ≡ None
-      → Did s x (Op.SetAttr a) (record (set_parts.was_set s x now a m) { state = with_tree s (of_set.with_set s.tree m.node.number now m.wanted size) })
-  set_did now a m (Some size) is found none = had (Op.SetAttr a) _ (Resizes m.node.number size (given_sets now m.wanted) now) (λ table. none)
+      → Did s x (Op.SetAttr a) (record (set_parts.was_set s x now a m) { state = with_tree s (of_set.with_set s.tree x m.node now m.wanted size) })
+  set_did now a m (Some size) is found none = had (Op.SetAttr a) _ (Resizes m.node.number size (of_set.settled_sets s.tree x m.node now m.wanted) now) (λ table. none)
       (inl (record { asked = a; is = refl; setting = m; found = found; number = refl; sets = is; words = _; answers = refl })) refl refl refl
   set_did now a m None is found none = elim (cases_Bool (of_set.gives_some m.wanted)) [
-    | inl some ↦ had (Op.SetAttr a) _ (Changes m.node.number (given_sets now m.wanted) now) (λ table. tt)
+    | inl some ↦ had (Op.SetAttr a) _ (Changes m.node.number (of_set.settled_sets s.tree x m.node now m.wanted) now) (λ table. tt)
         (record { asked = a; is = refl; setting = m; found = found; number = refl; sets = is; words = _; answers = refl }) refl (rw some refl) refl
     | inr empty ↦ record { effects = []; caused = tt; state = rw empty refl; client = refl }
   ]

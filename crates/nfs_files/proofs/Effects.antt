@@ -6,7 +6,7 @@ use Rattle.nfs_xdr.specs.{Checks.first_fault, Tables.In, declared.time.Time.Time
 use Rattle.nfs_compound.specs.{declared.file_args.SetAttr.SetAttr, declared.file_args.Write.Write, declared.op.Op.Op, declared.open_args.Open.Open}
 use Rattle.nfs_compound.specs.declared.open_args.OpenDowngrade.{OpenDowngrade}
 use Rattle.nfs_results.specs.{declared.res.OpenOk.OpenOk, declared.res.Res.Res, Results.status_of_result}
-use Rattle.nfs_tree.specs.{declared.sets.Sets.Sets, Files.with_changed, Bytes.{has_bytes, with_written, with_resized}}
+use Rattle.nfs_tree.specs.{declared.sets.Sets.Sets, Bytes.{has_bytes, with_written, with_resized, with_sets}}
 use Rattle.nfs_tree.specs.{Calls.{is_regular_at, write_fault, resize_fault}, TreeInvariants.IsTree}
 use Rattle.nfs_ranges.specs.Holders.{holding, cleared, holds_any}
 use Rattle.nfs_opens.specs.{declared.share.Share.Share, declared.records.LockState.LockState, declared.records.OpenState.OpenState, declared.locking.Wish.Wish}
@@ -16,7 +16,7 @@ use Rattle.nfs_names.specs.{declared.context.Context.Context, declared.node.Node
 use Rattle.nfs_names.specs.State.{State, with_tree, without_unused}
 use Rattle.nfs_names.proofs.Effects as names
 use Rattle.nfs_names.proofs.Untouched.{unused_opens, opens_kept}
-use Rattle.nfs_files.specs.{declared.opening.Found.Found, declared.opening.Found.TheVariants.There, declared.setting.Setting.Setting, Parts.writable}
+use Rattle.nfs_files.specs.{declared.opening.Found.Found, declared.opening.Found.TheVariants.There, declared.setting.Setting.Setting, Parts.writable, Bytes.behind_sets}
 use Rattle.nfs_files.specs.OpenParts as open_parts
 use Rattle.nfs_files.specs.Open as of_open
 use Rattle.nfs_files.specs.SetAttrParts as set_parts
@@ -28,7 +28,7 @@ use Rattle.nfs_files.proofs.{OthersTables.{OpensAreOf, LocksAreOf}, Wishes.IsRan
 -- nothing else uses. A lock state holds more bytes, comes with its first ones, holds fewer, or goes.
 pub data Effect : Type 0 where
   Names : names.Effect → Effect
-  Writes : ℕ → ℕ → List ℕ → Time → Effect
+  Writes : ℕ → ℕ → List ℕ → Sets → Time → Effect
   Resizes : ℕ → ℕ → Sets → Time → Effect
   Changes : ℕ → Sets → Time → Effect
   Opens : Asked → Effect
@@ -55,9 +55,9 @@ table_behind t e = t
 
 abbrev pub behind : State → Effect → State
 behind s (Names e) = names.behind s e
-behind s (Writes n offset text now) = with_tree s (with_written s.tree n offset text now)
+behind s (Writes n offset text sets now) = with_tree s (with_written s.tree n offset text sets now)
 behind s (Resizes n size sets now) = with_tree s (with_resized s.tree n size sets now)
-behind s (Changes n sets now) = with_tree s (record s.tree { objects = with_changed n now sets s.tree.objects })
+behind s (Changes n sets now) = with_tree s (with_sets s.tree n sets now)
 behind s (Closes n file) = without_unused (with_opens s (without_open s.opens n)) file
 behind s e = with_opens s (table_behind s.opens e)
 
@@ -126,7 +126,7 @@ pub record IsFreeing (t : Table) (client n : ℕ) : Type 0 where
 -- The tree refuses nothing of it; and the opens and lock states are the client's.
 abbrev pub Fits : State → ℕ → Effect → Type 0
 Fits s client (Names e) = names.Fits s e
-Fits s client (Writes n offset text now) = (write_fault s.tree n offset text ≡ None) × (has_bytes text ≡ true)
+Fits s client (Writes n offset text sets now) = (write_fault s.tree n offset text ≡ None) × (has_bytes text ≡ true)
 Fits s client (Resizes n size sets now) = resize_fault s.tree n size ≡ None
 Fits s client (Changes n sets now) = Unit {0}
 Fits s client (Opens a) = IsOpening s client a
@@ -139,8 +139,8 @@ Fits s client (Frees n) = IsFreeing s.opens client n
 
 -- What caused it, by the operation and its result.
 
--- a WRITE of these bytes to the file of the current filehandle
-pub record WritesTo (s : State) (x : Context) (op : Op) (r : Res) (n offset : ℕ) (text : List ℕ) : Type 0 where
+-- a WRITE of these bytes to the file of the current filehandle, with what it sets beside them
+pub record WritesTo (s : State) (x : Context) (op : Op) (r : Res) (n offset : ℕ) (text : List ℕ) (sets : Sets) : Type 0 where
   pub asked : Write
   pub is : op ≡ Op.Write asked
   pub from : asked.offset ≡ offset
@@ -150,6 +150,7 @@ pub record WritesTo (s : State) (x : Context) (op : Op) (r : Res) (n offset : �
   pub checked : first_fault (of_write.last_checks s asked file) ≡ None
   pub some : has_bytes asked.bytes ≡ true
   pub number : file.number ≡ n
+  pub set : behind_sets s.tree x file ≡ sets
   pub answers : r ≡ Res.Write (of_write.write_ok s asked)
 
 -- a SETATTR of the object of the current filehandle, with a size or none
@@ -173,17 +174,18 @@ pub record OpensAs (s : State) (x : Context) (op : Op) (r : Res) (f : Found) : T
   pub answers : r ≡ Res.Open ok
 
 -- an OPEN with size 0 of a file that was there
-pub record OpensEmpty (s : State) (x : Context) (op : Op) (r : Res) (n size : ℕ) : Type 0 where
+pub record OpensEmpty (s : State) (x : Context) (op : Op) (r : Res) (n size : ℕ) (sets : Sets) : Type 0 where
   pub place : ℕ
   pub file : Node
   pub opens : OpensAs s x op r (There place file true)
   pub number : file.number ≡ n
   pub empty : size ≡ 0
+  pub set : behind_sets s.tree x file ≡ sets
 
 abbrev pub Cause : State → Context → Op → Res → Effect → Type 0
 Cause s x op r (Names e) = (f : Found) × OpensAs s x op r f
-Cause s x op r (Writes n offset text now) = WritesTo s x op r n offset text
-Cause s x op r (Resizes n size sets now) = SetsOf s x op r n (Some size) ⊎ OpensEmpty s x op r n size
+Cause s x op r (Writes n offset text sets now) = WritesTo s x op r n offset text sets
+Cause s x op r (Resizes n size sets now) = SetsOf s x op r n (Some size) ⊎ OpensEmpty s x op r n size sets
 Cause s x op r (Changes n sets now) = SetsOf s x op r n None
 Cause s x op r (Opens a) = (f : Found) × OpensAs s x op r f
 Cause s x op r (Narrows n access deny) = (asked : OpenDowngrade) × (op ≡ Op.OpenDowngrade asked)

@@ -9,8 +9,8 @@ use Rattle.nfs_xdr.proofs.Lists.{find_in, find_past, find_out, find_push_other}
 use Rattle.nfs_results.specs.Largest.{given}
 use Rattle.nfs_tree.specs.{declared.sets.Sets.Sets, declared.stored.Stored.Stored, Object.{changed, modified, no_sets}}
 use Rattle.nfs_tree.specs.Files.{Files, stored_in, change_at, with_changed, with_entries_changed, with_links_changed, number_named, object_named}
-use Rattle.nfs_tree.specs.{Create.{New, with_new, new_object}, Names.{with_link, without_name, Move, replaced_object, with_both_changed, with_moved}}
-use Rattle.nfs_tree.specs.Bytes.{written_byte, written, resized, with_bytes, with_written, with_resized}
+use Rattle.nfs_tree.specs.{Create.{New, with_new, new_object}, Names.{with_link, without_name, Move, replaced_object, touched_object, with_both_changed, with_moved}}
+use Rattle.nfs_tree.specs.Bytes.{written_byte, written, resized, with_bytes, with_written, with_resized, with_sets}
 use Rattle.nfs_tree.proofs.Objects.{keeps_changed, stored_map}
 use Rattle.nfs_names.specs.State as store
 use Rattle.nfs_names.specs.{State.{with_tree, is_used, without_unused}, Ending.{with_opens, table_staying, staying}, Rename.without_replaced}
@@ -35,18 +35,18 @@ pub written_is : (img : Image) (old : List ℕ) (offset : ℕ) (text : List ℕ)
 written_is img old offset text is =
     let n = max (length old) (offset + length text) in
     record {
-      long = length-map-range_with_len (written_byte old offset text) 0 n ∙ ap (λ k. max k (offset + length text)) is.long;
+      long = length-map-range_with_len (written_byte (λ p. get_or old p 0) offset text) 0 n ∙ ap (λ k. max k (offset + length text)) is.long;
       each = λ p. elim (cases_Bool (ltb p n)) [
-        | inl below ↦ made_at (written_byte old offset text) n p (ltb-true p n below) ∙ same p
+        | inl below ↦ made_at (written_byte (λ p. get_or old p 0) offset text) n p (ltb-true p n below) ∙ same p
         | inr past ↦
             (let le : n ≤ p = ltb-false p n past in
             let behind : offset + length text ≤ p = grind arith in
             let out : length old ≤ p = grind arith in
-            made_past (written_byte old offset text) n p le ∙ (sym (get_or_past old p 0 out) ∙ beside p behind))
+            made_past (written_byte (λ p. get_or old p 0) offset text) n p le ∙ (sym (get_or_past old p 0 out) ∙ beside p behind))
       ];
     }
   where
-    same : (p : ℕ) → written_byte old offset text p ≡ byte_over img offset text p
+    same : (p : ℕ) → written_byte (λ p. get_or old p 0) offset text p ≡ byte_over img offset text p
     same p = elim (not (nat_lt p offset) && nat_lt p (offset + length text))
         as (λ v. (if v then get_or text (p - offset) 0 else get_or old p 0) ≡ (if v then get_or text (p - offset) 0 else img.byte p)) [ true ↦ refl | false ↦ is.each p ]
 
@@ -163,21 +163,22 @@ has_without n img t d name now is = record { given = is.given; holds = at_both n
 has_moved : (n : ℕ) (img : Image) (t : Files) (m : Move) (now : Time) → Has n img t → Has n img (with_moved t m now)
 has_moved n img t m now is = record {
   given = is.given;
-  holds = at_two n img m.source m.target now (with_links_changed (replaced_object t m) now t.objects)
-      (at_changed n img (replaced_object t m) now no_sets t.objects is.holds);
+  holds = at_two n img m.source m.target now (with_links_changed (replaced_object t m) now (with_links_changed (touched_object t m) now t.objects))
+      (at_changed n img (replaced_object t m) now no_sets (with_links_changed (touched_object t m) now t.objects)
+      (at_changed n img (touched_object t m) now no_sets t.objects is.holds));
 }
 
 has_rest : (n : ℕ) (img : Image) (t : Files) (p : ℕ → Bool) → Has n img t → Has n img (record t { objects = filter (λ (s : Stored). p s.number) t.objects })
 has_rest n img t p is = record { given = is.given; holds = at_rest n img p t.objects is.holds }
 
-pub has_changed : (n : ℕ) (img : Image) (t : Files) (m : ℕ) (sets : Sets) (now : Time) → Has n img t → Has n img (record t { objects = with_changed m now sets t.objects })
+pub has_changed : (n : ℕ) (img : Image) (t : Files) (m : ℕ) (sets : Sets) (now : Time) → Has n img t → Has n img (with_sets t m sets now)
 has_changed n img t m sets now is = record { given = is.given; holds = at_changed n img m now sets t.objects is.holds }
 
-pub has_written : (n : ℕ) (img : Image) (t : Files) (m offset : ℕ) (text : List ℕ) (now : Time) → Has n img t
-    → Has n (if m == n then record { size = max img.size (offset + length text); byte = byte_over img offset text } else img) (with_written t m offset text now)
-has_written n img t m offset text now is = record {
+pub has_written : (n : ℕ) (img : Image) (t : Files) (m offset : ℕ) (text : List ℕ) (sets : Sets) (now : Time) → Has n img t
+    → Has n (if m == n then record { size = max img.size (offset + length text); byte = byte_over img offset text } else img) (with_written t m offset text sets now)
+has_written n img t m offset text sets now is = record {
   given = is.given;
-  holds = at_bytes n img (if m == n then record { size = max img.size (offset + length text); byte = byte_over img offset text } else img) m now no_sets
+  holds = at_bytes n img (if m == n then record { size = max img.size (offset + length text); byte = byte_over img offset text } else img) m now sets
       (λ b. written b offset text) t.objects
       (λ same b of_b. rw (eq-eqb m n same) (written_is img b offset text of_b)) (λ differ b of_b. rw (ne_eqb m n differ) of_b) is.holds;
 }

@@ -23,9 +23,9 @@ use Rattle.nfs_attrs.specs.declared.wanted.Wanted.{Wanted}
 use Rattle.nfs_opens.specs.Closing as closing
 use Rattle.nfs_opens.specs.Locking as locking
 use Rattle.nfs_names.specs.{declared.context.Context.Context, declared.node.Node.Node, declared.making.Making.Making, State.State, Ending.with_opens}
-use Rattle.nfs_names.specs.{Outcome.{Outcome, answers, checked, refuses, is_ok}, Checks.{node_as, node_at, current}, Create.{attributes_in, given_sets}}
+use Rattle.nfs_names.specs.{Outcome.{Outcome, answers, checked, refuses, is_ok}, Checks.{node_as, node_at, current}, Create.attributes_in}
 use Rattle.nfs_names.specs.Operation as names
-use Rattle.nfs_names.proofs.{Found.{came, ok_is, checked_ok, current_is}, NameLaws.current_refuses, Ones.{by_delay, each_of}}
+use Rattle.nfs_names.proofs.{Found.{IsHeld, came, ok_is, checked_ok, current_is}, NameLaws.current_refuses, Ones.{by_delay, each_of}}
 use Rattle.nfs_names.proofs.{Refusing.{IsRefusal, Refuses, refuses_checked}, Effected.kept_item}
 use Rattle.nfs_names.proofs.Effects as names_effects
 use Rattle.nfs_names.proofs.Faulted.{status_of_refusal}
@@ -33,7 +33,7 @@ use Rattle.nfs_files.specs.{declared.opening.Found.Found, declared.opening.Found
 use Rattle.nfs_files.specs.{Operation.grows, Close.close, FreeStateid.free_stateid, LockU.lock_u}
 use Rattle.nfs_files.specs.{Open.{makes, access_of, there_checks, cuts}, OpenDowngrade.open_downgrade}
 use Rattle.nfs_files.specs.OpenParts.{place_checks, absent_checks, by_handle}
-use Rattle.nfs_files.specs.TestStateid.{test_stateid}
+use Rattle.nfs_files.specs.{TestStateid.test_stateid, Bytes.behind_sets}
 use Rattle.nfs_files.specs.FileImage.{Image, unwritten, written_over, cut_to, size_in, new_size, old_size, asks_empty, claimed, is_number, left_of}
 use Rattle.nfs_files.specs.Parts as parts
 use Rattle.nfs_files.specs.Lock as of_lock
@@ -78,11 +78,11 @@ refused_left n img s x i op status fails is =
 
 -- WRITE
 written_left : (n : ℕ) (img : Image) (s : State) (x : Context) (now : Time) (w : Write) (d : Node) → current s x ≡ Ok d → Has n img s.tree
-    → Has n (if is_number n x.current then written_over img w.offset w.bytes else img) (of_write.with_bytes s.tree w d now)
+    → Has n (if is_number n x.current then written_over img w.offset w.bytes else img) (of_write.with_bytes s.tree x w d now)
 written_left n img s x now w d at is =
-    subst (λ (o : Option ℕ). Has n (if is_number n o then written_over img w.offset w.bytes else img) (of_write.with_bytes s.tree w d now)) (sym (current_number s x d at))
+    subst (λ (o : Option ℕ). Has n (if is_number n o then written_over img w.offset w.bytes else img) (of_write.with_bytes s.tree x w d now)) (sym (current_number s x d at))
     (elim (cases_Bool (has_bytes w.bytes)) [
-      | inl some ↦ rw some (has_written n img s.tree d.number w.offset w.bytes now is)
+      | inl some ↦ rw some (has_written n img s.tree d.number w.offset w.bytes (behind_sets s.tree x d) now is)
       | inr empty ↦ rw empty (same_if n img s.tree (d.number == n) is)
     ])
 
@@ -113,22 +113,22 @@ setting_is s x a m e =
       reads = w.is ∙ ap (λ (m : Setting). Ok m.wanted) same;
     }
 
-sized_left : (n : ℕ) (img : Image) (t : Files) (m : ℕ) (now : Time) (wanted : Wanted) (size : Option ℕ) → Has n img t
-    → Has n (if m == n then cut_to img size else img) (of_set.with_set t m now wanted size)
-sized_left n img t m now wanted (Some size) is = has_resized n img t m size (given_sets now wanted) now is
-sized_left n img t m now wanted None is = same_if n img (of_set.with_set t m now wanted None) (m == n) (elim (cases_Bool (of_set.gives_some wanted)) [
-  | inl some ↦ rw some (has_changed n img t m (given_sets now wanted) now is)
+sized_left : (n : ℕ) (img : Image) (t : Files) (x : Context) (d : Node) (now : Time) (wanted : Wanted) (size : Option ℕ) → Has n img t
+    → Has n (if d.number == n then cut_to img size else img) (of_set.with_set t x d now wanted size)
+sized_left n img t x d now wanted (Some size) is = has_resized n img t d.number size (of_set.settled_sets t x d now wanted) now is
+sized_left n img t x d now wanted None is = same_if n img (of_set.with_set t x d now wanted None) (d.number == n) (elim (cases_Bool (of_set.gives_some wanted)) [
+  | inl some ↦ rw some (has_changed n img t d.number (of_set.settled_sets t x d now wanted) now is)
   | inr nothing ↦ rw nothing is
 ])
 
 set_left : (n : ℕ) (img : Image) (s : State) (x : Context) (now : Time) (a : SetAttr) (m : Setting) → IsSetting s x a m → Has n img s.tree
-    → Has n (if is_number n x.current then cut_to img (size_in (attributes_in a.obj_attributes)) else img) (of_set.with_set s.tree m.node.number now m.wanted m.wanted.size)
+    → Has n (if is_number n x.current then cut_to img (size_in (attributes_in a.obj_attributes)) else img) (of_set.with_set s.tree x m.node now m.wanted m.wanted.size)
 set_left n img s x now a m is has =
     subst (λ (o : Option ℕ). Has n (if is_number n o then cut_to img (size_in (attributes_in a.obj_attributes)) else img)
-    (of_set.with_set s.tree m.node.number now m.wanted m.wanted.size)) (sym is.at)
+    (of_set.with_set s.tree x m.node now m.wanted m.wanted.size)) (sym is.at)
     (subst (λ (v : Result Wanted Status). Has n (if m.node.number == n then cut_to img (size_in v) else img)
-    (of_set.with_set s.tree m.node.number now m.wanted m.wanted.size)) (sym is.reads)
-    (sized_left n img s.tree m.node.number now m.wanted m.wanted.size has))
+    (of_set.with_set s.tree x m.node now m.wanted m.wanted.size)) (sym is.reads)
+    (sized_left n img s.tree x m.node now m.wanted m.wanted.size has))
 
 set_attr_left : (n : ℕ) (img : Image) (s : State) (x : Context) (now : Time) (a : SetAttr) → Has n img s.tree
     → LeftBy n img s x (Operation (Op.SetAttr a)) (of_set.set_attr s x now a)
@@ -159,18 +159,23 @@ number_by : (n : ℕ) (d : Node) (o : Option Object) → node_as n o ≡ Ok d �
 number_by n d None e = absurd cc
 number_by n d (Some o) e = let same : record { number = n; object = o } ≡ d = cc in ap (λ (h : Node). Some h.number) same
 
+held_at : (s : State) (x : Context) (k : ℕ) (d : Node) → node_at s (Some k) ≡ Ok d → IsHeld s.tree d
+unfolding current
+held_at s x k d e = current_is s (record x { current = Some k }) d e
+
 found_there : (s : State) (x : Context) (o : Open) (m : Making) (k : Option ℕ) (place : ℕ) (f : Node) (cut : Bool)
-    → open_parts.found_by s x o m k ≡ Ok (There place f cut) → (k ≡ Some f.number) × (cuts o m.wanted ≡ cut) × (m.place.number ≡ place)
+    → open_parts.found_by s x o m k ≡ Ok (There place f cut) → (k ≡ Some f.number) × (cuts o m.wanted ≡ cut) × (m.place.number ≡ place) × IsHeld s.tree f
 found_there s x o m None place f cut e =
     let c = mapped_came Absent (checked (Ok m) (absent_checks x o)) (There place f cut) e in
     let bad : Absent c.found ≡ There place f cut = c.same in
     absurd cc
 found_there s x o m (Some k) place f cut e =
-    let c = mapped_came (λ f. There m.place.number f (cuts o m.wanted)) (checked (node_at s (Some k)) (there_checks x o)) (There place f cut) e in
+    let c = mapped_came (λ f. There m.place.number f (cuts o m.wanted)) (checked (node_at s (Some k)) (there_checks s.tree x o)) (There place f cut) e in
     let same : There m.place.number c.found (cuts o m.wanted) ≡ There place f cut = c.same in
     let node : c.found ≡ f = cc in
     let cut : cuts o m.wanted ≡ cut = cc in
-    (number_by k c.found (object_at s.tree k) (checked_ok (node_at s (Some k)) (there_checks x o) c.found c.is).0 ∙ ap (λ (d : Node). Some d.number) node, cut, cc)
+    let at = (checked_ok (node_at s (Some k)) (there_checks s.tree x o) c.found c.is).0 in
+    (number_by k c.found (object_at s.tree k) at ∙ ap (λ (d : Node). Some d.number) node, cut, cc, subst (IsHeld s.tree) node (held_at s x k c.found at))
 
 found_absent : (s : State) (x : Context) (o : Open) (m : Making) (k : Option ℕ) (made : Making)
     → open_parts.found_by s x o m k ≡ Ok (Absent made) → (k ≡ None) × (m ≡ made)
@@ -180,7 +185,7 @@ found_absent s x o m None made e =
     let found : c.found ≡ made = cc in
     (refl, ok_is refl (checked_ok (Ok m) (absent_checks x o) c.found c.is).0 ∙ found)
 found_absent s x o m (Some k) made e =
-    let c = mapped_came (λ f. There m.place.number f (cuts o m.wanted)) (checked (node_at s (Some k)) (there_checks x o)) (Absent made) e in
+    let c = mapped_came (λ f. There m.place.number f (cuts o m.wanted)) (checked (node_at s (Some k)) (there_checks s.tree x o)) (Absent made) e in
     let bad : There m.place.number c.found (cuts o m.wanted) ≡ Absent made = c.same in
     absurd cc
 
@@ -190,6 +195,7 @@ pub record IsThere (s : State) (x : Context) (o : Open) (d : ℕ) (g : Node) (cu
   pub there : is_there s.tree d ≡ true
   pub directory : cut ≡ true → is_directory_at s.tree d ≡ true
   pub empties : (n : ℕ) → (is_number n (claimed s.tree x.current o.claim) && asks_empty o) ≡ (cut && (g.number == n))
+  pub held : IsHeld s.tree g
 
 -- or none, and what the new one is to be
 pub record IsAbsent (s : State) (x : Context) (o : Open) (m : Making) : Type 0 where
@@ -197,6 +203,7 @@ pub record IsAbsent (s : State) (x : Context) (o : Open) (m : Making) : Type 0 w
   pub there : is_there s.tree m.place.number ≡ true
   pub none : claimed s.tree x.current o.claim ≡ None
   pub reads : attributes_in (makes o.openhow).attributes ≡ Ok m.wanted
+  pub held : IsHeld s.tree m.place
 
 abbrev pub Is : State → Context → Open → Found → Type 0
 Is s x o (There place g cut) = IsThere s x o place g cut
@@ -220,12 +227,12 @@ named_is s x o name d f at is e =
     subst (λ (d : Node). is_directory_at s.tree d.number ≡ is_directory d.object.kind) same (current_is s x d at).directory
     ∙ not-false (is_directory p.found.object.kind) (all_passed (place_checks x name p.found) (checked_ok (Ok d) (place_checks x name) p.found p.is).1).0 in
     let there : is_there s.tree p.found.number ≡ true = subst (λ (d : Node). is_there s.tree d.number ≡ true) same (current_is s x d at).there in
-    go p.found w.found f at_place there directory names w.is w.then
+    go p.found w.found f at_place (subst (IsHeld s.tree) same (current_is s x d at)) there directory names w.is w.then
   where
-    go : (place : Node) (wanted : Wanted) (f : Found) → x.current ≡ Some place.number → is_there s.tree place.number ≡ true → is_directory_at s.tree place.number ≡ true → claimed s.tree x.current o.claim ≡ object_named s.tree place.number name
+    go : (place : Node) (wanted : Wanted) (f : Found) → x.current ≡ Some place.number → IsHeld s.tree place → is_there s.tree place.number ≡ true → is_directory_at s.tree place.number ≡ true → claimed s.tree x.current o.claim ≡ object_named s.tree place.number name
         → attributes_in (makes o.openhow).attributes ≡ Ok wanted
         → open_parts.found_by s x o (record { place = place; wanted = wanted }) (object_named s.tree place.number name) ≡ Ok f → Is s x o f
-    go place wanted (There k g cut) at_place there directory names reads e =
+    go place wanted (There k g cut) at_place held there directory names reads e =
         let it = found_there s x o (record { place = place; wanted = wanted }) (object_named s.tree place.number name) k g cut e in
         let asks : asks_empty o ≡ cut = cuts_are o.openhow (access_of o).writes wanted reads ∙ it.1 in
         record {
@@ -234,33 +241,37 @@ named_is s x o name d f at is e =
           directory = λ cuts. subst (λ (n : ℕ). is_directory_at s.tree n ≡ true) it.2 directory;
           empties = λ n. ap (λ (k : Option ℕ). is_number n k && asks_empty o) (names ∙ it.0)
               ∙ (ap (λ (b : Bool). (g.number == n) && b) asks ∙ and_swap (g.number == n) cut);
+          held = it.3;
         }
-    go place wanted (Absent m) at_place there directory names reads e =
+    go place wanted (Absent m) at_place held there directory names reads e =
         let it = found_absent s x o (record { place = place; wanted = wanted }) (object_named s.tree place.number name) m e in
         record {
           place = at_place ∙ ap (λ (m : Making). Some m.place.number) it.1;
           there = subst (λ (m : Making). is_there s.tree m.place.number ≡ true) it.1 there;
           none = names ∙ it.0;
           reads = reads ∙ ap (λ (m : Making). Ok m.wanted) it.1;
+          held = subst (λ (m : Making). IsHeld s.tree m.place) it.1 held;
         }
 
 handle_is : (s : State) (x : Context) (o : Open) (b : Bool) (d : Node) (f : Found) → current s x ≡ Ok d → o.claim ≡ Fh
-    → cond b (Err Inval) (by_handle x o d) ≡ Ok f → Is s x o f
+    → cond b (Err Inval) (by_handle s.tree x o d) ≡ Ok f → Is s x o f
 handle_is s x o true d f at is e = absurd cc
 handle_is s x o false d (There place g cut) at is e =
-    let c = mapped_came (λ f. There f.number f false) (checked (Ok d) (there_checks x o)) (There place g cut) e in
+    let c = mapped_came (λ f. There f.number f false) (checked (Ok d) (there_checks s.tree x o)) (There place g cut) e in
     let same : There c.found.number c.found false ≡ There place g cut = c.same in
     let none : false ≡ cut = cc in
     let here : c.found.number ≡ place = cc in
-    let node : d ≡ c.found = ok_is refl (checked_ok (Ok d) (there_checks x o) c.found c.is).0 in
+    let it : c.found ≡ g = cc in
+    let node : d ≡ c.found = ok_is refl (checked_ok (Ok d) (there_checks s.tree x o) c.found c.is).0 in
     record {
       place = current_number s x d at ∙ (ap (λ (d : Node). Some d.number) node ∙ ap (λ (n : ℕ). Some n) here);
       there = subst (λ (n : ℕ). is_there s.tree n ≡ true) (ap (λ (d : Node). d.number) node ∙ here) (current_is s x d at).there;
       directory = λ cuts. absurd (false≢true (none ∙ cuts));
       empties = λ n. ap (λ (k : Option ℕ). is_number n k && asks_empty o) (claim_at s x o Fh d at is) ∙ ap (λ (b : Bool). b && (g.number == n)) none;
+      held = subst (IsHeld s.tree) (node ∙ it) (current_is s x d at);
     }
 handle_is s x o false d (Absent m) at is e =
-    let c = mapped_came (λ f. There f.number f false) (checked (Ok d) (there_checks x o)) (Absent m) e in
+    let c = mapped_came (λ f. There f.number f false) (checked (Ok d) (there_checks s.tree x o)) (Absent m) e in
     let bad : There c.found.number c.found false ≡ Absent m = c.same in
     absurd cc
 
@@ -282,20 +293,20 @@ open_is s x o f e =
 
 -- what it leaves
 
-cut_left : (n : ℕ) (img : Image) (t : Files) (g : ℕ) (now : Time) (cut : Bool) → Has n img t
-    → Has n (if cut && (g == n) then cut_to img (Some 0) else img) (if cut then with_resized t g 0 no_sets now else t)
-cut_left n img t g now true is = has_resized n img t g 0 no_sets now is
-cut_left n img t g now false is = is
+cut_left : (n : ℕ) (img : Image) (t : Files) (g : ℕ) (sets : Sets) (now : Time) (cut : Bool) → Has n img t
+    → Has n (if cut && (g == n) then cut_to img (Some 0) else img) (if cut then with_resized t g 0 sets now else t)
+cut_left n img t g sets now true is = has_resized n img t g 0 sets now is
+cut_left n img t g sets now false is = is
 
 opened_left : (n : ℕ) (img : Image) (s : State) (x : Context) (now : Time) (o : Open) (f : Found) → Is s x o f → Has n img s.tree
     → Has n (if is_number n (claimed s.tree x.current o.claim) && asks_empty o then cut_to img (Some 0) else img) (of_open.tree_of s.tree x now o f)
 opened_left n img s x now o (There place g cut) it is =
-    subst (λ (b : Bool). Has n (if b then cut_to img (Some 0) else img) (if cut then with_resized s.tree g.number 0 no_sets now else s.tree)) (sym (it.empties n))
-    (cut_left n img s.tree g.number now cut is)
+    subst (λ (b : Bool). Has n (if b then cut_to img (Some 0) else img) (if cut then with_resized s.tree g.number 0 (behind_sets s.tree x g) now else s.tree)) (sym (it.empties n))
+    (cut_left n img s.tree g.number (behind_sets s.tree x g) now cut is)
 opened_left n img s x now o (Absent m) it is =
     subst (λ (k : Option ℕ). Has n (if is_number n k && asks_empty o then cut_to img (Some 0) else img)
-    (with_new s.tree m.place.number (of_open.name_of o.claim) (of_open.new_of o m.wanted) (of_open.sets_of x now o m.wanted) now)) (sym it.none)
-    (has_new n img s.tree m.place.number (of_open.name_of o.claim) (of_open.new_of o m.wanted) (of_open.sets_of x now o m.wanted) now is)
+    (with_new s.tree m.place.number (of_open.name_of o.claim) (of_open.new_of o m.wanted) (of_open.made_sets s.tree x now o m) now)) (sym it.none)
+    (has_new n img s.tree m.place.number (of_open.name_of o.claim) (of_open.new_of o m.wanted) (of_open.made_sets s.tree x now o m) now is)
 
 open_left : (n : ℕ) (img : Image) (s : State) (x : Context) (now : Time) (o : Open) → Has n img s.tree → LeftBy n img s x (Operation (Op.Open o)) (of_open.open_file s x now o)
 open_left n img s x now o is =
@@ -371,11 +382,11 @@ none_there : (o : Option Stored) → is_some o ≡ false → o ≡ None
 none_there None e = refl
 none_there (Some s) e = absurd (false≢true (sym e))
 
-cut_there : (n : ℕ) (t : Files) (g : ℕ) (now : Time) (cut : Bool) → is_there (if cut then with_resized t g 0 no_sets now else t) n ≡ is_there t n
-cut_there n t g now true =
-    there_map (λ (s : Stored). if s.number == g then with_bytes now no_sets (resized s.bytes 0) s else s) n t.objects
-    (λ s. elim (s.number == g) as (λ v. (cond v (with_bytes now no_sets (resized s.bytes 0) s) s).number ≡ s.number) [ true ↦ refl | false ↦ refl ])
-cut_there n t g now false = refl
+cut_there : (n : ℕ) (t : Files) (g : ℕ) (sets : Sets) (now : Time) (cut : Bool) → is_there (if cut then with_resized t g 0 sets now else t) n ≡ is_there t n
+cut_there n t g sets now true =
+    there_map (λ (s : Stored). if s.number == g then with_bytes now sets (resized s.bytes 0) s else s) n t.objects
+    (λ s. elim (s.number == g) as (λ v. (cond v (with_bytes now sets (resized s.bytes 0) s) s).number ≡ s.number) [ true ↦ refl | false ↦ refl ])
+cut_there n t g sets now false = refl
 
 new_there : (n : ℕ) (t : Files) (d : ℕ) (name : List ℕ) (size : ℕ) (verifier : Option (List ℕ)) (sets : Sets) (now : Time) → is_there t n ≡ false
     → is_there (with_new t d name (new_file size verifier) sets now) n ≡ true → Has n (unwritten size) (with_new t d name (new_file size verifier) sets now)
@@ -402,11 +413,11 @@ abbrev MadeBy : ℕ → State → Open → Outcome → Type 0
 MadeBy n s o out = is_there s.tree n ≡ false → is_there out.state.tree n ≡ true → Has n (unwritten (unwrap_or (new_size o.openhow) 0)) out.state.tree
 
 opened_made : (n : ℕ) (s : State) (x : Context) (now : Time) (o : Open) (f : Found) → Is s x o f → MadeBy n s o (of_open.opened s x now o f)
-opened_made n s x now o (There place g cut) it free there = absurd (false≢true (sym (cut_there n s.tree g.number now cut ∙ free) ∙ there))
+opened_made n s x now o (There place g cut) it free there = absurd (false≢true (sym (cut_there n s.tree g.number (behind_sets s.tree x g) now cut ∙ free) ∙ there))
 opened_made n s x now o (Absent m) it free there =
     subst (λ (v : Result Wanted Status). Has n (unwritten (unwrap_or (size_in v) 0))
-    (with_new s.tree m.place.number (of_open.name_of o.claim) (of_open.new_of o m.wanted) (of_open.sets_of x now o m.wanted) now)) (sym it.reads)
-    (new_there n s.tree m.place.number (of_open.name_of o.claim) (unwrap_or m.wanted.size 0) (makes o.openhow).verifier (of_open.sets_of x now o m.wanted) now free there)
+    (with_new s.tree m.place.number (of_open.name_of o.claim) (of_open.new_of o m.wanted) (of_open.made_sets s.tree x now o m) now)) (sym it.reads)
+    (new_there n s.tree m.place.number (of_open.name_of o.claim) (unwrap_or m.wanted.size 0) (makes o.openhow).verifier (of_open.made_sets s.tree x now o m) now free there)
 
 pub open_made : (n : ℕ) (refused : Bool) (s : State) (x : Context) (now : Time) (o : Open) → MadeBy n s o (one_or_delay refused s x now (Op.Open o))
 open_made n refused s x now o =

@@ -64,7 +64,7 @@ absent_found x o k m e =
 found_absent : (s : State) (x : Context) (o : Open) (k m : Making) (n : Option ℕ)
     → found_by s x o k n ≡ Ok (Absent m) → (k ≡ m) × (n ≡ None) × (first_fault (absent_checks x o m) ≡ None)
 found_absent s x o k m (Some n) e =
-    let c = mapped_came (λ f. There k.place.number f (cuts o k.wanted)) (checked (node_at s (Some n)) (there_checks x o)) (Absent m) e in
+    let c = mapped_came (λ f. There k.place.number f (cuts o k.wanted)) (checked (node_at s (Some n)) (there_checks s.tree x o)) (Absent m) e in
     let bad : There k.place.number c.found (cuts o k.wanted) ≡ Absent m = c.same in
     absurd cc
 found_absent s x o k m None e = let found = absent_found x o k m e in (found.0, refl, found.1)
@@ -82,10 +82,10 @@ named_absent s x o d m is e =
     let all : at m = subst at found.0 (subst (IsHeld s.tree) (ok_is refl placed.0) is, placed.1, found.1) in
     record { place = all.0; named = all.1; free = all.2; wanted = found.2 }
 
-handle_absent : (x : Context) (o : Open) (b : Bool) (d : Node) (m : Making) → cond b (Err Inval) (by_handle x o d) ≡ Ok (Absent m) → ⊥
-handle_absent x o true d m e = absurd cc
-handle_absent x o false d m e =
-    let c = mapped_came (λ f. There f.number f false) (checked (Ok d) (there_checks x o)) (Absent m) e in
+handle_absent : (s : State) (x : Context) (o : Open) (b : Bool) (d : Node) (m : Making) → cond b (Err Inval) (by_handle s.tree x o d) ≡ Ok (Absent m) → ⊥
+handle_absent s x o true d m e = absurd cc
+handle_absent s x o false d m e =
+    let c = mapped_came (λ f. There f.number f false) (checked (Ok d) (there_checks s.tree x o)) (Absent m) e in
     let bad : There c.found.number c.found false ≡ Absent m = c.same in
     absurd cc
 
@@ -93,7 +93,7 @@ claimed_absent : (s : State) (x : Context) (o : Open) (claim : OpenClaim) (d : N
     → by_claim s x o claim d ≡ Ok (Absent m) → IsFree s x o m
 claimed_absent s x o (Null name) d m is here e =
     named_absent s x o d m here (ap (λ claim. by_name s x o (name_of claim) d) is ∙ e)
-claimed_absent s x o Fh d m is here e = absurd (handle_absent x o (makes o.openhow).creates d m e)
+claimed_absent s x o Fh d m is here e = absurd (handle_absent s x o (makes o.openhow).creates d m e)
 claimed_absent s x o (Previous type) d m is here e = absurd cc
 claimed_absent s x o (DelegateCur id file) d m is here e = absurd cc
 claimed_absent s x o (DelegatePrev file) d m is here e = absurd cc

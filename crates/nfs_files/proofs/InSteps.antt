@@ -308,7 +308,7 @@ mapped_checked f (Ok a) checks = mapped_passed f a (first_fault (checks a))
 
 found_is : (s : State) (x : Context) (o : Open) (m : Making) (n : Option ℕ) → found_by s x o m n ≡ open_parts.found_by s x o m n
 found_is s x o m None = mapped_passed Absent m (first_fault (absent_checks x o m))
-found_is s x o m (Some n) = mapped_checked (λ f. There m.place.number f (cuts o m.wanted)) (node_at s (Some n)) (there_checks x o)
+found_is s x o m (Some n) = mapped_checked (λ f. There m.place.number f (cuts o m.wanted)) (node_at s (Some n)) (there_checks s.tree x o)
 
 name_is : (s : State) (x : Context) (o : Open) (name : List ℕ) (d : Node) → by_claim s x o (Null name) d ≡ open_parts.by_name s x o name d
 name_is s x o name d = by_place (first_fault (place_checks x name d))
@@ -326,14 +326,14 @@ name_is s x o name d = by_place (first_fault (place_checks x name d))
     by_place None = by_wanted (attributes_in (makes o.openhow).attributes)
     by_place (Some status) = refl
 
-handle_is : (x : Context) (o : Open) (d : Node) (b : Bool)
-    → (require (not b) Inval >> (in_order (there_checks x o d) >> Ok (There d.number d false))) ≡ cond b (Err Inval) (open_parts.by_handle x o d)
-handle_is x o d true = refl
-handle_is x o d false = mapped_passed (λ f. There f.number f false) d (first_fault (there_checks x o d))
+handle_is : (s : State) (x : Context) (o : Open) (d : Node) (b : Bool)
+    → (require (not b) Inval >> (in_order (there_checks s.tree x o d) >> Ok (There d.number d false))) ≡ cond b (Err Inval) (open_parts.by_handle s.tree x o d)
+handle_is s x o d true = refl
+handle_is s x o d false = mapped_passed (λ f. There f.number f false) d (first_fault (there_checks s.tree x o d))
 
 claim_is : (s : State) (x : Context) (o : Open) (claim : OpenClaim) (d : Node) → by_claim s x o claim d ≡ open_parts.by_claim s x o claim d
 claim_is s x o (Null name) d = name_is s x o name d
-claim_is s x o Fh d = handle_is x o d (makes o.openhow).creates
+claim_is s x o Fh d = handle_is s x o d (makes o.openhow).creates
 claim_is s x o (Previous type) d = refl
 claim_is s x o (DelegateCur id file) d = refl
 claim_is s x o (DelegatePrev file) d = refl

@@ -8,6 +8,7 @@ pub mod ReadBytes
 pub mod SetAnswers
 pub mod ByteAnswers
 pub mod Opened
+pub mod OpenedTrees
 pub mod Storing
 pub mod Keeping
 pub mod Refused
@@ -52,4 +53,6 @@ pub mod WrittenSpared
 pub mod ChangesAt
 pub mod ChangesTold
 pub mod OpenRows
+pub mod OpenTrees
 pub mod Terms
+pub mod OpenFound

@@ -10,7 +10,7 @@ use Rattle.nfs_compound.specs.{declared.open_args.Open.Open, declared.open_args.
 use Rattle.nfs_compound.specs.declared.open_args.OpenClaim.TheVariants.{Null, Previous, DelegateCur, DelegatePrev, Fh, DelegCurFh, DelegPrevFh}
 use Rattle.nfs_compound.specs.declared.op.Item.TheVariants.{Operation}
 use Rattle.nfs_compound.specs.declared.op.Op.TheVariants as Op
-use Rattle.nfs_tree.specs.{declared.stored.Stored.Stored, Object.{is_regular, no_sets}, Files.{Files, root, stored_in, object_named, with_entries_changed}}
+use Rattle.nfs_tree.specs.{declared.stored.Stored.Stored, Object.is_regular, Files.{Files, root, stored_in, object_named, with_entries_changed}}
 use Rattle.nfs_tree.specs.{Calls.is_regular_at, Create.new_object, Bytes.{resized, with_resized}, TreeInvariants.IsTree}
 use Rattle.nfs_opens.specs.{declared.stateid.StateId.StateId, Opening.opens}
 use Rattle.nfs_names.specs.{declared.context.Context.Context, declared.node.Node.Node, declared.making.Making.Making, State.State, Outcome.{mapped, checked}}
@@ -20,11 +20,11 @@ use Rattle.nfs_names.proofs.{Bounds.IsAnswer, NameLaws.{node_refuses, current_re
 use Rattle.nfs_names.proofs.StoreInvariants.{regular_same}
 use Rattle.nfs_names.proofs.Refusing.{Refuses, refusal_by, all_refuse, refuses_checked, refuses_mapped, refuses_then, err_refuses, ok_refuses, answers_with}
 use Rattle.nfs_names.proofs.Masks.{few_words}
-use Rattle.nfs_files.specs.{declared.opening.Found.Found, declared.opening.Found.TheVariants.{There, Absent}, StateIds.wire_id, Bytes.file_checks}
+use Rattle.nfs_files.specs.{declared.opening.Found.Found, declared.opening.Found.TheVariants.{There, Absent}, StateIds.wire_id, Bytes.{file_checks, behind_sets}}
 use Rattle.nfs_files.specs.{Open.{makes, there_checks, cuts}, OpenParts.{argument_checks, place_checks, absent_checks, found_by}}
-use Rattle.nfs_files.specs.Open.{file_of, asking, room_checks, last_checks, new_of, sets_of, tree_of, set_of, open_file}
+use Rattle.nfs_files.specs.Open.{file_of, asking, last_checks, new_of, made_sets, tree_of, set_of, open_file}
 use Rattle.nfs_files.specs.OpenParts.{by_name, by_handle, by_claim, asked_for}
-use Rattle.nfs_files.proofs.{Passing.mapped_came, Prompt.all_pass, Seats.by_bool, SetRows.file_regular, Keeping.kind_bytes}
+use Rattle.nfs_files.proofs.{Passing.mapped_came, Seats.by_bool, SetRows.file_regular, Keeping.kind_bytes}
 use Rattle.nfs_files.proofs.InSteps as in_steps
 
 -- refusals
@@ -32,8 +32,8 @@ found_by_refuses : (s : State) (x : Context) (o : Open) (m : Making) (n : Option
 found_by_refuses s x o m None =
     refuses_mapped Absent (checked (Ok m) (absent_checks x o)) (refuses_checked (Ok m) (absent_checks x o) (ok_refuses m) (λ m. refl))
 found_by_refuses s x o m (Some n) =
-    refuses_mapped (λ f. There m.place.number f (cuts o m.wanted)) (checked (node_at s (Some n)) (there_checks x o))
-    (refuses_checked (node_at s (Some n)) (there_checks x o) (node_refuses s (Some n)) (λ f. refl))
+    refuses_mapped (λ f. There m.place.number f (cuts o m.wanted)) (checked (node_at s (Some n)) (there_checks s.tree x o))
+    (refuses_checked (node_at s (Some n)) (there_checks s.tree x o) (node_refuses s (Some n)) (λ f. refl))
 
 name_refuses : (s : State) (x : Context) (o : Open) (name : List ℕ) (d : Node) → Refuses (by_name s x o name d)
 name_refuses s x o name d =
@@ -41,15 +41,15 @@ name_refuses s x o name d =
     refuses_then (attributes_in (makes o.openhow).attributes) _ (wanted_refuses (makes o.openhow).attributes) (λ w.
     found_by_refuses s x o (record { place = d; wanted = w }) (object_named s.tree d.number name)))
 
-handle_refuses : (x : Context) (o : Open) (d : Node) → Refuses (by_handle x o d)
-handle_refuses x o d =
-    refuses_mapped (λ f. There f.number f false) (checked (Ok d) (there_checks x o))
-    (refuses_checked (Ok d) (there_checks x o) (ok_refuses d) (λ f. refl))
+handle_refuses : (s : State) (x : Context) (o : Open) (d : Node) → Refuses (by_handle s.tree x o d)
+handle_refuses s x o d =
+    refuses_mapped (λ f. There f.number f false) (checked (Ok d) (there_checks s.tree x o))
+    (refuses_checked (Ok d) (there_checks s.tree x o) (ok_refuses d) (λ f. refl))
 
 claim_refuses : (s : State) (x : Context) (o : Open) (claim : OpenClaim) (d : Node) → Refuses (by_claim s x o claim d)
 claim_refuses s x o (Null name) d = name_refuses s x o name d
 claim_refuses s x o Fh d =
-    by_bool (makes o.openhow).creates (Err S.Inval) (by_handle x o d) (err_refuses S.Inval (refusal_by S.Inval refl)) (handle_refuses x o d)
+    by_bool (makes o.openhow).creates (Err S.Inval) (by_handle s.tree x o d) (err_refuses S.Inval (refusal_by S.Inval refl)) (handle_refuses s x o d)
 claim_refuses s x o (Previous type) d = err_refuses S.NoGrace (refusal_by S.NoGrace refl)
 claim_refuses s x o (DelegateCur id file) d = err_refuses S.NotSupp (refusal_by S.NotSupp refl)
 claim_refuses s x o (DelegatePrev file) d = err_refuses S.NotSupp (refusal_by S.NotSupp refl)
@@ -65,17 +65,6 @@ asked_refuses s x o =
 last_refuse : (s : State) (x : Context) (o : Open) (found : Found) → all_refuse (last_checks s x o found) ≡ true
 last_refuse s x o (There place f cut) = refl
 last_refuse s x o (Absent m) = refl
-
--- what is checked last answers one of four, and behind the share reservations one of three
-pub rest_pass : (test : Status → Bool) (t : Files) (found : Found) (spent : Bool) → test S.ServerFault ≡ true → test S.FBig ≡ true → test S.NoSpc ≡ true
-    → all_pass test (room_checks t found ++ (spent, S.ServerFault) ∷ []) ≡ true
-rest_pass test t (There place f cut) spent fault big room = rw fault refl
-rest_pass test t (Absent m) spent fault big room = rw (fault, big, room) refl
-
-pub last_pass : (test : Status → Bool) (s : State) (x : Context) (o : Open) (found : Found)
-    → test S.ShareDenied ≡ true → test S.ServerFault ≡ true → test S.FBig ≡ true → test S.NoSpc ≡ true → all_pass test (last_checks s x o found) ≡ true
-last_pass test s x o (There place f cut) denied fault big room = rw (denied, fault) refl
-last_pass test s x o (Absent m) denied fault big room = rw (denied, fault, big, room) refl
 
 pub open_refuses : (s : State) (x : Context) (o : Open) → Refuses (checked (asked_for s x o) (last_checks s x o))
 open_refuses s x o = refuses_checked (asked_for s x o) (last_checks s x o) (asked_refuses s x o) (last_refuse s x o)
@@ -103,19 +92,19 @@ may_open s x now o =
 
 -- what is there is a file
 there_regular : (s : State) (x : Context) (o : Open) (f : Node) → IsHeld s.tree f
-    → first_fault (there_checks x o f) ≡ None → is_regular_at s.tree f.number ≡ true
+    → first_fault (there_checks s.tree x o f) ≡ None → is_regular_at s.tree f.number ≡ true
 there_regular s x o f is e =
-    let checks = all_passed (there_checks x o f) e in
+    let checks = all_passed (there_checks s.tree x o f) e in
     let file : first_fault (file_checks f) ≡ None = rw (checks.1.0, checks.1.1.0) refl in
     file_regular s.tree f is file
 
 -- what was found passed its checks
-there_found : (x : Context) (o : Open) (v : Result Node Status) (to : Node → Found) (place : ℕ) (f : Node) (cut : Bool)
+there_found : (s : State) (x : Context) (o : Open) (v : Result Node Status) (to : Node → Found) (place : ℕ) (f : Node) (cut : Bool)
     → ((g : Node) → to g ≡ There place f cut → g ≡ f)
-    → mapped to (checked v (there_checks x o)) ≡ Ok (There place f cut) → (v ≡ Ok f) × (first_fault (there_checks x o f) ≡ None)
-there_found x o v to place f cut same e =
-    let c = mapped_came to (checked v (there_checks x o)) (There place f cut) e in
-    checked_ok v (there_checks x o) f (c.is ∙ ap Ok (same c.found c.same))
+    → mapped to (checked v (there_checks s.tree x o)) ≡ Ok (There place f cut) → (v ≡ Ok f) × (first_fault (there_checks s.tree x o f) ≡ None)
+there_found s x o v to place f cut same e =
+    let c = mapped_came to (checked v (there_checks s.tree x o)) (There place f cut) e in
+    checked_ok v (there_checks s.tree x o) f (c.is ∙ ap Ok (same c.found c.same))
 
 found_regular : (s : State) (x : Context) (o : Open) (m : Making) (n : Option ℕ) (place : ℕ) (f : Node) (cut : Bool)
     → found_by s x o m n ≡ Ok (There place f cut) → is_regular_at s.tree f.number ≡ true
@@ -126,7 +115,7 @@ found_regular s x o m None place f cut e = by_absent (checked (Ok m) (absent_che
     by_absent (Err status) e = absurd cc
     by_absent (Ok m) e = absurd cc
 found_regular s x o m (Some n) place f cut e =
-    let found = there_found x o (node_at s (Some n)) (λ f. There m.place.number f (cuts o m.wanted)) place f cut (λ g e. cc) e in
+    let found = there_found s x o (node_at s (Some n)) (λ f. There m.place.number f (cuts o m.wanted)) place f cut (λ g e. cc) e in
     there_regular s x o f (current_is s (record x { current = Some n }) f found.0) found.1
 
 named_regular : (s : State) (x : Context) (o : Open) (name : List ℕ) (d : Node) (place : ℕ) (f : Node) (cut : Bool)
@@ -137,10 +126,10 @@ named_regular s x o name d place f cut e =
     found_regular s x o (record { place = p.found; wanted = w.found }) (object_named s.tree p.found.number name) place f cut w.then
 
 handle_regular : (s : State) (x : Context) (o : Open) (b : Bool) (d : Node) (place : ℕ) (f : Node) (cut : Bool) → IsHeld s.tree d
-    → cond b (Err S.Inval) (by_handle x o d) ≡ Ok (There place f cut) → is_regular_at s.tree f.number ≡ true
+    → cond b (Err S.Inval) (by_handle s.tree x o d) ≡ Ok (There place f cut) → is_regular_at s.tree f.number ≡ true
 handle_regular s x o true d place f cut is e = absurd cc
 handle_regular s x o false d place f cut is e =
-    let found = there_found x o (Ok d) (λ f. There f.number f false) place f cut (λ g e. cc) e in
+    let found = there_found s x o (Ok d) (λ f. There f.number f false) place f cut (λ g e. cc) e in
     there_regular s x o f (subst (IsHeld s.tree) (ok_is refl found.0) is) found.1
 
 claim_regular : (s : State) (x : Context) (o : Open) (claim : OpenClaim) (d : Node) (place : ℕ) (f : Node) (cut : Bool) → IsHeld s.tree d
@@ -177,7 +166,7 @@ made_regular t x now o m is =
     let objects = with_entries_changed m.place.number now t.objects in
     let made : Stored = record {
       number = t.last_object + 1;
-      object = new_object now (new_of o m.wanted) (sets_of x now o m.wanted);
+      object = new_object now (new_of o m.wanted) (made_sets t x now o m);
       bytes = (new_of o m.wanted).bytes;
     } in
     number_regular (objects ++ made ∷ []) made root (t.last_object + 1 + 1) is.objects (last_in objects made) refl _ refl
@@ -185,7 +174,7 @@ made_regular t x now o m is =
 cut_regular : (t : Files) (x : Context) (now : Time) (o : Open) (place : ℕ) (f : Node) (cut : Bool)
     → is_regular_at t f.number ≡ true → is_regular_at (tree_of t x now o (There place f cut)) f.number ≡ true
 cut_regular t x now o place f true e =
-    regular_same (with_resized t f.number 0 no_sets now) t f.number (kind_bytes t.objects f.number f.number now no_sets (λ k. resized k.bytes 0)) ∙ e
+    regular_same (with_resized t f.number 0 (behind_sets t x f) now) t f.number (kind_bytes t.objects f.number f.number now (behind_sets t x f) (λ k. resized k.bytes 0)) ∙ e
 cut_regular t x now o place f false e = e
 
 -- the file that is opened, in the tree that OPEN leaves

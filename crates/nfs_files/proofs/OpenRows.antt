@@ -28,7 +28,7 @@ made_absent s x o m k None e =
     let same : c.found ≡ k = cc in
     ok_is refl (checked_ok (Ok m) (open_parts.absent_checks x o) c.found c.is).0 ∙ same
 made_absent s x o m k (Some n) e =
-    let c = mapped_came (λ f. There m.place.number f (of_open.cuts o m.wanted)) (checked (node_at s (Some n)) (of_open.there_checks x o)) (Absent k) e in
+    let c = mapped_came (λ f. There m.place.number f (of_open.cuts o m.wanted)) (checked (node_at s (Some n)) (of_open.there_checks s.tree x o)) (Absent k) e in
     let bad : There m.place.number c.found (of_open.cuts o m.wanted) ≡ Absent k = c.same in
     absurd cc
 
@@ -45,10 +45,10 @@ named_absent s x o name d m at is e =
       at = current_number s x d at ∙ (ap (λ (d : Node). Some d.number) same ∙ ap (λ (m : Making). Some m.place.number) made);
     }
 
-handle_absent : (s : State) (x : Context) (o : Open) (b : Bool) (d : Node) (m : Making) → cond b (Err Inval) (open_parts.by_handle x o d) ≡ Ok (Absent m) → ⊥
+handle_absent : (s : State) (x : Context) (o : Open) (b : Bool) (d : Node) (m : Making) → cond b (Err Inval) (open_parts.by_handle s.tree x o d) ≡ Ok (Absent m) → ⊥
 handle_absent s x o true d m e = absurd cc
 handle_absent s x o false d m e =
-    let c = mapped_came (λ f. There f.number f false) (checked (Ok d) (of_open.there_checks x o)) (Absent m) e in
+    let c = mapped_came (λ f. There f.number f false) (checked (Ok d) (of_open.there_checks s.tree x o)) (Absent m) e in
     let bad : There c.found.number c.found false ≡ Absent m = c.same in
     absurd cc
 

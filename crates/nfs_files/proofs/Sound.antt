@@ -4,8 +4,8 @@ use Rattle.std.specs.{Prelude.{◌==◌, ◌||◌, filter, if◌then◌else◌},
 use Rattle.nfs_xdr.specs.{Tables.In, declared.time.Time.Time}
 use Rattle.nfs_xdr.proofs.Lists.{in_any, any_in, stays_in, in_filter}
 use Rattle.nfs_compound.specs.declared.op.Item.{Item}
-use Rattle.nfs_tree.specs.{Object.no_sets, Files.{root, has_row, with_changed}, Bytes.{written, resized, with_written, with_resized}, TreeInvariants.IsTree}
-use Rattle.nfs_tree.proofs.{Trees.tree_changed, Sized.{tree_written, tree_resized}}
+use Rattle.nfs_tree.specs.{Files.{next_count, root, has_row}, Bytes.{written, resized, with_written, with_resized, with_sets}, TreeInvariants.IsTree}
+use Rattle.nfs_tree.proofs.{Trees.{tree_changed, tree_counts}, Sized.{tree_written, tree_resized}}
 use Rattle.nfs_opens.specs.{declared.share.Share.Share, declared.records.OpenState.OpenState, Table.Table, TableInvariants.IsTable, Opening.narrows}
 use Rattle.nfs_opens.specs.Closing.{without_open}
 use Rattle.nfs_names.specs.{declared.context.Context.Context, State.State, Ending.with_opens, StoreInvariants.{IsStore, IsStoreBut}}
@@ -17,9 +17,9 @@ use Rattle.nfs_files.proofs.Effected.{kept_item}
 
 tree_kept : (s : State) (client : ℕ) (e : Effect) → Fits s client e → IsTree s.tree → IsStore s → IsTree (behind s e).tree
 tree_kept s client (Names e) fits is store = names.tree_kept s e fits is store
-tree_kept s client (Writes n offset text now) fits is store = tree_written s.tree n offset text now is fits.0 fits.1
+tree_kept s client (Writes n offset text sets now) fits is store = tree_written s.tree n offset text sets now is fits.0 fits.1
 tree_kept s client (Resizes n size sets now) none is store = tree_resized s.tree n size sets now is none
-tree_kept s client (Changes n sets now) fits is store = tree_changed s.tree n now sets is
+tree_kept s client (Changes n sets now) fits is store = tree_counts _ (next_count s.tree.changes) (tree_changed s.tree n now sets is)
 tree_kept s client (Closes n file) fits is store =
     let left = with_opens s (without_open s.opens n) in
     tree_unused left file is (λ unused. unused_empty left file is (rooted s store) unused)
@@ -72,11 +72,11 @@ but_closed s client n file closing is = record {
 
 store_kept : (s : State) (client : ℕ) (e : Effect) → Fits s client e → IsTree s.tree → IsStore s → IsStore (behind s e)
 store_kept s client (Names e) fits tree is = names.store_kept s e tree is
-store_kept s client (Writes n offset text now) fits tree is = store_by s (with_written s.tree n offset text now)
-    (λ m. kind_bytes s.tree.objects n m now no_sets (λ k. written k.bytes offset text)) (λ m some. some) is
+store_kept s client (Writes n offset text sets now) fits tree is = store_by s (with_written s.tree n offset text sets now)
+    (λ m. kind_bytes s.tree.objects n m now sets (λ k. written k.bytes offset text)) (λ m some. some) is
 store_kept s client (Resizes n size sets now) fits tree is = store_by s (with_resized s.tree n size sets now)
     (λ m. kind_bytes s.tree.objects n m now sets (λ k. resized k.bytes size)) (λ m some. some) is
-store_kept s client (Changes n sets now) fits tree is = store_by s (record s.tree { objects = with_changed n now sets s.tree.objects })
+store_kept s client (Changes n sets now) fits tree is = store_by s (with_sets s.tree n sets now)
     (λ m. kind_changed s.tree.objects n m now sets) (λ m some. some) is
 store_kept s client (Opens a) fits tree is = store_opened s s.tree a (fits.regular tree) is
 store_kept s client (Narrows n access deny) fits tree is =

@@ -94,19 +94,19 @@ names_text op id rest n head small =
     ap (from_be_bytes w64) (number_behind op id rest) ∙ hyper_read id.number small in
     rw (long, head) (ap (λ (m : ℕ). m == n) read)
 
-open_spelled : (id : StateId) (cinfo : ChangeInfo) (attrset : List ℕ)
-    → (rest : List ℕ) × (spell_result (Res.Open (record { stateid = wire_id id; cinfo = cinfo; attrset = attrset })) ≡ done_head Num.Open ++ text_of id rest)
+open_spelled : (id : StateId) (cinfo : ChangeInfo) (rflags : ℕ) (attrset : List ℕ)
+    → (rest : List ℕ) × (spell_result (Res.Open (record { stateid = wire_id id; cinfo = cinfo; rflags = rflags; attrset = attrset })) ≡ done_head Num.Open ++ text_of id rest)
 unfolding number hyper stateid open_ok
-open_spelled id cinfo attrset = (_, refl)
+open_spelled id cinfo rflags attrset = (_, refl)
 
 downgrade_spelled : (id : StateId) → spell_result (Res.OpenDowngrade (wire_id id)) ≡ done_head Num.OpenDowngrade ++ text_of id []
 unfolding number hyper stateid
 downgrade_spelled id = refl
 
-names_of_open : (id : StateId) (cinfo : ChangeInfo) (attrset : List ℕ) (n : ℕ) → id.number ≤ last_number
-    → names_open Num.Open (spell_result (Res.Open (record { stateid = wire_id id; cinfo = cinfo; attrset = attrset }))) n ≡ (id.number == n)
-names_of_open id cinfo attrset n small =
-    let (rest, is) = open_spelled id cinfo attrset in
+names_of_open : (id : StateId) (cinfo : ChangeInfo) (rflags : ℕ) (attrset : List ℕ) (n : ℕ) → id.number ≤ last_number
+    → names_open Num.Open (spell_result (Res.Open (record { stateid = wire_id id; cinfo = cinfo; rflags = rflags; attrset = attrset }))) n ≡ (id.number == n)
+names_of_open id cinfo rflags attrset n small =
+    let (rest, is) = open_spelled id cinfo rflags attrset in
     ap (λ (text : List ℕ). names_open Num.Open text n) is ∙ names_text Num.Open id rest n (open_head id rest) small
 
 names_of_downgrade : (id : StateId) (n : ℕ) → id.number ≤ last_number
@@ -289,7 +289,7 @@ opened_left k b s x now a f table few free is =
     let asked = asking s x a f in
     let did = opening.opens s.opens asked in
     subst (λ v. IsOpenWith k (cond v (bits_with b a) b) did.after)
-    (sym (names_of_open did.id (of_open.info_of s.tree f) (of_open.set_of a f) k.number (small_id s.opens asked (opening.own_open s.opens asked) table few refl free)))
+    (sym (names_of_open did.id (of_open.info_of s.tree f) (of_open.result_flags s.tree.profile) (of_open.set_of a f) k.number (small_id s.opens asked (opening.own_open s.opens asked) table few refl free)))
     (opens_left k b s.opens asked (opening.own_open s.opens asked) table refl is)
 
 open_left : (k : OpenTold) (b : Bits) (s : State) (x : Context) (now : Time) (a : Open) → IsTable s.opens → Few s.opens → IsOpenWith k b s.opens
@@ -345,7 +345,7 @@ did_open refused s x now a n table few = by_delayed (of_open.open_file s x now a
       found = f;
       judged = p.0;
       free = free;
-      number = eqb-true _ _ (sym (names_of_open did.id (of_open.info_of s.tree f) (of_open.set_of a f) n small) ∙ named);
+      number = eqb-true _ _ (sym (names_of_open did.id (of_open.info_of s.tree f) (of_open.result_flags s.tree.profile) (of_open.set_of a f) n small) ∙ named);
       state = refl;
     }))))
   where
@@ -404,10 +404,10 @@ name_leads s x now a name m None f called none e =
     let made = mapped_ok Absent (checked (Ok m) (open_parts.absent_checks x a)) f e in
     let one : m ≡ made.from = ok_is refl (checked_ok (Ok m) (open_parts.absent_checks x a) made.from made.is).0 in
     subst (Leads s x now a m.place.number name) (ap Absent one ∙ made.to)
-    (made_found s.tree m.place.number name (of_open.name_of a.claim) (of_open.new_of a m.wanted) (of_open.sets_of x now a m.wanted) now called none)
+    (made_found s.tree m.place.number name (of_open.name_of a.claim) (of_open.new_of a m.wanted) (of_open.made_sets s.tree x now a m) now called none)
 name_leads s x now a name m (Some n) f called at e =
-    let is = mapped_ok (λ g. There m.place.number g (of_open.cuts a m.wanted)) (checked (node_at s (Some n)) (of_open.there_checks x a)) f e in
-    let node = (checked_ok (node_at s (Some n)) (of_open.there_checks x a) is.from is.is).0 in
+    let is = mapped_ok (λ g. There m.place.number g (of_open.cuts a m.wanted)) (checked (node_at s (Some n)) (of_open.there_checks s.tree x a)) f e in
+    let node = (checked_ok (node_at s (Some n)) (of_open.there_checks s.tree x a) is.from is.is).0 in
     subst (Leads s x now a m.place.number name) is.to
     (there_found s.tree x now a m.place.number name m.place.number is.from (of_open.cuts a m.wanted) ∙ (at ∙ node_number s (Some n) is.from node))
 
@@ -422,11 +422,11 @@ claim_leads s x now a (Null name) d f same at e =
     ap (named_in (of_open.tree_of s.tree x now a f) name) (at ∙ ap (λ (d : Node). Some d.number) one) ∙ leads
 claim_leads s x now a Fh d f same at e = by_creates (of_open.makes a.openhow).creates e
   where
-    by_creates : (b : Bool) → cond b (Err Inval) (open_parts.by_handle x a d) ≡ Ok f → x.current ≡ Some (of_open.file_of s.tree f)
+    by_creates : (b : Bool) → cond b (Err Inval) (open_parts.by_handle s.tree x a d) ≡ Ok f → x.current ≡ Some (of_open.file_of s.tree f)
     by_creates true e = absurd cc
     by_creates false e =
-        (let is = mapped_ok (λ g. There g.number g false) (checked (Ok d) (of_open.there_checks x a)) f e in
-        let one : d ≡ is.from = ok_is refl (checked_ok (Ok d) (of_open.there_checks x a) is.from is.is).0 in
+        (let is = mapped_ok (λ g. There g.number g false) (checked (Ok d) (of_open.there_checks s.tree x a)) f e in
+        let one : d ≡ is.from = ok_is refl (checked_ok (Ok d) (of_open.there_checks s.tree x a) is.from is.is).0 in
         at ∙ (ap (λ (d : Node). Some d.number) one ∙ ap (λ (f : Found). Some (of_open.file_of s.tree f)) is.to))
 claim_leads s x now a claim d f same at e = absurd cc
 

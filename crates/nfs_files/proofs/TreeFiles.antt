@@ -5,7 +5,7 @@ use Rattle.std.specs.{Prelude.{◌==◌, ◌||◌, filter, is_some}, Option.opti
 use Rattle.nfs_xdr.specs.{Tables.In, declared.time.Time.Time}
 use Rattle.nfs_xdr.proofs.{Lists.{any_in, in_filter, length_filter}, Tables.IsRising-filter}
 use Rattle.nfs_tree.specs.{declared.stored.Stored.Stored, declared.row.Row.Row, Object.is_directory}
-use Rattle.nfs_tree.specs.{declared.limits.Limits.Limits, Limits.bounded}
+use Rattle.nfs_tree.specs.{declared.limits.Limits.Limits, declared.profile.Profile.Profile, Limits.bounded}
 use Rattle.nfs_tree.proofs.{Objects.IsSized, Trees.bounded_is}
 use Rattle.nfs_tree.specs.{Files.{root, has_row, stored_in, is_there, is_directory_at}, Create.new_tree, TreeInvariants.IsTree}
 use Rattle.nfs_tree.proofs.RowsKept.{rows_same}
@@ -74,8 +74,8 @@ tree_used s is all =
           (λ r there. ap is_some (same r.object (names r there)));
     }
 
-pub tree_new : (mode : ℕ) (now : Time) (limits : Limits) → IsTree (new_tree mode now limits)
-tree_new mode now limits = record {
+pub tree_new : (mode : ℕ) (now : Time) (limits : Limits) (profile : Profile) → IsTree (new_tree mode now limits profile)
+tree_new mode now limits profile = record {
   limits = bounded_is limits;
   objects = omega arith;
   cookies = omega arith;

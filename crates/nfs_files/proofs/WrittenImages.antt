@@ -82,20 +82,20 @@ over_there b img offset text from below value = record {
   ];
 }
 
-pub lasts_written : (b : Byte) (t : Files) (n offset : ℕ) (text : List ℕ) (now : Time) → (n ≡ b.file → offset ≤ b.place → b.place < offset + length text → ⊥)
-    → Lasts b t → Lasts b (with_written t n offset text now)
-lasts_written b t n offset text now beside is =
+pub lasts_written : (b : Byte) (t : Files) (n offset : ℕ) (text : List ℕ) (sets : Sets) (now : Time) → (n ≡ b.file → offset ≤ b.place → b.place < offset + length text → ⊥)
+    → Lasts b t → Lasts b (with_written t n offset text sets now)
+lasts_written b t n offset text sets now beside is =
     let i = imaged b t is in
-    lasts_of b (if n == b.file then over i.img offset text else i.img) (with_written t n offset text now)
+    lasts_of b (if n == b.file then over i.img offset text else i.img) (with_written t n offset text sets now)
     (bears_if b (n == b.file) (over i.img offset text) i.img (λ same. over_beside b i.img offset text (beside (eqb-true n b.file same)) i.bears) i.bears)
-    (has_written b.file i.img t n offset text now i.has)
+    (has_written b.file i.img t n offset text sets now i.has)
 
-pub lasts_over : (b : Byte) (t : Files) (offset : ℕ) (text : List ℕ) (now : Time) → b.file ≤ t.last_object → offset ≤ b.place → b.place < offset + length text
-    → get_or text (b.place - offset) 0 ≡ b.value → Lasts b (with_written t b.file offset text now)
-lasts_over b t offset text now given from below value =
+pub lasts_over : (b : Byte) (t : Files) (offset : ℕ) (text : List ℕ) (sets : Sets) (now : Time) → b.file ≤ t.last_object → offset ≤ b.place → b.place < offset + length text
+    → get_or text (b.place - offset) 0 ≡ b.value → Lasts b (with_written t b.file offset text sets now)
+lasts_over b t offset text sets now given from below value =
     let img = own (data_at t b.file) in
-    lasts_of b (if b.file == b.file then over img offset text else img) (with_written t b.file offset text now)
-    (rw (eq-eqb b.file b.file refl) (over_there b img offset text from below value)) (has_written b.file img t b.file offset text now (has_own b.file t given))
+    lasts_of b (if b.file == b.file then over img offset text else img) (with_written t b.file offset text sets now)
+    (rw (eq-eqb b.file b.file refl) (over_there b img offset text from below value)) (has_written b.file img t b.file offset text sets now (has_own b.file t given))
 
 -- a change of size
 cut_below : (b : Byte) (img : Image) (size : ℕ) → b.place < size → Bears b img → Bears b (cut_to img (Some size))

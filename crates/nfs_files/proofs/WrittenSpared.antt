@@ -77,11 +77,11 @@ asks_by how e = absurd (false≢true e)
 effect_lasts : (b : Byte) (s : State) (x : Context) (op : Op) (r : Res) (t : State) (e : Effect) → Spares b s x (Operation op) (spell_result r)
     → Caused s x op r t e → Lasts b t.tree → Lasts b (behind t e).tree
 effect_lasts b s x op r t (Names e) spares caused is = names_last b t e is
-effect_lasts b s x op r t (Writes n offset text now) spares caused is =
+effect_lasts b s x op r t (Writes n offset text sets now) spares caused is =
     let c = caused.cause in
     let a = c.asked in
     let spelled = write_spelled (of_write.write_ok s a) in
-    lasts_written b t.tree n offset text now (λ at from below. spares.writes (record {
+    lasts_written b t.tree n offset text sets now (λ at from below. spares.writes (record {
       asked = a;
       is = ap Operation c.is;
       at = current_number s x c.file (writable_at s x a.stateid c.file c.found) ∙ ap (λ n. Some n) (c.number ∙ at);
@@ -95,7 +95,7 @@ effect_lasts b s x op r t (Writes n offset text now) spares caused is =
     })) is
 effect_lasts b s x op r t (Resizes n size sets now) spares caused is = lasts_resized b t.tree n size sets now (λ at. by_cause caused.cause at) is
   where
-    by_cause : SetsOf s x op r n (Some size) ⊎ OpensEmpty s x op r n size → n ≡ b.file → b.place < size
+    by_cause : SetsOf s x op r n (Some size) ⊎ OpensEmpty s x op r n size sets → n ≡ b.file → b.place < size
     by_cause (inl c) at = elim (cases_Bool (ltb b.place size)) [
       | inl below ↦ ltb-true b.place size below
       | inr behind ↦ (let setting = setting_is s x c.asked c.setting c.found in

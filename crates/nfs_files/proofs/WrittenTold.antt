@@ -17,7 +17,7 @@ use Rattle.nfs_tree.specs.{Files.{root, is_there, data_at}, TreeInvariants.IsTre
 use Rattle.nfs_tree.proofs.Objects.{stored_within}
 use Rattle.nfs_names.specs.{declared.context.Context.Context, declared.node.Node.Node, State.State, Outcome.{Outcome, checked}, Checks.current}
 use Rattle.nfs_names.proofs.{Found.{checked_ok, current_is}, Ones.by_delay}
-use Rattle.nfs_files.specs.{Bytes.{file_checks, reading, may_use}, Written.{Byte, StandsIn, Lasts, Writes, bytes_in, Reads, GivesIt}}
+use Rattle.nfs_files.specs.{Bytes.{file_checks, reading, may_use, behind_sets}, Written.{Byte, StandsIn, Lasts, Writes, bytes_in, Reads, GivesIt}}
 use Rattle.nfs_files.specs.Parts.{readable, writable}
 use Rattle.nfs_files.proofs.{Outcomes.{one_or_delay, comes_to}, Passing.if_passed_ok, ReadBytes.few_given, WrittenImages.lasts_over}
 use Rattle.nfs_files.proofs.WrittenOps.{by_found, current_number, writable_at, number_back, write_spelled, few_written}
@@ -74,11 +74,11 @@ there_given s x d tree e =
     let within = stored_within root (s.tree.last_object + 1) s.tree.objects d.number tree.objects (current_is s x d e).there in
     let high = within.1 in omega arith
 
-written_lasts : (b : Byte) (s : State) (now : Time) (w : Write) (d : Node) → d.number ≡ b.file → b.file ≤ s.tree.last_object → has_bytes w.bytes ≡ true
+written_lasts : (b : Byte) (s : State) (x : Context) (now : Time) (w : Write) (d : Node) → d.number ≡ b.file → b.file ≤ s.tree.last_object → has_bytes w.bytes ≡ true
     → w.offset ≤ b.place → b.place < w.offset + length w.bytes → get_or w.bytes (b.place - w.offset) 0 ≡ b.value
-    → Lasts b (of_write.with_bytes s.tree w d now)
-written_lasts b s now w d same given some from below value =
-    rw (some, same) (lasts_over b s.tree w.offset w.bytes now given from below value)
+    → Lasts b (of_write.with_bytes s.tree x w d now)
+written_lasts b s x now w d same given some from below value =
+    rw (some, same) (lasts_over b s.tree w.offset w.bytes (behind_sets s.tree x d) now given from below value)
 
 write_told : (b : Byte) (s : State) (x : Context) (now : Time) (w : Write) (d : Node) (count more : List ℕ) → IsTree s.tree
     → writable s x w.stateid (current s x) ≡ Ok d → first_fault (of_write.last_checks s w d) ≡ None
@@ -89,7 +89,7 @@ write_told b s x now w d count more tree e none told =
     let spelled = write_spelled (of_write.write_ok s w) in
     let counts = behind_head Num.Write (number (length w.bytes)) spelled.0 count more (length_number (length w.bytes)) told.long (sym spelled.1 ∙ told.answers) in
     let few = few_told s w d b.place count none counts.0 told.from told.below in
-    written_lasts b s now w d same (subst (λ n. n ≤ s.tree.last_object) same (there_given s x d tree at)) few.0 told.from few.1 told.value
+    written_lasts b s x now w d same (subst (λ n. n ≤ s.tree.last_object) same (there_given s x d tree at)) few.0 told.from few.1 told.value
 
 write_leaves : (b : Byte) (refused : Bool) (s : State) (x : Context) (now : Time) (w : Write) (count more : List ℕ) → IsTree s.tree
     → LeavesTold b x w count more (one_or_delay refused s x now (Op.Write w))

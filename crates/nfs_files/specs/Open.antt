@@ -10,16 +10,16 @@ use Rattle.nfs_compound.specs.{declared.open_args.CreateHow.TheVariants.{Uncheck
 use Rattle.nfs_compound.specs.declared.open_args.OpenClaim.TheVariants.{Null, Previous, Fh}
 use Rattle.nfs_results.specs.declared.res.ChangeInfo.{ChangeInfo}
 use Rattle.nfs_results.specs.declared.res.Res.TheVariants as Res
-use Rattle.nfs_tree.specs.{declared.sets.Sets.Sets, Object.no_sets}
+use Rattle.nfs_tree.specs.{declared.sets.Sets.Sets, declared.profile.Profile.Profile, declared.profile.Profile.TheVariants.{Exact, Unix}}
 use Rattle.nfs_tree.specs.{Files.{Files, object_named, can_change, raised, unraised}, Create.{New, new_file, with_new}, Bytes.with_resized}
-use Rattle.nfs_attrs.specs.{declared.wanted.Wanted.Wanted, Mask.{mask_of, trimmed_words}, Setting.make_checks, Permissions.{execute, write}}
+use Rattle.nfs_attrs.specs.{declared.wanted.Wanted.Wanted, Mask.{mask_of, trimmed_words}, SetId.made_in, Setting.make_checks, Permissions.{execute, write}}
 use Rattle.nfs_opens.specs.{declared.share.Share.Share, Share.{neither, share_of}, StateId.last_number, Table.{Asked, clashes_with}, Opening.{own_open, opens}}
 use Rattle.nfs_opens.specs.Steps.{require, in_order, ◌>>=◌, ◌>>◌}
 use Rattle.nfs_names.specs.{declared.context.Context.Context, declared.node.Node.Node, declared.making.Making.Making, State.State}
 use Rattle.nfs_names.specs.{Outcome.{Outcome, or_refusal}, Checks.{node_at, current, no_directory, no_access, name_checks}}
 use Rattle.nfs_names.specs.Create.{attributes_in, change_info}
 use Rattle.nfs_names.specs.Create as create
-use Rattle.nfs_files.specs.{declared.opening.Found.Found, declared.opening.Found.TheVariants.{There, Absent}, StateIds.wire_id, Bytes.{file_checks, want_of}}
+use Rattle.nfs_files.specs.{declared.opening.Found.Found, declared.opening.Found.TheVariants.{There, Absent}, StateIds.wire_id, Bytes.{file_checks, no_use, behind_sets}}
 
 -- The two low bits of the access asked for: those above them wish for delegations, and none is given.
 abbrev pub access_of : Open → Share
@@ -57,11 +57,11 @@ name_of (Null file) = file
 name_of claim = []
 
 -- whether an object that is there may be opened
-abbrev pub there_checks : Context → Open → Node → List (Bool × Status)
-there_checks x o f =
+abbrev pub there_checks : Files → Context → Open → Node → List (Bool × Status)
+there_checks t x o f =
     (not ((makes o.openhow).opens f.object.verifier), Exist)
     ∷ file_checks f
-    ++ no_access x f (want_of (access_of o))
+    ++ no_use t x f (access_of o)
     ∷ []
 
 -- Size 0 cuts a file that is opened for writing, and nothing else is set of a file that is there.
@@ -75,7 +75,7 @@ found_by s x o m None = do
   Ok (Absent m)
 found_by s x o m (Some n) = do
   f ← node_at s (Some n)
-  in_order (there_checks x o f)
+  in_order (there_checks s.tree x o f)
   Ok (There m.place.number f (cuts o m.wanted))
 
 -- The claims (open_claim4): the file of a filehandle is not made, nothing is there to be reclaimed, and nothing is delegated.
@@ -86,7 +86,7 @@ by_claim s x o (Null name) d = do
   found_by s x o (record { place = d; wanted = wanted }) (object_named s.tree d.number name)
 by_claim s x o Fh d = do
   require (not (makes o.openhow).creates) Inval
-  in_order (there_checks x o d)
+  in_order (there_checks s.tree x o d)
   Ok (There d.number d false)
 by_claim s x o (Previous type) d = Err NoGrace
 by_claim s x o claim d = Err NotSupp
@@ -106,6 +106,10 @@ new_of o wanted = new_file (unwrap_or wanted.size 0) (makes o.openhow).verifier
 abbrev pub sets_of : Context → Time → Open → Wanted → Sets
 sets_of x now o wanted = record (create.sets_of x now (new_of o wanted) wanted) { mode = Some (unwrap_or wanted.mode 420) }
 
+-- the same of a file that is made in a directory, by the profile
+abbrev pub made_sets : Files → Context → Time → Open → Making → Sets
+made_sets t x now o m = sets_of x now o (made_in t.profile m.place.object.mode m.place.object.group x.who false 420 m.wanted)
+
 -- last the share reservations, whether there is room and what changes can be counted, and whether a number is left for a new open
 abbrev pub room_checks : Files → Found → List (Bool × Status)
 room_checks t (There place f cut) = (cut && not (can_change t f.number), ServerFault) ∷ []
@@ -119,8 +123,8 @@ last_checks s x o found =
     ∷ []
 
 abbrev pub tree_of : Files → Context → Time → Open → Found → Files
-tree_of t x now o (There place f cut) = if cut then with_resized t f.number 0 no_sets now else t
-tree_of t x now o (Absent m) = with_new t m.place.number (name_of o.claim) (new_of o m.wanted) (sets_of x now o m.wanted) now
+tree_of t x now o (There place f cut) = if cut then with_resized t f.number 0 (behind_sets t x f) now else t
+tree_of t x now o (Absent m) = with_new t m.place.number (name_of o.claim) (new_of o m.wanted) (made_sets t x now o m) now
 
 abbrev pub info_of : Files → Found → ChangeInfo
 info_of t (There place f cut) = change_info (unraised t place)
@@ -131,12 +135,18 @@ abbrev pub set_of : Open → Found → List ℕ
 set_of o (There place f cut) = if cut then 0x10 ∷ [] else []
 set_of o (Absent m) = trimmed_words (mask_of (makes o.openhow).attributes.attrmask)
 
+-- OPEN4_RESULT_LOCKTYPE_POSIX (4), and in `exact` OPEN4_RESULT_PRESERVE_UNLINKED (8). In `unix` nothing is promised of a file without a name, which goes with
+-- the opens of a lease that has run out: so a client keeps a name of its own for it.
+abbrev pub result_flags : Profile → ℕ
+result_flags Exact = 12
+result_flags Unix = 4
+
 abbrev pub opened : State → Context → Time → Open → Found → Outcome
 opened s x now o found =
     let file = file_of s.tree found in
     let did = opens s.opens (asking x o file) in
     record {
-      result = Res.Open (record { stateid = wire_id did.id; cinfo = info_of s.tree found; attrset = set_of o found });
+      result = Res.Open (record { stateid = wire_id did.id; cinfo = info_of s.tree found; rflags = result_flags s.tree.profile; attrset = set_of o found });
       state = record s { tree = tree_of s.tree x now o found; opens = did.after };
       context = record x { current = Some file; stateid = wire_id did.id };
     }

@@ -29,7 +29,7 @@ absent_checks x o m = (not (makes o.openhow).creates, NoEnt) ∷ no_access x m.p
 -- what is to be opened
 abbrev pub found_by : State → Context → Open → Making → Option ℕ → Result Found Status
 found_by s x o m None = mapped Absent (checked (Ok m) (absent_checks x o))
-found_by s x o m (Some n) = mapped (λ f. There m.place.number f (cuts o m.wanted)) (checked (node_at s (Some n)) (there_checks x o))
+found_by s x o m (Some n) = mapped (λ f. There m.place.number f (cuts o m.wanted)) (checked (node_at s (Some n)) (there_checks s.tree x o))
 
 abbrev pub by_name : State → Context → Open → List ℕ → Node → Result Found Status
 by_name s x o name d = do
@@ -37,12 +37,12 @@ by_name s x o name d = do
   wanted ← attributes_in (makes o.openhow).attributes
   found_by s x o (record { place = place; wanted = wanted }) (object_named s.tree place.number name)
 
-abbrev pub by_handle : Context → Open → Node → Result Found Status
-by_handle x o d = mapped (λ f. There f.number f false) (checked (Ok d) (there_checks x o))
+abbrev pub by_handle : Files → Context → Open → Node → Result Found Status
+by_handle t x o d = mapped (λ f. There f.number f false) (checked (Ok d) (there_checks t x o))
 
 abbrev pub by_claim : State → Context → Open → OpenClaim → Node → Result Found Status
 by_claim s x o (Null name) d = by_name s x o name d
-by_claim s x o Fh d = if (makes o.openhow).creates then Err Inval else by_handle x o d
+by_claim s x o Fh d = if (makes o.openhow).creates then Err Inval else by_handle s.tree x o d
 by_claim s x o (Previous type) d = Err NoGrace
 by_claim s x o claim d = Err NotSupp
 

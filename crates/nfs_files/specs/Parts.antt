@@ -31,7 +31,7 @@ writable s x given found = if_passed (checked found file_checks) (may_use s x wr
 
 -- WRITE
 abbrev pub was_written : State → Context → Time → Write → Node → Outcome
-was_written s x now w d = record { result = Res.Write (write_ok s w); state = with_tree s (with_bytes s.tree w d now); context = x }
+was_written s x now w d = record { result = Res.Write (write_ok s w); state = with_tree s (with_bytes s.tree x w d now); context = x }
 
 -- the file, and the open or lock state that the argument stands for
 unfoldable pub target : State → Context → CurrentSeqid → Stateid → Result Target Status

@@ -38,7 +38,7 @@ last_checks s m =
 abbrev pub was_set : State → Context → Time → SetAttr → Setting → Outcome
 was_set s x now a m = record {
   result = Res.SetAttr Nfs4Ok (trimmed_words (mask_of a.obj_attributes.attrmask));
-  state = with_tree s (with_set s.tree m.node.number now m.wanted m.wanted.size);
+  state = with_tree s (with_set s.tree x m.node now m.wanted m.wanted.size);
   context = x;
 }
 
@@ -47,5 +47,5 @@ abbrev pub tree_fault : Files → ℕ → Wanted → Option ℕ → Option TreeF
 tree_fault t n wanted (Some size) = resize_fault t n size
 tree_fault t n wanted None = if gives_some wanted then set_fault t n else None
 
-abbrev pub changed : Files → Time → Setting → Did (Unit {0})
-changed t now m = does_unless t (tree_fault t m.node.number m.wanted m.wanted.size) tt (with_set t m.node.number now m.wanted m.wanted.size)
+abbrev pub changed : Files → Context → Time → Setting → Did (Unit {0})
+changed t x now m = does_unless t (tree_fault t m.node.number m.wanted m.wanted.size) tt (with_set t x m.node now m.wanted m.wanted.size)

@@ -8,7 +8,7 @@ use Rattle.nfs_results.specs.declared.res.Res.TheVariants as Res
 use Rattle.nfs_tree.specs.{Files.{Files, can_change}, Bytes.{has_bytes, is_too_long, with_written}}
 use Rattle.nfs_opens.specs.Steps.{in_order, ◌>>=◌, ◌>>◌}
 use Rattle.nfs_names.specs.{declared.context.Context.Context, declared.node.Node.Node, State.{State, with_tree}, Outcome.{Outcome, or_refusal}}
-use Rattle.nfs_files.specs.{Bytes.{writing, may_use}, Commit.write_verifier, Target.the_file}
+use Rattle.nfs_files.specs.{Bytes.{writing, may_use, behind_sets}, Commit.write_verifier, Target.the_file}
 
 -- no bytes change nothing, at whatever offset
 abbrev pub last_checks : State → Write → Node → List (Bool × Status)
@@ -21,12 +21,12 @@ last_checks s w d =
 abbrev pub write_ok : State → Write → WriteOk
 write_ok s w = record { count = length w.bytes; committed = FileSync; writeverf = write_verifier s }
 
-abbrev pub with_bytes : Files → Write → Node → Time → Files
-with_bytes t w d now = if has_bytes w.bytes then with_written t d.number w.offset w.bytes now else t
+abbrev pub with_bytes : Files → Context → Write → Node → Time → Files
+with_bytes t x w d now = if has_bytes w.bytes then with_written t d.number w.offset w.bytes (behind_sets t x d) now else t
 
 unfoldable pub write : State → Context → Time → Write → Outcome
 write s x now w = or_refusal s x Num.Write (do
   d ← the_file s x
   may_use s x writing w.stateid d
   in_order (last_checks s w d)
-  Ok (record { result = Res.Write (write_ok s w); state = with_tree s (with_bytes s.tree w d now); context = x }))
+  Ok (record { result = Res.Write (write_ok s w); state = with_tree s (with_bytes s.tree x w d now); context = x }))

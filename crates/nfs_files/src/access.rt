@@ -7,10 +7,11 @@ ghost use Rattle.nfs_files.specs.Parts as parts;
 ghost use Rattle.nfs_files.specs.Bytes as of_bytes;
 
 use crate::stateids::meant;
-use nfs_attrs::Want;
+use nfs_attrs::{Want, may_use_bytes, mode_behind};
 use nfs_compound::Stateid;
-use nfs_names::{Context, Node, Store, is_link, permits};
+use nfs_names::{Context, Node, Store, is_link};
 use nfs_opens::{CurrentSeqid, Seat, Share, Sort};
+use nfs_tree::{Sets, Tree};
 use nfs_xdr::Status;
 
 const READING: Share = Share {
@@ -24,13 +25,32 @@ const WRITING: Share = Share {
 };
 
 /// The permission bits that an access wants.
-pub(crate) fn want_of(access: Share) -> Want
+fn want_of(access: Share) -> Want
     ensures { result ≡ of_bytes.want_of access }
 {
     Want {
         read: access.reads,
         write: access.writes,
         execute: false,
+    }
+}
+
+/// Whether the permission bits let the caller use a file's bytes so, by the profile.
+#[tactic(auto, unfolding(crate::specs::Bytes::lets_use))]
+pub(crate) fn lets_use(tree: &Tree, context: &Context<'_>, node: &Node, access: Share) -> bool
+    ensures { result ≡ of_bytes.lets_use tree.now context.now node.now access }
+{
+    let want = want_of(access);
+    may_use_bytes(tree.profile(), &node.object, context.who.who(), want)
+}
+
+/// What a change of a file's bytes sets beside them.
+pub(crate) fn behind_sets(tree: &Tree, context: &Context<'_>, node: &Node) -> Sets
+    ensures { result ≡ of_bytes.behind_sets tree.now context.now node.now }
+{
+    Sets {
+        mode: mode_behind(tree.profile(), &node.object, context.who.who()),
+        ..Sets::none()
     }
 }
 
@@ -78,7 +98,7 @@ fn judge_seat(
             Err(Status::Locked)
         }
         _ => {
-            if !permits(context, node, want_of(wanted)) {
+            if !lets_use(&store.tree, context, node, wanted) {
                 return Err(Status::Access);
             }
             Ok(seat)

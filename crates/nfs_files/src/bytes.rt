@@ -19,7 +19,7 @@ ghost use Rattle.nfs_files.specs.Commit as of_commit;
 ghost use Rattle.nfs_files.specs.Read as of_read;
 ghost use Rattle.nfs_files.specs.Write as of_write;
 
-use crate::access::{judge_file, readable, writable};
+use crate::access::{behind_sets, judge_file, readable, writable};
 use nfs_compound::{OpNum, Read, StableHow, Write};
 use nfs_names::{Context, Node, Store, current, put_refusal, refuse, status_of};
 use nfs_results::{Res, WriteOk, given, write_done_head};
@@ -86,13 +86,14 @@ pub(crate) fn write_bytes(
         result (state_of store.new) context.now }
 {
     match to_write(store, context, asked) {
-        Ok(node) => match store
-            .tree
-            .write(alloc, node.number, asked.offset, asked.bytes.bytes(), now)
-        {
-            Ok(()) => Res::Write(write_ok(store, asked)),
-            Err(fault) => refuse(OpNum::Write, status_of(fault)),
-        },
+        Ok(node) => {
+            let sets = behind_sets(&store.tree, context, &node);
+            let offset = asked.offset;
+            match store.tree.write(alloc, node.number, offset, asked.bytes.bytes(), &sets, now) {
+                Ok(()) => Res::Write(write_ok(store, asked)),
+                Err(fault) => refuse(OpNum::Write, status_of(fault)),
+            }
+        }
         Err(status) => refuse(OpNum::Write, status),
     }
 }

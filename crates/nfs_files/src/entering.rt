@@ -14,19 +14,28 @@ ghost use Rattle.nfs_names.specs.Create as of_create;
 ghost use Rattle.nfs_files.specs.Open as of_open;
 ghost use Rattle.nfs_files.specs.OpenParts as part;
 
+use crate::access::behind_sets;
 use crate::opening::{Found, access_of, attributes_in, deny_of, judge, name_of, verifier_of};
 use crate::stateids::wire_id;
-use nfs_attrs::{Wanted, attribute};
+use nfs_attrs::{Wanted, attribute, made_in};
 use nfs_compound::{OpNum, Open};
-use nfs_names::{Context, Store, attr_set, change_info, mask_in, refuse, status_of, time_of};
+use nfs_names::{
+    Context, Making, Store, attr_set, change_info, mask_in, refuse, status_of, time_of,
+};
 use nfs_opens::Ask;
 use nfs_results::{AttrSet, ChangeInfo, OpenOk, Res};
-use nfs_tree::{Change, New, Sets, Tree, TreeFault};
+use nfs_tree::{Change, New, Profile, Sets, Tree, TreeFault};
 use nfs_xdr::{Status, Time};
 use std::alloc::Global;
 
 /// The first word of a mask that has the attribute `size` alone.
 const SIZE: u32 = 1 << attribute::SIZE;
+
+/// OPEN4_RESULT_LOCKTYPE_POSIX.
+const LOCKTYPE_POSIX: u32 = 4;
+
+/// OPEN4_RESULT_PRESERVE_UNLINKED.
+const PRESERVE_UNLINKED: u32 = 8;
 
 /// Whether the object is there and can change once more.
 fn can_change(tree: &Tree, number: u64) -> bool
@@ -176,6 +185,32 @@ fn sets_of(context: &Context<'_>, now: Time, asked: &Open<'_>, wanted: &Wanted) 
     }
 }
 
+/// The same of a file that is made in a directory, by the profile.
+fn made_sets(
+    tree: &Tree,
+    context: &Context<'_>,
+    now: Time,
+    asked: &Open<'_>,
+    making: &Making,
+) -> Sets
+    ensures { result ≡ of_open.made_sets tree.now context.now now asked.now making.now }
+{
+    let (place, who) = (&making.place.object, context.who.who());
+    let wanted = made_in(tree.profile(), place, who, false, 0o644, making.wanted);
+    sets_of(context, now, asked, &wanted)
+}
+
+/// The flags of an open.
+fn result_flags(profile: Profile) -> u32
+    ensures { result ≡ of_open.result_flags profile }
+{
+    if profile.is_unix() {
+        LOCKTYPE_POSIX
+    } else {
+        LOCKTYPE_POSIX | PRESERVE_UNLINKED
+    }
+}
+
 /// The attributes that are set.
 fn set_of(asked: &Open<'_>, found: &Found) -> AttrSet
     ensures { result ≡ of_open.set_of asked.now found.now }
@@ -201,14 +236,15 @@ fn enter(
     match found {
         Found::There { file, cut, .. } => {
             if *cut {
-                tree.resize(file.number, 0, &Sets::none(), now)?;
+                let sets = behind_sets(tree, context, file);
+                tree.resize(file.number, 0, &sets, now)?;
             }
             Ok(file.number)
         }
         Found::Absent(making) => {
             let name = name_of(&asked.claim);
             let new = new_file(asked, &making.wanted);
-            let sets = sets_of(context, now, asked, &making.wanted);
+            let sets = made_sets(tree, context, now, asked, making);
             let created = tree.create(alloc, making.place.number, name, &new, &sets, now)?;
             Ok(created.number)
         }
@@ -243,6 +279,7 @@ fn open_found(
     Ok(OpenOk {
         stateid,
         cinfo,
+        rflags: result_flags(store.tree.profile()),
         attrset: set_of(asked, found),
     })
 }

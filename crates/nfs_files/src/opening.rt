@@ -6,11 +6,12 @@ ghost use Rattle.nfs_names.specs.Outcome.{checked};
 ghost use Rattle.nfs_files.specs.OpenParts as part;
 ghost use Rattle.nfs_files.specs.Open as of_open;
 
-use crate::access::{judge_file, want_of};
+use crate::access::{judge_file, lets_use};
 use nfs_attrs::{Want, Wanted, may_make};
 use nfs_compound::{Attributes, Bitmap, CreateHow, Lent, Open, OpenClaim, OpenHow};
 use nfs_names::{Context, Making, Node, Store, current, judge_name, node_at, permits, wanted_of};
 use nfs_opens::Share;
+use nfs_tree::Tree;
 use nfs_xdr::Status;
 
 /// What OPEN comes upon.
@@ -182,14 +183,19 @@ fn judge_absent(context: &Context<'_>, asked: &Open<'_>, making: Making) -> Resu
 }
 
 /// The object that is there, if it may be opened.
-fn judge_there(context: &Context<'_>, asked: &Open<'_>, file: Node) -> Result<Node, Status>
-    ensures { result ≡ checked (Ok file) (of_open.there_checks context.now asked.now) }
+fn judge_there(
+    tree: &Tree,
+    context: &Context<'_>,
+    asked: &Open<'_>,
+    file: Node,
+) -> Result<Node, Status>
+    ensures { result ≡ checked (Ok file) (of_open.there_checks tree.now context.now asked.now) }
 {
     if !opens(&asked.openhow, file.object.verifier) {
         return Err(Status::Exist);
     }
     let file = judge_file(file)?;
-    if !permits(context, &file, want_of(access_of(asked))) {
+    if !lets_use(tree, context, &file, access_of(asked)) {
         return Err(Status::Access);
     }
     Ok(file)
@@ -214,7 +220,7 @@ fn found_by(
     match number {
         Some(number) => {
             let file = node_at(store, Some(number))?;
-            let file = judge_there(context, asked, file)?;
+            let file = judge_there(&store.tree, context, asked, file)?;
             Ok(Found::There {
                 place: making.place.number,
                 file,
@@ -245,10 +251,15 @@ fn by_name(
 }
 
 /// The current filehandle's file itself.
-fn by_handle(context: &Context<'_>, asked: &Open<'_>, node: Node) -> Result<Found, Status>
-    ensures { result ≡ part.by_handle context.now asked.now node }
+fn by_handle(
+    tree: &Tree,
+    context: &Context<'_>,
+    asked: &Open<'_>,
+    node: Node,
+) -> Result<Found, Status>
+    ensures { result ≡ part.by_handle tree.now context.now asked.now node }
 {
-    let file = judge_there(context, asked, node)?;
+    let file = judge_there(tree, context, asked, node)?;
     Ok(Found::There {
         place: file.number,
         file,
@@ -272,7 +283,7 @@ fn by_claim(
             if creates(&asked.openhow) {
                 return Err(Status::Inval);
             }
-            by_handle(context, asked, node)
+            by_handle(&store.tree, context, asked, node)
         }
         OpenClaim::Previous { .. } => Err(Status::NoGrace),
         OpenClaim::DelegateCur { .. } => Err(Status::NotSupp),

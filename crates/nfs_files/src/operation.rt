@@ -3,7 +3,7 @@
 ghost use Rattle.std.specs.Prelude.{◌+◌, ◌≤◌, ◌<◌, ◌^◌, length};
 ghost use Rattle.nfs_compound.specs.declared.op.Item.TheVariants.{Operation};
 ghost use Rattle.nfs_results.specs.Largest.{largest};
-ghost use Rattle.nfs_names.specs.State.{state_of, moment};
+ghost use Rattle.nfs_names.specs.State.{state_of, time_at};
 ghost use Rattle.nfs_names.specs.StoreInvariants.{IsStore};
 ghost use Rattle.nfs_names.specs.Comes.{OpComes};
 ghost use Rattle.nfs_files.specs.Operation.{comes_to};
@@ -15,7 +15,7 @@ use crate::locking::{lock, lock_t, lock_u};
 use crate::setting::set_attr;
 use crate::stateids::{free_stateid, test_stateid};
 use nfs_compound::Op;
-use nfs_names::{Context, Store, moment};
+use nfs_names::{Context, Store, time_at};
 use nfs_results::write;
 use nfs_xdr::{Sheet, Status};
 use std::alloc::Global;
@@ -36,13 +36,13 @@ pub fn file_op(
     requires moment { now < 2 ^ 63 }
     requires store { IsStore (state_of store.old) }
     requires room { length out.old.bytes + largest (Operation op.now) ≤ out.old.room }
-    ensures comes { OpComes comes_to (state_of store.old) context.old (moment now) op.now out.old out.new result (state_of store.new) context.new }
+    ensures comes { OpComes comes_to (state_of store.old) context.old (time_at (state_of store.old) now) op.now out.old out.new result (state_of store.new) context.new }
     ensures store { IsStore (state_of store.new) }
     ensures within { length out.new.bytes ≤ length out.old.bytes + largest (Operation op.now) }
 {
     store.tree.kept();
     store.kept();
-    let now = moment(now);
+    let now = time_at(store, now);
     let res = match op {
         Op::Close(asked) => close(store, context, asked),
         Op::Commit(_) => commit(store, context),

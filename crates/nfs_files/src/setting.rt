@@ -8,7 +8,7 @@ ghost use Rattle.nfs_files.specs.SetAttr as of_set_attr;
 ghost use Rattle.nfs_files.specs.SetAttrParts as part;
 
 use crate::access::writable;
-use nfs_attrs::{Wanted, may_set};
+use nfs_attrs::{Wanted, may_set, settled};
 use nfs_compound::{OpNum, SetAttr, Stateid};
 use nfs_names::{
     Context, Node, Store, attr_set, current, mask_in, refuse, status_of, time_of, wanted_of,
@@ -74,6 +74,16 @@ fn sets_of(now: Time, wanted: &Wanted) -> Sets
     }
 }
 
+/// What is set of an object, by the profile.
+fn settled_sets(tree: &Tree, context: &Context<'_>, setting: &Setting, now: Time) -> Sets
+    ensures { result ≡ of_set_attr.settled_sets tree.now context.now setting.now.node now setting.now.wanted }
+{
+    let who = context.who.who();
+    let object = &setting.node.object;
+    let wanted = settled(tree.profile(), object, who, setting.wanted);
+    sets_of(now, &wanted)
+}
+
 /// Whether an attribute is given.
 fn gives_some(wanted: &Wanted) -> bool
     ensures { result ≡ of_set_attr.gives_some wanted.now }
@@ -87,11 +97,16 @@ fn gives_some(wanted: &Wanted) -> bool
 }
 
 /// Sets what is wanted of an object. The tree's own faults are the last checks.
-fn change(tree: &mut Tree, setting: &Setting, now: Time) -> Result<(), TreeFault>
-    ensures answer { result ≡ (part.changed tree.old now setting.now).answer }
-    ensures after { tree.new ≡ (part.changed tree.old now setting.now).after }
+fn change(
+    tree: &mut Tree,
+    context: &Context<'_>,
+    setting: &Setting,
+    now: Time,
+) -> Result<(), TreeFault>
+    ensures answer { result ≡ (part.changed tree.old context.now now setting.now).answer }
+    ensures after { tree.new ≡ (part.changed tree.old context.now now setting.now).after }
 {
-    let sets = sets_of(now, &setting.wanted);
+    let sets = settled_sets(tree, context, setting, now);
     match setting.wanted.size {
         Some(size) => tree.resize(setting.node.number, size, &sets, now),
         None => {
@@ -113,7 +128,7 @@ pub(crate) fn set_attr(
     ensures { outcome_of result (state_of store.new) context.now ≡ of_set_attr.set_attr (state_of store.old) context.now now asked.now }
 {
     match judge(store, context, asked) {
-        Ok(setting) => match change(&mut store.tree, &setting, now) {
+        Ok(setting) => match change(&mut store.tree, context, &setting, now) {
             Ok(()) => {
                 let given = mask_in(&asked.obj_attributes.attrmask);
                 Res::SetAttr {

@@ -70,6 +70,13 @@ impl Leases {
         self.renewals.pop(&client);
     }
 
+    /// The moment of the client's last renewal, if it has a lease.
+    pub fn renewed(&self, client: u64) -> Option<u64>
+        ensures { result ≡ leases_of self.now client }
+    {
+        self.renewals.peek(&client).copied()
+    }
+
     /// A client whose lease has run out: `now` minus its last renewal is greater than `lease`, in
     /// the unit of the moments (seconds in the server). None exactly where there is none.
     pub fn next_out(&self, lease: u64, now: u64) -> Option<u64>

@@ -41,7 +41,7 @@ answers_one s x now (Op.Create c) = law.by_create (Answers (Op.Create c)) s x no
 answers_one s x now (Op.GetAttr words) = law.by_get_attr (Answers (Op.GetAttr words)) s x words
     (λ f h. record { is = record { may = (refl, rw (h.done, h.legal) refl, tt); arrays = tt }; prompt = h.prompt })
     (λ d there plain. (let few = attributes_within (mask_of words) (about s d) d.object in
-    record { is = record { may = (refl, omega arith, (at_most_three_words (mask_of words) readable, omega arith)); arrays = tt }; prompt = refl }))
+    record { is = record { may = (refl, omega arith, (at_most_three_words (mask_of words) (readable s.tree.profile), omega arith)); arrays = tt }; prompt = refl }))
 answers_one s x now Op.GetFh = law.by_get_fh (Answers Op.GetFh) s x
     (λ f h. record { is = record { may = (refl, rw (h.done, h.legal) refl, tt); arrays = tt }; prompt = h.prompt })
     (λ d there. (let few = length_handle (record { instance = s.opens.instance; number = d.number }) in

@@ -6,7 +6,7 @@ use Rattle.nfs_compound.specs.{declared.name_args.Rename.Rename, Arguments.argum
 use Rattle.nfs_compound.specs.declared.op.Item.TheVariants.{Operation, Fault}
 use Rattle.nfs_tree.specs.{Files.root, Names.{rename_checks, moves}}
 use Rattle.nfs_names.specs.{declared.context.Context.Context, declared.node.Pair.Pair, State.State, Context.at_object, Outcome.Outcome}
-use Rattle.nfs_names.specs.{Operation.{one, grows, comes_to}, Create.{new_of, sets_of}, PutPubFh.put_pub_fh, PutRootFh.put_root_fh, Rename.{move_of, renamed}}
+use Rattle.nfs_names.specs.{Operation.{one, grows, comes_to}, Create.{new_of, made_sets}, PutPubFh.put_pub_fh, PutRootFh.put_root_fh, Rename.{move_of, renamed}}
 use Rattle.nfs_names.proofs.NameLaws as law
 use Rattle.nfs_names.proofs.{Ones.if_delayed, Effects.{Makes, Links, Removes, Moves, Kept}}
 
@@ -26,7 +26,7 @@ module _ (P : State → Context → Type 0) (kept : Kept P) where
   kept_one s x now (Op.Create c) is = law.by_create Q s x now c (λ f h. is) (λ d wanted there placed read row.
       (let new = new_of c.objtype in
       kept.handles _ x (at_object x (s.tree.last_object + 1)) refl
-      (kept.effects s x (Makes d.number c.objname new (sets_of x now new wanted) now) row is)))
+      (kept.effects s x (Makes d.number c.objname new (made_sets s x now d new wanted) now) row is)))
   kept_one s x now (Op.GetAttr words) is = law.by_get_attr Q s x words (λ f h. is) (λ d there plain. is)
   kept_one s x now Op.GetFh is = law.by_get_fh Q s x (λ f h. is) (λ d there. is)
   kept_one s x now (Op.Link name) is =

@@ -7,7 +7,7 @@ use Rattle.std.specs.{Prelude.{nat_le, ◌==◌, is_some, filter, nat_lt, ◌&&�
 use Rattle.nfs_xdr.specs.{SheetState.{SheetState, Puts}, Spelling.{padding, opaque}, Tables.In}
 use Rattle.nfs_results.specs.{declared.res.Entry.Entry, Straight.{entry_text, entry_head}, Items.fattr, Largest.given}
 use Rattle.nfs_xdr.proofs.{Putting.{length_number, length_hyper}, Lists.{in_map, in_filter}}
-use Rattle.nfs_tree.specs.{declared.object.Object.Object, declared.row.Row.Row, declared.stored.Stored.Stored, TreeInvariants.IsTree}
+use Rattle.nfs_tree.specs.{declared.object.Object.Object, declared.profile.Profile.Profile, declared.row.Row.Row, declared.stored.Stored.Stored, TreeInvariants.IsTree}
 use Rattle.nfs_tree.specs.Files.{Files, Listed, listed, listing, stored_in, is_there, data_at, object_at}
 use Rattle.nfs_attrs.specs.{declared.mask.Mask.Mask, Attributes.{values, readable, spell_attrs}, Mask.{mask_of, common, spell_mask}, declared.about.About.About}
 use Rattle.nfs_names.specs.{State.State, Attributes.about, ReadDir.{attributes_at, entry_of, longest, fitting, left}, Lists.PutsWithin}
@@ -188,17 +188,18 @@ told_as_asked s got asked d a same told = subst (λ (m : Mask). values m a d.obj
 
 -- what an entry's object is told as, where what is asked for of it is told
 pub entry_parts : (s : State) (asked : Mask) (e : Listed) (o : Object) (a : About)
-    → Some o ≡ object_at s.tree e.number → values asked a o ≡ values asked (about s (record { number = e.number; object = o })) o
+    → Some o ≡ object_at s.tree e.number → values asked a o ≡ values asked (about s (record { number = e.number; object = o })) o → a.profile ≡ s.tree.profile
     → entry_text (entry_of s asked e) ≡ entry_head e.cookie e.name ++ spell_attrs asked a o
-entry_parts s asked e o a is told =
+entry_parts s asked e o a is told same =
     entry_is s asked e o (sym is)
-    ∙ ap (λ (text : List ℕ). entry_head e.cookie e.name ++ (spell_mask (common asked readable) ++ opaque text)) (sym told)
+    ∙ ap (λ (text : List ℕ). entry_head e.cookie e.name ++ (spell_mask (common asked (readable s.tree.profile)) ++ opaque text)) (sym told)
+    ∙ ap (λ (p : Profile). entry_head e.cookie e.name ++ (spell_mask (common asked (readable p)) ++ opaque (values asked a o))) (sym same)
 
 pub entry_length : (s : State) (asked : Mask) (e : Listed) (o : Object) (a : About)
-    → Some o ≡ object_at s.tree e.number → values asked a o ≡ values asked (about s (record { number = e.number; object = o })) o
+    → Some o ≡ object_at s.tree e.number → values asked a o ≡ values asked (about s (record { number = e.number; object = o })) o → a.profile ≡ s.tree.profile
     → length (entry_text (entry_of s asked e)) ≡ length (entry_head 0 e.name) + length (spell_attrs asked a o)
-entry_length s asked e o a is told =
-    ap length (entry_parts s asked e o a is told) ∙ length-append (entry_head e.cookie e.name) (spell_attrs asked a o)
+entry_length s asked e o a is told same =
+    ap length (entry_parts s asked e o a is told same) ∙ length-append (entry_head e.cookie e.name) (spell_attrs asked a o)
     ∙ ap (λ k. k + length (spell_attrs asked a o)) (length_entry_head e.cookie e.name ∙ sym (length_entry_head 0 e.name))
 
 pub given_least : (count : ℕ) → 16 ≤ count → 16 ≤ given count

@@ -48,7 +48,7 @@ at_most_three_words a b = few_words (common a b).words
 
 -- attributes are spelled like those of a result
 pub attributes_spelled : (asked : Mask) (a : About) (o : Object)
-    → spell_attrs asked a o ≡ fattr.spell (record { attrmask = trimmed_words (common asked readable); attr_vals = values asked a o })
+    → spell_attrs asked a o ≡ fattr.spell (record { attrmask = trimmed_words (common asked (readable a.profile)); attr_vals = values asked a o })
 unfolding fattr attr_set
 attributes_spelled asked a o = refl
 

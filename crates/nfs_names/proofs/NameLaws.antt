@@ -1,16 +1,18 @@
 -- What an operation on names found if it was done, and what it came to: a law for each. If it was refused, it was for a reason of its own.
-use Rattle.std.proofs.Common.{◌≡◌, ℕ, ◌+◌, Bool, true, List, [], ◌∷◌, Option, Some, None, refl, ◌∙◌}
-use Rattle.std.specs.Prelude.{◌==◌, Ok, Err, not, is_some}
+use Rattle.std.proofs.Common.{◌≡◌, ℕ, ◌+◌, Bool, true, false, cond, List, [], ◌∷◌, Option, Some, None, refl, ◌∙◌}
+use Rattle.std.specs.Prelude.{◌==◌, ◌&&◌, Ok, Err, not, is_some}
 use Rattle.nfs_xdr.specs.{Checks.first_fault, declared.time.Time.Time, declared.status.Status.Status}
 use Rattle.nfs_xdr.specs.declared.status.Status.TheVariants.{Exist, IsDir, Symlink, Inval, Stale, NoEnt, BadHandle, NoFileHandle, WrongType}
-use Rattle.nfs_xdr.specs.declared.status.Status.TheVariants.{NotSame, Same, TooSmall}
+use Rattle.nfs_xdr.specs.declared.status.Status.TheVariants.{NotSame, Same, ServerFault, TooSmall}
 use Rattle.nfs_compound.specs.{declared.op_num.OpNum.OpNum, declared.attributes.Attributes.Attributes, declared.name_args.Create.Create}
 use Rattle.nfs_compound.specs.{declared.name_args.ReadDir.ReadDir, declared.name_args.Rename.Rename, declared.name_args.SecinfoStyle.SecinfoStyle}
 use Rattle.nfs_compound.specs.declared.name_args.SecinfoStyle.TheVariants.{CurrentFh, Parent}
 use Rattle.nfs_compound.specs.declared.op_num.OpNum.TheVariants as Num
 use Rattle.nfs_results.specs.declared.res.Res.TheVariants as Res
 use Rattle.nfs_tree.specs.{declared.object.Object.Object, Bytes.part}
-use Rattle.nfs_tree.specs.Files.{most_text, has_name, raised, number_named, object_at, parent_in, object_named as found}
+use Rattle.nfs_tree.specs.{Names.{Move, is_unlike}, Profile.is_unix}
+use Rattle.nfs_tree.specs.declared.fault.TreeFault.TheVariants as F
+use Rattle.nfs_tree.specs.Files.{Files, most_text, has_name, raised, number_named, object_at, parent_in, object_named as found}
 use Rattle.nfs_tree.specs.{Create.{create_checks, with_new}, Names.{link_checks, with_link, moves, remove_checks, rename_checks, without_name}}
 use Rattle.nfs_tree.specs.Object.{is_directory, is_link}
 use Rattle.nfs_attrs.specs.{declared.handle.Handle.Handle, declared.wanted.Wanted.Wanted, Handle.handle_of}
@@ -20,8 +22,8 @@ use Rattle.nfs_attrs.proofs.Answered.{by_read, by_compared}
 use Rattle.nfs_names.specs.{declared.context.Context.Context, declared.context.Saved.Saved, declared.node.Node.Node, declared.node.Pair.Pair}
 use Rattle.nfs_names.specs.{State.{State, with_tree, without_unused}, Context.at_object, Outcome.{Outcome, done, refuses}}
 use Rattle.nfs_names.specs.{Checks.{node_as, node_at, saved_object, current, both, no_directory, no_access, name_checks}}
-use Rattle.nfs_names.specs.Attributes.{about, attributes_of}
-use Rattle.nfs_names.specs.{Access.{access}, Create.{attributes_in, change_info, create, new_of, place_checks, room_checks, sets_of}}
+use Rattle.nfs_names.specs.{Attributes.{about, attributes_of}, Faults.tree_fault_status}
+use Rattle.nfs_names.specs.{Access.{access}, Create.{attributes_in, change_info, create, new_of, place_checks, room_checks, made_sets}}
 use Rattle.nfs_names.specs.{GetAttr.get_attr, GetFh.get_fh, Link.link, Lookup.lookup, LookupP.lookup_p, NVerify.nverify, PutFh.put_fh}
 use Rattle.nfs_names.specs.{ReadDir.{listing_checks, fits_none, listed, read_dir}, ReadLink.read_link, Remove.remove, Rename.{move_of, renamed, rename}}
 use Rattle.nfs_names.specs.{RestoreFh.restore_fh, SaveFh.save_fh, SecinfoNoName.{style_checks, secinfo_no_name}, Verify.{compared, verify}}
@@ -32,6 +34,15 @@ use Rattle.nfs_names.proofs.{Rows.tree_passes, LastChecks.{create_last, link_las
 use Rattle.nfs_names.proofs.Refusing.{IsRefusal, is_refusal, refusal_by, Refuses, all_refuse, err_refuses, ok_refuses, refuses_then}
 use Rattle.nfs_names.proofs.Steps.{ends_found, ends_there, ends_held, ends_passed, by_steps}
 use Rattle.nfs_names.proofs.Terms.{told_access}
+
+-- what is in the way of a RENAME refuses it, whichever the profile says
+rename_refuse : (t : Files) (m : Move) → all_refuse (of_rename.last_checks t m) ≡ true
+rename_refuse t m = way (is_unix t.profile && not (is_unlike t m)) false false false false
+  where
+    way : (b p q r s : Bool)
+        → all_refuse ((p, NoEnt) ∷ (q, Inval) ∷ (r, tree_fault_status (cond b F.NotEmpty F.Exist)) ∷ (s, ServerFault) ∷ []) ≡ true
+    way true p q r s = refl
+    way false p q r s = refl
 
 -- What is looked up.
 
@@ -91,7 +102,7 @@ linked s x now name p = record {
 abbrev pub created : State → Context → Time → Create → Node → Wanted → Outcome
 created s x now c d wanted = record {
   result = Res.Create (record { cinfo = change_info (raised s.tree d.number); attrset = trimmed_words (mask_of c.createattrs.attrmask) });
-  state = with_tree s (with_new s.tree d.number c.objname (new_of c.objtype) (sets_of x now (new_of c.objtype) wanted) now);
+  state = with_tree s (with_new s.tree d.number c.objname (new_of c.objtype) (made_sets s x now d (new_of c.objtype) wanted) now);
   context = at_object x (s.tree.last_object + 1);
 }
 
@@ -218,7 +229,7 @@ module _ (P : Outcome → Type 0) (s : State) (x : Context) where
   unfolding rename
   by_rename now a refused then = by_steps P s x Num.Rename _ refused (ends_found P (both s x) _ (both_refuses s x) (λ p there.
       ends_passed P (of_rename.place_checks x a p) _ refl (λ placed.
-      ends_passed P (of_rename.last_checks s.tree (move_of a p)) _ refl (λ none.
+      ends_passed P (of_rename.last_checks s.tree (move_of a p)) _ (rename_refuse s.tree (move_of a p)) (λ none.
       then p there (tree_passes (rename_checks s.tree (move_of a p)) (rename_last s x a p there placed ∙ none))))))
 
   pub by_restore_fh : Refused P s x Num.RestoreFh

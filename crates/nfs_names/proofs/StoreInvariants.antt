@@ -9,7 +9,7 @@ use Rattle.nfs_tree.specs.Files.{Files, root, stored_in, is_there, is_directory_
 use Rattle.nfs_tree.specs.Calls.{is_regular_at}
 use Rattle.nfs_tree.specs.Files.{with_changed, with_entries_changed, with_links_changed, change_at, without_entry}
 use Rattle.nfs_tree.specs.Create.{New, with_new, new_object}
-use Rattle.nfs_tree.specs.{Names.{with_link, without_name, forget, Move, moved_object, replaced_object, with_both_changed, with_moved}, TreeInvariants.IsTree}
+use Rattle.nfs_tree.specs.{Names.{with_link, without_name, forget, Move, moved_object, replaced_object, touched_object, with_both_changed, with_moved}, TreeInvariants.IsTree}
 use Rattle.nfs_tree.specs.declared.object.FileType.TheVariants as Kind
 use Rattle.nfs_xdr.proofs.Lists.{in_any, any_in, stays_in, push_in, last_in, none_in}
 use Rattle.nfs_tree.proofs.{Objects.{keeps_changed, stored_map, stored_push, stored_dropped}, Trees.entry_names}
@@ -250,8 +250,9 @@ kind_both objects a b n now = elim (cases_Bool (a == b)) [
 ]
 
 kind_moved : (t : Files) (m : Move) (now : Time) (k : ℕ) → kind_in (with_moved t m now).objects k ≡ kind_in t.objects k
-kind_moved t m now k = kind_both (with_links_changed (replaced_object t m) now t.objects) m.source m.target k now
-    ∙ kind_changed t.objects (replaced_object t m) k now no_sets
+kind_moved t m now k = kind_both (with_links_changed (replaced_object t m) now (with_links_changed (touched_object t m) now t.objects)) m.source m.target k now
+    ∙ kind_changed (with_links_changed (touched_object t m) now t.objects) (replaced_object t m) k now no_sets
+    ∙ kind_changed t.objects (touched_object t m) k now no_sets
 
 row_moved : (t : Files) (m : Move) (now : Time) (k : ℕ) → IsTree t → ((r : Row) → In r t.rows → is_entry m.target m.name r ≡ true → r.object ≢ k)
     → has_row t.rows k ≡ true → has_row (with_moved t m now).rows k ≡ true

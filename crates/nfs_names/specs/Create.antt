@@ -8,11 +8,11 @@ use Rattle.nfs_compound.specs.{declared.attributes.Attributes.Attributes, declar
 use Rattle.nfs_compound.specs.declared.name_args.CreateType.TheVariants.{Symlink, Other}
 use Rattle.nfs_results.specs.declared.res.ChangeInfo.{ChangeInfo}
 use Rattle.nfs_results.specs.declared.res.Res.TheVariants as Res
-use Rattle.nfs_tree.specs.{declared.done.Change.Change, declared.sets.Sets.Sets, Object.is_link}
+use Rattle.nfs_tree.specs.{declared.done.Change.Change, declared.sets.Sets.Sets, Object.{is_directory, is_link}}
 use Rattle.nfs_tree.specs.Files.{Files, last_count, most_text, can_change, has_name, raised}
 use Rattle.nfs_tree.specs.Create.{New, new_directory, new_link, with_new}
 use Rattle.nfs_attrs.specs.{declared.set_time.SetTime.SetTime, declared.set_time.SetTime.TheVariants.{Now, Given}, declared.wanted.Wanted.Wanted}
-use Rattle.nfs_attrs.specs.{Mask.{mask_of, trimmed_words}, Permissions.change_entries, Reading.read_attrs, Setting.make_checks}
+use Rattle.nfs_attrs.specs.{Mask.{mask_of, trimmed_words}, Permissions.change_entries, Reading.read_attrs, SetId.made_in, Setting.make_checks}
 use Rattle.nfs_opens.specs.Steps.{◌>>=◌, in_order, require, ◌>>◌}
 use Rattle.nfs_names.specs.{declared.context.Context.Context, declared.node.Node.Node, State.{State, with_tree}, Context.at_object}
 use Rattle.nfs_names.specs.{Outcome.{Outcome, or_refusal}, Checks.{current, no_directory, no_access, name_checks}}
@@ -73,6 +73,10 @@ sets_of x now new wanted = record (given_sets now wanted) {
   group = Some (unwrap_or wanted.group x.who.gid);
 }
 
+-- the same of an object that is made in a directory, by the profile
+abbrev pub made_sets : State → Context → Time → Node → New → Wanted → Sets
+made_sets s x now d new wanted = sets_of x now new (made_in s.tree.profile d.object.mode d.object.group x.who (is_directory new.kind) (plain_mode new) wanted)
+
 -- how a directory changed, with nothing else in between
 abbrev pub change_info : Change → ChangeInfo
 change_info c = record { atomic = true; before = c.before; after = c.after }
@@ -87,6 +91,6 @@ create s x now c = or_refusal s x Num.Create (do
   in_order ((has_name s.tree d.number c.objname, Exist) ∷ room_checks s.tree d.number)
   Ok (record {
     result = Res.Create (record { cinfo = change_info (raised s.tree d.number); attrset = trimmed_words (mask_of c.createattrs.attrmask) });
-    state = with_tree s (with_new s.tree d.number c.objname (new_of c.objtype) (sets_of x now (new_of c.objtype) wanted) now);
+    state = with_tree s (with_new s.tree d.number c.objname (new_of c.objtype) (made_sets s x now d (new_of c.objtype) wanted) now);
     context = at_object x (s.tree.last_object + 1);
   }))

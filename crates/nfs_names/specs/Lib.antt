@@ -1,4 +1,5 @@
 pub mod ServerOwner
+pub mod Crowd
 pub mod State
 pub mod Context
 pub mod Outcome

@@ -27,6 +27,7 @@ use crate::store::Store;
 use nfs_attrs::{About, Handle, Mask, attribute, judge_access, same, write_attrs};
 use nfs_compound::{Attributes, Bitmap, OpNum};
 use nfs_results::{AccessOk, Res, write_done_head};
+use nfs_tree::{Profile, Tree};
 use nfs_xdr::{Sheet, Status};
 
 /// The attributes of a mask that a record lends.
@@ -47,17 +48,51 @@ fn links_of(store: &Store, node: &Node) -> u32
     }
 }
 
+/// The bytes that so many take: in [`Profile::Unix`] whole pages of 4,096.
+fn taken_by(profile: Profile, size: u64) -> u64
+    ensures { result ≡ attributes.taken_by profile size }
+{
+    match profile {
+        Profile::Exact => size,
+        Profile::Unix => size.div_ceil(4_096).saturating_mul(4_096),
+    }
+}
+
+/// How many objects and bytes there may be, and how many more.
+#[derive(Clone, Copy, Debug, PartialEq, Eq)]
+struct Room {
+    files_free: u64,
+    files_total: u64,
+    space_free: u64,
+    space_total: u64,
+}
+
+fn room_in(tree: &Tree) -> Room
+    ensures { result ≡ attributes.room_in tree.now }
+{
+    let limits = tree.limits();
+    Room {
+        files_free: u64::from(limits.objects).saturating_sub(tree.count() as u64),
+        files_total: u64::from(limits.objects),
+        space_free: limits.bytes,
+        space_total: limits.bytes,
+    }
+}
+
 /// What is reported of an object of so many bytes beside the object itself, as far as it is asked for: names are counted
 /// only where their number is.
 pub(crate) fn about(store: &Store, node: &Node, size: u64, asked: Mask) -> About
     requires { size ≡ length (data_at store.now.tree node.now.number) }
-    ensures { values asked result node.now.object ≡ values asked (attributes.about (state_of store.now) node.now) node.now.object }
+    ensures values { values asked result node.now.object ≡ values asked (attributes.about (state_of store.now) node.now) node.now.object }
+    ensures profile { result.profile ≡ store.now.tree.profile }
 {
     let links = if asked.has(attribute::NUMLINKS) {
         links_of(store, node)
     } else {
         0
     };
+    let profile = store.tree.profile();
+    let room = room_in(&store.tree);
     About {
         number: node.number,
         size,
@@ -65,6 +100,12 @@ pub(crate) fn about(store: &Store, node: &Node, size: u64, asked: Mask) -> About
         instance: store.opens.instance(),
         lease: store.lease,
         most_bytes: store.tree.limits().bytes,
+        profile,
+        used: taken_by(profile, size),
+        files_free: room.files_free,
+        files_total: room.files_total,
+        space_free: room.space_free,
+        space_total: room.space_total,
     }
 }
 

@@ -30,6 +30,6 @@ pub use checks::{current, is_link, judge_name, node_at, permits, put_refusal, re
 pub use context::{Caller, Context, Saved};
 pub use making::{Making, attr_set, change_info, status_of, time_of, wanted_of};
 pub use node::Node;
-pub use operation::{moment, name_op};
-pub use start::{ServerOwner, Start};
+pub use operation::{name_op, time_at};
+pub use start::{Crowd, ServerOwner, Start};
 pub use store::Store;

@@ -2,7 +2,7 @@
 
 ghost use Rattle.std.specs.Prelude.{◌≡◌, ◌==◌, ℕ, Some, true, false, length, nat_lt, option_map};
 ghost use Rattle.nfs_compound.specs.declared.op_num.OpNum.TheVariants as Num;
-ghost use Rattle.nfs_tree.specs.Calls.{new_of};
+ghost use Rattle.nfs_tree.specs.{Calls.new_of, Object.is_directory};
 ghost use Rattle.nfs_tree.specs.Files.{most_text, has_entries};
 ghost use Rattle.nfs_attrs.specs.Mask.{trimmed_words};
 ghost use Rattle.nfs_names.specs.State.{state_of};
@@ -22,7 +22,7 @@ use crate::checks::{both, current, judge_name, permits, refuse};
 use crate::context::Context;
 use crate::node::{Node, Pair};
 use crate::store::Store;
-use nfs_attrs::{Mask, SetTime, Want, Wanted, may_make, read_attrs};
+use nfs_attrs::{Mask, SetTime, Want, Wanted, made_in, may_make, read_attrs};
 use nfs_compound::{Attributes, Create, CreateType, OpNum, Rename};
 use nfs_results::{AttrSet, ChangeInfo, CreateOk, RenameOk, Res};
 use nfs_tree::{Change, Created, New, Renamed, Sets, Tree, TreeFault};
@@ -151,6 +151,37 @@ fn sets_of(context: &Context<'_>, now: Time, new: &New<'_>, wanted: &Wanted) -> 
     }
 }
 
+fn makes_directory(new: &New<'_>) -> bool
+    ensures { result ≡ is_directory (new_of new.now).kind }
+{
+    match new {
+        New::Directory => true,
+        New::Link(_) => false,
+        New::File { .. } => false,
+    }
+}
+
+/// The same of an object that is made in a directory, by the profile.
+fn made_sets(
+    store: &Store,
+    context: &Context<'_>,
+    now: Time,
+    new: &New<'_>,
+    making: &Making,
+) -> Sets
+    ensures { result ≡ of_create.made_sets (state_of store.now) context.now now making.now.place (new_of new.now) making.now.wanted }
+{
+    let wanted = made_in(
+        store.tree.profile(),
+        &making.place.object,
+        context.who.who(),
+        makes_directory(new),
+        plain_mode(new),
+        making.wanted,
+    );
+    sets_of(context, now, new, &wanted)
+}
+
 /// How a directory changed, with nothing else in between.
 pub fn change_info(change: Change) -> ChangeInfo
     ensures { result ≡ of_create.change_info change }
@@ -209,7 +240,7 @@ pub(crate) fn create(
     match judge_making(store, context, asked) {
         Ok(making) => {
             let new = new_of(&asked.objtype);
-            let sets = sets_of(context, now, &new, &making.wanted);
+            let sets = made_sets(store, context, now, &new, &making);
             match store.tree.create(
                 alloc,
                 making.place.number,

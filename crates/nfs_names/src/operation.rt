@@ -3,7 +3,7 @@
 ghost use Rattle.std.specs.Prelude.{◌≡◌, ◌+◌, ◌≤◌, ◌<◌, ◌^◌, length};
 ghost use Rattle.nfs_compound.specs.declared.op.Item.TheVariants.{Operation};
 ghost use Rattle.nfs_results.specs.Largest.{largest};
-ghost use Rattle.nfs_names.specs.State.{state_of, moment};
+ghost use Rattle.nfs_names.specs.State.{state_of, time_at};
 ghost use Rattle.nfs_names.specs.StoreInvariants.{IsStore};
 ghost use Rattle.nfs_names.specs.Comes.{OpComes};
 ghost use Rattle.nfs_names.specs.Operation.{comes_to};
@@ -21,15 +21,15 @@ use nfs_results::write;
 use nfs_xdr::{Sheet, Status, Time};
 use std::alloc::Global;
 
-/// So many whole seconds, as a time.
-pub fn moment(now: u64) -> Time
+/// The time of what changes at a moment, in seconds, as the profile has it.
+pub fn time_at(store: &Store, now: u64) -> Time
     requires { now < 2 ^ 63 }
-    ensures { result ≡ moment now }
+    ensures { result ≡ time_at (state_of store.now) now }
 {
-    Time {
+    store.tree.stamp(Time {
         seconds: now as i64,
         nanoseconds: 0,
-    }
+    })
 }
 
 /// Runs one operation on names and attributes at a moment, in seconds: puts its result behind what stands on the sheet,
@@ -48,12 +48,12 @@ pub fn name_op(
     requires moment { now < 2 ^ 63 }
     requires store { IsStore (state_of store.old) }
     requires room { length out.old.bytes + largest (Operation op.now) ≤ out.old.room }
-    ensures comes { OpComes comes_to (state_of store.old) context.old (moment now) op.now out.old out.new result (state_of store.new) context.new }
+    ensures comes { OpComes comes_to (state_of store.old) context.old (time_at (state_of store.old) now) op.now out.old out.new result (state_of store.new) context.new }
     ensures store { IsStore (state_of store.new) }
     ensures within { length out.new.bytes ≤ length out.old.bytes + largest (Operation op.now) }
 {
     store.tree.kept();
-    let now = moment(now);
+    let now = time_at(store, now);
     let res = match op {
         Op::Access { access: asked } => access(store, context, *asked),
         Op::Create(asked) => create(alloc, store, context, asked, now),

@@ -3,7 +3,7 @@
 ghost use Rattle.std.specs.Prelude.{◌≡◌, IfOk};
 ghost use Rattle.nfs_names.specs.ServerOwner.{IsOwner};
 
-use nfs_tree::Limits;
+use nfs_tree::{Limits, Profile};
 use std::alloc::{AllocError, Global};
 use std::marker::Model;
 
@@ -18,8 +18,29 @@ pub struct Start {
     pub lease: u32,
     /// How many objects there may be, and how many bytes a file may have.
     pub limits: Limits,
+    /// What the server has of what the RFC leaves open.
+    pub profile: Profile,
+    /// How many client records and sessions there may be.
+    pub crowd: Crowd,
     /// By what the server names itself.
     pub owner: ServerOwner,
+}
+
+/// How many client records and sessions there may be at once.
+#[derive(Clone, Copy, Debug, PartialEq, Eq)]
+pub struct Crowd {
+    /// Client records, confirmed or not (RFC 8881 section 18.35).
+    pub clients: u32,
+    /// Sessions (RFC 8881 section 18.36).
+    pub sessions: u32,
+}
+
+impl Crowd {
+    /// Those of a server that is given none.
+    pub const USUAL: Crowd = Crowd {
+        clients: 1_024,
+        sessions: 64,
+    };
 }
 
 /// The text by which a server names itself, as server owner and as scope: 1 to 1,024 bytes (`so_major_id` and `eir_server_scope`, RFC 8881

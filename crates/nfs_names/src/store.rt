@@ -29,7 +29,7 @@ impl Store {
         ensures state { IfOk result (λ s. state_of s ≡ new_store start.now now) }
         ensures store { IfOk result (λ s. IsStore (state_of s)) }
     {
-        let tree = Tree::new(alloc, start.mode, now, start.limits)?;
+        let tree = Tree::new(alloc, start.mode, now, start.limits, start.profile)?;
         Ok(Store {
             tree,
             opens: Opens::new(alloc, start.instance),
@@ -59,6 +59,22 @@ impl Store {
             return;
         }
         self.tree.forget(number);
+    }
+
+    /// Drops some of what cuts, removals and ends have left, so much at a time that a record stays short. Answers false where
+    /// nothing waits any more. Contracts do not see what waits.
+    pub fn tidy(&mut self) -> bool
+        ensures { state_of self.new ≡ state_of self.old }
+    {
+        self.tree.drop_waiting()
+    }
+
+    /// Has so many pages at most, of 4,096 bytes each, for the bytes of files and the texts of links. What needs one more is refused, as if
+    /// there were no memory for it.
+    pub fn bound_pages(&mut self, pages: u64)
+        ensures { state_of self.new ≡ state_of self.old }
+    {
+        self.tree.bound_pages(pages);
     }
 
     /// Whether it is the root, or has a row or an open.

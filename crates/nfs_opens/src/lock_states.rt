@@ -77,6 +77,13 @@ impl LockStates {
         self.states.next_by(&self.by_file, &file, after)
     }
 
+    /// The lock state under an open with the lowest number behind `after`.
+    pub(crate) fn next_under(&self, opened: u64, after: u64) -> Option<&LockState>
+        ensures { option_copied result ≡ find (λ l. (l.opened == opened) && nat_lt after l.number) self.now.items }
+    {
+        self.states.next_by(&self.by_open, &opened, after)
+    }
+
     /// The lock state that an owner has on a file.
     pub(crate) fn owned(&self, key: &Key<'_>) -> Option<&LockState>
         ensures { option_copied result ≡ find (λ l. lock_key l == key_of key.now) self.now.items }

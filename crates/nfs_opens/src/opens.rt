@@ -120,6 +120,13 @@ impl Opens {
         self.opens.next_of(client, after)
     }
 
+    /// The lock state under an open with the lowest number behind `after`.
+    pub fn next_under(&self, opened: u64, after: u64) -> Option<&LockState>
+        ensures { option_copied result ≡ find (λ l. (l.opened == opened) && nat_lt after l.number) (table self.now).locks }
+    {
+        self.locks.next_under(opened, after)
+    }
+
     /// The first open of a client.
     pub(crate) fn first_of(&self, client: u64) -> Option<&OpenState>
         ensures found { option_copied result ≡ find (λ o. o.client == client) (table self.now).opens }

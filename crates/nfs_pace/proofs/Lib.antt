@@ -1,4 +1,5 @@
 mod Found
 mod Seats
+mod SeatedWorked
 mod Sums
 mod WrongClocks

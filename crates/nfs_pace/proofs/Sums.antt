@@ -1,8 +1,8 @@
 -- By how much a clock rises over sweeps.
-use Rattle.std.proofs.Common.{◌≡◌, ℕ, zero, suc, ◌+◌, ◌-◌, ◌*◌, ◌/◌, ◌<◌, ◌≤◌, List, [], ◌∷◌, Bool, true, false, if◌then◌else◌, refl, sym, ap, subst, ◌∙◌, arith, inl, inr, min, max, nat_lt}
+use Rattle.std.proofs.Common.{◌≡◌, ℕ, zero, suc, ◌+◌, ◌-◌, ◌*◌, ◌/◌, ◌≤◌, List, [], ◌∷◌, Bool, true, false, if◌then◌else◌, refl, ap, subst, ◌∙◌, arith, max, nat_lt}
 use Rattle.std.proofs.lemmas.Bool.{le-ltb}
 use Rattle.nfs_pace.specs.{declared.paced.Paced.Paced, Paced.{second, step, made_up, risen, is_idle, sweeps_from, takes, tells, begins}}
-use Rattle.nfs_pace.specs.Laws.{Call, Sweep, Tell, Read, Ascends, sweeps, made_more, does, after, AddsUp, IsPaced, AlwaysAddsUp, RenewsInTime, KeepsWhoRenews}
+use Rattle.nfs_pace.specs.Laws.{Call, Sweep, Tell, Read, Ascends, sweeps, made_more, does, after, IsPaced, AlwaysAddsUp, KeepsWhoRenews}
 
 made_up_most : (n : ℕ) → made_up n ≤ n / 16
 made_up_most n = by (nat_lt n second)

@@ -1,7 +1,7 @@
 -- The worked run, and runs in which wrong clocks take a lease.
-use Rattle.std.proofs.Common.{◌≡◌, ◌≤◌, ℕ, ◌+◌, ◌/◌, List, [], ◌∷◌, refl, arith}
-use Rattle.nfs_pace.specs.{declared.paced.Paced.Paced, Paced.{second, starts, tells, risen}, Laws.{Call, Sweep, Tell, Read, after, KeepsWhoRenews}}
-use Rattle.nfs_pace.specs.Worked.{at, renewed, rest, between, until, WorkedRun, WrongClocks}
+use Rattle.std.proofs.Common.{◌≤◌, ◌+◌, List, [], ◌∷◌, refl, arith}
+use Rattle.nfs_pace.specs.{Paced.{starts, tells}, Laws.{Call, Sweep, Read}}
+use Rattle.nfs_pace.specs.Worked.{at, rest, between, until, WorkedRun, WrongClocks}
 use Rattle.nfs_pace.specs.Worked as wrong
 
 pub worked_run : WorkedRun

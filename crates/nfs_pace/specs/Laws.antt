@@ -1,7 +1,7 @@
 -- What leases rest on: by how much a clock rises from one sweep to a later one, and that whoever renews in time is told a moment within its lease
 -- (RFC 8881 section 8.3; docs/OPERATING.md).
-use Rattle.std.specs.Prelude.{◌≡◌, ◌≤◌, ◌<◌, ℕ, ◌+◌, ◌-◌, ◌*◌, ◌/◌, List, [], ◌∷◌}
-use Rattle.nfs_pace.specs.{declared.paced.Paced.Paced, Paced.{second, step, takes, begins, tells, risen}}
+use Rattle.std.specs.Prelude.{◌≡◌, ◌≤◌, ℕ, ◌+◌, ◌-◌, ◌*◌, ◌/◌, List, [], ◌∷◌}
+use Rattle.nfs_pace.specs.{declared.paced.Paced.Paced, Paced.{second, step, takes, begins, tells}}
 
 -- what is asked of a clock: a sweep begins at a reading; a moment is told; a reading is taken
 pub data Call : Type 0 where

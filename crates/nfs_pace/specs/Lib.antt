@@ -3,3 +3,4 @@ pub mod Laws
 pub mod Worked
 pub mod Places
 pub mod Seated
+pub mod SeatedWorked

@@ -1,5 +1,5 @@
 -- Who has a seat among the connections of a server, who stands in the hall, and who gives way to a newcomer (docs/OPERATING.md). In microseconds.
-use Rattle.std.specs.Prelude.{◌≡◌, ◌⊎◌, ◌≤◌, ◌<◌, ℕ, zero, suc, ◌+◌, ◌-◌, ◌/◌, nat_eq, nat_lt, nat_le, List, length, get_or, set, Bool, true, false, not, ◌&&◌, ◌||◌, Option, Some, None, is_none, min, max, if◌then◌else◌}
+use Rattle.std.specs.Prelude.{◌≡◌, ◌⊎◌, ◌≤◌, ◌<◌, ℕ, zero, suc, ◌+◌, ◌-◌, nat_eq, nat_lt, nat_le, List, length, get_or, set, Bool, true, false, not, ◌&&◌, ◌||◌, Option, Some, None, is_none, min, max, if◌then◌else◌}
 use Rattle.std.specs.List.{count_by, list_any, position}
 use Rattle.nfs_pace.specs.declared.places.{Guest.Guest, Seat.Seat}
 
@@ -24,10 +24,6 @@ seat_at seats j = get_or seats j None
 -- each seat becomes what a function makes of it
 abbrev pub AreEach : (Option Seat → Option Seat) → Seats → Seats → Type 0
 AreEach f old new = (length new ≡ length old) × ((j : ℕ) → j < length old → seat_at new j ≡ f (seat_at old j))
-
--- how many of so many ports have no seat at least: one of eight, and one where there are two
-abbrev pub hall_of : ℕ → ℕ
-hall_of ports = if nat_lt ports 2 then 0 else max (ports / 8) 1
 
 -- a stranger is spared for ten seconds where a lease is longer
 abbrev pub spared : ℕ → Guest → ℕ
@@ -132,6 +128,11 @@ is_seated p port = list_any (is_at port) p.seats
 abbrev pub of_address : ℕ → Option Guest → Bool
 of_address address None = false
 of_address address (Some guest) = nat_eq guest.address address
+
+-- a client's connection, by the last SEQUENCE that was answered there
+abbrev pub is_from : ℕ → Option Guest → Bool
+is_from client None = false
+is_from client (Some guest) = nat_eq guest.client client
 
 -- it stands in the hall, at an address
 abbrev pub stands : PlacesModel → ℕ → ℕ → Bool

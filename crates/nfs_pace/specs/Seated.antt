@@ -51,16 +51,23 @@ Renewed p client moment (Ends port) = Unit {0}
 Renewed p client moment (Leaves port shown) = IsWithin p moment shown × (SitsAt p client port → has_ended (guest_at p.guests port) ≡ false)
 Renewed p client moment (Seated shown given) = IsWithin p moment shown
 
--- deeds one after the other, in each of which that is so
-abbrev pub RunsRenewed : PlacesModel → ℕ → ℕ → List Deed → PlacesModel → Type 0
-RunsRenewed p client moment [] q = q ≡ p
-RunsRenewed p client moment (d ∷ deeds) q = (between : PlacesModel) × Does p d between × Renewed p client moment d × RunsRenewed between client moment deeds q
+-- The two laws are of places of which this is known behind a deed, so that wrong ones can be tried.
+module _ (Acts : PlacesModel → Deed → PlacesModel → Type 0) where
+  -- deeds one after the other, in each of which that is so
+  abbrev pub RunsBy : PlacesModel → ℕ → ℕ → List Deed → PlacesModel → Type 0
+  RunsBy p client moment [] q = q ≡ p
+  RunsBy p client moment (d ∷ deeds) q = (between : PlacesModel) × Acts p d between × Renewed p client moment d × RunsBy between client moment deeds q
 
--- Whoever has a seat or is kept one has it behind any deeds, whoever comes and whatever is answered to others, as long as no more than a lease has passed
--- since a SEQUENCE of it was answered there.
+  -- Whoever has a seat or is kept one has it behind any deeds, whoever comes and whatever is answered to others, as long as no more than a lease has passed
+  -- since a SEQUENCE of it was answered there.
+  abbrev pub KeepsSeatsBy : Type 0
+  KeepsSeatsBy = (p q : PlacesModel) (client moment : ℕ) (deeds : List Deed) → HasSeat p client moment → RunsBy p client moment deeds q → HasSeat q client moment
+
+abbrev pub RunsRenewed : PlacesModel → ℕ → ℕ → List Deed → PlacesModel → Type 0
+RunsRenewed p client moment deeds q = RunsBy Does p client moment deeds q
+
 abbrev pub KeepsSeats : Type 0
-KeepsSeats = (p q : PlacesModel) (client moment : ℕ) (deeds : List Deed) → HasSeat p client moment → RunsRenewed p client moment deeds q
-    → HasSeat q client moment
+KeepsSeats = KeepsSeatsBy Does
 
 -- a seat that somebody has or is kept, in its lease; and its client has one at most beyond those of another
 pub record IsHad (p : PlacesModel) (shown : ℕ) (g : Guest) (j : ℕ) : Type 0 where
@@ -69,6 +76,9 @@ pub record IsHad (p : PlacesModel) (shown : ℕ) (g : Guest) (j : ℕ) : Type 0 
   pub few : crowd_of p.seats (seat_at p.seats j) ≤ seats_of g.client p.seats + 1
 
 -- If one in the hall whose client is known is given no seat, each seat is such: of as many clients as there are seats, where its own client has none.
-abbrev pub SeatsAreHad : Type 0
-SeatsAreHad = (p q : PlacesModel) (shown port : ℕ) (g : Guest) → SeatsNext p shown false q → port < length p.guests
+abbrev pub AreHadBy : (PlacesModel → ℕ → Bool → PlacesModel → Type 0) → Type 0
+AreHadBy Next = (p q : PlacesModel) (shown port : ℕ) (g : Guest) → Next p shown false q → port < length p.guests
     → asker (is_seated p port) (guest_at p.guests port) ≡ Some g → (j : ℕ) → j < length p.seats → IsHad p shown g j
+
+abbrev pub SeatsAreHad : Type 0
+SeatsAreHad = AreHadBy SeatsNext

@@ -1,7 +1,7 @@
 -- A worked run, and clocks by which a client that renews in time loses its lease.
 use Rattle.std.specs.Prelude.{◌≡◌, ℕ, ◌+◌, ◌-◌, ◌*◌, ◌/◌, List, [], ◌∷◌, min, max}
 use Rattle.nfs_pace.specs.{declared.paced.Paced.Paced, Paced.{second, starts, tells, risen}}
-use Rattle.nfs_pace.specs.Laws.{Call, Sweep, Tell, Read, Ascends, after, IsPaced, RenewsInTime, KeepsWhoRenews}
+use Rattle.nfs_pace.specs.Laws.{Call, Sweep, Read, Ascends, after, IsPaced, RenewsInTime, KeepsWhoRenews}
 
 -- so many seconds behind the start
 abbrev pub at : ℕ → ℕ

@@ -3,6 +3,7 @@
 ghost use Rattle.nfs_pace.specs.Paced.{risen};
 ghost use Rattle.nfs_pace.specs.Laws.{AlwaysAddsUp, KeepsWhoRenews};
 ghost use Rattle.nfs_pace.specs.Seated.{KeepsSeats, SeatsAreHad};
+ghost use Rattle.nfs_pace.specs.SeatedWorked.{IsKept, SeatsRefused};
 ghost use Rattle.nfs_pace.specs.Worked.{WorkedRun, WrongClocks};
 
 /// From one sweep to a later one the clock rises by what passed and a sixteenth of it at most, and by a sixteenth of a lease a sweep.
@@ -36,4 +37,11 @@ pub fn keeps_seats()
 /// its own.
 pub fn seats_are_had()
     ensures { SeatsAreHad }
+{}
+
+/// A client keeps the one seat while another comes and asks for it; places that give the seat to whoever asks, or give none where one is free, are refused by these laws.
+#[tactic(auto, using(crate::proofs::SeatedWorked::is_kept, crate::proofs::SeatedWorked::seats_refused))]
+pub fn wrong_places_are_refused()
+    ensures kept { IsKept }
+    ensures wrong { SeatsRefused }
 {}

@@ -3,9 +3,10 @@
 //! Nothing here reads a clock or a socket. `shown` is what the clock shows that leases go by; `now` is what really passed, which bears on the hall alone.
 //! Both are in microseconds. A client is named by its client id, and 0 stands for none.
 
-ghost use Rattle.std.specs.Prelude.{◌≡◌, ◌≤◌, ◌<◌, ◌-◌, ◌+◌, ◌*◌, ℕ, MatchOption, IfOk, IfSome, length, replicate, set, is_some, is_none, nat_le, false, true, None, Some};
+ghost use Rattle.std.specs.Prelude.{◌≡◌, ◌≤◌, ◌<◌, ◌-◌, ◌+◌, ◌*◌, ℕ, find, option_map, option_and_then, MatchOption, IfOk, IfSome, length, replicate, set, is_some, is_none, nat_le, false, true, None, Some};
 ghost use Rattle.std.specs.List.{count_by, list_any, position};
-ghost use Rattle.nfs_pace.specs.Places.{hall_of, is_over, has_ended, answers, hears, ends, sits, left, is_at, is_of, is_kept_for, is_dead, is_run_out, has_stood, guest_at, seat_at, AreEach, newcomer, given_to, seats_of, used_at, crowd_of, IsMost, NoneMany, stands, stood, hall_count, crowd, IsFirstToGo, NoneToGo, GivesPort, Spares, GivesSeat, SeatsNext, NoneNext, IsNext};
+ghost use Rattle.std.specs.Option.{option_copied};
+ghost use Rattle.nfs_pace.specs.Places.{is_over, has_ended, answers, hears, ends, sits, left, is_at, is_of, is_from, is_kept_for, is_dead, is_run_out, has_stood, guest_at, seat_at, AreEach, newcomer, given_to, seats_of, used_at, crowd_of, IsMost, NoneMany, stands, stood, hall_count, crowd, IsFirstToGo, NoneToGo, GivesPort, Spares, GivesSeat, SeatsNext, NoneNext, IsNext};
 
 use crate::paced::MICROS;
 use std::alloc::{AllocError, Global};
@@ -70,15 +71,14 @@ impl Model for Places {
 }
 
 impl Places {
-    /// So many ports, which are free, of a server whose lease lasts so many seconds. There are as many seats but one of eight ports, and one at least
-    /// where there are two ports.
+    /// So many ports and seats, which are free, of a server whose lease lasts so many seconds. Where there are fewer seats than ports there is a hall.
     ///
     /// `AllocError` where memory is refused.
-    pub fn new(alloc: Global, ports: u32, lease: u32) -> Result<Places, AllocError>
-        ensures { IfOk result (λ p. p ≡ record { guests = replicate ports None; seats = replicate (ports - hall_of ports) None; lease = (lease + 1) * 1000000 }) }
+    pub fn new(alloc: Global, ports: u32, seats: u32, lease: u32) -> Result<Places, AllocError>
+        ensures { IfOk result (λ p. p ≡ record { guests = replicate ports None; seats = replicate seats None; lease = (lease + 1) * 1000000 }) }
     {
         let guests = vec![in alloc; None; ports as usize]?;
-        let seats = vec![in alloc; None; (ports - hall_of(ports)) as usize]?;
+        let seats = vec![in alloc; None; seats as usize]?;
         Ok(Places {
             guests,
             seats,
@@ -98,6 +98,19 @@ impl Places {
         ensures { result ≡ count_by is_some self.now.guests }
     {
         self.guests.iter().filter(|guest| guest.is_some()).count()
+    }
+
+    /// The address of a client's first connection, as `is_from` tells its connections.
+    pub fn address_of(&self, client: u64) -> Option<u32>
+        ensures { result ≡ option_and_then (λ guest. option_map (λ g. g.address) guest) (find (is_from client) self.now.guests) }
+    {
+        match first_from(&self.guests, client) {
+            Some(guest) => match guest {
+                Some(guest) => Some(guest.address),
+                None => None,
+            },
+            None => None,
+        }
     }
 
     /// Whether no port has one.
@@ -454,14 +467,6 @@ fn each_left(seats: &mut [Option<Seat>], port: usize, ended: bool, lease: u64, s
     }
 }
 
-/// How many of so many ports have no seat at least.
-fn hall_of(ports: u32) -> u32
-    ensures count { result ≡ hall_of ports }
-    ensures bound { result ≤ ports }
-{
-    if ports < 2 { 0 } else { (ports / 8).max(1) }
-}
-
 /// Whether a crowd of more than so many leads: it is larger than the largest so far, or as large, and older.
 fn leads(crowd: usize, age: u64, most: usize, longest: u64, base: usize) -> bool
     requires { base ≤ most }
@@ -592,6 +597,23 @@ fn is_at(seat: Option<Seat>, port: usize) -> bool
             Some(at) => at == port,
             None => false,
         },
+        None => false,
+    }
+}
+
+/// The first connection that is a client's.
+fn first_from<'a>(guests: &'a [Option<Guest>], client: u64) -> Option<&'a Option<Guest>>
+    ensures { option_copied result ≡ find (is_from client) guests.now }
+{
+    guests.iter().find(|guest| is_from(**guest, client))
+}
+
+/// Whether the last SEQUENCE that was answered there was a client's.
+fn is_from(guest: Option<Guest>, client: u64) -> bool
+    ensures { result ≡ is_from client guest }
+{
+    match guest {
+        Some(guest) => guest.client == client,
         None => false,
     }
 }

@@ -1,2 +1,3 @@
 pub mod PageLemmas
 pub mod Opaque
+pub mod ExtentLemmas

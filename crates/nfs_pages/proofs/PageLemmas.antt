@@ -3,9 +3,11 @@ use Rattle.std.proofs.Common.{◌≡◌, ◌≢◌, ℕ, ◌+◌, ◌-◌, ◌*�
 use Rattle.std.proofs.{Math.ListN.{replicate}, lemmas.Bool.{cases_lt, cases_eq}, lemmas.Bool.Decides.nat_tests}
 use Rattle.std.proofs.lemmas.List.{get_or_past, get_or-take, get_or-drop, get_or_append_left, get_or-append_right, get_or-replicate, length-take-le, length-replicate, take_all, same_lists, length-append, length-drop, length-take, append_assoc, map-append, get_or_default}
 use Rattle.std.proofs.lemmas.List.FromFn.{length-range_with_len, get_or-range_with_len, length-map-range_with_len, get_or-map-range_with_len}
-use Rattle.std.specs.{Prelude.{◌&&◌, if◌then◌else◌, slice_index_or, max, min}, List.range_with_len}
+use Rattle.std.specs.{Prelude.{◌&&◌, if◌then◌else◌, slice_index_or, max, min, unwrap_or, Option, None}, List.range_with_len}
+use Rattle.std.specs.{Ordering.{nat_cmp, is_gt}, Cmp.nat_cmp_is, declared.cmp.Ordering.Ordering}
+use Rattle.std.proofs.Math.Bool.{cond}
 use Rattle.nfs_xdr.specs.{SheetState.{SheetState, HasRoom}, Spelling.{number, opaque, padding}}
-use Rattle.nfs_pages.specs.{Bytes.{written, resized}, Page.put_in, Pages.{byte_in, bytes, IsClean, chosen, cut_at}}
+use Rattle.nfs_pages.specs.{Bytes.{written_byte, written, resized}, Page.put_in, Pages.{page_in, byte_in, bytes, IsClean}}
 use Rattle.nfs_xdr.proofs.Putting.{length_number}
 
 -- zeros behind the end are not seen
@@ -23,31 +25,31 @@ resize_same true xs ys n m j le e = rw (e, take_all n xs le) (pad xs m j)
 resize_same false xs ys n m j le e = ap (λ zs. get_or zs j 0) e
 
 -- the range of the data
-pub chosen_in : (offset : ℕ) (given : List ℕ) (other : ℕ → ℕ) (p : ℕ) → offset ≤ p → p < offset + length given → chosen offset given other p ≡ get_or given (p - offset) 0
-chosen_in offset given other p from below = grind (arith, nat_tests)
+pub written_in : (offset : ℕ) (given : List ℕ) (other : ℕ → ℕ) (p : ℕ) → offset ≤ p → p < offset + length given → written_byte other offset given p ≡ get_or given (p - offset) 0
+written_in offset given other p from below = grind (arith, nat_tests)
 
-pub chosen_below : (offset : ℕ) (given : List ℕ) (other : ℕ → ℕ) (p : ℕ) → p < offset → chosen offset given other p ≡ other p
-chosen_below offset given other p below = grind (arith, nat_tests)
+pub written_below : (offset : ℕ) (given : List ℕ) (other : ℕ → ℕ) (p : ℕ) → p < offset → written_byte other offset given p ≡ other p
+written_below offset given other p below = grind (arith, nat_tests)
 
-pub chosen_above : (offset : ℕ) (given : List ℕ) (other : ℕ → ℕ) (p : ℕ) → offset + length given ≤ p → chosen offset given other p ≡ other p
-chosen_above offset given other p above = grind (arith, nat_tests)
+pub written_above : (offset : ℕ) (given : List ℕ) (other : ℕ → ℕ) (p : ℕ) → offset + length given ≤ p → written_byte other offset given p ≡ other p
+written_above offset given other p above = grind (arith, nat_tests)
 
 -- a byte of a page into which data is put
-pub get_or-put_in : (page : List ℕ) (at : ℕ) (given : List ℕ) (j : ℕ) → at + length given ≤ length page → get_or (put_in page at given) j 0 ≡ chosen at given (λ j. get_or page j 0) j
+pub get_or-put_in : (page : List ℕ) (at : ℕ) (given : List ℕ) (j : ℕ) → at + length given ≤ length page → get_or (put_in page at given) j 0 ≡ written_byte (λ j. get_or page j 0) at given j
 get_or-put_in page at given j fits =
     let first : length (take at page) ≡ at = length-take-le at page (omega arith) in
     elim (cases_lt j at) [
-      | inl below ↦ get_or_append_left (take at page) (given ++ drop (at + length given) page) 0 j (omega arith) ∙ get_or-take at page j 0 below ∙ sym (chosen_below at given (λ j. get_or page j 0) j below)
+      | inl below ↦ get_or_append_left (take at page) (given ++ drop (at + length given) page) 0 j (omega arith) ∙ get_or-take at page j 0 below ∙ sym (written_below at given (λ j. get_or page j 0) j below)
       | inr from ↦ get_or-append_right (take at page) (given ++ drop (at + length given) page) at j 0 first from ∙ elim (cases_lt j (at + length given)) [
-        | inl inside ↦ get_or_append_left given (drop (at + length given) page) 0 (j - at) (omega arith) ∙ sym (chosen_in at given (λ j. get_or page j 0) j from inside)
+        | inl inside ↦ get_or_append_left given (drop (at + length given) page) 0 (j - at) (omega arith) ∙ sym (written_in at given (λ j. get_or page j 0) j from inside)
         | inr past ↦ get_or-append_right given (drop (at + length given) page) (length given) (j - at) 0 refl (omega arith) ∙ get_or-drop (at + length given) page (j - at - length given) 0
-            ∙ ap (λ k. get_or page k 0) (let e : at + length given + (j - at - length given) ≡ j = omega arith in e) ∙ sym (chosen_above at given (λ j. get_or page j 0) j past)
+            ∙ ap (λ k. get_or page k 0) (let e : at + length given + (j - at - length given) ≡ j = omega arith in e) ∙ sym (written_above at given (λ j. get_or page j 0) j past)
       ]
     ]
 
 -- a byte of all pages, where data is put into one
 pub byte_in-put : (old new : ℕ → List ℕ) (i from : ℕ) (given : List ℕ) → length (old i) ≡ 4096 → from + length given ≤ 4096
-    → new i ≡ put_in (old i) from given → ((k : ℕ) → k ≢ i → new k ≡ old k) → (p : ℕ) → byte_in new p ≡ chosen (i * 4096 + from) given (byte_in old) p
+    → new i ≡ put_in (old i) from given → ((k : ℕ) → k ≢ i → new k ≡ old k) → (p : ℕ) → byte_in new p ≡ written_byte (byte_in old) (i * 4096 + from) given p
 byte_in-put old new i from given whole fits put others p =
     elim (cases_eq (p / 4096) i) [
       | inl here ↦ ap (λ (q : List ℕ). get_or q (p % 4096) 0) (ap new here ∙ put)
@@ -55,40 +57,40 @@ byte_in-put old new i from given whole fits put others p =
           ∙ same_place here (ap (λ k. get_or (old k) (p % 4096) 0) here)
       | inr other ↦ ap (λ (page : List ℕ). get_or page (p % 4096) 0) (others (p / 4096) other)
           ∙ elim (cases_lt p (i * 4096 + from)) [
-            | inl below ↦ sym (chosen_below (i * 4096 + from) given (byte_in old) p below)
-            | inr above ↦ sym (chosen_above (i * 4096 + from) given (byte_in old) p (past_page other above))
+            | inl below ↦ sym (written_below (i * 4096 + from) given (byte_in old) p below)
+            | inr above ↦ sym (written_above (i * 4096 + from) given (byte_in old) p (past_page other above))
           ]
     ]
   where
     past_page : p / 4096 ≢ i → i * 4096 + from ≤ p → i * 4096 + from + length given ≤ p
     past_page other above = elim (cases_lt (p / 4096) (suc i)) [ inl low ↦ absurd (other (omega arith)) | inr high ↦ omega arith ]
 
-    same_place : p / 4096 ≡ i → byte_in old p ≡ get_or (old i) (p % 4096) 0 → chosen from given (λ j. get_or (old i) j 0) (p % 4096) ≡ chosen (i * 4096 + from) given (byte_in old) p
+    same_place : p / 4096 ≡ i → byte_in old p ≡ get_or (old i) (p % 4096) 0 → written_byte (λ j. get_or (old i) j 0) from given (p % 4096) ≡ written_byte (byte_in old) (i * 4096 + from) given p
     same_place here same = elim (cases_lt (p % 4096) from) [
-      | inl below ↦ chosen_below from given (λ j. get_or (old i) j 0) (p % 4096) below ∙ sym same ∙ sym (chosen_below (i * 4096 + from) given (byte_in old) p (omega arith))
+      | inl below ↦ written_below from given (λ j. get_or (old i) j 0) (p % 4096) below ∙ sym same ∙ sym (written_below (i * 4096 + from) given (byte_in old) p (omega arith))
       | inr above ↦ elim (cases_lt (p % 4096) (from + length given)) [
-        | inl inside ↦ chosen_in from given (λ j. get_or (old i) j 0) (p % 4096) above inside
+        | inl inside ↦ written_in from given (λ j. get_or (old i) j 0) (p % 4096) above inside
             ∙ ap (λ k. get_or given k 0) (let e : p % 4096 - from ≡ p - (i * 4096 + from) = omega arith in e)
-            ∙ sym (chosen_in (i * 4096 + from) given (byte_in old) p (omega arith) (omega arith))
-        | inr past ↦ chosen_above from given (λ j. get_or (old i) j 0) (p % 4096) past ∙ sym same ∙ sym (chosen_above (i * 4096 + from) given (byte_in old) p (omega arith))
+            ∙ sym (written_in (i * 4096 + from) given (byte_in old) p (omega arith) (omega arith))
+        | inr past ↦ written_above from given (λ j. get_or (old i) j 0) (p % 4096) past ∙ sym same ∙ sym (written_above (i * 4096 + from) given (byte_in old) p (omega arith))
       ]
     ]
 
 -- more data behind what is put
 pub put_more : (pages old : ℕ → List ℕ) (offset done count : ℕ) (text given : List ℕ) → done + count ≤ length text → length given ≡ count → ((k : ℕ) → k < count → get_or given k 0 ≡ get_or text (done + k) 0)
-    → ((p : ℕ) → byte_in pages p ≡ chosen offset (take done text) (byte_in old) p) → (p : ℕ) → chosen (offset + done) given (byte_in pages) p ≡ chosen offset (take (done + count) text) (byte_in old) p
+    → ((p : ℕ) → byte_in pages p ≡ written_byte (byte_in old) offset (take done text) p) → (p : ℕ) → written_byte (byte_in pages) (offset + done) given p ≡ written_byte (byte_in old) offset (take (done + count) text) p
 put_more pages old offset done count text given fits long reads before p =
     let first : length (take done text) ≡ done = length-take-le done text (omega arith) in
     let both : length (take (done + count) text) ≡ done + count = length-take-le (done + count) text fits in
     elim (cases_lt p offset) [
-      | inl below ↦ chosen_below (offset + done) given (byte_in pages) p (omega arith) ∙ before p ∙ chosen_below offset (take done text) (byte_in old) p below ∙ sym (chosen_below offset (take (done + count) text) (byte_in old) p below)
+      | inl below ↦ written_below (offset + done) given (byte_in pages) p (omega arith) ∙ before p ∙ written_below offset (take done text) (byte_in old) p below ∙ sym (written_below offset (take (done + count) text) (byte_in old) p below)
       | inr from ↦ elim (cases_lt p (offset + done)) [
-        | inl early ↦ chosen_below (offset + done) given (byte_in pages) p early ∙ before p ∙ chosen_in offset (take done text) (byte_in old) p from (omega arith) ∙ get_or-take done text (p - offset) 0 (omega arith)
-            ∙ sym (get_or-take (done + count) text (p - offset) 0 (omega arith)) ∙ sym (chosen_in offset (take (done + count) text) (byte_in old) p from (omega arith))
+        | inl early ↦ written_below (offset + done) given (byte_in pages) p early ∙ before p ∙ written_in offset (take done text) (byte_in old) p from (omega arith) ∙ get_or-take done text (p - offset) 0 (omega arith)
+            ∙ sym (get_or-take (done + count) text (p - offset) 0 (omega arith)) ∙ sym (written_in offset (take (done + count) text) (byte_in old) p from (omega arith))
         | inr late ↦ elim (cases_lt p (offset + done + count)) [
-          | inl inside ↦ chosen_in (offset + done) given (byte_in pages) p late (omega arith) ∙ reads (p - (offset + done)) (omega arith) ∙ ap (λ k. get_or text k 0) (let e : done + (p - (offset + done)) ≡ p - offset = omega arith in e)
-              ∙ sym (get_or-take (done + count) text (p - offset) 0 (omega arith)) ∙ sym (chosen_in offset (take (done + count) text) (byte_in old) p from (omega arith))
-          | inr past ↦ chosen_above (offset + done) given (byte_in pages) p (omega arith) ∙ before p ∙ chosen_above offset (take done text) (byte_in old) p (omega arith) ∙ sym (chosen_above offset (take (done + count) text) (byte_in old) p (omega arith))
+          | inl inside ↦ written_in (offset + done) given (byte_in pages) p late (omega arith) ∙ reads (p - (offset + done)) (omega arith) ∙ ap (λ k. get_or text k 0) (let e : done + (p - (offset + done)) ≡ p - offset = omega arith in e)
+              ∙ sym (get_or-take (done + count) text (p - offset) 0 (omega arith)) ∙ sym (written_in offset (take (done + count) text) (byte_in old) p from (omega arith))
+          | inr past ↦ written_above (offset + done) given (byte_in pages) p (omega arith) ∙ before p ∙ written_above offset (take done text) (byte_in old) p (omega arith) ∙ sym (written_above offset (take (done + count) text) (byte_in old) p (omega arith))
         ]
       ]
     ]
@@ -96,12 +98,12 @@ put_more pages old offset done count text given fits long reads before p =
 pub put_step : (pages new old : ℕ → List ℕ) (offset done count i from : ℕ) (text given : List ℕ) → done + count ≤ length text → count + from ≤ 4096 → length given ≡ count → ((k : ℕ) → k < count → get_or given k 0 ≡ get_or text (done + k) 0)
     → i ≡ (offset + done) / 4096 → from ≡ (offset + done) % 4096 → length (pages i) ≡ 4096
     → new i ≡ put_in (pages i) from given → ((k : ℕ) → k ≢ i → new k ≡ pages k)
-    → ((p : ℕ) → byte_in pages p ≡ chosen offset (take done text) (byte_in old) p)
-    → (p : ℕ) → byte_in new p ≡ chosen offset (take (done + count) text) (byte_in old) p
+    → ((p : ℕ) → byte_in pages p ≡ written_byte (byte_in old) offset (take done text) p)
+    → (p : ℕ) → byte_in new p ≡ written_byte (byte_in old) offset (take (done + count) text) p
 put_step pages new old offset done count i from text given fits room long reads ei ef whole put others before p =
     let at : i * 4096 + from ≡ offset + done = omega arith in
     byte_in-put pages new i from given whole (omega arith) put others p
-    ∙ ap (λ k. chosen k given (byte_in pages) p) at
+    ∙ ap (λ k. written_byte (byte_in pages) k given p) at
     ∙ put_more pages old offset done count text given fits long reads before p
 
 -- no page's length changes
@@ -136,40 +138,38 @@ made_same f g m n e same =
     (λ k d lt. (let within : k < m = let n = length-map-range_with_len f 0 m in omega (arith, n) in
     get_or-map-range_with_len f 0 m k k d within (omega arith) ∙ same k within ∙ sym (get_or-map-range_with_len g 0 n k k d (omega arith) (omega arith))))
 
-pub chosen_same : (offset : ℕ) (given : List ℕ) (f g : ℕ → ℕ) (p : ℕ) → f p ≡ g p → chosen offset given f p ≡ chosen offset given g p
-chosen_same offset given f g p e = ap (λ z. if not (nat_lt p offset) && nat_lt p (offset + length given) then slice_index_or given (p - offset) 0 else z) e
+pub written_same : (offset : ℕ) (given : List ℕ) (f g : ℕ → ℕ) (p : ℕ) → f p ≡ g p → written_byte f offset given p ≡ written_byte g offset given p
+written_same offset given f g p e = ap (λ z. if not (nat_lt p offset) && nat_lt p (offset + length given) then slice_index_or given (p - offset) 0 else z) e
 
-pub bytes_written : (old new : ℕ → List ℕ) (size offset : ℕ) (text : List ℕ) → IsClean old size → ((p : ℕ) → byte_in new p ≡ chosen offset text (byte_in old) p) → bytes new (max size (offset + length text)) ≡ written (bytes old size) offset text
+pub bytes_written : (old new : ℕ → List ℕ) (size offset : ℕ) (text : List ℕ) → IsClean old size → ((p : ℕ) → byte_in new p ≡ written_byte (byte_in old) offset text p) → bytes new (max size (offset + length text)) ≡ written (bytes old size) offset text
 bytes_written old new size offset text clean put =
-    made_same (byte_in new) (chosen offset text (λ p. get_or (bytes old size) p 0)) (max size (offset + length text)) (max (length (bytes old size)) (offset + length text)) (ap (λ n. max n (offset + length text)) (sym (length-bytes old size)))
-    (λ k lt. put k ∙ chosen_same offset text (byte_in old) (λ p. get_or (bytes old size) p 0) k (sym (seen old size clean k)))
+    made_same (byte_in new) (written_byte (λ p. get_or (bytes old size) p 0) offset text) (max size (offset + length text)) (max (length (bytes old size)) (offset + length text)) (ap (λ n. max n (offset + length text)) (sym (length-bytes old size)))
+    (λ k lt. put k ∙ written_same offset text (byte_in old) (λ p. get_or (bytes old size) p 0) k (sym (seen old size clean k)))
 
-pub bytes_resized : (old new : ℕ → List ℕ) (size more : ℕ) → IsClean old size → ((p : ℕ) → byte_in new p ≡ cut_at more (byte_in old) p) → bytes new more ≡ resized (bytes old size) more
-bytes_resized old new size more clean cut =
-    made_same (byte_in new) (λ p. get_or (bytes old size) p 0) more more refl (λ k lt. cut k ∙ (let inside : cut_at more (byte_in old) k ≡ byte_in old k = grind (arith, nat_tests) in inside) ∙ sym (seen old size clean k))
+pub bytes_resized : (old new : ℕ → List ℕ) (size more : ℕ) → IsClean old size → ((p : ℕ) → p < more → byte_in new p ≡ byte_in old p) → bytes new more ≡ resized (bytes old size) more
+bytes_resized old new size more clean kept =
+    made_same (byte_in new) (λ p. get_or (bytes old size) p 0) more more refl (λ k lt. kept k lt ∙ sym (seen old size clean k))
 
 -- cutting
-pub cut_pages : (pages new : ℕ → List ℕ) (size : ℕ) → ((k : ℕ) → k < size / 4096 → new k ≡ pages k) → new (size / 4096) ≡ take (size % 4096) (pages (size / 4096))
-    → ((k : ℕ) → size / 4096 < k → new k ≡ []) → (p : ℕ) → byte_in new p ≡ cut_at size (byte_in pages) p
-cut_pages pages new size kept cut gone p =
+pub cut_kept : (pages new : ℕ → List ℕ) (size : ℕ) → ((k : ℕ) → k < size / 4096 → new k ≡ pages k) → new (size / 4096) ≡ take (size % 4096) (pages (size / 4096))
+    → (p : ℕ) → p < size → byte_in new p ≡ byte_in pages p
+cut_kept pages new size kept cut p lt =
     let last : ℕ = size / 4096 in
     elim (cases_eq (p / 4096) last) [
       | inl here ↦ ap (λ (q : List ℕ). get_or q (p % 4096) 0) (ap new here ∙ cut)
-          ∙ elim (cases_lt (p % 4096) (size % 4096)) [
-            | inl below ↦ get_or-take (size % 4096) (pages last) (p % 4096) 0 below ∙ ap (λ k. get_or (pages k) (p % 4096) 0) (sym here) ∙ sym (kept_byte (omega arith))
-            | inr above ↦ get_or_past (take (size % 4096) (pages last)) (p % 4096) 0 (let n = length-take (size % 4096) (pages last) in omega (arith, n)) ∙ sym (lost_byte (omega arith))
-          ]
-      | inr other ↦ elim (cases_lt (p / 4096) last) [
-        | inl below ↦ ap (λ (q : List ℕ). get_or q (p % 4096) 0) (kept (p / 4096) below) ∙ sym (kept_byte (omega arith))
-        | inr above ↦ ap (λ (q : List ℕ). get_or q (p % 4096) 0) (gone (p / 4096) (omega (arith, other))) ∙ sym (lost_byte (omega arith))
-      ]
+          ∙ get_or-take (size % 4096) (pages last) (p % 4096) 0 (omega arith) ∙ ap (λ k. get_or (pages k) (p % 4096) 0) (sym here)
+      | inr other ↦ ap (λ (q : List ℕ). get_or q (p % 4096) 0) (kept (p / 4096) (omega (arith, other)))
     ]
-  where
-    kept_byte : p < size → cut_at size (byte_in pages) p ≡ byte_in pages p
-    kept_byte lt = grind (arith, nat_tests)
 
-    lost_byte : size ≤ p → cut_at size (byte_in pages) p ≡ 0
-    lost_byte ge = grind (arith, nat_tests)
+pub cut_gone : (pages new : ℕ → List ℕ) (size : ℕ) → new (size / 4096) ≡ take (size % 4096) (pages (size / 4096)) → ((k : ℕ) → size / 4096 < k → new k ≡ [])
+    → (p : ℕ) → size ≤ p → byte_in new p ≡ 0
+cut_gone pages new size cut gone p le =
+    let last : ℕ = size / 4096 in
+    elim (cases_eq (p / 4096) last) [
+      | inl here ↦ ap (λ (q : List ℕ). get_or q (p % 4096) 0) (ap new here ∙ cut)
+          ∙ get_or_past (take (size % 4096) (pages last)) (p % 4096) 0 (let n = length-take (size % 4096) (pages last) in omega (arith, n))
+      | inr other ↦ ap (λ (q : List ℕ). get_or q (p % 4096) 0) (gone (p / 4096) (omega (arith, other))) ∙ get_or_past [] (p % 4096) 0 (omega arith)
+    ]
 
 -- reading
 pub range_split : (a n m : ℕ) → range_with_len a (n + m) ≡ range_with_len a n ++ range_with_len (a + n) m
@@ -185,7 +185,7 @@ range_split a n m = same_lists (range_with_len a (n + m)) (range_with_len a n ++
     ]
 
 -- the same number of bytes, each the same
-bytes_same : (f g : ℕ → ℕ) (a b n : ℕ) → ((k : ℕ) → k < n → f (a + k) ≡ g (b + k)) → map f (range_with_len a n) ≡ map g (range_with_len b n)
+pub bytes_same : (f g : ℕ → ℕ) (a b n : ℕ) → ((k : ℕ) → k < n → f (a + k) ≡ g (b + k)) → map f (range_with_len a n) ≡ map g (range_with_len b n)
 bytes_same f g a b n same =
     same_lists (map f (range_with_len a n)) (map g (range_with_len b n)) (length-map-range_with_len f a n ∙ sym (length-map-range_with_len g b n))
     (λ k d lt. (let within : k < n = (let e = length-map-range_with_len f a n in omega (arith, e)) in
@@ -279,3 +279,22 @@ pad_part xs from count past = zeros_are count from ∙ bytes_same (λ j. get_or 
 
 pub page_past : (page : List ℕ) (from count : ℕ) → page ≡ [] → replicate {A = ℕ} count 0 ≡ map (λ j. get_or page j 0) (range_with_len from count)
 page_past page from count past = zeros_are count from ∙ ap (λ (q : List ℕ). map (λ j. get_or q j 0) (range_with_len from count)) (sym past)
+
+-- what a map is left with that is split at a number
+pub below_is : (a q : ℕ) (o : Option (List (List ℕ))) → q < a → unwrap_or (cond (is_gt (nat_cmp a q)) o None) [] ≡ unwrap_or o []
+below_is a q o lt = rw (← nat_cmp_is a q Ordering.Greater lt) refl
+
+pub from_is : (a q : ℕ) (o : Option (List (List ℕ))) → a ≤ q → unwrap_or (cond (is_gt (nat_cmp a q)) o None) [] ≡ []
+from_is a q o le = elim (cases_eq a q) [
+  | inl same ↦ rw (← nat_cmp_is a q Ordering.Equal same) refl
+  | inr other ↦ rw (← nat_cmp_is a q Ordering.Less (omega (arith, other))) refl
+]
+
+-- pages that lie together
+pub pages_gone : (now mid : ℕ → List (List ℕ)) (first : ℕ) → ((k : ℕ) → (first + 63) / 64 ≤ k → mid k ≡ []) → now (first / 64) ≡ take (first % 64) (mid (first / 64))
+    → ((n : ℕ) → n ≢ first / 64 → now n ≡ mid n) → (i : ℕ) → first ≤ i → page_in (now (i / 64)) (i % 64) ≡ []
+pages_gone now mid first gone cut others i le = elim (cases_eq (i / 64) (first / 64)) [
+  | inl here ↦ ap (λ (e : List (List ℕ)). page_in e (i % 64)) (ap now here ∙ cut)
+      ∙ get_or_past (take (first % 64) (mid (first / 64))) (i % 64) [] (let n = length-take (first % 64) (mid (first / 64)) in omega (arith, n))
+  | inr other ↦ ap (λ (e : List (List ℕ)). page_in e (i % 64)) (others (i / 64) other ∙ gone (i / 64) (omega (arith, other))) ∙ get_or_past [] (i % 64) [] (omega arith)
+]

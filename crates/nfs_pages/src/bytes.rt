@@ -7,6 +7,7 @@ ghost use Rattle.nfs_pages.specs.Bytes.{written, resized};
 ghost use Rattle.nfs_pages.specs.Page.{page_size};
 
 use crate::pages::Pages;
+use crate::pool::Pool;
 use nfs_xdr::Sheet;
 use std::alloc::{AllocError, Global};
 use std::marker::Model;
@@ -42,7 +43,7 @@ impl Bytes {
     }
 
     /// A copy of bytes of one page.
-    pub fn of(alloc: Global, bytes: &[u8]) -> Result<Bytes, AllocError>
+    fn copied(alloc: Global, bytes: &[u8]) -> Result<Bytes, AllocError>
         requires { length bytes.now ≤ page_size }
         ensures { IfOk result (λ b. b ≡ bytes.now) }
     {
@@ -51,6 +52,26 @@ impl Bytes {
             size: bytes.len() as u64,
             pages,
         })
+    }
+
+    /// A copy of bytes of one page, which is refused where the pool has none.
+    pub fn of(alloc: Global, pool: &mut Pool, bytes: &[u8]) -> Result<Bytes, AllocError>
+        requires { length bytes.now ≤ page_size }
+        ensures { IfOk result (λ b. b ≡ bytes.now) }
+    {
+        if !pool.budget.has_page() {
+            return Err(AllocError);
+        }
+        let bytes = Bytes::copied(alloc, bytes)?;
+        if bytes.taken() > 0 {
+            pool.budget.take();
+        }
+        Ok(bytes)
+    }
+
+    /// How many pages of a pool they have: what [`Pool::take_back`] takes, where they are kept nowhere.
+    pub fn taken(&self) -> u64 {
+        self.pages.taken()
     }
 
     /// How many there are.
@@ -78,23 +99,37 @@ impl Bytes {
         self.pages.put_part(start, count as usize, out);
     }
 
-    /// Writes over the bytes from `offset` on. A gap is zeros. All growth is before the first change.
-    pub fn write(&mut self, alloc: Global, offset: u64, text: &[u8]) -> Result<(), AllocError>
+    /// Writes over the bytes from `offset` on, by pages of the pool. A gap is zeros. All growth is before the first change.
+    pub fn write(
+        &mut self,
+        alloc: Global,
+        pool: &mut Pool,
+        offset: u64,
+        text: &[u8],
+    ) -> Result<(), AllocError>
         requires { offset + length text.now < 2 ^ 63 }
         ensures ok { OnOk result (self.new ≡ written self.old offset text.now) }
         ensures err { OnErr result (self.new ≡ self.old) }
     {
-        self.pages.write(alloc, offset, text)?;
+        self.pages.write(alloc, &mut pool.budget, offset, text)?;
         self.size = self.size.max(offset + text.len() as u64);
         Ok(())
     }
 
-    /// Cuts the bytes, or puts zeros behind them. Neither takes memory.
-    pub fn resize(&mut self, size: u64)
+    /// Cuts the bytes, or puts zeros behind them. The pages behind a cut wait to be dropped. It is refused no memory.
+    pub fn resize(&mut self, size: u64, pool: &mut Pool)
         requires { size < 2 ^ 63 }
         ensures { self.new ≡ resized self.old size }
     {
-        self.pages.cut(size);
+        let behind = self.pages.cut(size, &mut pool.budget);
         self.size = size;
+        if let Some(behind) = behind {
+            pool.take(behind);
+        }
+    }
+
+    /// Leaves all pages to be dropped.
+    pub fn leave(self, pool: &mut Pool) {
+        pool.take(self.pages);
     }
 }

@@ -4,6 +4,7 @@ ghost use Rattle.std.specs.Prelude.{◌≡◌, ℕ, ◌+◌, ◌≤◌, ◌++◌
 ghost use Rattle.std.specs.List.{range_with_len};
 ghost use Rattle.nfs_pages.specs.Page.{page_size, put_in};
 
+use crate::budget::Budget;
 use nfs_xdr::Sheet;
 use std::alloc::{AllocError, Global};
 use std::marker::Model;
@@ -77,13 +78,35 @@ impl Page {
         }
     }
 
+    /// Whether it has memory, be it for no bytes any more.
+    pub(crate) fn is_taken(&self) -> bool {
+        self.bytes.capacity() > 0
+    }
+
     /// Makes the page whole: its bytes stay.
-    pub(crate) fn make(&mut self) -> Result<(), AllocError>
+    fn make_whole(&mut self) -> Result<(), AllocError>
         ensures same { (j : ℕ) → slice_index_or self.new j 0 ≡ slice_index_or self.old j 0 }
         ensures whole { OnOk result (length self.new ≡ page_size) }
         ensures longer { length self.old ≤ length self.new }
     {
         self.bytes.resize(PAGE, 0)
+    }
+
+    /// The same. If it has no memory it takes a page, which is refused where none is left.
+    pub(crate) fn make(&mut self, budget: &mut Budget) -> Result<(), AllocError>
+        ensures same { (j : ℕ) → slice_index_or self.new j 0 ≡ slice_index_or self.old j 0 }
+        ensures whole { OnOk result (length self.new ≡ page_size) }
+        ensures longer { length self.old ≤ length self.new }
+    {
+        if self.is_taken() {
+            return self.make_whole();
+        }
+        if !budget.has_page() {
+            return Err(AllocError);
+        }
+        self.make_whole()?;
+        budget.take();
+        Ok(())
     }
 
     /// Writes over some of the page's bytes.

@@ -1,8 +1,11 @@
 pub mod Blaming
+pub mod InvalidReasons
 pub mod Placed
 pub mod StateReasons
 pub mod NameReasons
+pub mod HeldReasons
 pub mod FileReasons
+pub mod FreeReasons
 pub mod AttrReasons
 pub mod HoldReasons
 pub mod MakeReasons
@@ -10,7 +13,13 @@ pub mod WalkReasons
 pub mod OpenReasons
 pub mod Reasons
 pub mod ReasonsWorked
+pub mod RowsWorked
 pub mod TruthOfAnswers
 pub mod WhatIsDone
 pub mod YesIsTrue
 pub mod YesIsTrueWorked
+pub mod FirstSays
+pub mod FirstSaysWorked
+pub mod ReasonOf
+pub mod Granted
+pub mod LookupLeads

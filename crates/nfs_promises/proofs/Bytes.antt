@@ -10,6 +10,9 @@ pub mod ChangeNames
 pub mod ChangeNamesWorked
 pub mod ChangeSeen
 pub mod ChangeSeenWorked
+pub mod Dated
+pub mod TimesRise
+pub mod TimesRiseWorked
 pub mod ChangesFit
 pub mod ChangesFitWorked
 pub mod CloseToOpen

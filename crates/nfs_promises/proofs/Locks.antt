@@ -29,3 +29,4 @@ pub mod StatesBegun
 pub mod NoIsTrueWorked
 pub mod WrongLocks
 pub mod WrongOpens
+pub mod Traced

@@ -14,10 +14,6 @@ pub mod ListsAllWorked
 pub mod NameRows
 pub mod NameSaid
 pub mod NamelessStays
-pub mod NeverStale
-pub mod NeverStaleNames
-pub mod NeverStaleOpens
 pub mod PageLists
 pub mod PageRows
 pub mod PageText
-pub mod ThereAnswers

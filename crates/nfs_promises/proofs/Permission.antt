@@ -1,8 +1,9 @@
 pub mod Permitted
 pub mod PermittedWorked
 pub mod RightsTold
+pub mod NoSetUid
+pub mod NoSetUidWorked
 pub mod PermittedBytes
-pub mod PermittedClaims
 pub mod PermittedNames
 pub mod PermittedOpens
 pub mod RightsKept

@@ -3,6 +3,8 @@ pub mod AttributesTold
 pub mod Handles
 pub mod LeaseTold
 pub mod LimitsKept
+pub mod ChangesCounted
+pub mod RunAt
 pub mod LockHeld
 pub mod LockOwners
 pub mod LockStates
@@ -24,3 +26,4 @@ pub mod RefusedOtherwise
 pub mod Computing
 pub mod LastOperation
 pub mod Seats
+pub mod StatusTold

@@ -1,5 +1,10 @@
 pub mod Asked
+pub mod Invalid
 pub mod Reasons
 pub mod ReasonsWorked
+pub mod RowsWorked
 pub mod YesIsTrue
 pub mod YesIsTrueWorked
+pub mod FirstSays
+pub mod FirstSaysWorked
+pub mod Granted

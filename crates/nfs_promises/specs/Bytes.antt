@@ -10,6 +10,8 @@ pub mod ChangeNames
 pub mod ChangeNamesWorked
 pub mod ChangeSeen
 pub mod ChangeSeenWorked
+pub mod TimesRise
+pub mod TimesRiseWorked
 pub mod ChangesFit
 pub mod ChangesFitWorked
 pub mod CloseToOpen

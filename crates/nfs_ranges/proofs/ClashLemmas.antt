@@ -96,10 +96,6 @@ all_canonical low [] are k d lt = absurd (omega arith)
 all_canonical low (o ∷ os) are zero d lt = are.2
 all_canonical low (o ∷ os) are (suc k) d lt = all_canonical (suc o.number) os are.3 k d (omega arith)
 
-pub sooner_none : (first : ℕ) (best : Option Held) → sooner first best None ≡ best
-sooner_none first None = refl
-sooner_none first (Some b) = refl
-
 -- one owner is asked, and those behind it are left
 pub told_next : (s : ℕ) (k : Kind) (first last i : ℕ) (told next : Option Held) (os : LockedBytes) (o : Owned) (t : Option Held) → i < length os →
     o ≡ get_or os i o → tell s k first last told (drop i os) ≡ t → next ≡ sooner first told (clash_of s k first last o) →
@@ -137,28 +133,17 @@ told_group s k first last i told next gs g t lt e is made =
     ∙ ap (tell s k first last told) (sym (at_block gs i g lt e))
     ∙ is
 
--- owners of whom none clashes
-unclashed : (s : ℕ) (k : Kind) (first last : ℕ) (o : Owned) → find (hits k first last) o.intervals ≡ None → clash_of s k first last o ≡ None
-unclashed s k first last o none = elim (cases_Bool (eqb o.number s)) [ inl e ↦ rw e refl | inr e ↦ rw (e, none) refl ]
-
-pub passed : (s : ℕ) (k : Kind) (first last : ℕ) (best : Option Held) (os : LockedBytes) → All (λ o. find (hits k first last) o.intervals ≡ None) os →
-    best ≡ tell s k first last best os
-passed s k first last best [] none = refl
-passed s k first last best (o ∷ os) none =
-    passed s k first last best os (λ i d lt. none (suc i) d (omega arith))
-    ∙ ap (λ b. tell s k first last b os) (sym (sooner_none first best) ∙ ap (sooner first best) (sym (unclashed s k first last o (none zero o (omega arith)))))
-
 -- the first interval of one list that clashes
-record IsHit (k : Kind) (first last : ℕ) (xs : List Interval) (x : Interval) : Type 0 where
-  meets_is : meets k (Some x.kind) ≡ true
-  range : (x.first ≤ x.last) × (x.last < 2 ^ 64)
-  within : (first ≤ x.last) × (x.first ≤ last)
-  earliest : (c : ℕ) → first ≤ c → c < max x.first first → meets k (kind_at xs c) ≡ false
-  held : (c : ℕ) → x.first ≤ c → c ≤ x.last → kind_at xs c ≡ Some x.kind
-  before : (c : ℕ) → suc c ≡ x.first → kind_at xs c ≢ Some x.kind
-  behind : kind_at xs (suc x.last) ≢ Some x.kind
+pub record IsHit (k : Kind) (first last : ℕ) (xs : List Interval) (x : Interval) : Type 0 where
+  pub meets_is : meets k (Some x.kind) ≡ true
+  pub range : (x.first ≤ x.last) × (x.last < 2 ^ 64)
+  pub within : (first ≤ x.last) × (x.first ≤ last)
+  pub earliest : (c : ℕ) → first ≤ c → c < max x.first first → meets k (kind_at xs c) ≡ false
+  pub held : (c : ℕ) → x.first ≤ c → c ≤ x.last → kind_at xs c ≡ Some x.kind
+  pub before : (c : ℕ) → suc c ≡ x.first → kind_at xs c ≢ Some x.kind
+  pub behind : kind_at xs (suc x.last) ≢ Some x.kind
 
-abbrev HitIs : Kind → ℕ → ℕ → List Interval → Option Interval → Type 0
+abbrev pub HitIs : Kind → ℕ → ℕ → List Interval → Option Interval → Type 0
 HitIs k first last xs None = (c : ℕ) → first ≤ c → c ≤ last → meets k (kind_at xs c) ≡ false
 HitIs k first last xs (Some x) = IsHit k first last xs x
 
@@ -181,7 +166,7 @@ unmet k first last y ys low c are miss lo hi rest = elim (cases_lt y.last c) [
   ]
 ]
 
-hit_is : (k : Kind) (first last low : ℕ) (xs : List Interval) → AreFrom low xs → HitIs k first last xs (find (hits k first last) xs)
+pub hit_is : (k : Kind) (first last low : ℕ) (xs : List Interval) → AreFrom low xs → HitIs k first last xs (find (hits k first last) xs)
 hit_is k first last low [] are = λ c lo hi. refl
 hit_is k first last low (y ∷ ys) are = by_test (hits k first last y) refl (find (hits k first last) ys) (hit_is k first last (suc y.last) ys are.4)
   where
@@ -227,11 +212,11 @@ hit_is k first last low (y ∷ ys) are = by_test (hits k first last y) refl (fin
         }
 
 -- what is told of one owner
-abbrev ToldAt : Holders → ℕ → Kind → ℕ → ℕ → Option Held → Type 0
+abbrev pub ToldAt : Holders → ℕ → Kind → ℕ → ℕ → Option Held → Type 0
 ToldAt f s k first last None = (b t : ℕ) → first ≤ b → b ≤ last → clashes f s k b t ≡ false
 ToldAt f s k first last (Some h) = IsTold f s k first last h (max h.first first)
 
-own : (o : Owned) (b : ℕ) → at (o ∷ []) o.number b ≡ kind_at o.intervals b
+pub own : (o : Owned) (b : ℕ) → at (o ∷ []) o.number b ≡ kind_at o.intervals b
 own o b = rw (eq-eqb o.number o.number refl) refl
 
 not_own : (o : Owned) (t b : ℕ) → o.number ≢ t → at (o ∷ []) t b ≡ None
@@ -247,7 +232,7 @@ own_clash o s k b t none = elim (cases_eq o.number t) [
   | inr other ↦ other_clash o s k b t other
 ]
 
-one_told : (s : ℕ) (k : Kind) (first last : ℕ) (o : Owned) → first ≤ last → IsCanonical o.intervals →
+pub one_told : (s : ℕ) (k : Kind) (first last : ℕ) (o : Owned) → first ≤ last → IsCanonical o.intervals →
     ToldAt (at (o ∷ [])) s k first last (clash_of s k first last o)
 one_told s k first last o le are = elim (cases_eq o.number s) [
   | inl same ↦ rw (eq-eqb o.number s same) (λ b t lo hi. elim (cases_eq o.number t) [
@@ -310,7 +295,7 @@ holds_it : (f : Holders) (s : ℕ) (k : Kind) (b t : ℕ) → clashes f s k b t 
 holds_it f s k b t clash none = let parts = and_parts (not (eqb t s)) (meets k (f t b)) clash in let bad : false ≡ true = sym (ap (meets k) none) ∙ parts.1 in
     cc
 
-lift : (f u : Holders) (s : ℕ) (k : Kind) (first last : ℕ) (h : Held) (b : ℕ) → IsTold f s k first last h b → ((c : ℕ) → u h.owner c ≡ f h.owner c)
+pub lift : (f u : Holders) (s : ℕ) (k : Kind) (first last : ℕ) (h : Held) (b : ℕ) → IsTold f s k first last h b → ((c : ℕ) → u h.owner c ≡ f h.owner c)
     → ((c t : ℕ) → first ≤ c → c < b → clashes u s k c t ≡ false) → ((t : ℕ) → t < h.owner → clashes u s k b t ≡ false) → IsTold u s k first last h b
 lift f u s k first last h b told row earliest lowest = record {
   within = told.within;
@@ -400,7 +385,7 @@ tell_is f low s k first last best (o ∷ os) le below are told =
     let same : both (both f (at (o ∷ []))) (at os) ≡ both f (at (o ∷ os)) = fun_ext (λ t. fun_ext (λ b. more f o os are.3 t b)) in
     subst (λ u. ToldAt u s k first last (tell s k first last (sooner first best (clash_of s k first last o)) os)) same rest
 
-tells_from : (f : Holders) (s : ℕ) (k : Kind) (first last : ℕ) (r : Option Held) → ToldAt f s k first last r → Tells f s k first last r
+pub tells_from : (f : Holders) (s : ℕ) (k : Kind) (first last : ℕ) (r : Option Held) → ToldAt f s k first last r → Tells f s k first last r
 tells_from f s k first last None told = told
 tells_from f s k first last (Some h) told = (max h.first first, told)
 

@@ -8,6 +8,8 @@ pub mod HolderLemmas
 pub mod KeptLemmas
 pub mod KindLemmas
 pub mod LayLemmas
+pub mod ListedLemmas
+pub mod ListingLemmas
 pub mod OwnerLemmas
 pub mod PlaceLemmas
 pub mod RiseLemmas

@@ -106,20 +106,6 @@ no_writer k first last (x ∷ xs) read none =
     let miss : hits k first last x ≡ false = rw (read, parts.0) refl in
     rw miss (no_writer k first last xs read parts.1)
 
--- a span that reaches further
-lie_in : (low high first last : ℕ) (xs : List Interval) → first ≤ low → high ≤ last → LieWithin low high xs → LieWithin first last xs
-lie_in low high first last [] le up within = tt
-lie_in low high first last (x ∷ xs) le up within =
-    let lo = within.0 in
-    let hi = within.1 in
-    (omega arith, omega arith, lie_in low high first last xs le up within.2)
-
-pub span_in : (s t : Span) (xs : List Interval) → t.first ≤ s.first → s.last ≤ t.last → (t.writes ≡ false → s.writes ≡ false) → IsSpanOf s xs → IsSpanOf t xs
-span_in s t xs le up read is = record {
-  span = record { each = lie_in s.first s.last t.first t.last xs le up is.span.each };
-  read = λ e. is.read (read e);
-}
-
 -- what a wish may pass over
 pub passes_before : (k : Kind) (first last : ℕ) (s : Span) (xs : List Interval) → last < s.first → IsSpanOf s xs → find (hits k first last) xs ≡ None
 passes_before k first last s xs lt is = none_before k s.first s.last first last xs is.span.each lt

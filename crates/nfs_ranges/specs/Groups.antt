@@ -1,7 +1,7 @@
 -- Owners in rising order, and groups of them: those that stand next to each other.
-use Rattle.std.specs.Prelude.{◌≡◌, All, ℕ, zero, suc, ◌==◌, nat_lt, Bool, false, List, [], ◌∷◌, Option, Some, None}
-use Rattle.nfs_ranges.specs.{declared.interval.Interval.Interval, declared.span.Span.Span, Holders.{Owned, LockedBytes}}
-use Rattle.nfs_ranges.specs.{Owners.{is_empty, AreCanonical, with_owner, IsSpanOf}, Blocks.{flat, last_of, AreSome}}
+use Rattle.std.specs.Prelude.{◌≡◌, ℕ, zero, suc, ◌==◌, nat_lt, Bool, false, List, [], ◌∷◌, Option, Some, None}
+use Rattle.nfs_ranges.specs.{declared.interval.Interval.Interval, Holders.{Owned, LockedBytes}}
+use Rattle.nfs_ranges.specs.{Owners.{is_empty, AreCanonical, with_owner}, Blocks.{flat, last_of, AreSome}}
 
 -- the owner has a lower number
 abbrev pub is_below : ℕ → Owned → Bool
@@ -20,10 +20,6 @@ last_number (o ∷ os) = (last_of o os).number
 -- each owner of the group has a lower number
 abbrev pub are_below : ℕ → LockedBytes → Bool
 are_below s g = nat_lt (last_number g) s
-
--- what the span says of the intervals of each owner is so
-abbrev pub AreSpanned : Span → LockedBytes → Type 0
-AreSpanned s = All (λ o. IsSpanOf s o.intervals)
 
 -- the groups in which owners lie: all of them in canonical form, and no group is empty
 pub record AreKept (gs : List LockedBytes) : Type 0 where

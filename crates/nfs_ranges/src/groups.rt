@@ -1,17 +1,17 @@
-//! Owners in groups, so that a wish passes over a group at once, and an owner that comes or goes moves those of its group alone.
+//! Owners in groups, so that one that comes or goes moves those of its group alone.
 
-ghost use Rattle.std.specs.Prelude.{◌≡◌, ◌<◌, ◌≤◌, ◌++◌, ◌∷◌, [], OnOk, OnErr, IfOk, length, None, false, ℕ, suc, ◌+◌};
+ghost use Rattle.std.specs.Prelude.{◌≡◌, ◌<◌, ◌≤◌, ◌++◌, ◌∷◌, [], OnOk, OnErr, IfOk, length, find, None, false, ℕ, suc, ◌+◌};
 ghost use Rattle.std.specs.Bool.{OnTrue};
 ghost use Rattle.nfs_ranges.specs.declared.Kind.{Kind};
 ghost use Rattle.nfs_ranges.specs.Intervals.{without, with_range};
-ghost use Rattle.nfs_ranges.specs.Clashes.{sooner, tell};
+ghost use Rattle.nfs_ranges.specs.Clashes.{hits, sooner, tell};
 ghost use Rattle.nfs_ranges.specs.Holders.{LockedBytes, bytes_of, at};
 ghost use Rattle.nfs_ranges.specs.Owners.{AreCanonical, is_empty, with_owner};
 ghost use Rattle.nfs_ranges.specs.Blocks.{flat, AreSome, block_at, spot};
-ghost use Rattle.nfs_ranges.specs.Groups.{AreKept, AreSame, AreSomeBut, AreSpanned, IsPut, are_below, last_number};
+ghost use Rattle.nfs_ranges.specs.Groups.{AreKept, AreSame, AreSomeBut, IsPut, are_below, last_number};
 
-use super::owners::{Owner, clear_among, drop_among, is_absent, kind_among, set_among};
-use super::span::Span;
+use super::interval::Interval;
+use super::owners::{Owner, clear_among, drop_among, hit_among, is_absent, kind_among, set_among};
 use super::{Held, Kind};
 use std::alloc::{AllocError, Global};
 use std::marker::Model;
@@ -23,34 +23,14 @@ const MOST: usize = 64;
 #[derive(Drop)]
 pub(super) struct Group {
     owners: Vec<Owner>,
-    /// Of all that they hold.
-    span: Span,
 }
 
 impl Model for Group {
     ghost use Rattle.nfs_ranges.specs.Holders.{LockedBytes};
-    ghost use Rattle.nfs_ranges.specs.Groups.{AreSpanned};
 
     ghost Value = { LockedBytes };
 
     ghost view = { λ g. g.owners.items };
-
-    ghost invariant = { λ g. AreSpanned g.span g.owners.items };
-}
-
-/// The span of all that owners hold.
-fn span_of(owners: &[Owner]) -> Span
-    ensures { AreSpanned result owners.now }
-{
-    let mut span = Span {
-        first: u64::MAX,
-        last: 0,
-        writes: false,
-    };
-    for o in owners {
-        span = span.with(o.span());
-    }
-    span
 }
 
 /// Of two that clash, the one that does so on the lower byte from `first` on, and else the first.
@@ -90,7 +70,6 @@ fn clash_among(
 {
     let mut told = best;
     for o in owners {
-        // most owners lie apart from the range: only what clashes is copied
         if let Some(c) = o.clash(number, kind, first, last) {
             told = sooner(first, told, Some(c));
             if stays_told(first, told) {
@@ -115,15 +94,7 @@ impl Group {
         let owner = Owner::new(alloc, number, kind, first, last)?;
         let mut owners = Vec::with_capacity(alloc, 1)?;
         owners.push(owner)?;
-        Ok(Group::of(owners))
-    }
-
-    /// All of the owners.
-    fn of(owners: Vec<Owner>) -> Group
-        ensures { result ≡ owners.items }
-    {
-        let span = span_of(&owners);
-        Group { owners, span }
+        Ok(Group { owners })
     }
 
     fn owners(&self) -> &[Owner]
@@ -148,24 +119,6 @@ impl Group {
         }
     }
 
-    /// What is told of a wish to lock the range, where this was found before.
-    fn clash(
-        &self,
-        best: Option<Held>,
-        number: u64,
-        kind: Kind,
-        first: u64,
-        last: u64,
-    ) -> Option<Held>
-        requires { AreCanonical self.now }
-        ensures { result ≡ tell number kind first last best self.now }
-    {
-        if self.span.lets_pass(kind, first, last) {
-            return best;
-        }
-        clash_among(&self.owners, best, number, kind, first, last)
-    }
-
     fn set(
         &mut self,
         alloc: Global,
@@ -179,9 +132,7 @@ impl Group {
         ensures ok { OnOk result (self.new ≡ with_owner number (with_range (record { kind = kind; first = first; last = last }) (bytes_of self.old number)) self.old) }
         ensures err { OnErr result (self.new ≡ self.old) }
     {
-        let made = set_among(&mut self.owners, alloc, number, kind, first, last);
-        self.span = span_of(&self.owners);
-        made
+        set_among(&mut self.owners, alloc, number, kind, first, last)
     }
 
     fn clear(&mut self, alloc: Global, number: u64, first: u64, last: u64) -> Result<(), AllocError>
@@ -190,9 +141,7 @@ impl Group {
         ensures ok { OnOk result (self.new ≡ with_owner number (without first last (bytes_of self.old number)) self.old) }
         ensures err { OnErr result (self.new ≡ self.old) }
     {
-        let made = clear_among(&mut self.owners, alloc, number, first, last);
-        self.span = span_of(&self.owners);
-        made
+        clear_among(&mut self.owners, alloc, number, first, last)
     }
 
     fn drop_owner(&mut self, number: u64)
@@ -200,7 +149,6 @@ impl Group {
         ensures { self.new ≡ with_owner number [] self.old }
     {
         drop_among(&mut self.owners, number);
-        self.span = span_of(&self.owners);
     }
 
     /// The second half of the owners goes into a group of its own.
@@ -212,9 +160,8 @@ impl Group {
         ensures err { OnErr result (self.new ≡ self.old) }
     {
         let half = self.owners.len() / 2;
-        let behind = self.owners.split_off(half)?;
-        self.span = span_of(&self.owners);
-        Ok(Group::of(behind))
+        let owners = self.owners.split_off(half)?;
+        Ok(Group { owners })
     }
 }
 
@@ -238,7 +185,7 @@ fn owners_at(groups: &[Group], group: usize) -> &[Owner]
     }
 }
 
-/// What is told of a wish to lock the range.
+/// What is told of a wish to lock the range, by a walk over all owners.
 pub(super) fn first_clash(
     groups: &[Group],
     number: u64,
@@ -251,7 +198,7 @@ pub(super) fn first_clash(
 {
     let mut best = None;
     for g in groups {
-        best = g.clash(best, number, kind, first, last);
+        best = clash_among(g.owners(), best, number, kind, first, last);
         if stays_told(first, best) {
             return best;
         }
@@ -265,6 +212,26 @@ pub(super) fn kind_of(groups: &[Group], number: u64, byte: u64) -> Option<Kind>
     ensures { result ≡ at (flat groups.now) number byte }
 {
     kind_among(owners_at(groups, group_of(groups, number)), number, byte)
+}
+
+/// An owner's first interval that a wish meets.
+pub(super) fn hit_of(
+    groups: &[Group],
+    number: u64,
+    kind: Kind,
+    first: u64,
+    last: u64,
+) -> Option<Interval>
+    requires { AreKept groups.now }
+    ensures { result ≡ find (hits kind first last) (bytes_of (flat groups.now) number) }
+{
+    hit_among(
+        owners_at(groups, group_of(groups, number)),
+        number,
+        kind,
+        first,
+        last,
+    )
 }
 
 /// Whether an owner holds nothing.

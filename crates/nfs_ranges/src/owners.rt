@@ -1,12 +1,12 @@
 //! The lock states of a file that hold a byte, in rising order of their numbers.
 
-ghost use Rattle.std.specs.Prelude.{◌≡◌, ◌<◌, ◌≤◌, OnOk, OnErr, IfOk, [], ◌∷◌, length, drop};
+ghost use Rattle.std.specs.Prelude.{◌≡◌, ◌<◌, ◌≤◌, OnOk, OnErr, IfOk, [], ◌∷◌, length, drop, find};
 ghost use Rattle.std.specs.Bool.{OnTrue};
 ghost use Rattle.nfs_ranges.specs.Intervals.{IsCanonical, without, with_range};
 ghost use Rattle.nfs_ranges.specs.Edits.{lead, head};
-ghost use Rattle.nfs_ranges.specs.Clashes.{clash_of};
+ghost use Rattle.nfs_ranges.specs.Clashes.{clash_of, hits};
 ghost use Rattle.nfs_ranges.specs.Holders.{bytes_of, kind_at, at};
-ghost use Rattle.nfs_ranges.specs.Owners.{AreCanonical, IsSpanOf, is_empty, with_owner};
+ghost use Rattle.nfs_ranges.specs.Owners.{AreCanonical, is_empty, with_owner};
 ghost use Rattle.nfs_ranges.specs.Groups.{is_below, is_own};
 
 use super::edits::Intervals;
@@ -67,12 +67,6 @@ impl Owner {
         self.number
     }
 
-    pub(super) fn span(&self) -> Span
-        ensures { IsSpanOf result self.now.intervals }
-    {
-        self.span
-    }
-
     fn kind_at(&self, byte: u64) -> Option<Kind>
         requires { IsCanonical self.now.intervals }
         ensures { result ≡ kind_at self.now.intervals byte }
@@ -119,15 +113,26 @@ impl Owner {
         first <= self.span.first && self.span.last <= last
     }
 
+    /// The owner's first interval that a wish meets.
+    fn hit(&self, kind: Kind, first: u64, last: u64) -> Option<Interval>
+        requires { IsCanonical self.now.intervals }
+        ensures { result ≡ find (hits kind first last) self.now.intervals }
+    {
+        if self.span.lets_pass(kind, first, last) {
+            return None;
+        }
+        self.intervals.first_hit(kind, first, last)
+    }
+
     /// The owner's first interval that stands against a wish of another.
     pub(super) fn clash(&self, number: u64, kind: Kind, first: u64, last: u64) -> Option<Held>
         requires { IsCanonical self.now.intervals }
         ensures { result ≡ clash_of number kind first last self.now }
     {
-        if self.number == number || self.span.lets_pass(kind, first, last) {
+        if self.number == number {
             return None;
         }
-        let x = self.intervals.first_hit(kind, first, last)?;
+        let x = self.hit(kind, first, last)?;
         Some(Held {
             owner: self.number,
             kind: x.kind,
@@ -165,6 +170,24 @@ pub(super) fn kind_among(owners: &[Owner], number: u64, byte: u64) -> Option<Kin
     let place = place_of(owners, number);
     if stands_at(owners, place, number) {
         return owners[place].kind_at(byte);
+    }
+    None
+}
+
+/// An owner's first interval that a wish meets.
+pub(super) fn hit_among(
+    owners: &[Owner],
+    number: u64,
+    kind: Kind,
+    first: u64,
+    last: u64,
+) -> Option<Interval>
+    requires { AreCanonical owners.now }
+    ensures { result ≡ find (hits kind first last) (bytes_of owners.now number) }
+{
+    let place = place_of(owners, number);
+    if stands_at(owners, place, number) {
+        return owners[place].hit(kind, first, last);
     }
     None
 }

@@ -18,18 +18,6 @@ pub(super) struct Span {
 }
 
 impl Span {
-    /// The span of the intervals of both.
-    pub(super) fn with(self, other: Span) -> Span
-        ensures mine { (xs : List Interval) → IsSpanOf self xs → IsSpanOf result xs }
-        ensures others { (xs : List Interval) → IsSpanOf other xs → IsSpanOf result xs }
-    {
-        Span {
-            first: self.first.min(other.first),
-            last: self.last.max(other.last),
-            writes: self.writes || other.writes,
-        }
-    }
-
     /// Whether one of the intervals may be held for writing once one of this kind has come.
     pub(super) fn writes_with(&self, kind: Kind) -> bool
         ensures { result ≡ (self.now.writes || is_write kind) }

@@ -47,7 +47,7 @@ pub is_open_ok : IsCodec open_ok
 unfolding open_ok
 is_open_ok =
     let none = is_always 0 (omega arith) in
-    is_as_type _ _ _ (λ _. refl) (is_then _ _ is_stateid (is_then _ _ is_change_info (is_then _ _ (is_always 12 (omega arith)) (is_then _ _ is_attr_set none))))
+    is_as_type _ _ _ (λ _. refl) (is_then _ _ is_stateid (is_then _ _ is_change_info (is_then _ _ is_number (is_then _ _ is_attr_set none))))
 
 pub is_read_ok : IsCodec read_ok
 unfolding read_ok

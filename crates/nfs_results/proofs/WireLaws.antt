@@ -77,8 +77,8 @@ opens : Spells item.open_ok open4resok
 unfolding item.open_ok item.change_info item.attr_set stateid
 opens = record {
   same = λ o. refl;
-  to = λ o (e, (held, (change, (flags, (set, none))))). (ids.to o.stateid held, (changes.to o.cinfo change, (omega arith, (sets.to o.attrset set, tt))));
-  from = λ o (held, (change, (flags, (set, none)))). (refl, (ids.from o.stateid held, (changes.from o.cinfo change, (tt, (sets.from o.attrset set, tt)))));
+  to = λ o (e, (held, (change, (flags, (set, none))))). (ids.to o.stateid held, (changes.to o.cinfo change, (flags, (sets.to o.attrset set, tt))));
+  from = λ o (held, (change, (flags, (set, none)))). (refl, (ids.from o.stateid held, (changes.from o.cinfo change, (flags, (sets.from o.attrset set, tt)))));
 }
 
 reads : Spells item.read_ok (λ r. bool r.eof then opaque most r.bytes)

@@ -46,11 +46,11 @@ denied = as_type (λ (offset, (size, (locktype, owner))). record { offset = offs
     (λ d. (d.offset, (d.length, (d.locktype, d.owner))))
     (hyper then hyper then lock_type then state_owner)
 
--- The flags are OPEN4_RESULT_LOCKTYPE_POSIX and OPEN4_RESULT_PRESERVE_UNLINKED, and the delegation is none.
+-- The delegation is none.
 unfoldable pub open_ok : Codec OpenOk
-open_ok = as_type (λ (stateid, (cinfo, (rflags, (attrset, delegation)))). record { stateid = stateid; cinfo = cinfo; attrset = attrset })
-    (λ o. (o.stateid, (o.cinfo, (tt, (o.attrset, tt)))))
-    (stateid then change_info then always 12 then attr_set then always 0)
+open_ok = as_type (λ (stateid, (cinfo, (rflags, (attrset, delegation)))). record { stateid = stateid; cinfo = cinfo; rflags = rflags; attrset = attrset })
+    (λ o. (o.stateid, (o.cinfo, (o.rflags, (o.attrset, tt)))))
+    (stateid then change_info then number then attr_set then always 0)
 
 unfoldable pub read_ok : Codec ReadOk
 read_ok = as_type (λ (eof, bytes). record { eof = eof; bytes = bytes }) (λ r. (r.eof, r.bytes)) (flag then unbounded)

@@ -34,11 +34,10 @@ change_info4 c = bool c.atomic then uint64 c.before then uint64 c.after
 abbrev pub lock4denied : DeniedLock → Text
 lock4denied d = uint64 d.offset then uint64 d.length then enum (lock_type_number d.locktype) then state_owner4 d.owner
 
--- RFC 8881 section 18.16. The flags are OPEN4_RESULT_LOCKTYPE_POSIX (4) and OPEN4_RESULT_PRESERVE_UNLINKED (8), and the delegation is
--- OPEN_DELEGATE_NONE, which is 0.
+-- RFC 8881 section 18.16. The delegation is OPEN_DELEGATE_NONE, which is 0.
 
 abbrev pub open4resok : OpenOk → Text
-open4resok o = stateid4 o.stateid then change_info4 o.cinfo then uint32 12 then bitmap4 o.attrset then enum 0
+open4resok o = stateid4 o.stateid then change_info4 o.cinfo then uint32 o.rflags then bitmap4 o.attrset then enum 0
 
 -- RFC 8881 section 18.23. A bool in front of each entry says that it follows, and one behind the last that none does.
 

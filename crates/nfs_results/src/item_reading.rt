@@ -8,7 +8,7 @@ ghost use Rattle.nfs_results.specs.Items as table;
 ghost use Rattle.nfs_results.specs.Listing as listing;
 
 use crate::entries::Entries;
-use crate::item_writing::{OPEN_DELEGATE_NONE, RESULT_FLAGS};
+use crate::item_writing::OPEN_DELEGATE_NONE;
 use crate::res::{
     AccessOk, AttrSet, ChangeInfo, CreateOk, CreateSessionOk, Denied, Entry, ExchangeIdOk, Fattr,
     OpenOk, ReadDirOk, ReadOk, RenameOk, SequenceOk, Words, WriteOk,
@@ -118,12 +118,13 @@ pub(crate) fn open_ok(c: &mut Cursor<'_>) -> Result<OpenOk, Unreadable>
 {
     let stateid = Stateid::read(c)?;
     let cinfo = change_info(c)?;
-    always(RESULT_FLAGS, c)?;
+    let rflags = c.u32()?;
     let attrset = attr_set(c)?;
     always(OPEN_DELEGATE_NONE, c)?;
     Ok(OpenOk {
         stateid,
         cinfo,
+        rflags,
         attrset,
     })
 }

@@ -22,15 +22,6 @@ use crate::res::{
 use nfs_compound::{ChannelAttrs, SP4_NONE, StableHow, StateOwner, Stateid};
 use nfs_xdr::Sheet;
 
-/// OPEN4_RESULT_LOCKTYPE_POSIX.
-const LOCKTYPE_POSIX: u32 = 4;
-
-/// OPEN4_RESULT_PRESERVE_UNLINKED.
-const PRESERVE_UNLINKED: u32 = 8;
-
-/// The flags of every open (RFC 8881 section 18.16.2; this server's profile).
-pub(crate) const RESULT_FLAGS: u32 = LOCKTYPE_POSIX | PRESERVE_UNLINKED;
-
 /// No delegation.
 pub(crate) const OPEN_DELEGATE_NONE: u32 = 0;
 
@@ -136,7 +127,7 @@ pub(crate) fn put_open(o: &OpenOk, out: &mut Sheet)
 {
     put_stateid(&o.stateid, out);
     put_change_info(&o.cinfo, out);
-    out.put_u32(RESULT_FLAGS);
+    out.put_u32(o.rflags);
     put_attr_set(&o.attrset, out);
     out.put_u32(OPEN_DELEGATE_NONE);
 }

@@ -176,15 +176,15 @@ pub struct Denied<'a> {
     pub owner: StateOwner<'a>,
 }
 
-/// A file that was opened, with no delegation (RFC 8881 section 18.16.2). Its locks are POSIX locks, and it
-/// stays while it is open (OPEN4_RESULT_LOCKTYPE_POSIX and OPEN4_RESULT_PRESERVE_UNLINKED; this server's
-/// profile).
+/// A file that was opened, with no delegation (RFC 8881 section 18.16.2).
 #[derive(Drop)]
 pub struct OpenOk {
     /// The open stateid.
     pub stateid: Stateid,
     /// The directory's change.
     pub cinfo: ChangeInfo,
+    /// The bits OPEN4_RESULT_*.
+    pub rflags: u32,
     /// The attributes that were set.
     pub attrset: AttrSet,
 }

@@ -9,6 +9,7 @@ use Rattle.nfs_xdr.proofs.TextLaws.{Spells, credentials, leads_from, leads_again
 use Rattle.nfs_rpc.specs.{declared.refusal.Refusal.Refusal, declared.refusal.Refusal.TheVariants.Silent, declared.call.Procedure.Procedure}
 use Rattle.nfs_rpc.specs.{Wire.{Header, call_body, rpc_msg}, HeadCodec.{opaque_auth, header, message, spell_call, message_at, header_at, auth_sys_at}}
 use Rattle.nfs_rpc.specs.CallHead.{named_by, caller_of, caller_by, Call, Called, Accepted, Refused, ◌>>=◌, checks, behind_header, call_of}
+use Rattle.nfs_rpc.specs.Laws.{IsUser}
 use Rattle.nfs_rpc.specs.Wire as wire
 
 pub is_opaque_auth : IsCodec opaque_auth
@@ -155,11 +156,11 @@ text_taken bytes c fits e =
     let t = call_taken bytes c fits e in
     (t.0, (t.3 ∙ call_text c.xid t.0 c.args, ((t.1, (tt, omega arith)), headers.to t.0 t.2)), t.4)
 
-pub text_named : (s : AuthSys) → (authsys_parms s).Fits → caller_of (authsys_parms s).bytes ≡ Some (named_by s)
-text_named s fits = ap caller_of (sym (credentials.same s)) ∙ body_named s (credentials.from s fits)
+pub text_named : (s : AuthSys) → (authsys_parms s).Fits → (who : Caller) × (caller_of (authsys_parms s).bytes ≡ Some who) × IsUser s who
+text_named s fits = (named_by s, ap caller_of (sym (credentials.same s)) ∙ body_named s (credentials.from s fits), (refl, refl, refl))
 
 pub text_body : (body : List ℕ) (who : Caller) → IsBytes body → caller_of body ≡ Some who
-    → (s : AuthSys) × (authsys_parms s).Fits × (body ≡ (authsys_parms s).bytes) × (who ≡ named_by s)
+    → (s : AuthSys) × (authsys_parms s).Fits × (body ≡ (authsys_parms s).bytes) × IsUser s who
 text_body body who fits e =
     let t = body_taken body who fits e in
-    (t.0, credentials.to t.0 t.1, t.2 ∙ credentials.same t.0, t.3)
+    (t.0, credentials.to t.0 t.1, t.2 ∙ credentials.same t.0, (ap (λ (w : Caller). w.uid) t.3, ap (λ (w : Caller). w.gid) t.3, ap (λ (w : Caller). w.gids) t.3))

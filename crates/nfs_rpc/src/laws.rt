@@ -6,10 +6,10 @@ ghost use Rattle.nfs_rpc.specs.Stream.{IsUnfinished, End, Open, TooLong, IsReadi
 ghost use Rattle.nfs_rpc.specs.declared.refusal.Refusal.{Refusal};
 ghost use Rattle.nfs_rpc.specs.Reply.{spell_head, spell_refusal};
 ghost use Rattle.nfs_xdr.specs.Caller.{Caller};
-ghost use Rattle.nfs_rpc.specs.CallHead.{named_by, caller_of, Call, Accepted, behind_header, call_of};
+ghost use Rattle.nfs_rpc.specs.CallHead.{caller_of, Call, Accepted, behind_header, call_of};
 ghost use Rattle.nfs_rpc.specs.HeadCodec.{message_at, header_at, auth_sys_at};
 ghost use Rattle.nfs_rpc.specs.Wire.{Header, call_body, rpc_msg, call};
-ghost use Rattle.nfs_rpc.specs.Laws.{HasHead, Names};
+ghost use Rattle.nfs_rpc.specs.Laws.{HasHead, IsUser, Names};
 ghost use Rattle.nfs_xdr.specs.AuthSys.{AuthSys};
 ghost use Rattle.nfs_xdr.specs.Text.{IsBytes, Leads};
 ghost use Rattle.nfs_xdr.specs.Wire.{authsys_parms};
@@ -50,9 +50,9 @@ pub fn heads()
     ensures accepted { (bytes : List ℕ) (c : Call) → IsBytes bytes → call_of bytes ≡ Accepted c → HasHead bytes c }
 {}
 
-/// The parameters of AUTH_SYS are read as the wire's text has them, and a body names a caller exactly where it is that text.
+/// The parameters of AUTH_SYS are read as the wire's text has them, and a body names a caller exactly where it is that text: the user and the groups that stand in it.
 pub fn auth_sys_bodies()
     ensures read { (bytes : List ℕ) (x : AuthSys × List ℕ) → IsBytes bytes → auth_sys_at bytes ≡ Some x ↔ Leads authsys_parms bytes x }
-    ensures named { (s : AuthSys) → (authsys_parms s).Fits → caller_of (authsys_parms s).bytes ≡ Some (named_by s) }
+    ensures named { (s : AuthSys) → (authsys_parms s).Fits → (who : Caller) × (caller_of (authsys_parms s).bytes ≡ Some who) × IsUser s who }
     ensures taken { (body : List ℕ) (who : Caller) → IsBytes body → caller_of body ≡ Some who → Names body who }
 {}

@@ -1,5 +1,5 @@
 -- Acts one after the other, and what each call of a port comes to.
-use Rattle.std.proofs.Common.{◌≡◌, ℕ, not, ◌&&◌, ◌||◌, ◌+◌, ◌<◌, ◌≤◌, Bool, List, [], ◌∷◌, ◌++◌, length, filter, arith, flat_map, Option, Some, None, refl, sym, ap, subst, ◌∙◌}
+use Rattle.std.proofs.Common.{◌≡◌, ℕ, not, ◌&&◌, ◌||◌, ◌<◌, ◌≤◌, Bool, List, [], ◌∷◌, ◌++◌, length, filter, arith, flat_map, Option, Some, None, refl, sym, ap, subst, ◌∙◌}
 use Rattle.std.proofs.{Common.{append_assoc, append-nil, true, false}, lemmas.List.Concat.flat_map-append, lemmas.List.Elements.filter-append}
 use Rattle.nfs_serve.specs.Step.{ServerState}
 use Rattle.nfs_serve.specs.Desk.{Desk, HasMore, Unready, MayClose, most_read, closed, leaving, Act, WriteBlocked, Closed, Failed, Stepped, Came, ReadBlocked, Ended, IsHungry, Does, Goes, IsStuck, Reads, ReadsOnce, is_of_read}
@@ -113,7 +113,7 @@ stepped port a b before left one = record {
       one.out,
       one.steps,
       refl,
-      alike one.live one.gone one.heard one.reads one.owed,
+      alike one.live one.gone one.heard one.owed,
     ),
     (refl, refl),
   );
@@ -121,9 +121,9 @@ stepped port a b before left one = record {
   clock = one.clock;
 }
   where
-    alike : {live gone heard : Bool} {reads : ℕ} {owed : List ℕ} → b.desk.live ≡ live → b.desk.gone ≡ gone → b.desk.heard ≡ heard → b.desk.reads ≡ reads → b.desk.owed ≡ owed
-        → b.desk ≡ record { live = live; gone = gone; heard = heard; stream = b.desk.stream; reads = reads; unread = b.desk.unread; owed = owed }
-    alike p g q r o = rw (← p, ← g, ← q, ← r, ← o) refl
+    alike : {live gone heard : Bool} {owed : List ℕ} → b.desk.live ≡ live → b.desk.gone ≡ gone → b.desk.heard ≡ heard → b.desk.owed ≡ owed
+        → b.desk ≡ record { live = live; gone = gone; heard = heard; stream = b.desk.stream; unread = b.desk.unread; owed = owed }
+    alike p g q o = rw (← p, ← g, ← q, ← o) refl
 
 pub stuck_behind : (xs ys : List Act) (d : Desk) → IsStuck ys d → IsStuck (xs ++ ys) d
 stuck_behind xs ys d h =
@@ -133,13 +133,13 @@ stuck_behind xs ys d h =
 -- what a read comes to
 pub read_blocked : (port : ℕ) (s : ServerState) (d : Desk) (u : List ℕ) (l0 l1 : Option (List Deed)) (c : Option (List Told)) → IsHungry d → u ≡ []
     → Logs l0 l1 (record { port = port; act = ReadBlocked } ∷ [])
-    → Advances port (ReadBlocked ∷ []) (stands s d l0 c) (stands s (record { live = d.live; gone = d.gone; heard = d.heard; stream = d.stream; reads = d.reads; unread = u; owed = d.owed }) l1 c)
+    → Advances port (ReadBlocked ∷ []) (stands s d l0 c) (stands s (record { live = d.live; gone = d.gone; heard = d.heard; stream = d.stream; unread = u; owed = d.owed }) l1 c)
 read_blocked port s d u l0 l1 c hungry none logs = one_shown port ReadBlocked s d _ l0 l1 c refl refl
-    (refl, hungry, ap (λ v. record { live = d.live; gone = d.gone; heard = d.heard; stream = d.stream; reads = d.reads; unread = v; owed = d.owed }) (none ∙ sym hungry.unread)) logs
+    (refl, hungry, ap (λ v. record { live = d.live; gone = d.gone; heard = d.heard; stream = d.stream; unread = v; owed = d.owed }) (none ∙ sym hungry.unread)) logs
 
 pub read_came : (port : ℕ) (s : ServerState) (d : Desk) (u : List ℕ) (l0 l1 : Option (List Deed)) (c : Option (List Told)) → IsHungry d
     → 0 < length u → length u ≤ most_read → Logs l0 l1 (record { port = port; act = Came u } ∷ [])
-    → Advances port (Came u ∷ []) (stands s d l0 c) (stands s (record { live = d.live; gone = d.gone; heard = d.heard; stream = d.stream; reads = d.reads + 1; unread = u; owed = d.owed }) l1 c)
+    → Advances port (Came u ∷ []) (stands s d l0 c) (stands s (record { live = d.live; gone = d.gone; heard = d.heard; stream = d.stream; unread = u; owed = d.owed }) l1 c)
 read_came port s d u l0 l1 c hungry some few logs = one_shown port (Came u) s d _ l0 l1 c refl refl (refl, hungry, some, few, refl) logs
 
 pub read_ended : (port : ℕ) (s : ServerState) (d : Desk) (l0 l1 : Option (List Deed)) (c : Option (List Told)) → IsHungry d
@@ -157,15 +157,6 @@ closes port s d l0 l1 c may logs = one_shown port Closed s d closed l0 l1 c refl
 
 pub reads_closed : (xs : List Act) → ReadsOnce xs → ReadsOnce (xs ++ Closed ∷ [])
 reads_closed xs once = subst (λ l. length l ≤ 1) (sym (filter-append is_of_read xs (Closed ∷ []) ∙ append-nil (filter is_of_read xs))) once
-
--- acts behind a port that said that it is ready
-pub behind_nothing : (port : ℕ) (acts : List Act) (s t : ServerState) (d e : Desk) (l0 l1 l2 : Option (List Deed)) (c0 c1 : Option (List Told)) → Logs l0 l1 []
-    → Advances port acts (stands s d l1 c0) (stands t e l2 c1) → Advances port acts (stands s d l0 c0) (stands t e l2 c1)
-behind_nothing port acts s t d e l0 l1 l2 c0 c1 none later = record {
-  goes = later.goes;
-  logs = Logs-trans l0 l1 l2 [] (flat_map (shown port) acts) none later.logs;
-  clock = later.clock;
-}
 
 -- a port that is passed over
 pub passed_over : (port : ℕ) (s : ServerState) (d : Desk) (l0 l1 : Option (List Deed)) (c : Option (List Told)) → (HasMore d → ⊥)

@@ -1,5 +1,5 @@
 -- The connection's number and the record mark in front of a reply.
-use Rattle.std.proofs.Common.{◌≡◌, ℕ, Option, ◌+◌, ◌≤◌, List, ◌++◌, length, take, drop, refl, sym, ap, ◌∙◌, arith, [], length-append, length-drop, append-nil, append_assoc}
+use Rattle.std.proofs.Common.{◌≡◌, ℕ, Option, ◌+◌, ◌≤◌, List, ◌++◌, length, take, drop, refl, sym, ap, ◌∙◌, arith, [], length-append, length-drop, append_assoc}
 use Rattle.std.proofs.lemmas.List.{take_at, drop_at, drop-drop}
 use Rattle.nfs_xdr.specs.Spelling.{number, hyper}
 use Rattle.nfs_xdr.proofs.Putting.{length_number}
@@ -58,6 +58,3 @@ marked owed text n mark size =
     ap (λ l. take n l ++ one_fragment (drop (n + 4) ((owed ++ number mark) ++ text))) (append_assoc owed (number mark) text)
     ∙ ap (λ l. l ++ one_fragment (drop (n + 4) ((owed ++ number mark) ++ text))) (take_at owed (number mark ++ text) n (sym size))
     ∙ ap (λ l. owed ++ one_fragment l) (drop_at (owed ++ number mark) text (n + 4) long)
-
-pub unmarked : (owed : List ℕ) (n mark : ℕ) → n ≡ length owed → take n ((owed ++ number mark) ++ []) ≡ owed
-unmarked owed n mark size = ap (take n) (append-nil (owed ++ number mark)) ∙ take_at owed (number mark) n (sym size)

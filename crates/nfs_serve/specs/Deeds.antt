@@ -1,11 +1,15 @@
 -- What the connections show of what was done, in its order, and what each answer of theirs says.
 use Rattle.std.specs.Prelude.{ℕ, List, [], ◌∷◌, Bool, true, false}
-use Rattle.nfs_serve.specs.{Told.{Told, Moment, Late}, Desk.{Act, Stepped, Counted}}
+use Rattle.nfs_serve.specs.{Told.{Told, Moment, Late}, Desk.{Act, Looked, Stepped, Counted}}
 use Rattle.nfs_serve.specs.Desk as act
 
 pub record Deed : Type 0 where
   pub port : ℕ
   pub act : Act
+
+-- it was looked at which of so many ports are ready, and who begins on one of them
+abbrev pub looked : ℕ → Deed
+looked made = record { port = made; act = Looked }
 
 -- no connection is left; it is of no port
 abbrev pub over : List Deed

@@ -4,7 +4,11 @@ use Rattle.std.specs.Prelude.{◌≡◌, ◌⊎◌, ℕ, ◌+◌, ◌*◌, ◌<�
 use Rattle.nfs_xdr.specs.Limits.{most_record}
 use Rattle.nfs_rpc.specs.{RecordMarking.{Gathered, is_too_long}, Stream.End}
 use Rattle.nfs_serve.specs.{declared.form.Form.TheVariants.Plain, Script.{last_moment, most_piece}, Step.ServerState, Run.{Brings, Move, events, after, output}}
-use Rattle.nfs_serve.specs.{Server.{fresh, Stands}, Talk.max_reads, Sequenced.answers_sequence}
+use Rattle.nfs_serve.specs.{Server.{fresh, Stands}, Sequenced.answers_sequence}
+
+-- how many ports there are at most
+abbrev pub most_ports : ℕ
+most_ports = 1032
 
 -- the most bytes that one read brings: two records of the greatest length, each with one mark
 abbrev pub most_read : ℕ
@@ -23,18 +27,17 @@ abbrev pub most_taken : ℕ
 most_taken = 65536
 
 -- A port: whether a connection is served there, whether it has ended or failed and is to be closed, whether a session's SEQUENCE was
--- answered on it, what is held of its stream, how many pieces were read, what came and was not stepped, and what is owed.
+-- answered on it, what is held of its stream, what came and was not stepped, and what is owed.
 pub record Desk : Type 0 where
   pub live : Bool
   pub gone : Bool
   pub heard : Bool
   pub stream : Gathered
-  pub reads : ℕ
   pub unread : List ℕ
   pub owed : List ℕ
 
 abbrev pub idle : Bool → Bool → Desk
-idle live gone = record { live = live; gone = gone; heard = false; stream = fresh; reads = 0; unread = []; owed = [] }
+idle live gone = record { live = live; gone = gone; heard = false; stream = fresh; unread = []; owed = [] }
 
 abbrev pub closed : Desk
 closed = idle false false
@@ -45,12 +48,14 @@ opened = idle true false
 abbrev pub leaving : Desk
 leaving = idle false true
 
--- What is done with a connection. Of `Stepped` alone its peer is shown nothing. `Unready` is a port's own answer, and `Counted` says to the port
+-- What is done with a connection. Of `Stepped` alone its peer is shown nothing. `Looked` is of no connection: it was looked at which of the first ports
+-- are ready, and who begins on one of them. `Unready` is a port's own answer, and `Counted` says to the port
 -- that a session's SEQUENCE was answered on its connection for the first time. A part is stepped at a moment; behind it the clock said whether
 -- the turn is late, which is that it has lasted long enough; and it may be the first that answered a session's SEQUENCE.
 pub data Act : Type 0 where
   Opened : Act
   Over : Act
+  Looked : Act
   Unready : Act
   Counted : Act
   Came : (bytes : List ℕ) → Act
@@ -77,12 +82,10 @@ pub record IsHungry (d : Desk) : Type 0 where
   pub short : is_too_long d.stream ≡ false
   pub unread : d.unread ≡ []
   pub owed : d.owed ≡ []
-  pub few : d.reads < max_reads
 
--- a connection is closed where it has ended or failed, and else where nothing is owed and its stream is too long, or so many pieces were
--- read and all of them stepped
+-- a connection is closed where it has ended or failed, and else where nothing is owed and its stream is too long
 abbrev pub MayClose : Desk → Type 0
-MayClose d = (d.gone ≡ true) ⊎ ((d.live ≡ true) × (d.owed ≡ []) × ((is_too_long d.stream ≡ true) ⊎ ((d.unread ≡ []) × (max_reads ≤ d.reads))))
+MayClose d = (d.gone ≡ true) ⊎ ((d.live ≡ true) × (d.owed ≡ []) × (is_too_long d.stream ≡ true))
 
 -- A front of what waits is stepped, where few enough bytes are owed: this part of it, no longer than a piece of a script, to this stream and
 -- output.
@@ -104,8 +107,7 @@ pub record HasMore (d : Desk) : Type 0 where
 
 -- what an act does to the state of the server and to its connection
 abbrev pub Does : ℕ → ServerState → Desk → Act → ServerState → Desk → Type 0
-Does port s d (Came bytes) t e = (t ≡ s) × IsHungry d × (0 < length bytes) × (length bytes ≤ most_read)
-    × (e ≡ record d { reads = d.reads + 1; unread = bytes })
+Does port s d (Came bytes) t e = (t ≡ s) × IsHungry d × (0 < length bytes) × (length bytes ≤ most_read) × (e ≡ record d { unread = bytes })
 Does port s d Unready t e = (t ≡ s) × (HasMore d → ⊥) × (e ≡ d)
 Does port s d ReadBlocked t e = (t ≡ s) × IsHungry d × (e ≡ d)
 Does port s d Ended t e = (t ≡ s) × IsHungry d × (e ≡ leaving)

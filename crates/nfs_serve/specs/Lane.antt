@@ -12,7 +12,6 @@ desk_of lane = record {
   gone = lane.gone;
   heard = lane.heard;
   stream = lane.connection;
-  reads = lane.reads;
   unread = lane.unread;
   owed = lane.owed.bytes;
 }
@@ -118,7 +117,6 @@ pub record StepsOne (port : ℕ) (a b : Stand) (before left : Budget) : Type 0 w
   pub heard : b.desk.heard ≡ (a.desk.heard || answers_sequence out)
   pub live : b.desk.live ≡ a.desk.live
   pub gone : b.desk.gone ≡ a.desk.gone
-  pub reads : b.desk.reads ≡ a.desk.reads
   pub shorter : length b.desk.unread < length a.desk.unread
   pub one : left.steps + 1 ≡ before.steps
   pub bytes : left.bytes ≡ before.bytes

@@ -1,25 +1,31 @@
 -- What each answer of a connection shows of what was done.
-use Rattle.std.specs.Prelude.{ℕ, ◌<◌, ◌≤◌, List, [], ◌∷◌, length, take, Bool, true, false}
-use Rattle.nfs_serve.specs.{Deeds.{Deed, over}, Script.last_connection, Desk.{Opened, Unready, ReadBlocked, WriteBlocked, Failed}, declared.ports.Next.Next}
+use Rattle.std.specs.Prelude.{ℕ, zero, suc, ◌-◌, ◌<◌, ◌≤◌, List, [], ◌∷◌, length, take, Option, unwrap_or}
+use Rattle.nfs_serve.specs.{Deeds.{Deed, looked, over}, Desk.{Opened, Unready, ReadBlocked, WriteBlocked, Failed}, declared.ports.Next.Next}
 use Rattle.nfs_serve.specs.{declared.ports.Came.Came, declared.ports.Took.Took}
 use Rattle.nfs_serve.specs.Desk as act
 use Rattle.nfs_serve.specs.declared.ports.Next.TheVariants as next
 use Rattle.nfs_serve.specs.declared.ports.Came.TheVariants as read
 use Rattle.nfs_serve.specs.declared.ports.Took.TheVariants as written
 
-abbrev pub NamesPort : Next → Type 0
-NamesPort (next.Opened port) = port ≤ last_connection
-NamesPort next = Unit {0}
+-- it is one of the first ports, of which there are so many
+abbrev pub NamesPort : ℕ → Next → Type 0
+NamesPort ports (next.Opened port) = port < ports
+NamesPort ports next = Unit {0}
 
-abbrev pub named : Next → List Deed
-named (next.Opened port) = record { port = port; act = Opened } ∷ []
-named next.Nobody = []
-named next.Over = over
+-- of those it was looked at who begins
+abbrev pub named : ℕ → Next → List Deed
+named ports (next.Opened port) = looked ports ∷ record { port = port; act = Opened } ∷ []
+named ports next.Nobody = looked ports ∷ []
+named ports next.Over = over
 
--- a port that is not ready shows that
-abbrev pub readied : ℕ → Bool → List Deed
-readied port true = []
-readied port false = record { port = port; act = Unready } ∷ []
+-- so many ports from one on show that they are not ready
+abbrev pub passed : ℕ → ℕ → List Deed
+passed from zero = []
+passed from (suc n) = record { port = from; act = Unready } ∷ passed (suc from) n
+
+-- the first port from one on and below another that is ready, and each before it shows that it is not
+abbrev pub passes : (from to : ℕ) → Option ℕ → List Deed
+passes from to found = passed from (unwrap_or found to - from)
 
 abbrev pub ComesWithin : Came → List ℕ → Type 0
 ComesWithin (read.Bytes n) buf = (0 < n) × (n ≤ length buf)

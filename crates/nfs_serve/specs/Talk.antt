@@ -1,6 +1,6 @@
 -- A talk over one connection (RFC 5531 section 11): the run of the pieces that were read, as connection 0, each at the
 -- clock's answer for it. No connection number and no zero mark is put out.
-use Rattle.std.specs.Prelude.{◌≡◌, ℕ, ◌<◌, ◌≤◌, List, [], ◌∷◌, ◌++◌, length, flat_map, map, All, Bool, true, false, Option}
+use Rattle.std.specs.Prelude.{◌≡◌, ℕ, ◌<◌, ◌≤◌, ◌^◌, ◌-◌, List, [], ◌∷◌, ◌++◌, length, flat_map, map, All, Bool, true, false, Option}
 use Rattle.std.specs.Io.KnownBytes.{Consumes, Appends, IsAtEnd}
 use Rattle.nfs_rpc.specs.Stream.{End, Open, TooLong}
 use Rattle.nfs_serve.specs.{Told.{Told, Moment, Logs}, declared.talking.Talk.Talk}
@@ -8,7 +8,7 @@ use Rattle.nfs_serve.specs.{declared.talking.Talk.TheVariants.{Ended, Shut, Read
 use Rattle.nfs_serve.specs.{Script.{Entry, Fits}, Step.ServerState, Run.{Streams, Runs, RunsInto}}
 
 abbrev pub max_reads : ℕ
-max_reads = 1000000
+max_reads = 2 ^ 64 - 1
 
 -- some bytes that came on connection 0
 abbrev pub IsPiece : Entry → Type 0

@@ -96,7 +96,7 @@ impl Engine {
         put_record(alloc, &mut self.world, call, self.moment, out)
     }
 
-    /// Takes a moment, unless a later one was taken, and what has run out by then goes.
+    /// Takes a moment, unless a later one was taken, and what has run out by then goes. So does some of what earlier records left.
     fn pass(&mut self, now: u64)
         requires { now ≤ last_moment }
         ensures moment { self.new.kept.moment ≡ max self.old.kept.moment now }
@@ -104,6 +104,31 @@ impl Engine {
     {
         self.moment = self.moment.max(now);
         self.world.expire(self.moment);
+        self.world.tidy();
+    }
+
+    /// Drops some of what earlier records left, as each record does: for a server that has none. Answers false where nothing
+    /// waits any more.
+    pub(crate) fn tidy(&mut self) -> bool
+        ensures state { state_of self.new.kept ≡ state_of self.old.kept }
+        ensures reply { self.new.reply ≡ self.old.reply }
+    {
+        self.world.tidy()
+    }
+
+    /// Has so many pages at most for the bytes of files and the texts of links.
+    pub(crate) fn bound_pages(&mut self, pages: u64)
+        ensures state { state_of self.new.kept ≡ state_of self.old.kept }
+        ensures reply { self.new.reply ≡ self.old.reply }
+    {
+        self.world.bound_pages(pages);
+    }
+
+    /// What is kept, to be looked at.
+    pub(crate) fn world(&self) -> &World
+        ensures { result.now ≡ self.now.kept.world }
+    {
+        &self.world
     }
 
     /// How much of each kind stands.

@@ -1,56 +1,52 @@
-//! Up to 16 connections at once.
+//! Many connections at once.
 
-ghost use Rattle.std.specs.Prelude.{◌≡◌, ◌<◌, ℕ, [], ◌∷◌, length, replicate, true, false, IfOk};
+ghost use Rattle.std.specs.Prelude.{◌≡◌, ◌≤◌, ◌<◌, ◌-◌, ℕ, [], ◌∷◌, length, replicate, true, false, IfOk};
 ghost use Rattle.nfs_serve.specs.Server.{state_of};
-ghost use Rattle.nfs_serve.specs.Script.{connection_count};
-ghost use Rattle.nfs_serve.specs.Told.{Sweep, Logs};
-ghost use Rattle.nfs_serve.specs.Desk.{closed, HasMore};
+ghost use Rattle.nfs_serve.specs.Told.{Sweep, Turn, Logs};
+ghost use Rattle.nfs_serve.specs.Desk.{most_ports, closed, HasMore};
 ghost use Rattle.nfs_serve.specs.Hub.{Serves, at};
 ghost use Rattle.nfs_serve.specs.Lane.{desks_of};
-ghost use Rattle.nfs_serve.specs.Sweep.{Begins, SweepsAll};
+ghost use Rattle.nfs_serve.specs.Sweep.{Begins, PassesOver, ServesOnce, SweepsAll, SweepsOn};
 
 use crate::engine::Engine;
 use crate::lane::Lane;
 use crate::ports::{Next, Ports};
-use crate::script::LAST_CONNECTION;
 use crate::{Clock, Watch};
 use std::alloc::{AllocError, Global};
 use std::marker::Model;
 
-/// How many ports there are, numbered from 0.
-const PORTS: usize = LAST_CONNECTION as usize + 1;
-
-/// What 16 connections at once are served with: what is held of each stream, what came, and what is owed.
+/// What many connections at once are served with: what is held of each stream, what came, and what is owed.
 #[derive(Drop)]
 pub struct Hub {
+    /// The ports that were made so far, numbered from 0.
     lanes: Vec<Lane>,
+    /// How many there may be.
+    most: u32,
 }
 
 impl Model for Hub {
-    ghost use Rattle.std.specs.Prelude.{List, vec_len, ◌≡◌};
-    ghost use Rattle.nfs_serve.specs.Desk.{Desk};
-    ghost use Rattle.nfs_serve.specs.Script.{connection_count};
+    ghost use Rattle.std.specs.Prelude.{List, vec_len, ◌≤◌};
+    ghost use Rattle.nfs_serve.specs.Desk.{most_ports};
+    ghost use Rattle.nfs_serve.specs.Hub.{HubModel};
     ghost use Rattle.nfs_serve.specs.Lane.{desks_of};
 
-    ghost Value = { List Desk };
+    ghost Value = { HubModel };
 
-    ghost view = { λ h. desks_of h.lanes.items };
+    ghost view = { λ h. record { desks = desks_of h.lanes.items; most = h.most } };
 
-    ghost invariant = { λ h. vec_len h.lanes ≡ connection_count };
+    ghost invariant = { λ h. (vec_len h.lanes ≤ h.most) × (h.most ≤ most_ports) };
 }
 
 impl Hub {
-    /// Ports without a connection. All buffers are made here.
-    ///
-    /// `AllocError` where memory is refused.
-    pub fn new(alloc: Global) -> Result<Hub, AllocError>
-        ensures { IfOk result (λ hub. hub ≡ replicate connection_count closed) }
+    /// So many ports, none of which has a connection. The buffers of a port are made when all that were made before it are taken.
+    pub fn new(alloc: Global, most: u32) -> Hub
+        requires { most ≤ most_ports }
+        ensures { result ≡ record { desks = []; most = most } }
     {
-        let mut lanes = Vec::with_capacity(alloc, PORTS)?;
-        for _ in 0..PORTS {
-            lanes.push(Lane::new(alloc)?)?;
+        Hub {
+            lanes: Vec::new(alloc),
+            most,
         }
-        Ok(Hub { lanes })
     }
 }
 
@@ -63,10 +59,11 @@ pub(crate) fn serve<P: Ports, C: Clock, W: Watch<P, C>>(
     clock: &mut C,
     watch: &mut W,
 )
-    ensures { Serves (state_of engine.old.kept) (state_of engine.new.kept) hub.new (P.log ports.old) (P.log ports.new) (C.told clock.old) (C.told clock.new) }
+    ensures run { Serves hub.old.most (state_of engine.old.kept) (state_of engine.new.kept) hub.new.desks (P.log ports.old) (P.log ports.new) (C.told clock.old) (C.told clock.new) }
+    ensures most { hub.new.most ≡ hub.old.most }
 {
     reset_all(&mut hub.lanes);
-    serve_lanes(alloc, engine, &mut hub.lanes, ports, clock, watch);
+    serve_lanes(alloc, engine, &mut hub.lanes, hub.most, ports, clock, watch);
 }
 
 /// Closes all connections.
@@ -83,30 +80,71 @@ fn reset_all(lanes: &mut [Lane])
 fn serve_lanes<P: Ports, C: Clock, W: Watch<P, C>>(
     alloc: Global,
     engine: &mut Engine,
-    lanes: &mut [Lane],
+    lanes: &mut Vec<Lane>,
+    most: u32,
     ports: &mut P,
     clock: &mut C,
     watch: &mut W,
 )
-    requires ports { length lanes.old ≡ connection_count }
-    requires closed { (port : ℕ) → at (desks_of lanes.old) port ≡ closed }
-    ensures length { length lanes.new ≡ connection_count }
-    ensures serves { Serves (state_of engine.old.kept) (state_of engine.new.kept) (desks_of lanes.new) (P.log ports.old) (P.log ports.new) (C.told clock.old) (C.told clock.new) }
+    requires ports { length lanes.old.items ≤ most }
+    requires most { most ≤ most_ports }
+    requires closed { (port : ℕ) → at (desks_of lanes.old.items) port ≡ closed }
+    ensures length { length lanes.new.items ≤ most }
+    ensures serves { Serves most (state_of engine.old.kept) (state_of engine.new.kept) (desks_of lanes.new.items) (P.log ports.old) (P.log ports.new) (C.told clock.old) (C.told clock.new) }
 {
     for _ in 0..u64::MAX {
-        let may_wait = !have_more(lanes);
-        if !begin_sweep(lanes, ports, clock, may_wait) {
+        grow(alloc, lanes, most);
+        if !serve_once(alloc, engine, lanes, ports, clock) {
             return;
         }
-        sweep(alloc, engine, lanes, ports, clock);
         show(engine, ports, clock, watch);
     }
+}
+
+/// Lets the connection begin that is to begin, if there is one, and visits each port once. `false` where none is left and none will come.
+fn serve_once<P: Ports, C: Clock>(
+    alloc: Global,
+    engine: &mut Engine,
+    lanes: &mut [Lane],
+    ports: &mut P,
+    clock: &mut C,
+) -> bool
+    requires ports { length lanes.old ≤ most_ports }
+    ensures length { length lanes.new ≡ length lanes.old }
+    ensures serves { ServesOnce result (length lanes.old) (state_of engine.old.kept) (at (desks_of lanes.old)) (state_of engine.new.kept) (at (desks_of lanes.new)) (P.log ports.old) (P.log ports.new) (C.told clock.old) (C.told clock.new) }
+{
+    // What earlier records left is dropped while nobody asks, too.
+    let left = engine.tidy();
+    let more = have_more(lanes);
+    if !begin_sweep(lanes, ports, clock, !left && !more) {
+        return false;
+    }
+    sweep(alloc, engine, lanes, ports, clock);
+    true
 }
 
 /// Lets the watch look on, with what the server keeps where it asks for that.
 fn show<P: Ports, C: Clock, W: Watch<P, C>>(engine: &Engine, ports: &P, clock: &C, watch: &mut W) {
     if watch.asks(ports, clock) {
-        watch.look(ports, clock, &engine.held());
+        watch.look(ports, clock, engine.world());
+    }
+}
+
+/// Makes a further port where the last one is taken, if there may be one more and memory for its buffers is granted.
+fn grow(alloc: Global, lanes: &mut Vec<Lane>, most: u32)
+    requires { length lanes.old.items ≤ most }
+    ensures length { length lanes.new.items ≤ most }
+    ensures alike { (port : ℕ) → at (desks_of lanes.new.items) port ≡ at (desks_of lanes.old.items) port }
+{
+    let count = lanes.len();
+    if count >= most as usize || count > 0 && !lanes[count - 1].is_live() {
+        return;
+    }
+    match Lane::new(alloc) {
+        Ok(lane) => {
+            let _ = lanes.push(lane);
+        }
+        Err(_) => {}
     }
 }
 
@@ -115,22 +153,32 @@ fn have_more(lanes: &[Lane]) -> bool
     ensures none { result ≡ false → (port : ℕ) → port < length lanes.now → HasMore (at (desks_of lanes.now) port) → ⊥ }
     ensures some { result ≡ true → (port : ℕ) × (port < length lanes.now) × HasMore (at (desks_of lanes.now) port) }
 {
-    for port in 0..lanes.len() {
+    next_more(lanes, 0) < lanes.len()
+}
+
+/// The first port from one on on which something waits to be stepped; as many as there are where there is none.
+fn next_more(lanes: &[Lane], from: usize) -> usize
+    requires { from ≤ length lanes.now }
+    ensures bound { (from ≤ result) × (result ≤ length lanes.now) }
+    ensures none { (port : ℕ) → from ≤ port → port < result → HasMore (at (desks_of lanes.now) port) → ⊥ }
+    ensures some { result < length lanes.now → HasMore (at (desks_of lanes.now) result) }
+{
+    for port in from..lanes.len() {
         if lanes[port].has_more() {
-            return true;
+            return port;
         }
     }
-    false
+    lanes.len()
 }
 
 /// Lets the connection begin that is to begin, if there is one. `false` where none is left and none will come.
 fn begin<P: Ports>(lanes: &mut [Lane], ports: &mut P, may_wait: bool) -> bool
-    requires ports { length lanes.old ≡ connection_count }
-    ensures length { length lanes.new ≡ connection_count }
-    ensures begins { Begins result (at (desks_of lanes.old)) (at (desks_of lanes.new)) (P.log ports.old) (P.log ports.new) }
+    requires ports { length lanes.old ≤ most_ports }
+    ensures length { length lanes.new ≡ length lanes.old }
+    ensures begins { Begins (length lanes.old) result (at (desks_of lanes.old)) (at (desks_of lanes.new)) (P.log ports.old) (P.log ports.new) }
     ensures over { result ≡ false → lanes.new ≡ lanes.old }
 {
-    match ports.next(may_wait) {
+    match ports.next(lanes.len() as u32, may_wait) {
         Next::Opened(port) => {
             lanes[port as usize].begin();
             true
@@ -147,9 +195,9 @@ fn begin_sweep<P: Ports, C: Clock>(
     clock: &mut C,
     may_wait: bool,
 ) -> bool
-    requires ports { length lanes.old ≡ connection_count }
-    ensures length { length lanes.new ≡ connection_count }
-    ensures begins { Begins result (at (desks_of lanes.old)) (at (desks_of lanes.new)) (P.log ports.old) (P.log ports.new) }
+    requires ports { length lanes.old ≤ most_ports }
+    ensures length { length lanes.new ≡ length lanes.old }
+    ensures begins { Begins (length lanes.old) result (at (desks_of lanes.old)) (at (desks_of lanes.new)) (P.log ports.old) (P.log ports.new) }
     ensures told { result ≡ true → Logs (C.told clock.old) (C.told clock.new) (Sweep ∷ []) }
     ensures over { result ≡ false → (lanes.new ≡ lanes.old) × (C.told clock.new ≡ C.told clock.old) }
 {
@@ -168,11 +216,59 @@ fn sweep<P: Ports, C: Clock>(
     ports: &mut P,
     clock: &mut C,
 )
-    requires ports { length lanes.old ≡ connection_count }
-    ensures length { length lanes.new ≡ connection_count }
+    requires ports { length lanes.old ≤ most_ports }
+    ensures length { length lanes.new ≡ length lanes.old }
     ensures sweeps { SweepsAll engine.old.kept lanes.old engine.new.kept lanes.new (P.log ports.old) (P.log ports.new) (C.told clock.old) (C.told clock.new) }
 {
-    for port in 0..PORTS {
-        lanes[port].visit(alloc, engine, port as u32, ports, clock);
+    let mut port = 0;
+    while port < lanes.len() {
+        port = visit_next(alloc, engine, lanes, port, ports, clock);
+    }
+}
+
+/// Visits the first port from one on that is ready or has something to step, if there is one, and passes over those before it: which port comes then.
+fn visit_next<P: Ports, C: Clock>(
+    alloc: Global,
+    engine: &mut Engine,
+    lanes: &mut [Lane],
+    from: usize,
+    ports: &mut P,
+    clock: &mut C,
+) -> usize
+    requires ports { length lanes.old ≤ most_ports }
+    requires from { from < length lanes.old }
+    ensures length { length lanes.new ≡ length lanes.old }
+    ensures order { (from < result) × (result ≤ length lanes.old) }
+    ensures sweeps { SweepsOn from result engine.old.kept lanes.old engine.new.kept lanes.new (P.log ports.old) (P.log ports.new) (C.told clock.old) (C.told clock.new) }
+{
+    let port = pass_over(lanes, from, ports, clock);
+    if port >= lanes.len() {
+        return port;
+    }
+    lanes[port].visit(alloc, engine, port as u32, ports, clock);
+    port + 1
+}
+
+/// Passes over the ports that are not ready and have nothing to step: which port comes then.
+fn pass_over<P: Ports, C: Clock>(lanes: &[Lane], from: usize, ports: &mut P, clock: &mut C) -> usize
+    requires ports { length lanes.now ≤ most_ports }
+    requires from { from ≤ length lanes.now }
+    ensures { PassesOver from result lanes.now (P.log ports.old) (P.log ports.new) (C.told clock.old) (C.told clock.new) }
+{
+    let until = next_more(lanes, from);
+    let at = match ports.next_ready(from as u32, until as u32) {
+        Some(port) => port as usize,
+        None => until,
+    };
+    begin_turns(at - from, clock);
+    at
+}
+
+/// Tells the clock of so many turns in which nothing is done.
+fn begin_turns<C: Clock>(count: usize, clock: &mut C)
+    ensures { Logs (C.told clock.old) (C.told clock.new) (replicate count Turn) }
+{
+    for _ in 0..count {
+        clock.begin_turn();
     }
 }

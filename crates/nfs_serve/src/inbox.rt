@@ -3,7 +3,8 @@
 ghost use Rattle.std.specs.Prelude.{◌≡◌, ◌≤◌, ◌<◌, [], length, drop, take, IfOk};
 ghost use Rattle.nfs_serve.specs.Told.{Logs};
 ghost use Rattle.nfs_serve.specs.Shows.{came};
-ghost use Rattle.nfs_serve.specs.Script.{last_connection, most_piece};
+ghost use Rattle.nfs_serve.specs.Script.{most_piece};
+ghost use Rattle.nfs_serve.specs.Desk.{most_ports};
 ghost use Rattle.nfs_serve.specs.Boxes.{Receives};
 
 use crate::connection::MARK;
@@ -81,7 +82,7 @@ impl Inbox {
 
     /// Takes what one read gives, into an empty one.
     pub(crate) fn receive<P: Ports>(&mut self, ports: &mut P, port: u32) -> Came
-        requires port { port ≤ last_connection }
+        requires port { port < most_ports }
         requires empty { self.old ≡ [] }
         ensures received { Receives port result self.new (P.log ports.old) (P.log ports.new) }
     {

@@ -1,12 +1,10 @@
 //! One connection of many: what came, what is owed, and its turn.
 
 ghost use Rattle.std.specs.Prelude.{◌≡◌, ◌≤◌, ◌<◌, ◌||◌, [], ◌∷◌, length, drop, true, false, IfOk};
-ghost use Rattle.nfs_serve.specs.Told.{Turn, Logs};
+ghost use Rattle.nfs_serve.specs.Told.{Logs};
 ghost use Rattle.nfs_serve.specs.Deeds.{counted};
-ghost use Rattle.nfs_serve.specs.Shows.{readied};
 ghost use Rattle.nfs_rpc.specs.RecordMarking.{is_too_long};
-ghost use Rattle.nfs_serve.specs.Script.{last_connection};
-ghost use Rattle.nfs_serve.specs.Desk.{closed, opened, leaving, most_owed, HasMore};
+ghost use Rattle.nfs_serve.specs.Desk.{closed, opened, leaving, most_ports, most_owed, HasMore};
 ghost use Rattle.nfs_serve.specs.Lane.{desk_of, stand, is_first, Flushes, IsLeft, IsSpent, Settles, StepsOne, StepsSome, TakesTurn, TakesTurnUpTo, Visits};
 ghost use Rattle.nfs_serve.specs.Boxes as boxes;
 
@@ -17,7 +15,6 @@ use crate::inbox::Inbox;
 use crate::outbox::Outbox;
 use crate::ports::{Came, Ports, Took};
 use crate::sequenced::answers_sequence;
-use crate::talking::MAX_READS;
 use std::alloc::{AllocError, Global};
 
 /// How many times a turn steps at most, each time no more than one record, so that other ports have theirs.
@@ -34,7 +31,6 @@ pub(crate) struct Lane {
     gone: bool,
     /// Whether a session's SEQUENCE was answered on it.
     heard: bool,
-    reads: u32,
     connection: Connection,
     unread: Inbox,
     owed: Outbox,
@@ -81,7 +77,6 @@ impl Lane {
             live: false,
             gone: false,
             heard: false,
-            reads: 0,
             connection: Connection::new(alloc)?,
             unread: Inbox::new(alloc)?,
             owed: Outbox::new(alloc)?,
@@ -103,7 +98,6 @@ impl Lane {
         self.live = false;
         self.gone = false;
         self.heard = false;
-        self.reads = 0;
         self.connection.close();
         self.unread.clear();
         self.owed.clear();
@@ -119,7 +113,7 @@ impl Lane {
 
     /// Writes what is owed, as far as the peer takes it.
     fn flush<P: Ports>(&mut self, port: u32, ports: &mut P, left: &mut Budget) -> Rest
-        requires port { port ≤ last_connection }
+        requires port { port < most_ports }
         requires live { self.old.live ≡ true }
         ensures { Flushes result port (desk_of self.old) (desk_of self.new) (P.log ports.old) (P.log ports.new) left.old left.new }
     {
@@ -156,7 +150,7 @@ impl Lane {
         clock: &mut C,
         left: &mut Budget,
     )
-        requires port { port ≤ last_connection }
+        requires port { port < most_ports }
         requires live { self.old.live ≡ true }
         requires short { is_too_long self.old.connection ≡ false }
         requires some { 0 < length self.old.unread }
@@ -202,7 +196,7 @@ impl Lane {
         clock: &mut C,
         left: &mut Budget,
     )
-        requires port { port ≤ last_connection }
+        requires port { port < most_ports }
         requires live { self.old.live ≡ true }
         requires short { is_too_long self.old.connection ≡ false }
         requires some { 0 < length self.old.unread }
@@ -227,7 +221,7 @@ impl Lane {
         clock: &mut C,
         left: &mut Budget,
     ) -> Rest
-        requires port { port ≤ last_connection }
+        requires port { port < most_ports }
         requires live { self.old.live ≡ true }
         ensures { Settles result port (stand engine.old.kept self.old (P.log ports.old) (C.told clock.old)) (stand engine.new.kept self.new (P.log ports.new) (C.told clock.new)) left.old left.new }
     {
@@ -258,21 +252,14 @@ impl Lane {
         self.live && self.owed.rest().is_empty() && !self.unread.rest().is_empty()
     }
 
-    /// The port's turn begins on the clock: whether it has something to step, or else says that it is ready.
-    fn begin_turn<P: Ports, C: Clock>(&self, port: u32, ports: &mut P, clock: &mut C) -> bool
-        requires port { port ≤ last_connection }
-        ensures told { Logs (C.told clock.old) (C.told clock.new) (Turn ∷ []) }
-        ensures logs { Logs (P.log ports.old) (P.log ports.new) (readied port result) }
-        ensures none { result ≡ false → HasMore (desk_of self.now) → ⊥ }
+    /// Whether a connection is served on it.
+    pub(crate) fn is_live(&self) -> bool
+        ensures { result ≡ self.now.live }
     {
-        clock.begin_turn();
-        if self.has_more() {
-            return true;
-        }
-        ports.is_ready(port)
+        self.live
     }
 
-    /// A turn, where the port is ready or has something to step.
+    /// The port's turn, of which the clock is told.
     pub(crate) fn visit<P: Ports, C: Clock>(
         &mut self,
         alloc: Global,
@@ -281,12 +268,10 @@ impl Lane {
         ports: &mut P,
         clock: &mut C,
     )
-        requires port { port ≤ last_connection }
+        requires port { port < most_ports }
         ensures { Visits port (stand engine.old.kept self.old (P.log ports.old) (C.told clock.old)) (stand engine.new.kept self.new (P.log ports.new) (C.told clock.new)) }
     {
-        if !self.begin_turn(port, ports, clock) {
-            return;
-        }
+        clock.begin_turn();
         self.turn(alloc, engine, port, ports, clock);
     }
 
@@ -300,7 +285,7 @@ impl Lane {
         ports: &mut P,
         clock: &mut C,
     )
-        requires port { port ≤ last_connection }
+        requires port { port < most_ports }
         ensures { TakesTurn port (stand engine.old.kept self.old (P.log ports.old) (C.told clock.old)) (stand engine.new.kept self.new (P.log ports.new) (C.told clock.new)) }
     {
         if !self.live {
@@ -325,7 +310,7 @@ impl Lane {
         ports: &mut P,
         clock: &mut C,
     ) -> Rest
-        requires port { port ≤ last_connection }
+        requires port { port < most_ports }
         requires live { self.old.live ≡ true }
         ensures { TakesTurnUpTo result port (stand engine.old.kept self.old (P.log ports.old) (C.told clock.old)) (stand engine.new.kept self.new (P.log ports.new) (C.told clock.new)) }
     {
@@ -342,14 +327,8 @@ impl Lane {
         if !self.unread.rest().is_empty() {
             return Rest::Clear;
         }
-        if self.reads >= MAX_READS {
-            return Rest::Gone;
-        }
         match self.unread.receive(ports, port) {
-            Came::Bytes(_) => {
-                self.reads += 1;
-                self.settle(alloc, engine, port, ports, clock, &mut left)
-            }
+            Came::Bytes(_) => self.settle(alloc, engine, port, ports, clock, &mut left),
             Came::Blocked => Rest::Clear,
             Came::Ended => {
                 self.leave();
@@ -372,7 +351,7 @@ fn either(one: bool, other: bool) -> bool
 
 /// Says to a port that its connection counts, if this is the first answer to a session's SEQUENCE.
 fn count<P: Ports>(port: u32, ports: &mut P, first: bool)
-    requires port { port ≤ last_connection }
+    requires port { port < most_ports }
     ensures logs { Logs (P.log ports.old) (P.log ports.new) (counted port first) }
 {
     if first {

@@ -45,7 +45,7 @@ pub use form::{Flow, Form, Outcome};
 pub use host::Host;
 pub use hub::Hub;
 pub use moving::{WriteFailed, fill, put};
-pub use ports::{Came, Next, Ports, Took};
+pub use ports::{Came, MOST_PORTS, Next, Ports, Took};
 pub use script::{LAST_CONNECTION, LAST_MOMENT};
 pub use server::{Server, Settings};
 pub use sink::Sink;

@@ -10,7 +10,7 @@ use crate::Source;
 use crate::fault::Stop;
 use crate::moving::fill;
 
-/// The last connection, and the last port of a hub; the first is 0.
+/// The last connection of a script; the first is 0.
 pub const LAST_CONNECTION: u32 = 15;
 
 /// The most bytes of a piece.

@@ -1,13 +1,14 @@
 //! A server: records, connections and scripts over one state.
 
 ghost use Rattle.std.specs.Prelude.{◌≡◌, ◌≢◌, ◌≤◌, [], false, IfOk, OnErr, replicate};
-ghost use Rattle.nfs_tree.specs.Limits.{profile};
+ghost use Rattle.nfs_tree.specs.{Limits.usual_limits, declared.profile.Profile.TheVariants.Exact};
 ghost use Rattle.nfs_exec.specs.Step.Held.{held};
 ghost use Rattle.nfs_exec.specs.Step.Machine.{IsMachine, HasNoClashes};
 ghost use Rattle.nfs_serve.specs.Server.{fresh, held_on, IsWith, Steps, FeedsOn, Closes, IsNew, state_of};
 ghost use Rattle.nfs_serve.specs.Replay.{IsReplay};
 ghost use Rattle.nfs_serve.specs.Talk.{Talks, TalkReports};
 ghost use Rattle.nfs_serve.specs.Hub.{Serves};
+ghost use Rattle.nfs_names.specs.Crowd.{usual_crowd};
 ghost use Rattle.nfs_names.specs.ServerOwner.{usual_owner};
 ghost use Rattle.nfs_serve.specs.Script.{last_moment, last_connection, connection_count};
 
@@ -23,8 +24,8 @@ use crate::script::{Entry, LAST_CONNECTION, MAX_PIECE};
 use crate::talking::{Talk, converse};
 use crate::{BufSource, Clock, Ports, Sink, Source, Watch};
 use nfs_exec::Held;
-use nfs_names::{ServerOwner, Start};
-use nfs_tree::Limits;
+use nfs_names::{Crowd, ServerOwner, Start};
+use nfs_tree::{Limits, Profile};
 use std::alloc::{AllocError, Global};
 use std::marker::Model;
 
@@ -67,7 +68,7 @@ impl Server {
     /// A server that is started with these settings, and names itself `nfs41d`. `instance` marks it off from other starts of the
     /// server. `AllocError` where memory is refused, as in [`Server::starting`].
     pub fn new(alloc: Global, settings: Settings, instance: u32) -> Result<Server, AllocError>
-        ensures { IfOk result (λ s. IsNew (record { mode = settings.root_mode; instance = instance; lease = settings.lease; limits = profile; owner = usual_owner }) s) }
+        ensures { IfOk result (λ s. IsNew (record { mode = settings.root_mode; instance = instance; lease = settings.lease; limits = usual_limits; profile = Exact; crowd = usual_crowd; owner = usual_owner }) s) }
     {
         let owner = ServerOwner::of(alloc, b"nfs41d")?;
         Server::starting(
@@ -77,6 +78,8 @@ impl Server {
                 instance,
                 lease: settings.lease,
                 limits: Limits::PROFILE,
+                profile: Profile::Exact,
+                crowd: Crowd::USUAL,
                 owner,
             },
         )
@@ -95,6 +98,16 @@ impl Server {
             connections,
             piece,
         })
+    }
+
+    /// Has so many pages at most, of 4,096 bytes each, for the bytes of files and the texts of links. What needs one more is refused, as if
+    /// there were no memory for it. Contracts see no more of it than of memory.
+    pub fn bound_pages(&mut self, pages: u64)
+        ensures state { state_of self.new.kept ≡ state_of self.old.kept }
+        ensures held { self.new.held ≡ self.old.held }
+        ensures reply { self.new.reply ≡ self.old.reply }
+    {
+        self.engine.bound_pages(pages);
     }
 
     /// Steps one record, whose data is `call`, at the moment `now` (seconds, at most 2^62), on no connection. Where the outcome is
@@ -243,7 +256,7 @@ impl Server {
     /// it, writes the replies with their record marks alone, and closes connection 0. No other connection changes.
     ///
     /// `Ended` comes only where the reader has ended, `Shut` only where the stream is too long, `ReadFailed` and `WriteFailed`
-    /// only where that end has failed, `TooMany` in place of the 1,000,001st read. Every record that was whole has been run, but
+    /// only where that end has failed, `TooMany` in place of the 2^64th read. Every record that was whole has been run, but
     /// for those of the piece behind a reply that could not be written.
     pub fn talk<R: Source, W: Sink, C: Clock>(
         &mut self,
@@ -274,14 +287,14 @@ impl Server {
         ended
     }
 
-    /// Serves the connections that come on the ports, up to 16 at once, until none is left and none will come: each from a fresh
+    /// Serves the connections that come on the ports, as many at once as the hub has, until none is left and none will come: each from a fresh
     /// stream on, in pieces of at most 65,536 bytes, each record at the clock's answer for it, with the replies and their record
     /// marks alone. No connection of the server's own changes.
     ///
     /// Nothing is read on a port while a reply is owed there or a piece waits, and a turn never waits for its peer. The ports have
     /// their turns in their order, sweep after sweep: each that is ready or has a record to step has one, of 16 records at most. A connection
-    /// is closed where its peer has ended or it has failed, and, once its replies are written, where its stream is too long or in
-    /// place of its 1,000,001st read. Behind each sweep the watch looks on.
+    /// is closed where its peer has ended or it has failed, and, once its replies are written, where its stream is too long. Behind each
+    /// sweep the watch looks on.
     pub fn serve_ports<P: Ports, C: Clock, W: Watch<P, C>>(
         &mut self,
         alloc: Global,
@@ -290,7 +303,8 @@ impl Server {
         clock: &mut C,
         watch: &mut W,
     )
-        ensures run { Serves (state_of self.old.kept) (state_of self.new.kept) hub.new (P.log ports.old) (P.log ports.new) (C.told clock.old) (C.told clock.new) }
+        ensures run { Serves hub.old.most (state_of self.old.kept) (state_of self.new.kept) hub.new.desks (P.log ports.old) (P.log ports.new) (C.told clock.old) (C.told clock.new) }
+        ensures most { hub.new.most ≡ hub.old.most }
         ensures held { self.new.held ≡ self.old.held }
         ensures reply { self.new.reply ≡ [] }
     {

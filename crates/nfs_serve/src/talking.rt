@@ -12,9 +12,6 @@ use crate::script::Entry;
 use crate::{Clock, Sink, Source};
 use std::alloc::Global;
 
-/// The most reads of a connection.
-pub(crate) const MAX_READS: u32 = 1_000_000;
-
 /// How a talk over one connection ended.
 #[derive(Clone, Copy, Debug, PartialEq, Eq)]
 pub enum Talk {
@@ -26,7 +23,7 @@ pub enum Talk {
     ReadFailed,
     /// The writer has failed.
     WriteFailed,
-    /// 1,000,000 pieces were read.
+    /// 2^64 - 1 pieces were read.
     TooMany,
 }
 
@@ -48,7 +45,7 @@ pub(crate) fn converse<R: Source, W: Sink, C: Clock>(
     ensures reported { TalkReports result (R.has_ended r.new) (R.has_failed r.new) (W.has_failed w.new) (R.left r.new) }
 {
     connection.close();
-    for _ in 0..MAX_READS {
+    for _ in 0..u64::MAX {
         match r.read(buf) {
             Ok(0) => return Talk::Ended,
             Ok(n) => {

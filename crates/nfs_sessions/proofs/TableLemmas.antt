@@ -47,16 +47,18 @@ written t id place s change is at read =
     (is_counter id) 1 (suc t.last) t.sessions place s there (ap (is_session id) read ∙ first.1) is.rising
 
 -- a session with other slots, written at its place, makes the table with those slots
-pub table_written : (t : SessionTable) (id : SessionId) (xs : List Session) (last place : ℕ) (s new : Session) (change : List SlotState → List SlotState)
-    → IsSessions t → record { sessions = xs; last = last } ≡ t → position (is_session id) xs ≡ Some place → s ≡ get_or xs place s
-    → new ≡ record s { slots = change s.slots } → record { sessions = set xs place new; last = last } ≡ with_slots t id change
-table_written t id xs last place s new change is same at read changed =
+pub table_written : (t : SessionTable) (id : SessionId) (xs : List Session) (last most place : ℕ) (s new : Session) (change : List SlotState → List SlotState)
+    → IsSessions t → record { sessions = xs; last = last; most = most } ≡ t → position (is_session id) xs ≡ Some place → s ≡ get_or xs place s
+    → new ≡ record s { slots = change s.slots } → record { sessions = set xs place new; last = last; most = most } ≡ with_slots t id change
+table_written t id xs last most place s new change is same at read changed =
     let same_sessions : xs ≡ t.sessions = ap (λ (t : SessionTable). t.sessions) same in
     let same_last : last ≡ t.last = ap (λ (t : SessionTable). t.last) same in
     let (placed, there) = stands_at t id xs place s same_sessions at read in
     let sessions : set xs place new ≡ (with_slots t id change).sessions =
     ap (λ (ys : List Session). set ys place new) same_sessions
     ∙ (ap (λ (s : Session). set t.sessions place s) changed ∙ written t id place s change is placed there) in
-    let P : List Session → SessionTable = λ ys. record { sessions = ys; last = last } in
-    let Q : ℕ → SessionTable = λ l. record { sessions = (with_slots t id change).sessions; last = l } in
-    ap P sessions ∙ ap Q same_last
+    let same_most : most ≡ t.most = ap (λ (t : SessionTable). t.most) same in
+    let P : List Session → SessionTable = λ ys. record { sessions = ys; last = last; most = most } in
+    let Q : ℕ → SessionTable = λ l. record { sessions = (with_slots t id change).sessions; last = l; most = most } in
+    let R : ℕ → SessionTable = λ m. record { sessions = (with_slots t id change).sessions; last = t.last; most = m } in
+    ap P sessions ∙ (ap Q same_last ∙ ap R same_most)

@@ -9,10 +9,6 @@ use Rattle.nfs_compound.specs.declared.channel_attrs.ChannelAttrs.{ChannelAttrs}
 use Rattle.nfs_sessions.specs.{declared.channel.Wish.Wish, declared.id.SessionId.SessionId, declared.sessions.SessionFault.SessionFault}
 use Rattle.nfs_sessions.specs.{declared.sessions.SessionFault.TheVariants.{TooSmall, NoSpc, ServerFault, Memory}, Channel.{granted, is_too_small}}
 
--- the most sessions that stand at once (this server's profile)
-abbrev pub most_sessions : ℕ
-most_sessions = 64
-
 -- a session: its counter, the id of its client, what was granted of its fore channel, and its slots (section 2.10.6.1)
 pub record Session : Type 0 where
   pub counter : ℕ
@@ -20,14 +16,15 @@ pub record Session : Type 0 where
   pub channel : ChannelAttrs
   pub slots : List SlotState
 
--- the sessions that stand, and the last counter that was given, 0 before the first
+-- the sessions that stand, the last counter that was given, 0 before the first, and how many stand at once at most
 pub record SessionTable : Type 0 where
   pub sessions : List Session
   pub last : ℕ
+  pub most : ℕ
 
--- the table of a new server
-abbrev pub no_sessions : SessionTable
-no_sessions = record { sessions = []; last = 0 }
+-- the table of a new server, in which so many are to stand at once at most
+abbrev pub no_sessions : ℕ → SessionTable
+no_sessions most = record { sessions = []; last = 0; most = most }
 
 -- as many slots as its channel has, and none took a request
 abbrev pub new_session : (counter client : ℕ) → ChannelAttrs → Session
@@ -58,7 +55,7 @@ outlasts (Some client) s = not (s.client == client)
 abbrev pub create_checks : SessionTable → Wish → List (Bool × SessionFault)
 create_checks t wish =
     (is_too_small wish.fore, TooSmall)
-    ∷ (nat_le most_sessions (count_by (outlasts wish.leaving) t.sessions), NoSpc)
+    ∷ (nat_le t.most (count_by (outlasts wish.leaving) t.sessions), NoSpc)
     ∷ (t.last == last_counter, ServerFault)
     ∷ []
 
@@ -67,7 +64,7 @@ create_fault t wish = first_fault (create_checks t wish)
 
 -- the table with a session of what is granted, under the next counter
 abbrev pub with_session : SessionTable → ℕ → (fore : ChannelAttrs) → SessionTable
-with_session t client fore = record {
+with_session t client fore = record t {
   sessions = t.sessions ++ new_session (t.last + 1) client (granted fore) ∷ [];
   last = t.last + 1;
 }

@@ -1,6 +1,6 @@
 //! The table of sessions (RFC 8881 sections 2.10, 18.36 and 18.37).
 
-ghost use Rattle.std.specs.Prelude.{◌≡◌, ◌≤◌, ◌+◌, ◌==◌, None, IfOk, OnOk, OnErr, IsSomeAnd, is_some, length, count_by, find, filter, not, position};
+ghost use Rattle.std.specs.Prelude.{◌≡◌, ◌≤◌, ◌+◌, ◌==◌, None, IfOk, OnOk, OnErr, IsSomeAnd, is_some, length, count_by, find, filter, not, option_map, position};
 ghost use Rattle.std.specs.Option.{option_copied};
 ghost use Rattle.std.specs.List.{list_any};
 ghost use Rattle.nfs_xdr.specs.Checks.{judged};
@@ -22,7 +22,7 @@ use std::marker::Model;
 pub enum SessionFault {
     /// NFS4ERR_TOOSMALL: the fore channel asked for is too small to be of use.
     TooSmall,
-    /// NFS4ERR_NOSPC: 64 sessions stand.
+    /// NFS4ERR_NOSPC: as many sessions stand as may.
     NoSpc,
     /// NFS4ERR_SERVERFAULT: each counter was given.
     ServerFault,
@@ -57,6 +57,8 @@ impl From<AllocError> for SessionFault {
 pub struct Sessions {
     sessions: Vec<Session>,
     last: u64,
+    /// How many stand at once at most.
+    most: u32,
 }
 
 impl Model for Sessions {
@@ -65,9 +67,9 @@ impl Model for Sessions {
 
     ghost Value = { SessionTable };
 
-    ghost view = { λ t. record { sessions = t.sessions.items; last = t.last } };
+    ghost view = { λ t. record { sessions = t.sessions.items; last = t.last; most = t.most } };
 
-    ghost invariant = { λ t. IsSessions (record { sessions = t.sessions.items; last = t.last }) };
+    ghost invariant = { λ t. IsSessions (record { sessions = t.sessions.items; last = t.last; most = t.most }) };
 }
 
 fn drop_sessions_of(sessions: &mut Vec<Session>, client: u64)
@@ -77,16 +79,14 @@ fn drop_sessions_of(sessions: &mut Vec<Session>, client: u64)
 }
 
 impl Sessions {
-    /// The most sessions that stand at once (this server's profile).
-    pub const MAX: usize = 64;
-
-    /// No sessions. A later `create` grows by `alloc`.
-    pub fn new(alloc: Global) -> Sessions
-        ensures { result ≡ no_sessions }
+    /// No sessions, and later so many at once at most. A later `create` grows by `alloc`.
+    pub fn new(alloc: Global, most: u32) -> Sessions
+        ensures { result ≡ no_sessions most }
     {
         Sessions {
             sessions: Vec::new(alloc),
             last: 0,
+            most,
         }
     }
 
@@ -108,7 +108,7 @@ impl Sessions {
             .iter()
             .filter(|s| s.stays(wish.leaving))
             .count();
-        if staying >= Sessions::MAX {
+        if staying >= self.most as usize {
             return Err(SessionFault::NoSpc);
         }
         if self.last == u64::MAX {
@@ -133,7 +133,7 @@ impl Sessions {
 
     /// Makes a session for a client, with what is granted of the fore channel asked for.
     ///
-    /// The checks in their order: `TooSmall`; `NoSpc` where 64 sessions stand, those of the leaving client record not
+    /// The checks in their order: `TooSmall`; `NoSpc` where as many sessions stand as may, those of the leaving client record not
     /// counted; `ServerFault` where each counter was given; `Memory` where there is no room for its slots.
     /// A refusal leaves all as it was.
     pub fn create(
@@ -179,6 +179,24 @@ impl Sessions {
         ensures { result ≡ list_any (λ s. s.client == client) self.now.sessions }
     {
         self.sessions.iter().any(|s| s.client() == client)
+    }
+
+    /// How many sessions a client has.
+    pub fn count_of(&self, client: u64) -> usize
+        ensures { result ≡ count_by (λ s. s.client == client) self.now.sessions }
+    {
+        self.sessions
+            .iter()
+            .filter(|s| s.client() == client)
+            .count()
+    }
+
+    /// The counter of a client's oldest session.
+    pub fn oldest_of(&self, client: u64) -> Option<u64>
+        ensures { result ≡ option_map (λ s. s.counter) (find (λ s. s.client == client) self.now.sessions) }
+    {
+        let session = self.sessions.iter().find(|s| s.client() == client)?;
+        Some(session.counter())
     }
 
     /// Keeps the reply to a request that was fresh on a session's slot and has run.

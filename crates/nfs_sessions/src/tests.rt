@@ -56,7 +56,7 @@ fn kept<'a>(sessions: &'a Sessions, id: &SessionId) -> Option<&'a [u8]> {
 
 #[test]
 fn a_reply_as_long_as_the_channel_lets_pass_is_kept(rt: HostRuntime) -> Result<(), Fail> {
-    let mut sessions = Sessions::new(rt.alloc());
+    let mut sessions = Sessions::new(rt.alloc(), 64);
     let id = sessions.create(rt.alloc(), A, &LEAST)?;
     let args = [1; 2_048];
     let (reply, longer) = ([2; 2_024], [3; 2_025]);

@@ -1,17 +1,17 @@
 -- The tree that a RENAME leaves keeps what every tree keeps.
-use Rattle.std.proofs.Common.{◌≡◌, ◌≢◌, ℕ, ◌+◌, ◌<◌, Bool, true, false, cond, not, [], ◌∷◌, ◌++◌, length, None, refl, sym, ◌∙◌, ap, subst, arith, inl, inr}
+use Rattle.std.proofs.Common.{◌≡◌, ◌≢◌, ℕ, ◌+◌, ◌<◌, Bool, true, false, cond, not, List, zero, suc, [], ◌∷◌, ◌++◌, length, None, refl, sym, ◌∙◌, ap, subst, arith, inl, inr}
 use Rattle.std.proofs.lemmas.Bool.{cases_Bool, and_parts, eq-eqb, ne_eqb, ltb-true, not-false, false≢true}
-use Rattle.std.specs.Prelude.{◌==◌, ◌&&◌, ◌||◌, option_map, unwrap_or}
+use Rattle.std.specs.Prelude.{◌==◌, ◌&&◌, ◌||◌, option_map, unwrap_or, if◌then◌else◌}
 use Rattle.nfs_xdr.specs.{Tables.In, declared.time.Time.Time}
 use Rattle.nfs_xdr.proofs.{Lists.{in_filter, stays_in, find_in, find_none, filter_swap}, Tables.{IsRising-push, IsRising-filter}, Checks.all_passed}
 use Rattle.nfs_tree.specs.{declared.row.Row.Row, Object.{no_sets, modified}}
-use Rattle.nfs_tree.specs.Files.{Files, root, last_count, is_name, is_there, is_directory_at, can_change, is_entry, entry, has_name}
+use Rattle.nfs_tree.specs.Files.{Files, next_count, root, last_count, is_name, is_there, is_directory_at, can_change, is_entry, entry, has_name}
 use Rattle.nfs_tree.specs.Calls.{CanChange, IsReached, rename_fault}
 use Rattle.nfs_tree.specs.Files.{number_named, has_entries, with_entries_changed, with_links_changed, without_entry}
-use Rattle.nfs_tree.specs.Names.{is_at_or_below, Move, moved_object, replaced_object, moves, is_below_itself, is_unlike, is_in_the_way, can_move}
-use Rattle.nfs_tree.specs.{Names.{rename_checks, with_both_changed, with_moved}, TreeInvariants.{Grounded, AreRows, IsTree}}
-use Rattle.nfs_tree.proofs.{RowsKept.{entry_parts, reached, grounded_without, no_entries}, Objects.{stored_within, can_change_all, can_change_none}}
-use Rattle.nfs_tree.proofs.{Trees.{tree_changed, tree_dropped, entry_names, row_of, has_one, apart}, Put.{any_none, directory_there, vacant_of}}
+use Rattle.nfs_tree.specs.Names.{is_at_or_below, Move, moved_object, replaced_object, moves, is_below_itself, is_unlike, is_in_the_way, can_move, touched_object}
+use Rattle.nfs_tree.specs.{Names.{rename_checks, with_both_changed, with_moved}, TreeInvariants.{Grounded, AreRows, IsTree}, Profile.is_unix}
+use Rattle.nfs_tree.proofs.{RowsKept.{entry_parts, reached, grounded_without, no_entries}, Objects.{stored_within, can_change_all, can_change_none, can_change_after}}
+use Rattle.nfs_tree.proofs.{Trees.{tree_changed, tree_counts, tree_dropped, entry_names, row_of, has_one, apart}, Put.{any_none, directory_there, vacant_of}}
 use Rattle.nfs_tree.proofs.Move.{unique_of, same_entry, depth_bound, clear, rows_moved}
 
 pub record MoveGranted (t : Files) (m : Move) : Type 0 where
@@ -24,6 +24,8 @@ pub record MoveGranted (t : Files) (m : Move) : Type 0 where
   pub change_source : can_change t m.source ≡ true
   pub change_target : can_change t m.target ≡ true
   pub change_replaced : not (has_name t m.target m.name) || can_change t (replaced_object t m) ≡ true
+  pub change_moved : not (is_unix t.profile) || can_change t (moved_object t m) ≡ true
+  pub apart : moved_object t m ≢ replaced_object t m
   pub cookie : t.last_cookie < last_count
 
 guarded : (a b : Bool) → a && b ≡ false → a ≡ true → b ≡ false
@@ -33,6 +35,10 @@ guarded false b e is = absurd cc
 or_right : (a b : Bool) → a || b ≡ false → b ≡ false
 or_right true b e = absurd cc
 or_right false b e = e
+
+or_left : (a b : Bool) → a || b ≡ false → a ≡ false
+or_left true b e = absurd cc
+or_left false b e = refl
 
 or_given : (a b : Bool) → not a || b ≡ true → a ≡ true → b ≡ true
 or_given true b e is = e
@@ -50,6 +56,7 @@ move_granted t m e go =
     let first = and_parts _ _ can in
     let second = and_parts _ _ first.1 in
     let third = and_parts _ _ second.1 in
+    let fourth = and_parts _ _ third.1 in
     record {
       source = dirs.0;
       target = dirs.1;
@@ -60,7 +67,9 @@ move_granted t m e go =
       change_source = first.0;
       change_target = second.0;
       change_replaced = third.0;
-      cookie = ltb-true _ _ third.1;
+      change_moved = fourth.0;
+      apart = λ e. false≢true (sym (not_true _ go) ∙ eq-eqb (moved_object t m) (replaced_object t m) e);
+      cookie = ltb-true _ _ fourth.1;
     }
 
 -- where no object has the new name its number is 0
@@ -97,6 +106,74 @@ replaced_can t m is can =
           (or_given (has_name t m.target m.name) (can_change t (replaced_object t m)) can.change_replaced there)
       | inr none ↦ subst (CanChange t.objects) (sym (none_replaced t m none)) (can_change_none t.objects root (t.last_object + 1) 0 is.objects (omega arith))
     ]
+
+-- no directory stands in itself
+no_loop : (t : Files) (q : Row) (n d : ℕ) → IsTree t → In q t.rows → q.object ≡ d → q.directory ≡ d → Grounded t.rows n d → ⊥
+no_loop t q zero d is there object directory at = is.rows.free q there (object ∙ at)
+no_loop t q (suc n) d is there object directory at =
+    let same : at.0 ≡ q = is.rows.one at.0 q at.1 there (at.2 ∙ sym object) (ap (is_directory_at t) (object ∙ sym directory) ∙ is.rows.stands q there) in
+    no_loop t q n d is there object directory (subst (Grounded t.rows n) (ap (λ (r : Row). r.directory) same ∙ directory) at.3)
+
+moved_source : (t : Files) (m : Move) → IsTree t → MoveGranted t m → moved_object t m ≢ m.source
+moved_source t m is can e =
+    let found = row_of t.rows m.source m.old can.old in
+    let q = found.0 in
+    let at = find_in (is_entry m.source m.old) t.rows q found.1 in
+    let parts = entry_parts m.source m.old q at.1 in
+    let object : q.object ≡ moved_object t m = sym (ap (λ o. unwrap_or (option_map (λ (r : Row). r.object) o) 0) found.1) in
+    let up = is.rows.grounded q at.0 in
+    no_loop t q up.0 m.source is at.0 (object ∙ e) parts.0 (subst (Grounded t.rows up.0) parts.0 up.1)
+
+below_other : (rows : List Row) (top n k : ℕ) → is_at_or_below rows top k n ≡ false → n ≢ top
+below_other rows top n zero is e = false≢true (sym is ∙ eq-eqb n top e)
+below_other rows top n (suc k) is e = false≢true (sym (or_left (n == top) _ is) ∙ eq-eqb n top e)
+
+moved_target : (t : Files) (m : Move) → MoveGranted t m → moved_object t m ≢ m.target
+moved_target t m can e = elim (cases_Bool (is_directory_at t (moved_object t m))) [
+  | inl dir ↦ below_other t.rows (moved_object t m) m.target (length t.rows)
+      (guarded (is_directory_at t (moved_object t m)) (is_at_or_below t.rows (moved_object t m) (length t.rows) m.target) can.below dir) (sym e)
+  | inr file ↦ false≢true (sym file ∙ ap (is_directory_at t) e ∙ can.target)
+]
+
+-- what is touched: the moved object, or none
+by_touched : (P : ℕ → Type 0) (b : Bool) (n : ℕ) → P 0 → (b ≡ true → P n) → P (if b then n else 0)
+by_touched P true n none some = some refl
+by_touched P false n none some = none
+
+pub touched_source : (t : Files) (m : Move) → IsTree t → MoveGranted t m → touched_object t m ≢ m.source
+touched_source t m is can = by_touched (λ n. n ≢ m.source) (is_unix t.profile) (moved_object t m)
+    (λ e. above_zero t m.source is can.source (sym e)) (λ unix. moved_source t m is can)
+
+pub touched_target : (t : Files) (m : Move) → IsTree t → MoveGranted t m → touched_object t m ≢ m.target
+touched_target t m is can = by_touched (λ n. n ≢ m.target) (is_unix t.profile) (moved_object t m)
+    (λ e. above_zero t m.target is can.target (sym e)) (λ unix. moved_target t m can)
+
+zero_absent : (t : Files) → IsTree t → is_there t 0 ≡ true → ⊥
+zero_absent t is there = let within = stored_within root (t.last_object + 1) t.objects 0 is.objects there in absurd (omega arith)
+
+none_can : (t : Files) → IsTree t → CanChange t.objects 0
+none_can t is = can_change_none t.objects root (t.last_object + 1) 0 is.objects (omega arith)
+
+pub touched_can : (t : Files) (m : Move) → IsTree t → MoveGranted t m → CanChange t.objects (touched_object t m)
+touched_can t m is can = by_touched (CanChange t.objects) (is_unix t.profile) (moved_object t m) (none_can t is)
+    (λ unix. can_change_all t.objects root (t.last_object + 1) (moved_object t m) is.objects (or_given (is_unix t.profile) _ can.change_moved unix))
+
+pub replaced_left : (t : Files) (m : Move) (now : Time) → IsTree t → MoveGranted t m
+    → CanChange (with_links_changed (touched_object t m) now t.objects) (replaced_object t m)
+replaced_left t m now is can = elim (cases_Bool (has_name t m.target m.name)) [
+  | inl there ↦ by_touched (λ n. CanChange (with_links_changed n now t.objects) (replaced_object t m)) (is_unix t.profile) (moved_object t m)
+      (can_change_after t.objects 0 (replaced_object t m) now no_sets (replaced_some there) (replaced_can t m is can))
+      (λ unix. can_change_after t.objects (moved_object t m) (replaced_object t m) now no_sets (λ e. can.apart (sym e)) (replaced_can t m is can))
+  | inr none ↦ subst (CanChange (with_links_changed (touched_object t m) now t.objects)) (sym (none_replaced t m none))
+      (none_can (record t { objects = with_links_changed (touched_object t m) now t.objects }) (tree_changed t (touched_object t m) now no_sets is))
+]
+  where
+    replaced_some : has_name t m.target m.name ≡ true → replaced_object t m ≢ 0
+    replaced_some there e =
+        (let found = row_of t.rows m.target m.name there in
+        let at = find_in (is_entry m.target m.name) t.rows found.0 found.1 in
+        let object : found.0.object ≡ 0 = sym (ap (λ o. unwrap_or (option_map (λ (r : Row). r.object) o) 0) found.1) ∙ e in
+        zero_absent t is (subst (λ k. is_there t k ≡ true) object (is.rows.names found.0 at.0)))
 
 tree_both : (t : Files) (a b : ℕ) (now : Time) → IsTree t → IsTree (record t { objects = with_both_changed a b now t.objects })
 tree_both t a b now is =
@@ -170,7 +247,10 @@ tree_moved t m now is granted go condition =
       root = is.root;
       rows = subst (λ name. AreRows (without_entry m.source name left.rows ++ to ∷ []) dirs (λ n. is_there t n)) parts.1 named_rows;
     } in
-    tree_both (record done { objects = with_links_changed x now done.objects }) m.source m.target now (tree_changed done x now no_sets is_done)
+    let touched = record done { objects = with_links_changed (touched_object t m) now done.objects } in
+    let is_touched : IsTree touched = tree_changed done (touched_object t m) now no_sets is_done in
+    tree_counts _ (next_count t.changes)
+    (tree_both (record touched { objects = with_links_changed x now touched.objects }) m.source m.target now (tree_changed touched x now no_sets is_touched))
 
 -- the row that comes is not the entry that leaves
 pub moved_apart : (t : Files) (m : Move) (n k : ℕ) → moves t m ≡ true → is_entry m.source m.old (let r : Row = record { directory = m.target; name = m.name; object = n; cookie = k } in r) ≡ false

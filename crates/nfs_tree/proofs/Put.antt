@@ -7,13 +7,13 @@ use Rattle.std.specs.{Prelude.{nat_le, ◌==◌, is_some}, List.list_any, Option
 use Rattle.nfs_xdr.proofs.{Checks.all_passed, Lists.in_push, Tables.IsRising-push}
 use Rattle.nfs_xdr.specs.{Tables.In, declared.time.Time.Time}
 use Rattle.nfs_tree.specs.{declared.row.Row.Row, declared.sets.Sets.Sets, declared.stored.Stored.Stored, Object.{is_directory, no_sets, modified}}
-use Rattle.nfs_tree.specs.Files.{Files, root, last_count, most_links, is_name, stored_in, is_there}
+use Rattle.nfs_tree.specs.Files.{Files, next_count, root, last_count, most_links, is_name, stored_in, is_there}
 use Rattle.nfs_tree.specs.Files.{is_directory_at, can_change, entry, has_row, links_in, change_at, with_entries_changed, with_links_changed}
 use Rattle.nfs_tree.specs.Calls.{IsReached, create_fault, link_fault}
 use Rattle.nfs_tree.specs.Create.{New, new_object, is_bad_text, is_too_big, create_checks, with_new}
 use Rattle.nfs_tree.specs.{Names.{link_checks, with_link}, TreeInvariants.IsTree}
 use Rattle.nfs_tree.proofs.RowsKept.{rows_same, rows_put, CanPut, reached}
-use Rattle.nfs_tree.proofs.{Objects.{IsSized, is_directory_in, keeps_changed, there_map, directory_map, stored_within, stored_push, new_there}, Trees.tree_changed}
+use Rattle.nfs_tree.proofs.{Objects.{IsSized, is_directory_in, keeps_changed, there_map, directory_map, stored_within, stored_push, new_there}, Trees.{tree_changed, tree_counts}}
 
 pub vacant_of : (o : Option Row) → is_some o ≡ false → o ≡ None
 vacant_of None e = refl
@@ -109,7 +109,7 @@ tree_linked t n d name now is granted condition =
     let theres = λ (m : ℕ). there_map one.objects (change_at n now no_sets) m (keeps_changed n now no_sets one.objects)
     ∙ there_map t.objects (change_at d now (modified now no_sets)) m (keeps_changed d now (modified now no_sets) t.objects) in
     let to : Row = record { directory = d; name = name; object = n; cookie = t.last_cookie + 1 } in
-    tree_put_row both to is_both refl can.cookie (record {
+    tree_counts _ (next_count t.changes) (tree_put_row both to is_both refl can.cookie (record {
       vacant = can.vacant;
       stands = kinds d ∙ can.directory;
       names = theres n ∙ can.there;
@@ -118,7 +118,7 @@ tree_linked t n d name now is granted condition =
       grounded = reached t.rows (λ n. is_directory_at t n) (λ n. is_there t n) is.rows d (condition can.directory);
       short = can.short;
       few = can.few;
-    })
+    }))
 
 pub any_none : (p : Row → Bool) (rows : List Row) → ((r : Row) → In r rows → p r ≡ false) → list_any p rows ≡ false
 any_none p [] gone = refl
@@ -179,7 +179,7 @@ tree_created t d name new sets now is granted condition =
     let to : Row = record { directory = d; name = name; object = t.last_object + 1; cookie = t.last_cookie + 1 } in
     let fresh = λ (r : Row) (there : In r t.rows) (same : r.object ≡ t.last_object + 1).
     (let within = stored_within root (t.last_object + 1) t.objects r.object is.objects (is.rows.names r there) in absurd (omega arith)) in
-    tree_put_row two to is_two refl can.cookie (record {
+    tree_counts _ (next_count t.changes) (tree_put_row two to is_two refl can.cookie (record {
       vacant = can.vacant;
       stands = ap (λ o. option_map_or (λ (s : Stored). is_directory s.object.kind) o false) pushed ∙ kind;
       names = ap is_some (new_there one.objects x root (t.last_object + 1) is_one.objects refl);
@@ -188,4 +188,4 @@ tree_created t d name new sets now is granted condition =
       grounded = reached t.rows (λ n. is_directory_at t n) (λ n. is_there t n) is.rows d (condition can.directory);
       short = can.short;
       few = (let none = no_links t.rows (t.last_object + 1) fresh in omega arith);
-    })
+    }))

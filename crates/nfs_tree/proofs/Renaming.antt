@@ -1,16 +1,20 @@
 -- What a RENAME answers and leaves, by its fault and by whether anything moves.
-use Rattle.std.proofs.Common.{◌≡◌, true, false, Some, None, refl, sym, ◌∙◌, ap, subst}
-use Rattle.std.specs.Prelude.{Result, Ok, Err, if◌then◌else◌}
+use Rattle.std.proofs.Common.{◌≡◌, Bool, true, false, not, Some, None, refl, sym, ◌∙◌, ap, subst}
+use Rattle.std.specs.Prelude.{Result, Ok, Err, ◌&&◌, if◌then◌else◌}
 use Rattle.nfs_xdr.specs.declared.time.Time.{Time}
-use Rattle.nfs_tree.specs.{declared.done.Renamed.Renamed, declared.fault.TreeFault.TreeFault, Files.Files}
-use Rattle.nfs_tree.specs.{Calls.{DoesOrWants, rename_fault, rename_unless, moved, unmoved, rename}, Names.{Move, moves, rename_checks}}
-use Rattle.nfs_tree.proofs.Refusals.{by_fault, fault_of}
+use Rattle.nfs_tree.specs.{declared.done.Renamed.Renamed, declared.fault.TreeFault.TreeFault, declared.fault.TreeFault.TheVariants.{NotEmpty, Exist}, Files.Files}
+use Rattle.nfs_tree.specs.{Calls.{DoesOrWants, rename_fault, rename_unless, moved, unmoved, rename}, Names.{Move, moves, is_unlike, rename_checks}, Profile.is_unix}
+use Rattle.nfs_tree.proofs.Refusals.{is_memory, by_fault, fault_of}
+
+way_fault_told : (b : Bool) → is_memory (if b then NotEmpty else Exist) ≡ false
+way_fault_told true = refl
+way_fault_told false = refl
 
 pub rename_refused : (t : Files) (m : Move) (now : Time) (r : Result Renamed TreeFault) (f : TreeFault)
     → rename_fault t m ≡ Some f → r ≡ Err f → DoesOrWants t (moves t m) (rename t m now) r t
 rename_refused t m now r f e is =
     subst (λ r. DoesOrWants t (moves t m) (rename t m now) r t) (sym is)
-    (by_fault t (moves t m) (rename t m now) f (fault_of (rename_checks t m) f (refl, (refl, (refl, (refl, (refl, (refl, (refl, tt))))))) e)
+    (by_fault t (moves t m) (rename t m now) f (fault_of (rename_checks t m) f (refl, (refl, (refl, (refl, (refl, (way_fault_told (is_unix t.profile && not (is_unlike t m)), (refl, tt))))))) e)
     (ap (λ o. rename_unless t o (if moves t m then moved t m now else unmoved t m)) e))
 
 pub rename_goes : (t new : Files) (m : Move) (now : Time) (r : Result Renamed TreeFault) → rename_fault t m ≡ None

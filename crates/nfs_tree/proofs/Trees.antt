@@ -5,8 +5,8 @@ use Rattle.std.specs.{Prelude.{◌==◌, max, min, filter, option_map, is_some, 
 use Rattle.nfs_xdr.specs.{Tables.In, declared.time.Time.Time}
 use Rattle.nfs_xdr.proofs.{Lists.{in_filter, in_map, find_in, length_filter, any_in}, Tables.{IsRising-map, IsRising-filter}, Checks.all_passed}
 use Rattle.nfs_tree.specs.{declared.row.Row.Row, declared.sets.Sets.Sets, declared.stored.Stored.Stored, Object.{is_directory, no_sets, modified}}
-use Rattle.nfs_tree.specs.{declared.limits.Limits.Limits, Limits.{bounded, is_limits}}
-use Rattle.nfs_tree.specs.Files.{Files, root, stored_in, is_there, is_directory_at, can_change, is_entry, with_links_changed, without_entry}
+use Rattle.nfs_tree.specs.{declared.limits.Limits.Limits, declared.profile.Profile.Profile, Limits.{bounded, is_limits}}
+use Rattle.nfs_tree.specs.Files.{Files, next_count, root, stored_in, is_there, is_directory_at, can_change, is_entry, with_links_changed, without_entry}
 use Rattle.nfs_tree.specs.Files.{entry, has_name, number_named, has_row, has_entries, change_at, with_changed, with_entries_changed}
 use Rattle.nfs_tree.specs.{Names.{forget, remove_checks, without_name}, Calls.{remove_fault, set_checks, set_fault}, TreeInvariants.IsTree}
 use Rattle.nfs_tree.proofs.RowsKept.{rows_same, rows_dropped, no_entries, no_row, only_entry, entry_parts}
@@ -16,11 +16,24 @@ use Rattle.nfs_tree.proofs.Objects.{IsSized, Keeps, is_directory_in, keeps_chang
 pub bounded_is : (l : Limits) → is_limits (bounded l) ≡ true
 bounded_is l = and_from _ _ (le-leb 1 (max l.objects 1) (omega arith)) (le-leb (min l.bytes 1099511627776) 1099511627776 (omega arith))
 
+-- however many changes there were
+pub tree_counts : (t : Files) (changes : ℕ) → IsTree t → IsTree (record t { changes = changes })
+tree_counts t changes is = record {
+  objects = is.objects;
+  cookies = is.cookies;
+  counters = is.counters;
+  few = is.few;
+  sized = is.sized;
+  limits = is.limits;
+  root = is.root;
+  rows = is.rows;
+}
+
 -- the same of parts that are equal to those
-pub tree_of : (t : Files) → IsTree t → (objects : List Stored) (rows : List Row) (n k : ℕ) (limits : Limits)
-    → objects ≡ t.objects → rows ≡ t.rows → n ≡ t.last_object → k ≡ t.last_cookie → limits ≡ t.limits
-    → IsTree (record { objects = objects; rows = rows; last_object = n; last_cookie = k; limits = limits })
-tree_of t is objects rows n k limits eo er en ek el = rw (eo, er, en, ek, el) is
+pub tree_of : (t : Files) → IsTree t → (objects : List Stored) (rows : List Row) (n k : ℕ) (limits : Limits) (profile : Profile) (changes : ℕ)
+    → objects ≡ t.objects → rows ≡ t.rows → n ≡ t.last_object → k ≡ t.last_cookie → limits ≡ t.limits → profile ≡ t.profile
+    → IsTree (record { objects = objects; rows = rows; last_object = n; last_cookie = k; limits = limits; profile = profile; changes = changes })
+tree_of t is objects rows n k limits profile changes eo er en ek el ep = rw (eo, er, en, ek, el, ep) (tree_counts t changes is)
 
 pub tree_mapped : (t : Files) (f : Stored → Stored) → IsTree t → Keeps t.objects f
     → ((s : Stored) → In s t.objects → IsSized t.limits s → IsSized t.limits (f s)) → IsTree (record t { objects = map f t.objects })
@@ -117,6 +130,5 @@ tree_removed t d name now is granted =
     let n = number_named t d name in
     let one = record t { objects = with_entries_changed d now t.objects } in
     let both = record one { objects = with_links_changed n now one.objects } in
-    tree_dropped both d name
-    (tree_changed one n now no_sets (tree_changed t d now (modified now no_sets) is))
-    (remove_granted t d name granted).1
+    tree_counts (record both { rows = without_entry d name t.rows }) (next_count t.changes)
+    (tree_dropped both d name (tree_changed one n now no_sets (tree_changed t d now (modified now no_sets) is)) (remove_granted t d name granted).1)

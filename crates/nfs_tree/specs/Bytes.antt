@@ -2,7 +2,7 @@
 use Rattle.std.specs.Prelude.{ℕ, ◌+◌, ◌==◌, nat_lt, nat_le, Bool, ◌||◌, if◌then◌else◌, List, length, take, drop, map}
 pub use Rattle.nfs_pages.specs.Bytes.{written_byte, written, resized}
 use Rattle.nfs_xdr.specs.declared.time.Time.{Time}
-use Rattle.nfs_tree.specs.{declared.sets.Sets.Sets, declared.stored.Stored.Stored, Object.{changed, modified, no_sets}, Files.{Files, data_at}}
+use Rattle.nfs_tree.specs.{declared.sets.Sets.Sets, declared.stored.Stored.Stored, Object.{changed, modified}, Files.{Files, next_count, data_at, with_changed}}
 
 -- at most so many bytes from a place on
 abbrev pub part : Files → ℕ → ℕ → ℕ → List ℕ
@@ -16,9 +16,12 @@ reaches_end t n offset count = nat_le (length (data_at t n)) (offset + length (p
 abbrev pub with_bytes : Time → Sets → List ℕ → Stored → Stored
 with_bytes now sets bytes s = record s { object = changed now (modified now sets) s.object; bytes = bytes }
 
-abbrev pub with_written : Files → ℕ → ℕ → List ℕ → Time → Files
-with_written t n offset text now =
-    record t { objects = map (λ s. if s.number == n then with_bytes now no_sets (written s.bytes offset text) s else s) t.objects }
+abbrev pub with_written : Files → ℕ → ℕ → List ℕ → Sets → Time → Files
+with_written t n offset text sets now =
+    record t {
+      objects = map (λ s. if s.number == n then with_bytes now sets (written s.bytes offset text) s else s) t.objects;
+      changes = next_count t.changes;
+    }
 
 -- WRITE of no bytes changes nothing.
 abbrev pub has_bytes : List ℕ → Bool
@@ -31,4 +34,11 @@ is_too_long t offset text = nat_lt t.limits.bytes (offset + length text) || nat_
 -- SETATTR of size, with what else is set
 abbrev pub with_resized : Files → ℕ → ℕ → Sets → Time → Files
 with_resized t n size sets now =
-    record t { objects = map (λ s. if s.number == n then with_bytes now sets (resized s.bytes size) s else s) t.objects }
+    record t {
+      objects = map (λ s. if s.number == n then with_bytes now sets (resized s.bytes size) s else s) t.objects;
+      changes = next_count t.changes;
+    }
+
+-- what is set, without a size
+abbrev pub with_sets : Files → ℕ → Sets → Time → Files
+with_sets t n sets now = record t { objects = with_changed n now sets t.objects; changes = next_count t.changes }

@@ -5,11 +5,11 @@ use Rattle.nfs_xdr.specs.{Checks.first_fault, declared.time.Time.Time}
 use Rattle.nfs_tree.specs.{declared.fault.TreeFault.TreeFault, declared.fault.TreeFault.TheVariants.{Memory, NoEnt, IsDir, Inval, Fbig, Counter}}
 use Rattle.nfs_tree.specs.Files.{Files, root, last_count, stored_in, is_directory_at, has_row, raised, object_named, number_named, unraised}
 use Rattle.nfs_tree.specs.Files.{is_there, can_change}
-use Rattle.nfs_tree.specs.{Files.with_changed, declared.stored.Stored.Stored, Object.is_regular, Create.{New, new_file, new_directory, new_link, create_checks, with_new}}
+use Rattle.nfs_tree.specs.{declared.stored.Stored.Stored, Object.is_regular, Create.{New, new_file, new_directory, new_link, create_checks, with_new}}
 use Rattle.nfs_tree.specs.{declared.sets.Sets.Sets, declared.create.New.{New as Code}, declared.done.Created.Created}
 use Rattle.nfs_tree.specs.{Names.{link_checks, with_link, remove_checks, without_name, Move, moves, rename_checks, with_moved}, declared.rename.Place.Place}
 use Rattle.nfs_tree.specs.{declared.done.Change.Change, declared.done.Removed.Removed, declared.done.Renamed.Renamed}
-use Rattle.nfs_tree.specs.Bytes.{with_written, has_bytes, is_too_long, with_resized}
+use Rattle.nfs_tree.specs.Bytes.{with_written, has_bytes, is_too_long, with_resized, with_sets}
 use Rattle.nfs_tree.specs.declared.create.New.TheVariants as code
 
 pub record Did (A : Type 0) : Type 0 where
@@ -98,8 +98,8 @@ write_checks t n offset text =
 abbrev pub write_fault : Files → ℕ → ℕ → List ℕ → Option TreeFault
 write_fault t n offset text = first_fault (write_checks t n offset text)
 
-abbrev pub write : Files → ℕ → ℕ → List ℕ → Time → Did (Unit {0})
-write t n offset text now = does_unless t (write_fault t n offset text) tt (if has_bytes text then with_written t n offset text now else t)
+abbrev pub write : Files → ℕ → ℕ → List ℕ → Sets → Time → Did (Unit {0})
+write t n offset text sets now = does_unless t (write_fault t n offset text) tt (if has_bytes text then with_written t n offset text sets now else t)
 
 -- SETATTR of size, with what else is set
 abbrev pub resize_checks : Files → ℕ → ℕ → List (Bool × TreeFault)
@@ -128,4 +128,4 @@ abbrev pub set_fault : Files → ℕ → Option TreeFault
 set_fault t n = first_fault (set_checks t n)
 
 abbrev pub set : Files → ℕ → Sets → Time → Did (Unit {0})
-set t n sets now = does_unless t (set_fault t n) tt (record t { objects = with_changed n now sets t.objects })
+set t n sets now = does_unless t (set_fault t n) tt (with_sets t n sets now)

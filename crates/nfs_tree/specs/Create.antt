@@ -3,9 +3,9 @@ use Rattle.std.specs.Prelude.{ℕ, ◌+◌, nat_lt, nat_le, Bool, not, ◌&&◌,
 use Rattle.nfs_xdr.specs.declared.time.Time.{Time}
 use Rattle.nfs_tree.specs.{declared.object.FileType.FileType, declared.object.Object.Object, declared.sets.Sets.Sets, declared.fault.TreeFault.TreeFault}
 use Rattle.nfs_tree.specs.{declared.fault.TreeFault.TheVariants.{NoEnt, Exist, NotDir, Inval, Fbig, NoSpc, Counter}, Object.{is_link, no_sets}}
-use Rattle.nfs_tree.specs.Files.{Files, root, last_count, most_text, most_of, is_name, is_there, is_directory_at, has_name, can_change}
+use Rattle.nfs_tree.specs.Files.{Files, next_count, root, last_count, most_text, most_of, is_name, is_there, is_directory_at, has_name, can_change}
 use Rattle.nfs_tree.specs.Files.{with_entries_changed}
-use Rattle.nfs_tree.specs.{declared.limits.Limits.Limits, Limits.bounded}
+use Rattle.nfs_tree.specs.{declared.limits.Limits.Limits, declared.profile.Profile.Profile, Limits.bounded}
 use Rattle.nfs_tree.specs.declared.object.FileType.TheVariants.{Regular, Directory, Link}
 
 -- What is made: its type, the bytes that it begins with, and the verifier of an exclusive create.
@@ -39,13 +39,15 @@ new_object now new sets = record {
 }
 
 -- a tree of nothing but the root
-abbrev pub new_tree : ℕ → Time → Limits → Files
-new_tree mode now limits = record {
+abbrev pub new_tree : ℕ → Time → Limits → Profile → Files
+new_tree mode now limits profile = record {
   objects = record { number = root; object = new_object now new_directory (record no_sets { mode = Some mode }); bytes = [] } ∷ [];
   rows = [];
   last_object = root;
   last_cookie = 2;
   limits = bounded limits;
+  profile = profile;
+  changes = 0;
 }
 
 -- a symbolic link's text that is empty or too long
@@ -80,4 +82,5 @@ with_new t d name new sets now = record t {
   rows = t.rows ++ record { directory = d; name = name; object = t.last_object + 1; cookie = t.last_cookie + 1 } ∷ [];
   last_object = t.last_object + 1;
   last_cookie = t.last_cookie + 1;
+  changes = next_count t.changes;
 }

@@ -3,17 +3,28 @@ use Rattle.std.specs.Prelude.{ℕ, ◌==◌, nat_lt, nat_le, Bool, false, not, �
 use Rattle.std.specs.{Prelude.{unwrap_or, bytes_eq, ◌+◌}, List.list_any, Option.option_map_or}
 use Rattle.nfs_xdr.specs.declared.time.Time.{Time}
 use Rattle.nfs_tree.specs.{declared.object.FileType.FileType, declared.object.FileType.TheVariants.{Regular, Directory, Link}}
-use Rattle.nfs_tree.specs.declared.limits.Limits.{Limits}
+use Rattle.nfs_tree.specs.{declared.limits.Limits.Limits, declared.profile.Profile.Profile}
 use Rattle.nfs_tree.specs.{declared.object.Object.Object, declared.row.Row.Row, declared.sets.Sets.Sets, declared.stored.Stored.Stored}
-use Rattle.nfs_tree.specs.{Object.{is_directory, changed, modified, no_sets}, declared.done.Change.Change}
+use Rattle.nfs_tree.specs.{Object.{is_directory, changed, modified, no_sets}, declared.done.Change.Change, Profile.is_unix}
 
--- Objects in rising order of their numbers, rows in rising order of their cookies, the last number of each kind that was given, and how much there may be.
+-- Objects in rising order of their numbers, rows in rising order of their cookies, the last number of each kind that was given, how much there may be,
+-- by what profile, and how many changes there were, modulo 10^9.
 pub record Files : Type 0 where
   pub objects : List Stored
   pub rows : List Row
   pub last_object : ℕ
   pub last_cookie : ℕ
   pub limits : Limits
+  pub profile : Profile
+  pub changes : ℕ
+
+-- how many changes there were behind one more, modulo 10^9
+abbrev pub next_count : ℕ → ℕ
+next_count n = if nat_lt n 999999999 then n + 1 else 0
+
+-- The time of the next change at a moment: in `unix` its nanoseconds are the change's number, so that within a second too the later of two has the later time.
+abbrev pub stamp : Files → Time → Time
+stamp t now = if is_unix t.profile then record now { nanoseconds = next_count t.changes } else now
 
 -- the number of the root
 abbrev pub root : ℕ

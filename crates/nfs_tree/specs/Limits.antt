@@ -3,8 +3,8 @@ use Rattle.std.specs.Prelude.{nat_le, Bool, ◌&&◌, max, min}
 use Rattle.nfs_tree.specs.declared.limits.Limits.{Limits}
 
 -- where nothing else is set
-abbrev pub profile : Limits
-profile = record { objects = 65536; bytes = 1048576 }
+abbrev pub usual_limits : Limits
+usual_limits = record { objects = 65536; bytes = 1048576 }
 
 -- those that a tree can have
 abbrev pub is_limits : Limits → Bool

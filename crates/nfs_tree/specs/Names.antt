@@ -4,8 +4,8 @@ use Rattle.std.specs.Prelude.{ℕ, zero, suc, ◌+◌, ◌==◌, nat_lt, nat_le,
 use Rattle.nfs_xdr.specs.declared.time.Time.{Time}
 use Rattle.nfs_tree.specs.{declared.row.Row.Row, declared.stored.Stored.Stored, declared.fault.TreeFault.TreeFault}
 use Rattle.nfs_tree.specs.declared.fault.TreeFault.TheVariants.{NoEnt, Exist, NotDir, IsDir, NotEmpty, Inval, Mlink, Counter}
-use Rattle.nfs_tree.specs.Files.{Files, last_count, most_links, is_name, is_there, is_directory_at, has_name, number_named, parent_in, links_in, has_row}
-use Rattle.nfs_tree.specs.Files.{has_entries}
+use Rattle.nfs_tree.specs.Files.{Files, next_count, last_count, most_links, is_name, is_there, is_directory_at, has_name, number_named, parent_in, links_in, has_row}
+use Rattle.nfs_tree.specs.{Files.has_entries, Profile.is_unix}
 use Rattle.nfs_tree.specs.Files.{can_change, with_entries_changed, with_links_changed, without_entry}
 
 -- a row more
@@ -30,6 +30,7 @@ with_link t n d name now = record t {
   objects = with_links_changed n now (with_entries_changed d now t.objects);
   rows = with_row t.rows d name n (t.last_cookie + 1);
   last_cookie = t.last_cookie + 1;
+  changes = next_count t.changes;
 }
 
 -- REMOVE: an entry goes; the object stays until it is forgotten.
@@ -46,6 +47,7 @@ abbrev pub without_name : Files → ℕ → List ℕ → Time → Files
 without_name t d name now = record t {
   objects = with_links_changed (number_named t d name) now (with_entries_changed d now t.objects);
   rows = without_entry d name t.rows;
+  changes = next_count t.changes;
 }
 
 -- an object goes
@@ -90,11 +92,20 @@ is_unlike t m = if is_directory_at t (moved_object t m) then not (is_directory_a
 abbrev pub is_in_the_way : Files → Move → Bool
 is_in_the_way t m = has_name t m.target m.name && (is_unlike t m || has_entries t.rows (replaced_object t m))
 
+-- why: in unix a directory that has entries, where a directory is moved, is told from what is of another kind, as POSIX has it
+abbrev pub way_fault : Files → Move → TreeFault
+way_fault t m = if is_unix t.profile && not (is_unlike t m) then NotEmpty else Exist
+
+-- in unix the moved object changes, as POSIX has it; else 0, which no object has
+abbrev pub touched_object : Files → Move → ℕ
+touched_object t m = if is_unix t.profile then moved_object t m else 0
+
 -- no counter and no `change` that a move raises has its last value
 abbrev pub can_move : Files → Move → Bool
 can_move t m =
     can_change t m.source
-    && (can_change t m.target && ((not (has_name t m.target m.name) || can_change t (replaced_object t m)) && nat_lt t.last_cookie last_count))
+    && (can_change t m.target && ((not (has_name t m.target m.name) || can_change t (replaced_object t m))
+    && ((not (is_unix t.profile) || can_change t (moved_object t m)) && nat_lt t.last_cookie last_count)))
 
 abbrev pub rename_checks : Files → Move → List (Bool × TreeFault)
 rename_checks t m =
@@ -103,7 +114,7 @@ rename_checks t m =
     ∷ (not (is_name m.name), Inval)
     ∷ (not (has_name t m.source m.old), NoEnt)
     ∷ (moves t m && is_below_itself t m, Inval)
-    ∷ (moves t m && is_in_the_way t m, Exist)
+    ∷ (moves t m && is_in_the_way t m, way_fault t m)
     ∷ (moves t m && not (can_move t m), Counter)
     ∷ []
 
@@ -115,10 +126,11 @@ with_both_changed a b now objects = if a == b then with_entries_changed a now ob
 abbrev pub with_moved_row : List Row → Move → (object cookie : ℕ) → List Row
 with_moved_row rows m = with_row (without_entry m.source m.old (without_entry m.target m.name rows)) m.target m.name
 
--- the moved object does not change; one that is replaced loses a row; the new row has a new cookie
+-- an object that is replaced loses a row; the new row has a new cookie
 abbrev pub with_moved : Files → Move → Time → Files
 with_moved t m now = record t {
-  objects = with_both_changed m.source m.target now (with_links_changed (replaced_object t m) now t.objects);
+  objects = with_both_changed m.source m.target now (with_links_changed (replaced_object t m) now (with_links_changed (touched_object t m) now t.objects));
   rows = with_moved_row t.rows m (moved_object t m) (t.last_cookie + 1);
   last_cookie = t.last_cookie + 1;
+  changes = next_count t.changes;
 }

@@ -121,6 +121,6 @@ impl ByCookie {
     pub(crate) fn drop_row(&mut self, cookie: u64)
         ensures { self.new ≡ without_record (λ r. r.cookie) self.old cookie }
     {
-        self.shelf.remove(cookie);
+        let _ = self.shelf.remove(cookie);
     }
 }

@@ -6,7 +6,7 @@ ghost use Rattle.std.specs.Ordering.{nat_cmp};
 ghost use Rattle.std.specs.BTreeMap.{is_at};
 ghost use Rattle.std.specs.Map.{lookup};
 ghost use Rattle.std.specs.Borrow.{LendsIf, sem};
-ghost use Rattle.slab.specs.Slab.{Updates};
+ghost use Rattle.slab.specs.Slab.{Updates, get};
 ghost use Rattle.nfs_xdr.specs.Tables.{IsRising, In, record_at, with_record, without_record};
 
 use crate::key::short_key;
@@ -151,13 +151,15 @@ impl<K: Kept<T>, T> Shelf<K, T> {
         Ok(())
     }
 
-    /// Drops the value of a number.
-    pub(crate) fn remove(&mut self, number: u64)
+    /// Takes out what is kept under a number.
+    pub(crate) fn remove(&mut self, number: u64) -> Option<K>
+        ensures taken { option_map (K.made number) result ≡ record_at K.number self.old.items number }
         ensures items { self.new.items ≡ without_record K.number self.old.items number }
         ensures room { self.new.room ≡ self.old.room }
     {
-        if let Some(key) = self.keys.remove(&number) {
-            drop_at(&mut self.slab, key as usize);
+        match self.keys.remove(&number) {
+            Some(key) => take_at(&mut self.slab, key as usize),
+            None => None,
         }
     }
 }
@@ -172,10 +174,11 @@ fn key_of(keys: &BTreeMap<u64, u32, Global>, number: u64) -> Option<u32>
     }
 }
 
-/// Drops what stands at a key.
-fn drop_at<K: Drop>(slab: &mut Slab<K>, key: usize)
+/// Takes out what stands at a key.
+fn take_at<K: Drop>(slab: &mut Slab<K>, key: usize) -> Option<K>
+    ensures taken { result ≡ get slab.old key }
     ensures updates { Updates slab.old slab.new key None }
     ensures capacity { slab.new.capacity ≡ slab.old.capacity }
 {
-    slab.try_remove(key);
+    slab.try_remove(key)
 }

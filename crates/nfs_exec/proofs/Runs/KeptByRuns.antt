@@ -12,7 +12,7 @@ use Rattle.nfs_lease.specs.Renewals.{has_run_out}
 use Rattle.nfs_opens.specs.TableInvariants.{IsTable}
 use Rattle.nfs_opens.proofs.TableLemmas.{table_new}
 use Rattle.nfs_names.specs.{declared.start.Start.Start, declared.context.Context.Context, declared.node.Node.Node, Checks.current, Context.begins}
-use Rattle.nfs_names.specs.{State.{State, moment}, Ending.staying, Outcome.is_ok}
+use Rattle.nfs_names.specs.{State.{State, moment, time_at}, Ending.staying, Outcome.is_ok}
 use Rattle.nfs_names.proofs.{Untouched.leaves_each, Staying.store_staying, StoreInvariants.store_at_first, Ones.each_of}
 use Rattle.nfs_files.proofs.{Outcomes.for_each, TreeFiles.{IsWhole, tree_ended, tree_new}, TableSteps.{table_item, table_staying_is}, Steady.{Few, few_files}}
 use Rattle.nfs_names.proofs.Sound as of_names
@@ -55,19 +55,19 @@ otherwise_store m x i = refl
 whole_step : (m : Machine) (x : Context) (now : ℕ) (refused : Bool) (i : Item) → Is m → Is (step m x now refused i).outcome.machine
 whole_step m x now refused i is =
     by_step (λ s. Is s.outcome.machine) m x now refused i (λ o e.
-    (let sound = each_of (λ o. of_names.IsSound o.state) _ (of_names.sound_item refused m.store x (moment now) i is.tree is.store) o e in
-    let leaves = leaves_each refused m.store x (moment now) i o e in record {
+    (let sound = each_of (λ o. of_names.IsSound o.state) _ (of_names.sound_item refused m.store x (time_at m.store now) i is.tree is.store) o e in
+    let leaves = leaves_each refused m.store x (time_at m.store now) i o e in record {
       tree = sound.tree;
       store = sound.store;
       table = subst IsTable (sym leaves.opens) is.table;
       few = subst Few (sym leaves.opens) is.few;
     }))
-    (for_each (λ o. Is (on_store m o).outcome.machine) refused m.store x (moment now) i
-    (let sound = of_files.sound_item refused m.store x (moment now) i is.tree is.table is.store in record {
+    (for_each (λ o. Is (on_store m o).outcome.machine) refused m.store x (time_at m.store now) i
+    (let sound = of_files.sound_item refused m.store x (time_at m.store now) i is.tree is.table is.store in record {
       tree = sound.tree;
       store = sound.store;
-      table = table_item refused m.store x (moment now) i is.table;
-      few = few_files refused m.store x (moment now) i is.table is.few;
+      table = table_item refused m.store x (time_at m.store now) i is.table;
+      few = few_files refused m.store x (time_at m.store now) i is.table is.few;
     }))
     (λ none other. subst IsWhole (sym (otherwise_store m x i)) is)
 
@@ -141,7 +141,7 @@ whole_events m (e ∷ more) is = whole_events (stepped m e) more (whole_event m 
 -- nothing but the root, and nothing is open
 pub start_whole : (start : Start) → Is (starts start)
 start_whole start = record {
-  tree = tree_new start.mode (moment 0) start.limits;
+  tree = tree_new start.mode (moment 0) start.limits start.profile;
   store = store_at_first start (moment 0);
   table = table_new start.instance;
   few = omega arith;

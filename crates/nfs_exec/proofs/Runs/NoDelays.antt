@@ -25,7 +25,7 @@ use Rattle.nfs_sessions.specs.Sessions.{Session, SessionTable, session_at, creat
 use Rattle.nfs_sessions.specs.Sessions.{session_fault_status as session_status}
 use Rattle.nfs_sessions.specs.{declared.channel.Wish.Wish, declared.id.SessionId.SessionId, declared.sessions.SessionFault.SessionFault}
 use Rattle.nfs_sessions.specs.declared.sessions.SessionFault.TheVariants as Sessions
-use Rattle.nfs_names.specs.{declared.context.Context.Context, Context.begins, State.{State, moment}}
+use Rattle.nfs_names.specs.{declared.context.Context.Context, Context.begins, State.{State, time_at}}
 use Rattle.nfs_names.specs.{Outcome.{Outcome as OfStore, or_delay as or_delay_there, is_delay, is_ok}, Checks.current, Ending.has_open}
 use Rattle.nfs_names.specs.Operation as names
 use Rattle.nfs_names.proofs.{Faulted.status_of_refusal, Ones.each_of}
@@ -85,10 +85,10 @@ undelayed_if g s x n (Some o) prompt = undelayed g s x n o prompt
 step_prompt : (m : Machine) (x : Context) (now : ℕ) (op : Op) → is_delay (step m x now false (Operation op)).outcome.status ≡ false
 step_prompt m x now op =
     by_step (λ s. is_delay s.outcome.status ≡ false) m x now false (Operation op)
-    (each_of (λ o. is_delay (status_of_result o.result) ≡ false) (names.comes_to false m.store x (moment now) (Operation op))
-    (undelayed_if (names.grows m.store x op) m.store x (arguments op).op (names.one m.store x (moment now) op) (names_prompt m.store x (moment now) op)))
-    (for_each (λ o. is_delay (status_of_result o.result) ≡ false) false m.store x (moment now) (Operation op)
-    (undelayed (files.grows m.store x op) m.store x (arguments op).op (files.one m.store x (moment now) op) (files_prompt m.store x (moment now) op)))
+    (each_of (λ o. is_delay (status_of_result o.result) ≡ false) (names.comes_to false m.store x (time_at m.store now) (Operation op))
+    (undelayed_if (names.grows m.store x op) m.store x (arguments op).op (names.one m.store x (time_at m.store now) op) (names_prompt m.store x (time_at m.store now) op)))
+    (for_each (λ o. is_delay (status_of_result o.result) ≡ false) false m.store x (time_at m.store now) (Operation op)
+    (undelayed (files.grows m.store x op) m.store x (arguments op).op (files.one m.store x (time_at m.store now) op) (files_prompt m.store x (time_at m.store now) op)))
     (λ none other. otherwise_prompt m x op)
 
 room_prompt : (limit sofar now : ℕ) (m : Machine) (x : Context) (op : Op) → is_delay (in_room limit sofar now false m x (Operation op)).outcome.status ≡ false

@@ -25,7 +25,7 @@ use Rattle.nfs_sessions.specs.Sessions.{Session, SessionTable, new_session, is_s
 use Rattle.nfs_sessions.specs.Sessions.{with_session}
 use Rattle.nfs_sessions.specs.Channel.{granted}
 use Rattle.nfs_lease.specs.Renewals.{has_run_out}
-use Rattle.nfs_names.specs.{declared.context.Context.Context, declared.node.Node.Node, Context.begins, Checks.current, State.moment}
+use Rattle.nfs_names.specs.{declared.context.Context.Context, declared.node.Node.Node, Context.begins, Checks.current, State.time_at}
 use Rattle.nfs_names.specs.Outcome.{is_ok}
 use Rattle.nfs_files.proofs.Outcomes.{for_each}
 use Rattle.nfs_exec.specs.Step.{Machine.{Machine, MachineOutcome, or_with_delay, with_refusal, starts}, Behind.{step, otherwise}, Place.place_fault}
@@ -87,7 +87,7 @@ module _ (n : ℕ) (P : Roster → Type 0) (held : IsCarried n P) where
   step_carried : (m : Machine) (x : Context) (now : ℕ) (refused : Bool) (i : Item) → P m.clients → P (step m x now refused i).outcome.machine.clients
   step_carried m x now refused i a =
       by_step (λ s. P s.outcome.machine.clients) m x now refused i (λ o e. a)
-      (for_each (λ o. P m.clients) refused m.store x (moment now) i a) (λ none other. otherwise_carried m x i a)
+      (for_each (λ o. P m.clients) refused m.store x (time_at m.store now) i a) (λ none other. otherwise_carried m x i a)
 
   run_carried : (limit sofar now : ℕ) (choice : Option ℕ) (m : Machine) (x : Context) (items : List Item) → P m.clients
       → P (run limit sofar now choice m x items).machine.clients

@@ -15,9 +15,10 @@ use Rattle.nfs_exec.specs.Runs.Ops.{RanOp, done, ops, ops_in, ops_of, last_statu
 use Rattle.nfs_exec.specs.Step.Sequence as sequence
 use Rattle.nfs_exec.proofs.Step.Terms.{run_in}
 
-followed : (m : Machine) (x : Context) (item : Item) (items : List Item) (s : Step) (rest : Ran) (more : List RanOp) → IsRunOf s.outcome.machine items rest more
-    → (b : Bool) → is_ok s.outcome.status ≡ b → IsRunOf m (item ∷ items) (follow s.outcome rest) (done m x item s ∷ cond b more [])
-followed m x item items s rest more is true ok = rw ok (record {
+followed : (limit sofar : ℕ) (refused : Bool) (m : Machine) (x : Context) (item : Item) (items : List Item) (s : Step) (rest : Ran) (more : List RanOp)
+    → IsRunOf s.outcome.machine items rest more → (b : Bool) → is_ok s.outcome.status ≡ b
+    → IsRunOf m (item ∷ items) (follow s.outcome rest) (done limit sofar refused m x item s ∷ cond b more [])
+followed limit sofar refused m x item items s rest more is true ok = rw ok (record {
   machine = is.machine;
   count = ap suc is.count;
   chained = (refl, is.chained);
@@ -25,7 +26,7 @@ followed m x item items s rest more is true ok = rw ok (record {
   status = is.status ∙ ap (λ b. cond b (last_status more) s.outcome.status) (sym ok);
   results = ap (λ (text : List ℕ). s.outcome.result ++ text) is.results;
 })
-followed m x item items s rest more is false bad = rw bad (record {
+followed limit sofar refused m x item items s rest more is false bad = rw bad (record {
   machine = refl;
   count = refl;
   chained = (refl, tt);
@@ -39,7 +40,7 @@ are_run limit sofar now choice m x [] = record { machine = refl; count = refl; c
 are_run limit sofar now choice m x (item ∷ more) =
     let s = in_room limit sofar now (is_here choice) m x item in
     let next = sofar + length s.outcome.result in
-    followed m x item more s (run limit next now (behind_here choice) s.outcome.machine s.context more)
+    followed limit sofar (is_here choice) m x item more s (run limit next now (behind_here choice) s.outcome.machine s.context more)
     (ops limit next now (behind_here choice) s.outcome.machine s.context more)
     (are_run limit next now (behind_here choice) s.outcome.machine s.context more) (is_ok s.outcome.status) refl
 

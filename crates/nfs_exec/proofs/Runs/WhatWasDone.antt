@@ -9,7 +9,7 @@ use Rattle.nfs_compound.specs.declared.op_num.OpNum.TheVariants as Num
 use Rattle.nfs_compound.specs.{declared.op.Op.Op, declared.op.Item.Item, declared.op.Item.TheVariants.Operation, declared.session_args.Sequence.Sequence}
 use Rattle.nfs_sessions.specs.Id.{id_of}
 use Rattle.nfs_opens.specs.{declared.locking.Wish.Wish, declared.records.LockState.LockState, Table.{Table, lock_at}}
-use Rattle.nfs_names.specs.{declared.context.Context.Context, Context.begins, State.moment, Outcome.is_ok}
+use Rattle.nfs_names.specs.{declared.context.Context.Context, Context.begins, State.time_at, Outcome.is_ok}
 use Rattle.nfs_names.proofs.Untouched.{leaves_each}
 use Rattle.nfs_files.proofs.{Outcomes.for_each, Inside.{Locks, Unlocks, Closes}, Effected.same_client}
 use Rattle.nfs_files.proofs.ToldGrants.{IsTold, IsToldClosed, lock_tells, unlock_tells, close_tells, lock_grants_told, lock_refused, told_held, told_is_ok, told_client}
@@ -29,7 +29,7 @@ told_lock d r op n w item ok locks =
     let a = locks.asked in
     let is : d.item ≡ Operation (Op.Lock a) = item ∙ ap Operation locks.is in
     let told = by_ok (λ text s. IsTold Num.Lock d.before.store d.context a.locktype a.offset a.length text n w) d r (Operation (Op.Lock a)) is ok
-    (λ ok. lock_tells d.before.store d.context (moment r.now) r.refused a n w r.whole.table r.whole.few
+    (λ ok. lock_tells d.before.store d.context (time_at d.before.store r.now) r.refused a n w r.whole.table r.whole.few
     (subst (λ op. Locks d.before.store d.context op n w) locks.is locks) ok) in
     record { asked = a; is = is; wish = told.wish; names = told.names }
 
@@ -39,7 +39,7 @@ told_unlock d r op n w item ok unlocks =
     let a = unlocks.asked in
     let is : d.item ≡ Operation (Op.LockU a) = item ∙ ap Operation unlocks.is in
     let told = by_ok (λ text s. IsTold Num.LockU d.before.store d.context a.locktype a.offset a.length text n w) d r (Operation (Op.LockU a)) is ok
-    (λ ok. unlock_tells d.before.store d.context (moment r.now) r.refused a n w r.whole.table r.whole.few
+    (λ ok. unlock_tells d.before.store d.context (time_at d.before.store r.now) r.refused a n w r.whole.table r.whole.few
     (subst (λ op. Unlocks d.before.store d.context op n w) unlocks.is unlocks) ok) in
     record { asked = a; is = is; wish = told.wish; names = told.names }
 
@@ -48,7 +48,7 @@ told_close d r op n item ok closes =
     let a = closes.asked in
     let is : d.item ≡ Operation (Op.Close a) = item ∙ ap Operation closes.is in
     let told = by_ok (λ text s. IsToldClosed d.context a text n) d r (Operation (Op.Close a)) is ok
-    (λ ok. close_tells d.before.store d.context (moment r.now) r.refused a n (subst (λ op. Closes d.before.store d.context op n) closes.is closes) ok) in
+    (λ ok. close_tells d.before.store d.context (time_at d.before.store r.now) r.refused a n (subst (λ op. Closes d.before.store d.context op n) closes.is closes) ok) in
     record { asked = a; id = told.id; is = is; means = told.meant; opened = told.opened; names = told.names }
 
 -- what a LOCK did that was told
@@ -61,9 +61,9 @@ pub did_lock : (d : RanOp) (r : IsRun d) (n : ℕ) (w : Wish) (l : LocksFor d n 
 did_lock d r n w l =
     by_item (λ status text s. Names Num.Lock text n → DidLock d status s.opens l.asked n w) d r (Operation (Op.Lock l.asked)) l.is
     (λ told. absurd (lock_refused RepTooBig n told)) (λ told. record {
-      locks = lock_grants_told d.before.store d.context (moment r.now) r.refused l.asked n w r.whole.table r.whole.few l.wish told;
-      ok = told_is_ok d.before.store d.context (moment r.now) r.refused l.asked n w r.whole.table r.whole.few l.wish told;
-      client = told_client d.before.store d.context (moment r.now) r.refused l.asked n w r.whole.table r.whole.few l.wish told;
+      locks = lock_grants_told d.before.store d.context (time_at d.before.store r.now) r.refused l.asked n w r.whole.table r.whole.few l.wish told;
+      ok = told_is_ok d.before.store d.context (time_at d.before.store r.now) r.refused l.asked n w r.whole.table r.whole.few l.wish told;
+      client = told_client d.before.store d.context (time_at d.before.store r.now) r.refused l.asked n w r.whole.table r.whole.few l.wish told;
     }) l.names
 
 -- what spares a lock by what was answered spares it from the inside
@@ -88,7 +88,7 @@ told_stands k d r tells =
     let (lock, stands, opened) = mapped_some (lock_at t k.state) k.opened tells.opened in
     let found = find_in (λ (l : LockState). l.number == k.state) t.locks lock stands in
     by_ok (λ text s. inside.Tells k d.before.store d.context (Op.Lock l.asked) s.opens → Stands k s.opens) d r (Operation (Op.Lock l.asked)) l.is did.ok
-    (λ ok tells. told.told_stands k d.before.store d.context (moment r.now) r.refused (Op.Lock l.asked) ok tells) (record {
+    (λ ok tells. told.told_stands k d.before.store d.context (time_at d.before.store r.now) r.refused (Op.Lock l.asked) ok tells) (record {
       wish = tells.wish;
       lock = lock;
       locks = did.locks;
@@ -118,8 +118,8 @@ ops_run limit sofar now choice m x (i ∷ more) is d there =
 
 step_client : (m : Machine) (x : Context) (now : ℕ) (refused : Bool) (i : Item) → Is m → (step m x now refused i).context.client ≡ x.client
 step_client m x now refused i is =
-    by_step (λ s. s.context.client ≡ x.client) m x now refused i (λ o e. (leaves_each refused m.store x (moment now) i o e).client)
-    (for_each (λ o. o.context.client ≡ x.client) refused m.store x (moment now) i (same_client refused m.store x (moment now) i))
+    by_step (λ s. s.context.client ≡ x.client) m x now refused i (λ o e. (leaves_each refused m.store x (time_at m.store now) i o e).client)
+    (for_each (λ o. o.context.client ≡ x.client) refused m.store x (time_at m.store now) i (same_client refused m.store x (time_at m.store now) i))
     (λ none other. by_item i)
   where
     by_item : (i : Item) → (otherwise m x i).context.client ≡ x.client
@@ -181,7 +181,7 @@ told_there d r behind n w l some =
     let now : t.held w.file n w.first ≡ Some w.kind =
     by_item (λ status text s. Names Num.Lock text n → s.opens.held w.file n w.first ≡ Some w.kind) d r (Operation (Op.Lock l.asked)) l.is
     (λ told. absurd (lock_refused RepTooBig n told))
-    (λ told. told_held d.before.store d.context (moment r.now) r.refused l.asked n w r.whole.table r.whole.few l.wish told w.first (omega arith) some) l.names in
+    (λ told. told_held d.before.store d.context (time_at d.before.store r.now) r.refused l.asked n w r.whole.table r.whole.few l.wish told w.first (omega arith) some) l.names in
     let (k, holder) = behind.table.holders w.file n w.first (λ none. let bad : Some w.kind ≡ None = sym now ∙ none in cc) in
     (k, holder.stands, holder.number)
 

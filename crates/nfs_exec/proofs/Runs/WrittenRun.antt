@@ -12,7 +12,7 @@ use Rattle.nfs_results.specs.Results.{spell_result}
 use Rattle.nfs_tree.specs.{declared.object.FileType.FileType, declared.row.Row.Row, declared.stored.Stored.Stored, Object.{is_directory, is_regular}}
 use Rattle.nfs_tree.specs.Files.{root, stored_in, object_at, is_there, has_row}
 use Rattle.nfs_attrs.specs.Handle.{handle_of}
-use Rattle.nfs_names.specs.{declared.context.Context.Context, Context.at_object, PutFh.put_fh, State.{State, moment, is_open, is_used}}
+use Rattle.nfs_names.specs.{declared.context.Context.Context, Context.at_object, PutFh.put_fh, State.{State, time_at, is_open, is_used}}
 use Rattle.nfs_names.specs.Outcome as outcome
 use Rattle.nfs_files.specs.Written.{Byte, Lasts, Writes, Spares, Reads, GivesIt}
 use Rattle.nfs_files.proofs.{TreeFiles.IsWhole, WrittenSpared.{lasts_staying, spared_bytes_last, names_leave_bytes}}
@@ -31,8 +31,8 @@ LastsIn b m = Lasts b m.store.tree
 left_run : (b : Byte) (d : RanOp) → IsRun d → LastsIn b d.before → SparesIt b d → LastsIn b d.behind
 left_run b d r is =
     by_run (λ status text s. Spares b d.before.store d.context d.item text → Lasts b s.tree) d r (λ spares. is)
-    (λ o e spares. names_leave_bytes b r.refused d.before.store d.context (moment r.now) d.item is o e)
-    (λ spares. spared_bytes_last b r.refused d.before.store d.context (moment r.now) d.item is spares) (λ other spares. is)
+    (λ o e spares. names_leave_bytes b r.refused d.before.store d.context (time_at d.before.store r.now) d.item is o e)
+    (λ spares. spared_bytes_last b r.refused d.before.store d.context (time_at d.before.store r.now) d.item is spares) (λ other spares. is)
 
 -- a WRITE that told it leaves it
 pub told_run : (b : Byte) (d : RanOp) → IsRun d → WritesIt b d → LastsIn b d.behind
@@ -41,7 +41,7 @@ told_run b d r writes =
     let same = writes.over.is in
     by_item (λ status text s. Writes b d.context i text → Lasts b s.tree) d r i same
     (λ w. absurd (short Num.Write RepTooBig w.over.count w.over.more w.over.long w.over.answers))
-    (λ w. writes_leave_bytes b r.refused d.before.store d.context (moment r.now) i r.whole.tree w) (subst (λ j. Writes b d.context j d.result) same writes)
+    (λ w. writes_leave_bytes b r.refused d.before.store d.context (time_at d.before.store r.now) i r.whole.tree w) (subst (λ j. Writes b d.context j d.result) same writes)
 
 -- a READ is given it
 read_run : (b : Byte) (d : RanOp) → IsRun d → LastsIn b d.before → (r : Reads b.file b.place d.context d.item d.result) → GivesIt b d.context d.item d.result r
@@ -49,7 +49,7 @@ read_run b d run is r =
     let i = Operation (Op.Read r.asked) in
     by_item (λ status text s. (k : Reads b.file b.place d.context i text) → GivesIt b d.context i text k) d run i r.is
     (λ k. absurd (short Num.Read RepTooBig k.eof k.text k.long k.answers))
-    (λ k. reads_give_bytes b run.refused d.before.store d.context (moment run.now) i is k) (record {
+    (λ k. reads_give_bytes b run.refused d.before.store d.context (time_at d.before.store run.now) i is k) (record {
       asked = r.asked;
       is = refl;
       at = r.at;

@@ -7,7 +7,7 @@ use Rattle.nfs_compound.specs.{declared.op.Item.Item, declared.op.Item.TheVarian
 use Rattle.nfs_results.specs.{Largest.largest, declared.res.Res.Res, Results.{spell_result, status_of_result, head}, Refusals.can_refuse}
 use Rattle.nfs_results.proofs.Lengths.{length_head}
 use Rattle.nfs_tree.specs.{declared.object.Object.Object, Files.object_at}
-use Rattle.nfs_names.specs.{State.{State, moment}, declared.context.Context.Context, declared.node.Node.Node, Checks.{current, node_at, node_as}}
+use Rattle.nfs_names.specs.{State.{State, time_at}, declared.context.Context.Context, declared.node.Node.Node, Checks.{current, node_at, node_as}}
 use Rattle.nfs_names.specs.{Comes.{Comes, MayCome}, Outcome.{Outcome as OfStore, is_delay, is_ok}}
 use Rattle.nfs_names.specs.Operation as names
 use Rattle.nfs_files.specs.Operation as files
@@ -46,24 +46,24 @@ other_stays m x op other = refl
 -- What it comes to, by whose operation it is.
 
 pub step_of_names : (m : Machine) (x : Context) (now : ℕ) (refused : Bool) (i : Item) (o : OfStore)
-    → names.comes_to refused m.store x (moment now) i ≡ Some o → step m x now refused i ≡ on_store m o
+    → names.comes_to refused m.store x (time_at m.store now) i ≡ Some o → step m x now refused i ≡ on_store m o
 step_of_names m x now refused i o e =
     ap (λ v. option_map_or (on_store m) v (option_map_or (on_store m)
-    (files.comes_to refused m.store x (moment now) i) (otherwise m x i))) e
+    (files.comes_to refused m.store x (time_at m.store now) i) (otherwise m x i))) e
 
-pub step_of_none : (m : Machine) (x : Context) (now : ℕ) (refused : Bool) (i : Item) → names.comes_to refused m.store x (moment now) i ≡ None
-    → files.comes_to refused m.store x (moment now) i ≡ None → step m x now refused i ≡ otherwise m x i
+pub step_of_none : (m : Machine) (x : Context) (now : ℕ) (refused : Bool) (i : Item) → names.comes_to refused m.store x (time_at m.store now) i ≡ None
+    → files.comes_to refused m.store x (time_at m.store now) i ≡ None → step m x now refused i ≡ otherwise m x i
 step_of_none m x now refused i none other =
     ap (λ v. option_map_or (on_store m) v (option_map_or (on_store m)
-    (files.comes_to refused m.store x (moment now) i) (otherwise m x i))) none
+    (files.comes_to refused m.store x (time_at m.store now) i) (otherwise m x i))) none
     ∙ ap (λ v. option_map_or (on_store m) v (otherwise m x i)) other
 
 pub step_of_files : (m : Machine) (x : Context) (now : ℕ) (refused : Bool) (i : Item) (o : OfStore)
-    → names.comes_to refused m.store x (moment now) i ≡ None → files.comes_to refused m.store x (moment now) i ≡ Some o
+    → names.comes_to refused m.store x (time_at m.store now) i ≡ None → files.comes_to refused m.store x (time_at m.store now) i ≡ Some o
     → step m x now refused i ≡ on_store m o
 step_of_files m x now refused i o none e =
     ap (λ v. option_map_or (on_store m) v (option_map_or (on_store m)
-    (files.comes_to refused m.store x (moment now) i) (otherwise m x i))) none
+    (files.comes_to refused m.store x (time_at m.store now) i) (otherwise m x i))) none
     ∙ ap (λ v. option_map_or (on_store m) v (otherwise m x i)) e
 
 by_either : (P : Step → Type 0) (v w : Option OfStore) (f g : OfStore → Step) (e : Step) → ForSome v (λ o. P (f o)) → ForSome w (λ o. P (g o))
@@ -73,12 +73,12 @@ by_either P None (Some o) f g e named filed none = filed o refl
 by_either P None None f g e named filed none = none refl refl
 
 pub by_step : (P : Step → Type 0) (m : Machine) (x : Context) (now : ℕ) (refused : Bool) (i : Item)
-    → ForSome (names.comes_to refused m.store x (moment now) i) (λ o. P (on_store m o))
-    → ForSome (files.comes_to refused m.store x (moment now) i) (λ o. P (on_store m o))
-    → (names.comes_to refused m.store x (moment now) i ≡ None → files.comes_to refused m.store x (moment now) i ≡ None → P (otherwise m x i))
+    → ForSome (names.comes_to refused m.store x (time_at m.store now) i) (λ o. P (on_store m o))
+    → ForSome (files.comes_to refused m.store x (time_at m.store now) i) (λ o. P (on_store m o))
+    → (names.comes_to refused m.store x (time_at m.store now) i ≡ None → files.comes_to refused m.store x (time_at m.store now) i ≡ None → P (otherwise m x i))
     → P (step m x now refused i)
 by_step P m x now refused i =
-    by_either P (names.comes_to refused m.store x (moment now) i) (files.comes_to refused m.store x (moment now) i)
+    by_either P (names.comes_to refused m.store x (time_at m.store now) i) (files.comes_to refused m.store x (time_at m.store now) i)
     (on_store m) (on_store m) (otherwise m x i)
 
 -- What holds of a machine whatever its store is, and whether its clients have reclaimed, holds behind the operations.
@@ -147,21 +147,21 @@ other_context m x i = refl
 
 -- of what was tried on names
 pub none_named : (m : Machine) (x : Context) (now : ℕ) (i : Item) (old new : SheetState) (r : Option Status) (store : State) (behind : Context)
-    → MayCome (λ refused. names.comes_to refused m.store x (moment now) i) m.store x old new r store behind → r ≡ None
-    → ((refused : Bool) → names.comes_to refused m.store x (moment now) i ≡ None) × (new ≡ old) × (store ≡ m.store) × (behind ≡ x)
+    → MayCome (λ refused. names.comes_to refused m.store x (time_at m.store now) i) m.store x old new r store behind → r ≡ None
+    → ((refused : Bool) → names.comes_to refused m.store x (time_at m.store now) i ≡ None) × (new ≡ old) × (store ≡ m.store) × (behind ≡ x)
 none_named m x now i old new r store behind came none =
-    subst (λ r. MayCome (λ refused. names.comes_to refused m.store x (moment now) i) m.store x old new r store behind) none came
+    subst (λ r. MayCome (λ refused. names.comes_to refused m.store x (time_at m.store now) i) m.store x old new r store behind) none came
 
 some_and : {A : Type 0} (P : A → Type 0) (v : Option A) → IsSomeAnd v P → (a : A) × (v ≡ Some a) × P a
 some_and P None h = absurd h
 some_and P (Some a) h = (a, refl, h)
 
 pub named_steps : (m : Machine) (x : Context) (now : ℕ) (i : Item) (old new : SheetState) (r : Option Status) (s : Status) (store : State) (behind : Context)
-    → MayCome (λ refused. names.comes_to refused m.store x (moment now) i) m.store x old new r store behind → r ≡ Some s
+    → MayCome (λ refused. names.comes_to refused m.store x (time_at m.store now) i) m.store x old new r store behind → r ≡ Some s
     → Steps (step m x now (is_delay s) i) s (record m { store = store }) behind old new
 named_steps m x now i old new r s store behind came is =
-    let found = some_and (λ o. Comes o old new s store behind) (names.comes_to (is_delay s) m.store x (moment now) i)
-    (subst (λ r. MayCome (λ refused. names.comes_to refused m.store x (moment now) i) m.store x old new r store behind) is came) in
+    let found = some_and (λ o. Comes o old new s store behind) (names.comes_to (is_delay s) m.store x (time_at m.store now) i)
+    (subst (λ r. MayCome (λ refused. names.comes_to refused m.store x (time_at m.store now) i) m.store x old new r store behind) is came) in
     subst (λ t. Steps t s (record m { store = store }) behind old new) (sym (step_of_names m x now (is_delay s) i found.0 found.1)) (record {
       status = found.2.status;
       machine = ap (λ (t : State). record m { store = t }) found.2.state;
@@ -172,23 +172,23 @@ named_steps m x now i old new r s store behind came is =
 -- what was tried on files behind it came as from the same state
 same_start : (m : Machine) (x : Context) (now : ℕ) (i : Item) (old mid new : SheetState) (between store : State) (y behind : Context) (q : Option Status)
     → mid ≡ old → between ≡ m.store → y ≡ x
-    → MayCome (λ refused. files.comes_to refused between y (moment now) i) between y mid new q store behind
-    → MayCome (λ refused. files.comes_to refused m.store x (moment now) i) m.store x old new q store behind
+    → MayCome (λ refused. files.comes_to refused between y (time_at between now) i) between y mid new q store behind
+    → MayCome (λ refused. files.comes_to refused m.store x (time_at m.store now) i) m.store x old new q store behind
 same_start m x now i old mid new between store y behind q sheet state context came =
-    subst (λ t. MayCome (λ refused. files.comes_to refused t x (moment now) i) t x old new q store behind) state
-    (subst (λ z. MayCome (λ refused. files.comes_to refused between z (moment now) i) between z old new q store behind) context
-    (subst (λ sh. MayCome (λ refused. files.comes_to refused between y (moment now) i) between y sh new q store behind) sheet came))
+    subst (λ t. MayCome (λ refused. files.comes_to refused t x (time_at t now) i) t x old new q store behind) state
+    (subst (λ z. MayCome (λ refused. files.comes_to refused between z (time_at between now) i) between z old new q store behind) context
+    (subst (λ sh. MayCome (λ refused. files.comes_to refused between y (time_at between now) i) between y sh new q store behind) sheet came))
 
 -- an operation on open files was run
 pub file_steps : (m : Machine) (x : Context) (now : ℕ) (i : Item) (old mid new : SheetState) (between store : State) (y behind : Context)
     (q : Option Status) (s : Status)
-    → ((refused : Bool) → names.comes_to refused m.store x (moment now) i ≡ None) × (mid ≡ old) × (between ≡ m.store) × (y ≡ x)
-    → MayCome (λ refused. files.comes_to refused between y (moment now) i) between y mid new q store behind → q ≡ Some s
+    → ((refused : Bool) → names.comes_to refused m.store x (time_at m.store now) i ≡ None) × (mid ≡ old) × (between ≡ m.store) × (y ≡ x)
+    → MayCome (λ refused. files.comes_to refused between y (time_at between now) i) between y mid new q store behind → q ≡ Some s
     → Steps (step m x now (is_delay s) i) s (record m { store = store }) behind old new
 file_steps m x now i old mid new between store y behind q s none came is =
-    let found = some_and (λ o. Comes o old new s store behind) (files.comes_to (is_delay s) m.store x (moment now) i)
+    let found = some_and (λ o. Comes o old new s store behind) (files.comes_to (is_delay s) m.store x (time_at m.store now) i)
     (same_start m x now i old mid new between store y behind (Some s) none.1 none.2 none.3
-    (subst (λ q. MayCome (λ refused. files.comes_to refused between y (moment now) i) between y mid new q store behind) is came)) in
+    (subst (λ q. MayCome (λ refused. files.comes_to refused between y (time_at between now) i) between y mid new q store behind) is came)) in
     subst (λ t. Steps t s (record m { store = store }) behind old new) (sym (step_of_files m x now (is_delay s) i found.0 (none.0 (is_delay s)) found.1)) (record {
       status = found.2.status;
       machine = ap (λ (t : State). record m { store = t }) found.2.state;
@@ -199,13 +199,13 @@ file_steps m x now i old mid new between store y behind q s none came is =
 -- an operation that is not on the store was run
 pub other_steps : (m before left : Machine) (x : Context) (now : ℕ) (i : Item) (old mid late new : SheetState) (between store : State) (y behind : Context)
     (q : Option Status) (r : Res) (s : Status)
-    → ((refused : Bool) → names.comes_to refused m.store x (moment now) i ≡ None) × (mid ≡ old) × (between ≡ m.store) × (y ≡ x)
-    → MayCome (λ refused. files.comes_to refused between y (moment now) i) between y mid late q store behind → q ≡ None
+    → ((refused : Bool) → names.comes_to refused m.store x (time_at m.store now) i ≡ None) × (mid ≡ old) × (between ≡ m.store) × (y ≡ x)
+    → MayCome (λ refused. files.comes_to refused between y (time_at between now) i) between y mid late q store behind → q ≡ None
     → before ≡ record m { store = store } → with_result left r ≡ (otherwise before behind i).outcome → s ≡ status_of_result r
     → Puts late new (spell_result r) → Steps (step m x now (is_delay s) i) s left behind old new
 other_steps m before left x now i old mid late new between store y behind q r s none came is start done status put =
     let other = same_start m x now i old mid late between store y behind None none.1 none.2 none.3
-    (subst (λ q. MayCome (λ refused. files.comes_to refused between y (moment now) i) between y mid late q store behind) is came) in
+    (subst (λ q. MayCome (λ refused. files.comes_to refused between y (time_at between now) i) between y mid late q store behind) is came) in
     let same : before ≡ m = start ∙ ap (λ (t : State). record m { store = t }) other.2 in
     let out : with_result left r ≡ (otherwise m x i).outcome =
     done ∙ ap (λ (k : Machine). (otherwise k behind i).outcome) same ∙ ap (λ (z : Context). (otherwise m z i).outcome) other.3 in

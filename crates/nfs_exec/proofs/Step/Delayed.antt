@@ -15,7 +15,7 @@ use Rattle.nfs_clients.specs.CreateSession as clients
 use Rattle.nfs_slots.specs.{declared.slot.Verdict.TheVariants.{Fresh, NoSlot}, Slot.{SlotState, judge, judge_slot}}
 use Rattle.nfs_slots.proofs.TableLemmas.{fresh_number}
 use Rattle.nfs_sessions.specs.{Id.id_of, Sessions.{Session, session_at, create}}
-use Rattle.nfs_names.specs.{declared.context.Context.Context, Context.begins, State.{State, moment}, Outcome.{Outcome as OfStore, is_ok}}
+use Rattle.nfs_names.specs.{declared.context.Context.Context, Context.begins, State.{State, time_at}, Outcome.{Outcome as OfStore, is_ok}}
 use Rattle.nfs_names.specs.Outcome as of_store
 use Rattle.nfs_names.specs.Operation as names
 use Rattle.nfs_names.proofs.Faulted.{status_of_refusal}
@@ -90,7 +90,7 @@ files_delay m x op o = elim (delay_or_not (files.grows m.store x op) m.store x (
 
 step_delays : (m : Machine) (x : Context) (now : ℕ) (i : Item) → Delays i m x (step m x now true i) (step m x now false i)
 step_delays m x now (Fault n status) = inl refl
-step_delays m x now (Operation op) = by_whom (names.one m.store x (moment now) op) (files.one m.store x (moment now) op)
+step_delays m x now (Operation op) = by_whom (names.one m.store x (time_at m.store now) op) (files.one m.store x (time_at m.store now) op)
   where
     stepped_by : (v w : Option OfStore) (b : Bool) → Step
     stepped_by v w b =

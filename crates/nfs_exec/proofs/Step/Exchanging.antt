@@ -3,7 +3,7 @@ use Rattle.std.proofs.{Common.{◌≡◌, ℕ, ◌<◌, Bool, true, false, List,
 use Rattle.std.specs.{Prelude.{◌||◌, nat_lt, is_some, length, option_map}, Option.option_map_or}
 use Rattle.nfs_clients.specs.{declared.exchange_id.Exchanged.Exchanged, declared.exchange_id.ClientFault.ClientFault}
 use Rattle.nfs_clients.specs.declared.exchange_id.ClientFault.TheVariants.{Inval, NoEnt, NotSame, Perm, ClidInUse, ServerFault, Memory}
-use Rattle.nfs_clients.specs.Roster.{ClientRecord, Roster, client_at, confirmed_of, next_id, last_counter, most_records, unconfirmed_of}
+use Rattle.nfs_clients.specs.Roster.{ClientRecord, Roster, client_at, confirmed_of, next_id, last_counter, unconfirmed_of}
 use Rattle.nfs_clients.specs.ExchangeId.{Ask, asks, Case, Refuses, Stays, Adds, has_room, if_room, case_by, case_of, does}
 use Rattle.nfs_clients.specs.{Calls.{exchange_fault, refusal_of, ExchangesOrWants}, ExchangeId.{client_fault_status, answer_standing, answer_added}}
 use Rattle.nfs_xdr.specs.{Checks.judged, Caller.Caller}
@@ -45,7 +45,7 @@ room_of false case e = absurd (no_room case e)
 -- a record is added only where an id is left
 pub adds_below : (t : Roster) (a : Ask) → case_of t a ≡ Adds → counter_of t.last < last_counter
 adds_below t a e =
-    let parts = and_parts (nat_lt (counter_of t.last) last_counter) (is_some (unconfirmed_of t a.owner) || nat_lt (length t.records) most_records)
+    let parts = and_parts (nat_lt (counter_of t.last) last_counter) (is_some (unconfirmed_of t a.owner) || nat_lt (length t.records) t.most)
     (room_of (has_room t a.owner) (case_by a (confirmed_of t a.owner)) e) in
     ltb-true (counter_of t.last) last_counter parts.0
 

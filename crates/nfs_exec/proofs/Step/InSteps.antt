@@ -13,7 +13,7 @@ use Rattle.nfs_clients.specs.declared.exchange_id.ClientFault.{ClientFault}
 use Rattle.nfs_clients.specs.declared.exchange_id.ClientFault.TheVariants.{Inval, NoEnt, NotSame, Perm, ClidInUse}
 use Rattle.nfs_clients.specs.ExchangeId.{Ask, Refuses, Stays, Adds, asks, has_room, if_room, case_by, does, client_fault_status}
 use Rattle.nfs_sessions.specs.{declared.sessions.SessionFault.TheVariants.{TooSmall, NoSpc, ServerFault}, Channel.is_too_small}
-use Rattle.nfs_sessions.specs.Sessions.{create, create_unless, most_sessions, last_counter, outlasts}
+use Rattle.nfs_sessions.specs.Sessions.{create, create_unless, last_counter, outlasts}
 use Rattle.nfs_opens.specs.Steps.{require, ◌>>=◌, ◌>>◌}
 use Rattle.nfs_names.specs.Ending.{has_open}
 use Rattle.nfs_exec.specs.Step.{Machine.{Machine, MachineOutcome, with_result, or_with_delay}, Parts.wish_of}
@@ -105,7 +105,7 @@ module _ (m : Machine) (now : ℕ) (c : CreateSession) where
 
   creates_is : or_kept_refusal m c (judged (first_fault (session_checks m c)) >> Ok (made m now c)) ≡ creates m now c (create m.sessions c.clientid (wish_of m c))
   creates_is = by_checks (is_too_small c.fore_chan_attrs)
-      (nat_le most_sessions (count_by (outlasts (leaving m.clients c.clientid)) m.sessions.sessions)) (m.sessions.last == last_counter)
+      (nat_le m.sessions.most (count_by (outlasts (leaving m.clients c.clientid)) m.sessions.sessions)) (m.sessions.last == last_counter)
 
   kept_is : (refused : Bool) (kept : Option CreateResult) → or_with_refusal m 43 (kept_again m kept) ≡ by_number m now refused c (option_map_or Again kept Misordered)
   kept_is refused None = refl

@@ -3,7 +3,7 @@ use Rattle.std.proofs.Common.{◌≡◌, ℕ, Bool, Option, Some, None, refl, �
 use Rattle.nfs_xdr.specs.declared.time.Time.{Time}
 use Rattle.nfs_compound.specs.declared.op.Item.{Item}
 use Rattle.nfs_opens.specs.{declared.records.OpenState.OpenState, Table.{Table, Asked}, Opening.{own_open, opens_by}}
-use Rattle.nfs_names.specs.{declared.context.Context.Context, State.{State, moment}}
+use Rattle.nfs_names.specs.{declared.context.Context.Context, State.{State, time_at}}
 use Rattle.nfs_names.proofs.Untouched.{leaves_each}
 use Rattle.nfs_files.proofs.{Outcomes.comes_to, Effects.{Effect, Opens, table_behind}, Effected.kept_opens}
 use Rattle.nfs_exec.proofs.{Runs.OneRun.by_run, Runs.OneWalk.IsKept}
@@ -22,7 +22,7 @@ instance_files refused s x now i = kept_opens (λ t. t.instance ≡ s.opens.inst
 pub instance_kept : (instance : ℕ) → IsKept (λ s. s.opens.instance ≡ instance)
 instance_kept instance = record {
   run = λ d r is. by_run (λ status text s. s.opens.instance ≡ instance) d r is
-      (λ o e. ap (λ (t : Table). t.instance) (leaves_each r.refused d.before.store d.context (moment r.now) d.item o e).opens ∙ is)
-      (instance_files r.refused d.before.store d.context (moment r.now) d.item ∙ is) (λ other. is);
+      (λ o e. ap (λ (t : Table). t.instance) (leaves_each r.refused d.before.store d.context (time_at d.before.store r.now) d.item o e).opens ∙ is)
+      (instance_files r.refused d.before.store d.context (time_at d.before.store r.now) d.item ∙ is) (λ other. is);
   end = λ stays s is. is;
 }

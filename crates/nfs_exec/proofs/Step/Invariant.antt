@@ -32,7 +32,7 @@ use Rattle.nfs_exec.proofs.{Step.Exchanging.room_of, Step.Behind.{by_step, follo
 use Rattle.nfs_exec.proofs.Step.{OpensStaying.open_staying, Terms.{is_client, of_one, of_all}}
 use Rattle.nfs_names.specs.{declared.start.Start.Start, declared.context.Context.Context, Context.begins, Ending.has_open, declared.node.Node.Node}
 use Rattle.nfs_names.specs.{Checks.current}
-use Rattle.nfs_names.specs.{Outcome.{Outcome as OfStore}, State.{State, moment}}
+use Rattle.nfs_names.specs.{Outcome.{Outcome as OfStore}, State.{State, time_at}}
 use Rattle.nfs_names.proofs.Untouched.{Leaves, leaves_each}
 use Rattle.nfs_opens.specs.{Table.Table, TableInvariants.IsTable}
 use Rattle.nfs_opens.proofs.TableLemmas.{table_new}
@@ -483,10 +483,10 @@ of_own m client s is known spares = record {
 of_step : (m : Machine) (x : Context) (now : ℕ) (refused : Bool) (i : Item) → IsMachine m → is_confirmed m.clients x.client ≡ true →
     Stands (step m x now refused i)
 of_step m x now refused i is known =
-    by_step Stands m x now refused i (λ o e. by_names o (leaves_each refused m.store x (moment now) i o e))
-    (for_each (λ o. Stands (on_store m o)) refused m.store x (moment now) i
-    (let o = files.comes_to refused m.store x (moment now) i in
-    let own = spares_others refused m.store x (moment now) i is.table in
+    by_step Stands m x now refused i (λ o e. by_names o (leaves_each refused m.store x (time_at m.store now) i o e))
+    (for_each (λ o. Stands (on_store m o)) refused m.store x (time_at m.store now) i
+    (let o = files.comes_to refused m.store x (time_at m.store now) i in
+    let own = spares_others refused m.store x (time_at m.store now) i is.table in
     record { machine = of_own m x.client o.state is known own.opens; client = ap (is_confirmed m.clients) own.client ∙ known }))
     (λ none other. by_item i)
   where

@@ -14,7 +14,7 @@ use Rattle.nfs_lease.proofs.Latest.{latest_lease, latest_renewal, latest_without
 use Rattle.nfs_exec.specs.Step.{Machine.Machine, Expiry.expired, Laws.ExpiryFindsNothing, Parts.{without_any_lease, wish_of, without_any_opens}}
 use Rattle.nfs_exec.specs.{Step.Behind.step, Step.Run.{run, in_room, reserve, is_here, behind_here}, Step.Compound.{first_item, renewed, begun, compound}}
 use Rattle.nfs_exec.specs.Step.Parts.{by_created, leases_behind, ask_of}
-use Rattle.nfs_names.specs.{declared.context.Context.Context, Context.begins, State.{State, moment}, StoreInvariants.IsStore}
+use Rattle.nfs_names.specs.{declared.context.Context.Context, Context.begins, State.{State, time_at}, StoreInvariants.IsStore}
 use Rattle.nfs_names.proofs.Staying.{store_staying}
 use Rattle.nfs_files.proofs.{Outcomes.for_each, Steady.{lease_names, lease_files}}
 use Rattle.nfs_exec.proofs.{Step.Behind.{by_step, follow_kept, run_leases}, Runs.ByEvent.{by_compound, by_alone}, Runs.KeptByRuns.otherwise_store}
@@ -78,8 +78,8 @@ latest_compound m r who size now choice is = compound_held (λ b. IsLatest b now
 -- How long a lease lasts does not change.
 
 step_lease : (m : Machine) (x : Context) (now : ℕ) (refused : Bool) (i : Item) → (step m x now refused i).outcome.machine.store.lease ≡ m.store.lease
-step_lease m x now refused i = by_step (λ s. s.outcome.machine.store.lease ≡ m.store.lease) m x now refused i (lease_names refused m.store x (moment now) i)
-    (for_each (λ o. o.state.lease ≡ m.store.lease) refused m.store x (moment now) i (lease_files refused m.store x (moment now) i))
+step_lease m x now refused i = by_step (λ s. s.outcome.machine.store.lease ≡ m.store.lease) m x now refused i (lease_names refused m.store x (time_at m.store now) i)
+    (for_each (λ o. o.state.lease ≡ m.store.lease) refused m.store x (time_at m.store now) i (lease_files refused m.store x (time_at m.store now) i))
     (λ none other. ap (λ (s : State). s.lease) (otherwise_store m x i))
 
 run_lease : (limit sofar now : ℕ) (choice : Option ℕ) (m : Machine) (x : Context) (items : List Item)

@@ -10,7 +10,7 @@ use Rattle.nfs_names.specs.{declared.context.Context.Context, declared.node.Node
 use Rattle.nfs_lease.specs.Renewals.{Book, has_run_out, without_lease}
 use Rattle.nfs_clients.specs.{Roster.{Roster, client_at, without}, CreateSession.leaving, Marks.{has_reclaimed, with_reclaimed}}
 use Rattle.nfs_opens.specs.Steps.{◌>>◌}
-use Rattle.nfs_sessions.specs.{Id.id_of, Channel.is_too_small, Sessions.{SessionTable, most_sessions, last_counter, outlasts}}
+use Rattle.nfs_sessions.specs.{Id.id_of, Channel.is_too_small, Sessions.{SessionTable, last_counter, outlasts}}
 use Rattle.nfs_exec.specs.{Step.Machine.{Machine, MachineOutcome, with_result, with_refusal, or_refused}, Step.Run.{Ran, run}, Step.Compound.begun}
 use Rattle.nfs_exec.specs.{Step.Sequence.{Sequenced, Refuses}, Step.CreateSession.kept_refusal}
 
@@ -41,7 +41,7 @@ or_refuses v = or_refused Refuses v
 abbrev pub session_checks : Machine → CreateSession → List (Bool × Status)
 session_checks m c =
     (is_too_small c.fore_chan_attrs, TooSmall)
-    ∷ (nat_le most_sessions (count_by (outlasts (leaving m.clients c.clientid)) m.sessions.sessions), NoSpc)
+    ∷ (nat_le m.sessions.most (count_by (outlasts (leaving m.clients c.clientid)) m.sessions.sessions), NoSpc)
     ∷ (m.sessions.last == last_counter, ServerFault)
     ∷ []
 

@@ -1,5 +1,5 @@
 -- The operations that a compound runs behind its SEQUENCE, one by one (RFC 8881 section 2.3). That they are those of `run` is a law (OpsAreRun).
-use Rattle.std.specs.Prelude.{◌≡◌, ℕ, suc, ◌+◌, ◌==◌, true, false, List, [], ◌∷◌, ◌++◌, length, flat_map, Option, Some, if◌then◌else◌}
+use Rattle.std.specs.Prelude.{◌≡◌, ℕ, suc, ◌+◌, ◌==◌, Bool, true, false, List, [], ◌∷◌, ◌++◌, length, flat_map, Option, Some, if◌then◌else◌}
 use Rattle.nfs_xdr.specs.{declared.status.Status.Status, declared.status.Status.TheVariants.Nfs4Ok, Caller.Caller}
 use Rattle.nfs_compound.specs.{declared.channel_attrs.ChannelAttrs.ChannelAttrs, declared.op.Item.Item, declared.op.Item.TheVariants.Operation, Request.Request, declared.session_args.Sequence.Sequence}
 use Rattle.nfs_compound.specs.declared.op.Op.TheVariants as Op
@@ -11,8 +11,12 @@ use Rattle.nfs_exec.specs.{Step.Machine.Machine, Step.Sequence.{Sequenced, Runs,
 use Rattle.nfs_exec.specs.{Step.Run.{Ran, run, in_room, is_here, behind_here}, Step.Compound.{begun, renewed, compound}}
 use Rattle.nfs_exec.specs.Step.Laws.{MachineEvent, Expires, Asks, ran}
 
--- an operation that was run: the machine and the context before it, its status and the bytes of its result, and the machine behind it
+-- an operation that was run: how many bytes the reply may have, how many it has so far, and whether memory was refused to it; the machine and the context before it, its
+-- status and the bytes of its result, and the machine behind it
 pub record RanOp : Type 0 where
+  pub limit : ℕ
+  pub sofar : ℕ
+  pub refused : Bool
   pub before : Machine
   pub context : Context
   pub item : Item
@@ -20,8 +24,11 @@ pub record RanOp : Type 0 where
   pub result : List ℕ
   pub behind : Machine
 
-abbrev pub done : Machine → Context → Item → Step → RanOp
-done m x item s = record {
+abbrev pub done : (limit sofar : ℕ) → (refused : Bool) → Machine → Context → Item → Step → RanOp
+done limit sofar refused m x item s = record {
+  limit = limit;
+  sofar = sofar;
+  refused = refused;
   before = m;
   context = x;
   item = item;
@@ -35,7 +42,7 @@ abbrev pub ops : (limit sofar now : ℕ) → Option ℕ → Machine → Context 
 ops limit sofar now choice m x [] = []
 ops limit sofar now choice m x (item ∷ more) =
     let s = in_room limit sofar now (is_here choice) m x item in
-    done m x item s
+    done limit sofar (is_here choice) m x item s
     ∷ (if is_ok s.outcome.status
     then ops limit (sofar + length s.outcome.result) now (behind_here choice) s.outcome.machine s.context more else [])
 

@@ -3,7 +3,7 @@ use Rattle.std.specs.{Prelude.{ℕ, Bool}, Option.option_map_or}
 use Rattle.nfs_xdr.specs.declared.status.Status.{Status}
 use Rattle.nfs_compound.specs.{Request.item_number, declared.op.Item.Item, declared.op.Item.TheVariants.Operation}
 use Rattle.nfs_compound.specs.declared.op.Op.TheVariants as Op
-use Rattle.nfs_names.specs.{declared.context.Context.Context, State.moment, Outcome.{Outcome as OfStore}}
+use Rattle.nfs_names.specs.{declared.context.Context.Context, State.time_at, Outcome.{Outcome as OfStore}}
 use Rattle.nfs_names.specs.Operation as names
 use Rattle.nfs_files.specs.Operation as files
 use Rattle.nfs_exec.specs.{Step.Machine.{Machine, MachineOutcome, with_result, with_refusal}, Step.Place.status_behind, Step.ReclaimComplete.reclaim_complete}
@@ -29,5 +29,5 @@ otherwise m x item = refused_step m x item (status_behind item)
 -- files, or one that is not on the store.
 abbrev pub step : Machine → Context → (now : ℕ) → (refused : Bool) → Item → Step
 step m x now refused item =
-    option_map_or (on_store m) (names.comes_to refused m.store x (moment now) item)
-    (option_map_or (on_store m) (files.comes_to refused m.store x (moment now) item) (otherwise m x item))
+    option_map_or (on_store m) (names.comes_to refused m.store x (time_at m.store now) item)
+    (option_map_or (on_store m) (files.comes_to refused m.store x (time_at m.store now) item) (otherwise m x item))

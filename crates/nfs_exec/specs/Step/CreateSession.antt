@@ -12,7 +12,7 @@ use Rattle.nfs_results.specs.declared.res.Res.TheVariants as Res
 use Rattle.nfs_clients.specs.{declared.created.CreateResult.CreateResult, declared.created.CreateResult.TheVariants.{Done, Refused}}
 use Rattle.nfs_clients.specs.{Roster.{ClientRecord, client_at, with_changed}, CreateSession.{leaving, with_confirmed}}
 use Rattle.nfs_sessions.specs.{declared.id.SessionId.SessionId, Channel.{granted, is_too_small}, Id.id_bytes}
-use Rattle.nfs_sessions.specs.Sessions.{most_sessions, last_counter, outlasts, with_session, without_client}
+use Rattle.nfs_sessions.specs.Sessions.{last_counter, outlasts, with_session, without_client}
 use Rattle.nfs_opens.specs.Steps.{require, in_order, ◌>>=◌, ◌>>◌}
 use Rattle.nfs_lease.specs.Renewals.{with_renewal, without_lease}
 use Rattle.nfs_names.specs.Ending.{staying}
@@ -79,7 +79,7 @@ create_session m who now refused c = or_refused (with_refusal m (op_number Num.C
     require (client.uid == who.uid) ClidInUse
     Ok (or_with_delay refused m (op_number Num.CreateSession) (or_refused (kept_refusal m c) (do
       in_order ((is_too_small c.fore_chan_attrs, TooSmall)
-          ∷ (nat_le most_sessions (count_by (outlasts (leaving m.clients c.clientid)) m.sessions.sessions), NoSpc)
+          ∷ (nat_le m.sessions.most (count_by (outlasts (leaving m.clients c.clientid)) m.sessions.sessions), NoSpc)
           ∷ (m.sessions.last == last_counter, ServerFault)
           ∷ [])
       Ok (made m now c)))))

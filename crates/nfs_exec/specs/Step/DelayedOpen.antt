@@ -6,8 +6,8 @@ use Rattle.nfs_xdr.specs.Spelling.{number}
 use Rattle.nfs_compound.specs.{declared.channel_attrs.ChannelAttrs.ChannelAttrs, declared.op.Op.Op, declared.op.Item.TheVariants.Operation}
 use Rattle.nfs_compound.specs.{declared.open_args.OpenHow.TheVariants.Create, declared.open_args.CreateHow.TheVariants.Exclusive}
 use Rattle.nfs_compound.specs.{declared.open_args.OpenClaim.TheVariants.Null, Request.Request}
-use Rattle.nfs_tree.specs.Limits.{profile}
-use Rattle.nfs_names.specs.ServerOwner.{usual_owner}
+use Rattle.nfs_tree.specs.{Limits.usual_limits, declared.profile.Profile.TheVariants.Exact}
+use Rattle.nfs_names.specs.{Crowd.usual_crowd, ServerOwner.usual_owner}
 use Rattle.nfs_exec.specs.{Step.Machine.{Machine, starts}, Step.Compound.{Answered, compound}}
 
 abbrev pub words : List ℕ → List ℕ
@@ -62,7 +62,7 @@ opens n = request n (Op.Sequence (record { sessionid = words (7 ∷ 1 ∷ 0 ∷ 
     ∷ [])
 
 abbrev pub start : Machine
-start = (asked (asked (starts (record { mode = 511; instance = 7; lease = 90; limits = profile; owner = usual_owner })) 100 None (request 3 (exchanges ∷ []))).machine 101 None (request 4 (begins_session ∷ []))).machine
+start = (asked (asked (starts (record { mode = 511; instance = 7; lease = 90; limits = usual_limits; profile = Exact; crowd = usual_crowd; owner = usual_owner })) 100 None (request 3 (exchanges ∷ []))).machine 101 None (request 4 (begins_session ∷ []))).machine
 
 abbrev pub first : Answered
 first = asked start 102 (Some 2) (opens 1)

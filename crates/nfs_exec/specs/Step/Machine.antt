@@ -20,8 +20,8 @@ pub record Machine : Type 0 where
 -- the machine of a new server, whose leases last so many seconds, and whose root has a mode and the first moment as its times
 abbrev pub starts : (start : Start) → Machine
 starts start = record {
-  clients = no_clients start.instance;
-  sessions = no_sessions;
+  clients = no_clients start.instance start.crowd.clients;
+  sessions = no_sessions start.crowd.sessions;
   leases = no_leases;
   store = new_store start (moment 0);
   owner = start.owner;

@@ -1,27 +1,26 @@
 -- SETATTR: what it is refused with has its reason, and what it set was the caller's to set. And whose a new object is.
-use Rattle.std.proofs.Common.{◌≡◌, ◌⊎◌, ℕ, Bool, true, false, cond, not, [], ◌∷◌, Option, Some, None, refl, sym, ◌∙◌, ap, subst, inl, inr}
-use Rattle.std.proofs.lemmas.{Bool.{and_parts, false≢true, not-true, eq-eqb, eqb-true, cases_Bool}}
+use Rattle.std.proofs.Common.{◌≡◌, ◌⊎◌, ◌<◌, ℕ, Bool, true, false, cond, not, [], ◌∷◌, Option, Some, None, refl, sym, ◌∙◌, ap, subst, inl, inr}
+use Rattle.std.proofs.lemmas.{Bool.{and_parts, ltb-true, false≢true, not-true, eq-eqb, eqb-true, cases_Bool}}
 use Rattle.std.specs.{Prelude.{◌==◌, ◌||◌, ◌&&◌, nat_lt, is_some, Result, Ok}, Option.option_map_or}
 use Rattle.nfs_xdr.specs.{Caller.Caller, Checks.first_fault, declared.time.Time.Time, declared.status.Status.Status}
 use Rattle.nfs_xdr.specs.declared.status.Status.TheVariants as S
 use Rattle.nfs_xdr.proofs.Checks.{all_passed}
-use Rattle.nfs_compound.specs.{declared.attributes.Attributes.Attributes, declared.file_args.SetAttr.SetAttr, declared.op.Item.Item, declared.op.Item.TheVariants.Operation}
+use Rattle.nfs_compound.specs.{declared.file_args.SetAttr.SetAttr, declared.op.Item.Item, declared.op.Item.TheVariants.Operation}
 use Rattle.nfs_compound.specs.declared.op.Op.TheVariants as Op
 use Rattle.nfs_compound.specs.declared.op_num.OpNum.TheVariants as Num
 use Rattle.nfs_tree.specs.Files.{can_change}
-use Rattle.nfs_attrs.specs.{declared.set_time.SetTime.SetTime, declared.set_time.SetTime.TheVariants.{Now, Given}, declared.wanted.Wanted.Wanted, Mask.mask_of, Permissions.{in_group, may, write as to_write}}
+use Rattle.nfs_attrs.specs.{declared.set_time.SetTime.SetTime, declared.set_time.SetTime.TheVariants.{Now, Given}, declared.wanted.Wanted.Wanted, Permissions.{in_group, may, write as to_write}}
 use Rattle.nfs_attrs.specs.Setting.{owns, takes_owner, takes_group, is_given, is_now, set_checks, make_checks}
-use Rattle.nfs_attrs.proofs.Answered.{by_read}
 use Rattle.nfs_opens.specs.{declared.judging.Sort.TheVariants.Either, declared.stateid.CurrentSeqid.TheVariants.Any}
 use Rattle.nfs_names.specs.{declared.context.Context.Context, declared.node.Node.Node, State.State, Outcome.Outcome, Checks.{current, permits}, Create.attributes_in}
 use Rattle.nfs_files.specs.{Bytes.{file_checks, writing, may_use}, SetAttr.{may_resize, gives_some, set_attr}}
 use Rattle.nfs_files.proofs.{TreeFiles.IsWhole, WrittenOps.current_number}
 use Rattle.nfs_promises.specs.Permission.Permitted.{Rights, Writes, IsIn, Grants, rights_of, rights_at}
 use Rattle.nfs_promises.specs.Answers.Asked.{StateGiven, sets_size, size_in, Owns, MaySet, own, Sets, ToSet, Touches, Access, Modify, ToTouch, ToSize}
-use Rattle.nfs_promises.specs.Answers.Reasons.{IsSet, Reason}
+use Rattle.nfs_promises.specs.Answers.Reasons.{IsSet, BySize, Reason}
 use Rattle.nfs_promises.proofs.Answers.Blaming.{Blames, AllBlame, then_blames, then_checks, ends_then, ends_checks, answers_blame, passed_all}
-use Rattle.nfs_promises.proofs.Answers.{Placed.{Answers, refused_so, done_so, found_now, current_blames, denied_by, rights_is, one_or}, StateReasons.stands_for, FileReasons.{file_all, may_use_blames}}
-use Rattle.nfs_promises.proofs.Permission.Granting.{is_in, in_is, writes, may_write, rights_here, current_at}
+use Rattle.nfs_promises.proofs.Answers.{Placed.{Answers, refused_so, done_so, found_now, current_blames, denied_by, rights_is, one_or}, InvalidReasons.{given_blames, spent_there}, StateReasons.stands_for, FileReasons.{file_all, may_use_blames}}
+use Rattle.nfs_promises.proofs.Permission.Granting.{is_in, in_is, writes, may_write, may_write_bytes, rights_here, current_at}
 
 not_or : (a b : Bool) → not (a || b) ≡ true → (a ≡ false) × (b ≡ false)
 not_or false false e = (refl, refl)
@@ -133,17 +132,17 @@ module _ (who : Caller) (r : Rights) (w : Wanted) where
         ]
       ]
 
--- attributes that cannot be read
-pub attributes_blame : (R : Status → Type 0) → R S.AttrNotSupp → R S.Inval → R S.BadXdr → R S.BadOwner → (a : Attributes) → Blames R (attributes_in a)
-unfolding attributes_in
-attributes_blame R unknown invalid cut nobody a = by_read (Blames R) unknown invalid cut nobody (λ w. tt) (mask_of a.attrmask) a.attr_vals
-
 -- a new object's owner and group
 pub make_blames : (s : State) (x : Context) (i : Item) (w : Wanted) → Sets s x i (own x.who) w → AllBlame (Reason s x i) (make_checks w x.who)
 make_blames s x i w sets = (
   λ takes. record { rights = own x.who; wanted = w; sets = sets; forbids = owner_forbidden x.who (own x.who) w takes },
   λ u. (λ takes. record { rights = own x.who; wanted = w; sets = sets; forbids = group_forbidden x.who (own x.who) w takes }, λ u. tt),
 )
+
+-- a size beyond the limit
+pub too_long : {X : Type 0} (limit : ℕ) (o : Option ℕ) → option_map_or (nat_lt limit) o false ≡ true → ((size : ℕ) → o ≡ Some size → limit < size → X) → X
+too_long limit None long is = absurd (false≢true long)
+too_long limit (Some size) long is = is size refl (ltb-true limit size long)
 
 -- SETATTR
 
@@ -233,17 +232,22 @@ module _ (s : State) (whole : IsWhole s) (x : Context) (a : SetAttr) where
     size_blames None is = tt
     size_blames (Some size) is =
         let on : sets_size a ≡ true = ap (λ v. is_some (size_in v)) gives ∙ ap is_some is in
-        let k : StateGiven = record { given = a.stateid; sort = Either; form = Any } in
+        let k : StateGiven = record { given = a.stateid; sort = Either; form = Any; here = true } in
         then_checks B (file_checks d) _ (file_all s whole x i refl on d e) (λ u.
-        then_blames B (may_use s x writing a.stateid d) _ (may_use_blames s whole x i k (ap (λ b. cond b (Some k) None) on) refl refl refl refl d e writing Writes (may_write x d) (λ id means some.
+        then_blames B (may_use s x writing a.stateid d) _ (may_use_blames s whole x i k (ap (λ b. cond b (Some k) None) on) refl refl refl Writes refl d e (may_write_bytes x d s.tree) (λ id means some.
         ToSize d.number a (record { state = k; is = ap (λ b. cond b (Some k) None) on; id = id; means = stands_for x k id means; special = some; at = current_number s x d e })))
         (λ n e. tt))
 
   pub set_attr_blames : (now : Time) → Answers s x i (set_attr s x now a)
   unfolding set_attr
   set_attr_blames now = answers_blame B Y s x Num.SetAttr _ (refused_so s x i Num.SetAttr) (ends_then B Y (current s x) _ (current_blames s whole x i refl) (λ d e.
-      ends_then B Y (attributes_in a.obj_attributes) _ (attributes_blame B refl refl refl refl a.obj_attributes) (λ w gives.
+      ends_then B Y (attributes_in a.obj_attributes) _ (given_blames s x i a.obj_attributes refl) (λ w gives.
       ends_checks B Y (set_checks d.object w x.who) _ (set_all d e w gives) (λ set.
       ends_then B Y (may_resize s x a.stateid d w.size) _ (size_blames d e w gives w.size refl) (λ u e2.
-      ends_checks B Y ((option_map_or (nat_lt s.tree.limits.bytes) w.size false, S.FBig) ∷ (gives_some w && not (can_change s.tree d.number), S.ServerFault) ∷ []) _
-      (λ v. refl, λ u. (λ v. refl, λ u. tt)) (λ u. done_so s x i (was_set d e w gives (passed_all (set_checks d.object w x.who) set))))))))
+      ends_checks B Y ((option_map_or (nat_lt s.tree.limits.bytes) w.size false, S.FBig) ∷ (gives_some w && not (can_change s.tree d.number), S.ServerFault) ∷ []) _ (
+        λ long. too_long s.tree.limits.bytes w.size long (λ size is less. BySize a size refl (ap size_in gives ∙ is) less),
+        λ u. (
+          λ spent. spent_there s d (found_now s x d e).1 (not-true _ (and_parts (gives_some w) (not (can_change s.tree d.number)) spent).1),
+          λ u. tt,
+        ),
+      ) (λ u. done_so s x i (was_set d e w gives (passed_all (set_checks d.object w x.who) set))))))))

@@ -4,6 +4,7 @@ use Rattle.std.specs.Prelude.{Result, Ok, Err, ok_or}
 use Rattle.nfs_xdr.specs.{Checks.{first_fault, judged}, declared.status.Status.Status}
 use Rattle.nfs_compound.specs.{declared.op_num.OpNum.OpNum}
 use Rattle.nfs_opens.specs.Steps.{◌>>=◌, ◌>>◌, in_order, require}
+use Rattle.nfs_exec.specs.Step.Machine.{or_refused}
 use Rattle.nfs_names.specs.{declared.context.Context.Context, Outcome.{Outcome, refuses, or_refusal}, State.State}
 
 module _ (R : Status → Type 0) where
@@ -49,21 +50,35 @@ module _ (R : Status → Type 0) where
   then_checks checks next all each = then_blames (in_order checks) (λ u. next) (checks_blame checks all) (λ u e. each e)
 
 -- How an operation ends: it is refused, or comes to an outcome of which this is so.
-module _ (R : Status → Type 0) (Y : Outcome → Type 0) where
-  abbrev pub Ends : Result Outcome Status → Type 0
-  Ends (Err f) = R f
-  Ends (Ok o) = Y o
 
-  pub ends_then : {A : Type 0} (v : Result A Status) (next : A → Result Outcome Status) → Blames R v → ((a : A) → v ≡ Ok a → Ends (next a)) → Ends (v >>= next)
-  ends_then (Err f) next is each = is
-  ends_then (Ok a) next is each = each a refl
+abbrev pub Ends : {O : Type 0} → (Status → Type 0) → (O → Type 0) → Result O Status → Type 0
+Ends R Y (Err f) = R f
+Ends R Y (Ok o) = Y o
 
-  pub ends_checks : (checks : List (Bool × Status)) (next : Result Outcome Status) → AllBlame R checks → (in_order checks ≡ Ok tt → Ends next) → Ends (in_order checks >> next)
-  ends_checks checks next all each = ends_then (in_order checks) (λ u. next) (checks_blame R checks all) (λ u e. each e)
+pub ends_then : {O A : Type 0} (R : Status → Type 0) (Y : O → Type 0) (v : Result A Status) (next : A → Result O Status) → Blames R v
+    → ((a : A) → v ≡ Ok a → Ends R Y (next a)) → Ends R Y (v >>= next)
+ends_then R Y (Err f) next is each = is
+ends_then R Y (Ok a) next is each = each a refl
 
-  pub answers_blame : (s : State) (x : Context) (op : OpNum) (v : Result Outcome Status) → ((f : Status) → R f → Y (refuses s x op f)) → Ends v → Y (or_refusal s x op v)
-  answers_blame s x op (Err f) refused ends = refused f ends
-  answers_blame s x op (Ok o) refused ends = ends
+-- the same of a step of which something is so itself
+pub ends_with : {O A : Type 0} (R : Status → Type 0) (X : A → Type 0) (Y : O → Type 0) (v : Result A Status) (next : A → Result O Status) → Ends R X v
+    → ((a : A) → X a → Ends R Y (next a)) → Ends R Y (v >>= next)
+ends_with R X Y (Err f) next is each = is
+ends_with R X Y (Ok a) next is each = each a is
+
+pub ends_checks : {O : Type 0} (R : Status → Type 0) (Y : O → Type 0) (checks : List (Bool × Status)) (next : Result O Status) → AllBlame R checks
+    → (in_order checks ≡ Ok tt → Ends R Y next) → Ends R Y (in_order checks >> next)
+ends_checks R Y checks next all each = ends_then R Y (in_order checks) (λ u. next) (checks_blame R checks all) (λ u e. each e)
+
+pub ends_so : {O : Type 0} (R : Status → Type 0) (Y : O → Type 0) (refuse : Status → O) (v : Result O Status) → ((f : Status) → R f → Y (refuse f)) → Ends R Y v
+    → Y (or_refused refuse v)
+ends_so R Y refuse (Err f) refused ends = refused f ends
+ends_so R Y refuse (Ok o) refused ends = ends
+
+pub answers_blame : (R : Status → Type 0) (Y : Outcome → Type 0) (s : State) (x : Context) (op : OpNum) (v : Result Outcome Status) → ((f : Status) → R f → Y (refuses s x op f))
+    → Ends R Y v → Y (or_refusal s x op v)
+answers_blame R Y s x op (Err f) refused ends = refused f ends
+answers_blame R Y s x op (Ok o) refused ends = ends
 
 -- where checks pass none of their tests holds
 pub passed_all : (checks : List (Bool × Status)) → in_order checks ≡ Ok tt → first_fault checks ≡ None

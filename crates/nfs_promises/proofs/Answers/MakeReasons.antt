@@ -1,6 +1,6 @@
 -- CREATE and LINK: what they are refused with has its reason.
-use Rattle.std.proofs.Common.{◌≡◌, ◌<◌, ℕ, true, not, List, [], ◌∷◌, Some, refl, sym, ◌∙◌, inl, inr}
-use Rattle.std.proofs.lemmas.Bool.{false≢true, not-true, eq-eqb, ltb-true}
+use Rattle.std.proofs.Common.{◌≡◌, ◌<◌, ◌≤◌, ℕ, true, not, List, [], ◌∷◌, Some, refl, sym, ◌∙◌, ap, subst, inl, inr}
+use Rattle.std.proofs.lemmas.Bool.{false≢true, not-false, not-true, eq-eqb, leb-true, ltb-true}
 use Rattle.std.specs.{Prelude.{◌==◌, nat_lt, length, is_some, Ok}}
 use Rattle.nfs_xdr.specs.{declared.time.Time.Time, declared.status.Status.Status}
 use Rattle.nfs_xdr.specs.declared.status.Status.TheVariants as S
@@ -10,7 +10,7 @@ use Rattle.nfs_compound.specs.declared.name_args.{CreateType.CreateType, CreateT
 use Rattle.nfs_compound.specs.declared.name_args.Create as args
 use Rattle.nfs_compound.specs.declared.op.Op.TheVariants as Op
 use Rattle.nfs_compound.specs.declared.op_num.OpNum.TheVariants as Num
-use Rattle.nfs_tree.specs.{declared.row.Row.Row, Object.is_directory, Files.{has_name, most_text, number_named}}
+use Rattle.nfs_tree.specs.{declared.row.Row.Row, Object.is_directory, Files.{has_name, links_in, most_links, most_text, number_named}}
 use Rattle.nfs_attrs.specs.{Permissions.change_entries, Setting.make_checks}
 use Rattle.nfs_opens.specs.Steps.{require}
 use Rattle.nfs_names.specs.{declared.context.Context.Context, declared.node.Node.Node, State.State, Outcome.Outcome}
@@ -18,11 +18,12 @@ use Rattle.nfs_names.specs.{Checks.{current, both, no_directory, no_access, perm
 use Rattle.nfs_names.specs.Link.{last_checks, link}
 use Rattle.nfs_files.proofs.{TreeFiles.IsWhole, WrittenOps.current_number}
 use Rattle.nfs_promises.specs.Permission.Permitted.{Writes, Executes}
-use Rattle.nfs_promises.specs.Answers.Asked.{ByName, Linked, Kept, ToCreate, ToAdd, made}
+use Rattle.nfs_promises.specs.Answers.Asked.{ByName, Linked, Kept, ToCreate, ToAdd, made, size_in}
+use Rattle.nfs_promises.specs.Answers.Invalid.{NoText, Sized}
 use Rattle.nfs_promises.specs.Answers.Reasons.{IsThere, IsDenied, is_type, Reason}
 use Rattle.nfs_promises.proofs.Answers.Blaming.{held_blames, ends_then, ends_checks, answers_blame}
-use Rattle.nfs_promises.proofs.Answers.Placed.{Answers, refused_so, done_so, current_blames, both_blames, saved_found, denied_by, no_directory_blames, names_blame, named_at}
-use Rattle.nfs_promises.proofs.{Answers.AttrReasons.{attributes_blame, make_blames}, Permission.{Granting.may_change, PermittedNames.both_current}}
+use Rattle.nfs_promises.proofs.Answers.Placed.{Answers, refused_so, done_so, found_now, no_bytes, current_blames, both_blames, saved_found, denied_by, no_directory_blames, names_blame, named_at}
+use Rattle.nfs_promises.proofs.{Answers.{AttrReasons.make_blames, InvalidReasons.{given_blames, none_is_made, none_is_linked}}, Permission.{Granting.may_change, PermittedNames.both_current}}
 
 same_type : (t : CreateType) → is_made t ≡ is_type t
 same_type (Symlink text) = refl
@@ -35,6 +36,12 @@ long_text (Symlink text) long = (text, refl, ltb-true most_text (length text) lo
 long_text (Other type) long = absurd (false≢true long)
 long_text (Block d) long = absurd (false≢true long)
 long_text (Character d) long = absurd (false≢true long)
+
+no_text : (t : CreateType) → text_is (λ n. n == 0) t ≡ true → t ≡ Symlink []
+no_text (Symlink text) none = ap Symlink (no_bytes text none)
+no_text (Other type) none = absurd (false≢true none)
+no_text (Block d) none = absurd (false≢true none)
+no_text (Character d) none = absurd (false≢true none)
 
 module _ (s : State) (x : Context) (i : Item) (name : List ℕ) (makes : made i ≡ Some name) (d : Node) (e : current s x ≡ Ok d) where
   no_adding : not (permits x d change_entries) ≡ true → IsDenied s x i
@@ -65,15 +72,15 @@ module _ (s : State) (whole : IsWhole s) (x : Context) where
           no_adding s x i c.objname refl d e,
           λ u. (
             λ other. (c, refl, sym (same_type c.objtype) ∙ not-true _ other),
-            λ u. (λ v. refl, λ u. (λ long. (let t = long_text c.objtype long in inr (c, refl, t.0, t.1, t.2)), λ u. names_blame s x i c.objname (ByName refl))),
+            λ u. (λ none. NoText c refl (no_text c.objtype none), λ u. (λ long. (let t = long_text c.objtype long in inr (c, refl, t.0, t.1, t.2)), λ u. names_blame s x i c.objname (ByName refl))),
           ),
         ),
-      ) (λ placed. ends_then B Y (attributes_in c.createattrs) _ (attributes_blame B refl refl refl refl c.createattrs) (λ w gives.
+      ) (λ placed. ends_then B Y (attributes_in c.createattrs) _ (given_blames s x i c.createattrs refl) (λ w gives.
       ends_checks B Y (make_checks w x.who) _ (make_blames s x i w (ToCreate c w gives)) (λ own.
-      ends_then B Y (require (not (is_some w.size)) S.Inval) _ (held_blames B (not (is_some w.size)) S.Inval (λ v. refl)) (λ u e2.
+      ends_then B Y (require (not (is_some w.size)) S.Inval) _ (held_blames B (not (is_some w.size)) S.Inval (λ some. Sized c refl (ap (λ v. is_some (size_in v)) gives ∙ not-false _ some))) (λ u e2.
       ends_checks B Y ((has_name s.tree d.number c.objname, S.Exist) ∷ room_checks s.tree d.number) _ (
         λ has. inr (inr (is_there s x i c.objname refl d e has)),
-        λ u. (λ v. refl, λ u. (λ v. refl, λ u. tt)),
+        λ u. (λ full. (refl, leb-true s.tree.limits.objects (length s.tree.objects) full), λ u. (none_is_made s d (found_now s x d e).1, λ u. tt)),
       ) (λ u. done_so s x i tt)))))))
 
   pub link_blames : (now : Time) (name : List ℕ) → Answers s x (Operation (Op.Link name)) (link s x now name)
@@ -99,6 +106,9 @@ module _ (s : State) (whole : IsWhole s) (x : Context) where
             of = Kept name its.saved refl its.is its.names;
             none = λ r row same. false≢true (sym (none_any (λ (r : Row). r.object == p.saved.number) s.tree.rows r (not-true _ lost) row) ∙ eq-eqb r.object p.saved.number same);
           }),
-          λ u. (λ v. refl, λ u. (λ v. refl, λ u. tt)),
+          λ u. (
+            λ many. (name, refl, its.saved, its.is, subst (λ n. most_links ≤ links_in s.tree.rows n) (sym its.names) (leb-true most_links (links_in s.tree.rows p.saved.number) many)),
+            λ u. (none_is_linked s p.current p.saved (found_now s x p.current there).1 its.there, λ u. tt),
+          ),
         ),
       ) (λ u. done_so s x i tt)))))

@@ -1,27 +1,33 @@
 -- Operations on names and attributes: what they are refused with has its reason, and what was answered NFS4_OK was granted.
-use Rattle.std.proofs.Common.{◌≡◌, ◌≢◌, ◌⊎◌, ℕ, Bool, true, false, not, List, [], ◌∷◌, None, refl, sym, ◌∙◌, ap, subst, inl, inr}
+use Rattle.std.proofs.Common.{◌≡◌, ◌≢◌, ◌⊎◌, ℕ, Bool, true, false, cond, not, List, [], ◌∷◌, Option, Some, None, refl, sym, ◌∙◌, ap, subst, inl, inr}
 use Rattle.std.proofs.lemmas.{Bool.{and_parts, false≢true, not-false, not-true, eq-eqb}, Option.same_Some}
-use Rattle.std.specs.Prelude.{◌||◌, ◌&&◌, Ok, ok_or, if◌then◌else◌}
+use Rattle.std.specs.{Prelude.{◌||◌, ◌&&◌, option_map, Ok, ok_or, if◌then◌else◌}, Option.option_map_or}
 use Rattle.nfs_xdr.specs.{Checks.first_fault, declared.status.Status.Status, declared.time.Time.Time}
 use Rattle.nfs_xdr.specs.declared.status.Status.TheVariants as S
 use Rattle.nfs_xdr.proofs.Checks.{all_passed}
 use Rattle.nfs_compound.specs.{declared.name_args.Rename.Rename, declared.op.Item.Item, declared.op.Item.TheVariants.Operation}
 use Rattle.nfs_compound.specs.declared.op.Op.TheVariants as Op
 use Rattle.nfs_compound.specs.declared.op_num.OpNum.TheVariants as Num
-use Rattle.nfs_tree.specs.{Object.{is_link}, Files.{Files, object_named, number_named, is_directory_at, has_name, has_entries}}
-use Rattle.nfs_tree.specs.Names.{Move, moves, is_unlike, is_in_the_way, moved_object, replaced_object}
-use Rattle.nfs_attrs.specs.{declared.permission.Want.Want, Mask.{mask_of, asks_set_only}, Permissions.{execute, change_entries}}
-use Rattle.nfs_opens.specs.Steps.{require}
-use Rattle.nfs_names.specs.{declared.context.Context.Context, declared.node.Node.Node, State.State, Outcome.Outcome}
+use Rattle.nfs_tree.specs.{Object.{is_directory, is_link}, Files.{Files, stored_in, object_at, object_named, number_named, is_there, is_directory_at, can_change, has_name, has_entries}}
+use Rattle.nfs_tree.specs.{Names.{Move, moves, can_move, is_below_itself, is_unlike, is_in_the_way, way_fault, moved_object, replaced_object}, Profile.is_unix}
+use Rattle.nfs_tree.specs.{declared.{object.Object.Object, stored.Stored.Stored}, TreeInvariants.IsTree}
+use Rattle.nfs_tree.proofs.Below.{below_is_reached}
+use Rattle.nfs_tree.specs.{declared.profile.Profile.Profile, declared.profile.Profile.TheVariants.{Exact, Unix}}
+use Rattle.nfs_tree.specs.declared.fault.TreeFault.TheVariants as F
+use Rattle.nfs_attrs.specs.{declared.permission.Want.Want, Mask.{has, mask_of, asks_set_only}, Permissions.{execute, change_entries}}
+use Rattle.nfs_opens.specs.Steps.{in_order, require}
+use Rattle.nfs_names.specs.{declared.context.Context.Context, declared.node.Node.Node, State.State, Outcome.Outcome, Faults.tree_fault_status}
 use Rattle.nfs_names.specs.Checks.{current, both, no_directory, no_access, name_checks}
 use Rattle.nfs_names.specs.{GetAttr.get_attr, GetFh.get_fh, Lookup.lookup, ReadLink.read_link, Remove.{remove, last_checks}, SaveFh.save_fh}
 use Rattle.nfs_names.specs.Rename.{rename, renamed, move_of, place_checks as rename_places, last_checks as rename_lasts}
 use Rattle.nfs_files.proofs.{TreeFiles.IsWhole, WrittenOps.current_number}
 use Rattle.nfs_promises.specs.Permission.Permitted.{Writes, Executes, Grants, rights_of, rights_at}
 use Rattle.nfs_promises.specs.Answers.Asked.{ByName, ByOldName, ByNewName, InCurrent, InSaved, Source, Searched, ToAdd, ToFind, ToRemove, ToTake, ToPut}
+use Rattle.nfs_promises.specs.Answers.Invalid.{IsBelow, Below, Unreadable, IsSpent}
 use Rattle.nfs_promises.specs.Answers.Reasons.{HasEntry, IsInTheWay, IsGranted, Reason}
 use Rattle.nfs_promises.proofs.Answers.Blaming.{all_blame, held_blames, there_blames, ends_then, ends_checks, answers_blame, passed_all}
-use Rattle.nfs_promises.proofs.Answers.Placed.{Answers, refused_so, done_so, current_blames, both_blames, saved_found, rights_is, unnamed, named_at}
+use Rattle.nfs_promises.proofs.Answers.InvalidReasons.{not_both, never_both, spent_at, spent_there, no_cookie_left}
+use Rattle.nfs_promises.proofs.Answers.Placed.{Answers, refused_so, done_so, found_now, current_blames, both_blames, saved_found, rights_is, unnamed, named_at, named_there, one_or}
 use Rattle.nfs_promises.proofs.Answers.Placed.{has_entry, has_kind, denied_by, no_directory_blames, no_finding, missing, names_blame}
 use Rattle.nfs_promises.proofs.Permission.{Granting.{executes, changes, may_change}, PermittedNames.{gets, one_of, two_of, both_current}}
 
@@ -105,6 +111,103 @@ in_the_way s x a p e has is =
       blocks = blocked s.tree m way.1;
     }
 
+-- and by which status
+is_the_one : (p : Profile) → is_unix p ≡ true → p ≡ Unix
+is_the_one Exact e = absurd (false≢true e)
+is_the_one Unix e = refl
+
+or_else : (p q : Bool) → p || q ≡ true → p ≡ false → q ≡ true
+or_else true q is none = absurd (false≢true (sym none))
+or_else false q is none = is
+
+way_blamed : (s : State) (x : Context) (a : Rename) (p : _) → both s x ≡ Ok p → has_name s.tree p.saved.number a.oldname ≡ true
+    → moves s.tree (move_of a p) && is_in_the_way s.tree (move_of a p) ≡ true
+    → Reason s x (Operation (Op.Rename a)) (tree_fault_status (way_fault s.tree (move_of a p)))
+unfolding in_the_way
+way_blamed s x a p e has is = by (is_unix s.tree.profile && not (is_unlike s.tree (move_of a p))) refl
+  where
+    by : (b : Bool) → is_unix s.tree.profile && not (is_unlike s.tree (move_of a p)) ≡ b
+        → Reason s x (Operation (Op.Rename a)) (tree_fault_status (cond b F.NotEmpty F.Exist))
+    by true on =
+        let m : Move = move_of a p in
+        let parts = and_parts (is_unix s.tree.profile) _ on in
+        let blocks = and_parts (has_name s.tree p.current.number a.newname) _ (and_parts (moves s.tree m) (is_in_the_way s.tree m) is).1 in
+        inr (record {
+          way = in_the_way s x a p e has is;
+          unix = is_the_one s.tree.profile parts.0;
+          has = has_entry s.tree (replaced_object s.tree m)
+              (or_else (is_unlike s.tree m) (has_entries s.tree.rows (replaced_object s.tree m)) blocks.1 (not-true _ parts.1));
+        })
+    by false on = inr (inl (in_the_way s x a p e has is))
+
+-- What would come to lie below itself.
+
+directory_at : (s : State) (d : Node) → object_at s.tree d.number ≡ Some d.object → not (is_directory d.object.kind) ≡ false → is_directory_at s.tree d.number ≡ true
+directory_at s d is dir = by (stored_in s.tree.objects d.number) is
+  where
+    by : (o : Option Stored) → option_map (λ (k : Stored). k.object) o ≡ Some d.object → option_map_or (λ (k : Stored). is_directory k.object.kind) o false ≡ true
+    by None e = absurd cc
+    by (Some k) e = let same : k.object ≡ d.object = cc in ap (λ (o : Object). is_directory o.kind) same ∙ not-false _ dir
+
+is_below : (s : State) → IsTree s.tree → (x : Context) (a : Rename) (p : _) → both s x ≡ Ok p → in_order (rename_places x a p) ≡ Ok tt
+    → has_name s.tree p.saved.number a.oldname ≡ true → moves s.tree (move_of a p) && is_below_itself s.tree (move_of a p) ≡ true → IsBelow s x (Operation (Op.Rename a))
+is_below s tree x a p e placed has below =
+    let m : Move = move_of a p in
+    let its = saved_found s x p e in
+    let there = both_current s x p e in
+    let checks = all_passed (rename_places x a p) (passed_all (rename_places x a p) placed) in
+    let parts = and_parts (is_directory_at s.tree (moved_object s.tree m)) _ (and_parts (moves s.tree m) (is_below_itself s.tree m) below).1 in
+    let dir : is_directory_at s.tree p.current.number ≡ true = directory_at s p.current (found_now s x p.current there).1 checks.1.0 in
+    let led = (below_is_reached s.tree (moved_object s.tree m) p.current.number tree dir).0 parts.1 in
+    record {
+      asked = a;
+      is = refl;
+      saved = its.saved;
+      directory = p.current.number;
+      source = its.is;
+      target = current_number s x p.current there;
+      moved = moved_object s.tree m;
+      old = ap (λ n. object_named s.tree n a.oldname) its.names ∙ named_at s.tree p.saved.number a.oldname has;
+      kind = parts.0;
+      names = led.0;
+      leads = led.1;
+    }
+
+-- What cannot be counted.
+
+none_is_removed : (s : State) (d : Node) → object_at s.tree d.number ≡ Some d.object → (n : ℕ) → is_there s.tree n ≡ true
+    → not (can_change s.tree d.number && can_change s.tree n) ≡ true → IsSpent s
+none_is_removed s d is n there off = elim (never_both (can_change s.tree d.number) (can_change s.tree n) off) [
+  | inl place ↦ spent_there s d is place
+  | inr object ↦ spent_at s n there object
+]
+
+-- where one of two holds and both would not do
+or_off : (a b : Bool) → not a || b ≡ false → (a ≡ true) × (b ≡ false)
+or_off true b e = (refl, e)
+or_off false b e = absurd (false≢true (sym e))
+
+none_is_moved : (s : State) → IsWhole s → (x : Context) (p : _) → both s x ≡ Ok p → object_at s.tree p.saved.number ≡ Some p.saved.object → object_at s.tree p.current.number ≡ Some p.current.object → (a : Rename)
+    → has_name s.tree p.saved.number a.oldname ≡ true → can_move s.tree (move_of a p) ≡ false → IsSpent s
+none_is_moved s whole x p e saved target a named off =
+    let m : Move = move_of a p in
+    let t : Files = s.tree in
+    elim (not_both (can_change t m.source) _ off) [
+      | inl source ↦ spent_there s p.saved saved source
+      | inr more ↦ elim (not_both (can_change t m.target) _ more) [
+        | inl place ↦ spent_there s p.current target place
+        | inr more ↦ elim (not_both (not (has_name t m.target m.name) || can_change t (replaced_object t m)) _ more) [
+          | inl replaced ↦ (let q = or_off (has_name t m.target m.name) (can_change t (replaced_object t m)) replaced in
+              spent_at s (replaced_object t m) (named_there s p.current.number (replaced_object t m) a.newname whole (named_at t p.current.number a.newname q.0)) q.1)
+          | inr more ↦ elim (not_both (not (is_unix t.profile) || can_change t (moved_object t m)) _ more) [
+            | inl moved ↦ spent_at s (moved_object t m) (named_there s p.saved.number (moved_object t m) a.oldname whole (named_at t p.saved.number a.oldname named))
+                (or_off (is_unix t.profile) (can_change t (moved_object t m)) moved).1
+            | inr cookie ↦ no_cookie_left s cookie
+          ]
+        ]
+      ]
+    ]
+
 module _ (s : State) (whole : IsWhole s) (x : Context) where
   -- LOOKUP
   pub lookup_blames : (name : List ℕ) → Answers s x (Operation (Op.Lookup name)) (lookup s x name)
@@ -139,7 +242,7 @@ module _ (s : State) (whole : IsWhole s) (x : Context) where
       ) (λ placed. ends_checks B Y (last_checks s.tree d.number name) _ (
         λ no_name. missing s x i d name (InCurrent (current_number s x d e) refl) (unnamed s.tree d.number name no_name),
         λ has. (
-          λ entries. record {
+          λ entries. inl (record {
             name = name;
             is = refl;
             directory = d.number;
@@ -147,8 +250,12 @@ module _ (s : State) (whole : IsWhole s) (x : Context) where
             at = current_number s x d e;
             there = named_at s.tree d.number name (not-false _ has);
             has = has_entry s.tree (number_named s.tree d.number name) entries;
-          },
-          λ u. (λ v. refl, λ u. tt),
+          }),
+          λ u. (
+            none_is_removed s d (found_now s x d e).1 (number_named s.tree d.number name)
+                (named_there s d.number (number_named s.tree d.number name) name whole (named_at s.tree d.number name (not-false _ has))),
+            λ u. tt,
+          ),
         ),
       ) (λ last. done_so s x i (remove_granted s x d name e (passed_all (placing x d change_entries name) placed))))))
 
@@ -184,7 +291,17 @@ module _ (s : State) (whole : IsWhole s) (x : Context) where
         ),
       ) (λ placed. ends_checks B Y (rename_lasts s.tree (move_of a p)) _ (
         λ no_name. missing s x i p.saved a.oldname (InSaved a its.saved refl refl its.is its.names) (unnamed s.tree p.saved.number a.oldname no_name),
-        λ has. (λ below. refl, λ u. (λ way. inr (inl (in_the_way s x a p e (not-false _ has) way)), λ u. (λ v. refl, λ u. tt))),
+        λ has. (
+          λ below. Below (is_below s whole.tree x a p e placed (not-false _ has) below),
+          λ u. (
+            λ way. way_blamed s x a p e (not-false _ has) way,
+            λ u. (
+              λ spent. none_is_moved s whole x p e its.there (found_now s x p.current there).1 a (not-false _ has)
+                  (not-true _ (and_parts (moves s.tree (move_of a p)) (not (can_move s.tree (move_of a p))) spent).1),
+              λ u. tt,
+            ),
+          ),
+        ),
       ) (λ last. by_moves p e (passed_all (rename_places x a p) placed) (moves s.tree (move_of a p)))))))
     where
       by_moves : (p : _) → both s x ≡ Ok p → first_fault (rename_places x a p) ≡ None → (b : Bool) → Answers s x (Operation (Op.Rename a)) (renamed s x now a p b)
@@ -199,7 +316,8 @@ module _ (s : State) (whole : IsWhole s) (x : Context) where
       let i : Item = Operation (Op.GetAttr words) in
       answers_blame (Reason s x i) (Answers s x i) s x Num.GetAttr _ (refused_so s x i Num.GetAttr) (ends_then (Reason s x i) (Answers s x i) (current s x) _
       (current_blames s whole x i refl) (λ d e. ends_then (Reason s x i) (Answers s x i) (require (not (asks_set_only (mask_of words))) S.Inval) _
-      (held_blames (Reason s x i) (not (asks_set_only (mask_of words))) S.Inval (λ v. refl)) (λ u e. done_so s x i tt)))
+      (held_blames (Reason s x i) (not (asks_set_only (mask_of words))) S.Inval (λ some.
+      Unreadable words refl (one_or (has (mask_of words) 48) (has (mask_of words) 54) (not-false _ some)))) (λ u e. done_so s x i tt)))
 
   pub get_fh_blames : Answers s x (Operation Op.GetFh) (get_fh s x)
   unfolding get_fh

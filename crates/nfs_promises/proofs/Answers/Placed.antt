@@ -1,24 +1,25 @@
 -- What is found at the place of a filehandle, and the reasons that are said of it.
-use Rattle.std.proofs.Common.{◌≡◌, ◌⊎◌, ℕ, Bool, true, false, not, List, [], ◌∷◌, Option, Some, None, refl, sym, ◌∙◌, ap, subst, inl, inr}
-use Rattle.std.proofs.lemmas.{Bool.{cases_Bool, false≢true, ltb-true, not-true, eqb-true}, Option.same_Some, Slice.Eq.bytes_eq-Decides}
-use Rattle.std.specs.{Prelude.{◌==◌, ◌||◌, is_some, length, bytes_eq, Ok, option_map, unwrap_or}, List.list_any}
-use Rattle.nfs_xdr.specs.{Tables.In, declared.status.Status.Status}
+use Rattle.std.proofs.Common.{◌≡◌, ◌⊎◌, ℕ, suc, Bool, true, false, cond, not, List, [], ◌∷◌, Option, Some, None, refl, sym, ◌∙◌, ap, subst, arith, inl, inr}
+use Rattle.std.proofs.lemmas.{Bool.{cases_Bool, false≢true, ltb-true, leb-true, not-true, eqb-true}, Option.same_Some, Slice.Eq.bytes_eq-Decides}
+use Rattle.std.specs.{Prelude.{◌==◌, ◌||◌, ◌&&◌, ◌+◌, ◌<◌, ◌≤◌, nat_le, nat_lt, is_some, length, bytes_eq, Ok, option_map, unwrap_or}, List.list_any}
+use Rattle.nfs_xdr.specs.{Tables.In, Status.status_number, declared.status.Status.Status}
 use Rattle.nfs_xdr.specs.declared.status.Status.TheVariants as S
-use Rattle.nfs_xdr.proofs.Lists.{in_any}
-use Rattle.nfs_compound.specs.{OpNum.op_number, declared.op_num.OpNum.OpNum, declared.op.Item.Item, Request.item_number}
-use Rattle.nfs_results.specs.Results.{status_of_result}
+use Rattle.nfs_xdr.proofs.Lists.{find_in, in_any}
+use Rattle.nfs_compound.specs.{OpNum.op_number, declared.op_num.OpNum.OpNum, declared.op.{Op.Op, Item.Item, Item.TheVariants.Operation}, Request.item_number}
+use Rattle.nfs_results.specs.{Largest.largest, Results.status_of_result}
 use Rattle.nfs_tree.specs.{declared.object.Object.Object, declared.object.FileType.FileType, declared.row.Row.Row, declared.stored.Stored.Stored, Object.is_directory}
-use Rattle.nfs_tree.specs.Files.{Files, most_name, stored_in, object_at, object_named, number_named, entry, has_name, has_entries}
+use Rattle.nfs_tree.specs.Files.{Files, most_name, stored_in, object_at, object_named, number_named, is_there, entry, has_name, has_entries}
 use Rattle.nfs_attrs.specs.Permissions.{execute}
 use Rattle.nfs_names.specs.{declared.context.Context.Context, declared.context.Saved.Saved, declared.node.Node.Node, State.{State, is_used}}
-use Rattle.nfs_names.specs.{Checks.{node_as, node_at, saved_object, current, both, permits, name_checks}, Outcome.{Outcome, refuses, is_ok}}
+use Rattle.nfs_names.specs.{Checks.{node_as, node_at, saved_object, current, both, permits, name_checks}, Outcome.{Outcome, refuses, is_ok, or_delay}}
 use Rattle.nfs_names.proofs.{Found.{came, ok_is}, Faulted.status_of_refusal}
 use Rattle.nfs_files.proofs.{TreeFiles.IsWhole, WrittenOps.current_number}
-use Rattle.nfs_exec.specs.{Step.Behind.step, Runs.Ops.RanOp}
-use Rattle.nfs_exec.proofs.{Runs.{OneRun.{IsRun, by_item}, WrittenRun.used_there}}
-use Rattle.nfs_promises.specs.{Names.FileStays.{is_on_current, is_on_saved}, Permission.Permitted.{Right, Executes, Grants, rights_of, rights_at}}
+use Rattle.nfs_exec.specs.{Step.{Behind.{refused_step, step}, Run.{in_room, reserve}}, Runs.Ops.RanOp}
+use Rattle.nfs_exec.proofs.{Runs.{OneRun.IsRun, WrittenRun.used_there}}
+use Rattle.nfs_promises.specs.{Names.FileStays.{is_on_current, is_on_saved}, Permission.Permitted.{Right, Executes, rights_of, rights_at}}
 use Rattle.nfs_promises.specs.Answers.Asked.{LooksAt, AtCurrent, AtSaved, Target, is_in_directory, named, Gives, Needs, ToFind, Seeks}
-use Rattle.nfs_promises.specs.Answers.Reasons.{HasKind, HasEntry, IsDenied, Reason, Granted, IsAnswered}
+use Rattle.nfs_promises.specs.Answers.Invalid.{NoName}
+use Rattle.nfs_promises.specs.Answers.Reasons.{HasKind, HasEntry, IsDenied, MayDo, Reason, Granted, IsAnswered, room_of, is_cut, LacksRoom}
 use Rattle.nfs_promises.proofs.{Answers.Blaming.{Blames, AllBlame, then_blames}, Permission.{Granting.may_execute, PermittedNames.picked}}
 
 -- An operation that was run is refused for want of room, or answers so.
@@ -27,7 +28,7 @@ abbrev pub Answers : State → Context → Item → Outcome → Type 0
 Answers s x i o = IsAnswered s x i (status_of_result o.result)
 
 pub no_reason : (s : State) (x : Context) (i : Item) (f : Status) → Reason s x i f → is_ok f ≡ false
-no_reason s x i S.Nfs4Ok reason = absurd (false≢true reason)
+no_reason s x i S.Nfs4Ok reason = absurd reason
 no_reason s x i f reason = refl
 
 pub of_refusal : (s : State) (x : Context) (i : Item) (f : Status) → Reason s x i f → IsAnswered s x i f
@@ -39,11 +40,77 @@ refused_so s x i op f reason = subst (IsAnswered s x i) (sym (status_of_refusal 
 pub done_so : (s : State) (x : Context) (i : Item) → Granted s x i → IsAnswered s x i S.Nfs4Ok
 done_so s x i granted = record { refused = λ no_ok. absurd (false≢true (sym no_ok)); granted = λ ok. granted }
 
-pub ran_blames : (d : RanOp) (r : IsRun d) (i : Item) → d.item ≡ i → IsAnswered d.before.store d.context i (step d.before d.context r.now r.refused i).outcome.status
-    → IsAnswered d.before.store d.context i d.status
-ran_blames d r i is answered =
-    by_item (λ status text s. IsAnswered d.before.store d.context i status) d r i is
-    (subst (IsAnswered d.before.store d.context i) (sym (status_of_refusal (item_number i) S.RepTooBig)) (of_refusal d.before.store d.context i S.RepTooBig refl)) answered
+-- It was refused for want of room, or ended as its step; and the step was refused for want of memory, or answers so.
+
+abbrev pub Blamed : State → Context → Item → Bool → Status → Type 0
+Blamed s x i refused status = ((status ≡ S.Delay) × (refused ≡ true)) ⊎ IsAnswered s x i status
+
+pub or_delayed : (s : State) (x : Context) (i : Item) (op : OpNum) (wants refused : Bool) (o : Outcome) → Answers s x i o
+    → Blamed s x i refused (status_of_result (or_delay (wants && refused) s x op o).result)
+or_delayed s x i op wants false o is = by (wants && false) (never wants)
+  where
+    never : (b : Bool) → b && false ≡ false
+    never true = refl
+    never false = refl
+
+    by : (b : Bool) → b ≡ false → Blamed s x i false (status_of_result (or_delay b s x op o).result)
+    by true on = absurd (false≢true (sym on))
+    by false off = inr is
+or_delayed s x i op wants true o is = elim (wants && true && is_ok (status_of_result o.result)) as (λ k. Blamed s x i true (status_of_result (cond k (refuses s x op S.Delay) o).result)) [
+  | true ↦ inl (status_of_refusal (op_number op) S.Delay, refl)
+  | false ↦ inr is
+]
+
+pub status_is : (d : RanOp) (r : IsRun d) (i : Item) → d.item ≡ i → d.status ≡ (in_room r.limit r.sofar r.now r.refused d.before d.context i).outcome.status
+status_is d r i is = ap (λ (c : RanOp). c.status) r.is ∙ ap (λ j. (in_room r.limit r.sofar r.now r.refused d.before d.context j).outcome.status) is
+
+-- there was no room, or the step was made
+pub in_room_or : (d : RanOp) (r : IsRun d) (i : Item) → d.item ≡ i → nat_le (largest i) (room_of i) ≡ true
+    → ((d.status ≡ S.RepTooBig) × LacksRoom d) ⊎ (d.status ≡ (step d.before d.context r.now r.refused i).outcome.status)
+in_room_or d r i is small = by (nat_lt r.limit (r.sofar + largest i + reserve)) refl (status_is d r i is)
+  where
+    by : (b : Bool) → nat_lt r.limit (r.sofar + largest i + reserve) ≡ b
+        → d.status ≡ (cond b (refused_step d.before d.context i S.RepTooBig) (step d.before d.context r.now r.refused i)).outcome.status
+        → ((d.status ≡ S.RepTooBig) × LacksRoom d) ⊎ (d.status ≡ (step d.before d.context r.now r.refused i).outcome.status)
+    by true big e = (let less : r.limit < r.sofar + largest i + 12 = ltb-true r.limit (r.sofar + largest i + reserve) big in
+        let few : largest i ≤ room_of i = leb-true (largest i) (room_of i) small in
+        let limit : d.limit ≡ r.limit = ap (λ (c : RanOp). c.limit) r.is in
+        let sofar : d.sofar ≡ r.sofar = ap (λ (c : RanOp). c.sofar) r.is in
+        let lacks : d.limit < d.sofar + room_of i + 12 = omega arith in
+        inl (e ∙ status_of_refusal (item_number i) S.RepTooBig, subst (λ j. d.limit < d.sofar + room_of j + 12) (sym is) lacks))
+    by false fits e = inr e
+
+-- what is said of an operation, but for the mark of RECLAIM_COMPLETE
+pub record IsBlamed (d : RanOp) (op : Op) : Type 0 where
+  pub room : d.status ≡ S.RepTooBig → LacksRoom d
+  pub memory : d.status ≡ S.Delay → d.refused ≡ true
+  pub answered : is_cut d.status ≡ false → IsAnswered d.before.store d.context (Operation op) d.status
+
+pub ran_blames : (d : RanOp) (r : IsRun d) (op : Op) → d.item ≡ Operation op → nat_le (largest (Operation op)) (room_of (Operation op)) ≡ true
+    → Blamed d.before.store d.context (Operation op) r.refused (step d.before d.context r.now r.refused (Operation op)).outcome.status → IsBlamed d op
+ran_blames d r op is small blamed = elim (in_room_or d r (Operation op) is small) [
+  | inl (big, lacks) ↦ record {
+    room = λ e. lacks;
+    memory = λ e. absurd (big_off S.Delay refl (sym big ∙ e));
+    answered = λ off. absurd (false≢true (sym off ∙ ap is_cut big));
+  }
+  | inr e ↦ by (subst (Blamed d.before.store d.context (Operation op) r.refused) (sym e) blamed)
+]
+  where
+    big_off : (f : Status) → status_number f == status_number S.RepTooBig ≡ false → S.RepTooBig ≡ f → ⊥
+    big_off f off same = false≢true (sym off ∙ ap (λ g. status_number g == status_number S.RepTooBig) (sym same))
+
+    by : Blamed d.before.store d.context (Operation op) r.refused d.status → IsBlamed d op
+    by (inl (delay, refused)) = record {
+      room = λ e. absurd (big_off S.Delay refl (sym e ∙ delay));
+      memory = λ e. ap (λ (c : RanOp). c.refused) r.is ∙ refused;
+      answered = λ off. absurd (false≢true (sym off ∙ ap is_cut delay));
+    }
+    by (inr is) = record {
+      room = λ e. absurd ((subst (IsAnswered d.before.store d.context (Operation op)) e is).refused refl);
+      memory = λ e. absurd ((subst (IsAnswered d.before.store d.context (Operation op)) e is).refused refl);
+      answered = λ off. is;
+    }
 
 -- What is found at a place.
 
@@ -162,7 +229,7 @@ module _ (s : State) (x : Context) (i : Item) where
   has_kind d will e is = (d.object, (found_now s x d e).1, is)
 
   pub denied_by : (d : Node) (rights : List Right) → current s x ≡ Ok d → Needs s x i d.number rights
-      → (((right : Right) → In right rights → Grants (rights_of d.object) x.who right) → ⊥) → IsDenied s x i
+      → (((right : Right) → In right rights → MayDo right i s.tree.profile (rights_of d.object) x.who) → ⊥) → IsDenied s x i
   denied_by d rights e needs lacks = record {
     number = d.number;
     rights = rights;
@@ -179,6 +246,16 @@ module _ (s : State) (x : Context) (i : Item) where
 
   pub missing : (d : Node) (name : List ℕ) → Seeks x i d.number name → object_named s.tree d.number name ≡ None → Reason s x i S.NoEnt
   missing d name seeks none = inl (record { directory = d.number; name = name; seeks = seeks; gone = none })
+
+-- what a name leads to is there
+pub named_there : (s : State) (d n : ℕ) (name : List ℕ) → IsWhole s → object_named s.tree d name ≡ Some n → is_there s.tree n ≡ true
+named_there s d n name whole at = by (entry s.tree.rows d name) refl at
+  where
+    by : (o : Option Row) → entry s.tree.rows d name ≡ o → option_map (λ (r : Row). r.object) o ≡ Some n → is_there s.tree n ≡ true
+    by None found at = absurd cc
+    by (Some r) found at =
+        let there = find_in _ s.tree.rows r found in
+        subst (λ k. is_there s.tree k ≡ true) (same_Some r.object n at) (whole.tree.rows.names r there.0)
 
 -- What the checks of a name blame.
 
@@ -197,9 +274,14 @@ odd_byte name odd =
     let b = in_any (λ byte. byte == 0x2f || byte == 0) name odd in
     (b.0, b.1, elim (one_or (b.0 == 0x2f) (b.0 == 0) b.2) [ inl slash ↦ inl (eqb-true _ _ slash) | inr zero ↦ inr (eqb-true _ _ zero) ])
 
+-- no bytes
+pub no_bytes : (name : List ℕ) → length name == 0 ≡ true → name ≡ []
+no_bytes [] e = refl
+no_bytes (byte ∷ more) e = (let zero : suc (length more) ≡ 0 = eqb-true (length (byte ∷ more)) 0 e in absurd (omega arith))
+
 pub names_blame : (s : State) (x : Context) (i : Item) (name : List ℕ) → Gives i name → AllBlame (Reason s x i) (name_checks name)
 names_blame s x i name gives = (
-  λ v. refl,
+  λ none. NoName (subst (Gives i) (no_bytes name none) gives),
   λ v. (
     λ long. inl (name, gives, ltb-true most_name (length name) long),
     λ v. (λ odd. (let b = odd_byte name odd in (name, gives, b.0, b.1, b.2)), λ v. (λ dots. (name, gives, is_dots name dots), λ v. tt)),

@@ -1,32 +1,32 @@
 -- Refusals with a reason and without one, computed.
 use Rattle.std.proofs.Common.{◌≡◌, ◌≢◌, ℕ, ◌<◌, ◌≤◌, Bool, true, false, List, [], ◌∷◌, Option, Some, None, refl, sym, ◌∙◌, ap, subst, arith, inl, inr}
-use Rattle.std.proofs.lemmas.{Bool.false≢true, Option.same_Some}
-use Rattle.std.specs.Prelude.{Result, Ok, not, ◌+◌, ◌*◌, ◌^◌}
+use Rattle.std.proofs.lemmas.{Bool.{false≢true, ltb-false}, Option.same_Some}
+use Rattle.std.specs.Prelude.{nat_lt, Result, Ok, not, ◌+◌, ◌*◌, ◌^◌}
 use Rattle.nfs_xdr.specs.declared.status.Status.TheVariants as S
-use Rattle.nfs_xdr.specs.declared.status.Status.{Status}
+use Rattle.nfs_xdr.specs.{Tables.In, declared.status.Status.Status}
 use Rattle.nfs_compound.specs.declared.name_args.CreateType.TheVariants.{Other}
 use Rattle.nfs_compound.specs.declared.name_args.Create as args
 use Rattle.nfs_attrs.specs.{declared.wanted.Wanted.Wanted, Mask.mask_of}
-use Rattle.nfs_compound.specs.{declared.file_args.SetAttr.SetAttr, declared.open_args.Open.Open, declared.name_args.Rename.Rename, declared.op.Item.Item, declared.op.Item.TheVariants.Operation}
+use Rattle.nfs_compound.specs.{declared.file_args.{Read.Read, SetAttr.SetAttr}, declared.open_args.Open.Open, declared.name_args.Rename.Rename, declared.op.Item.Item, declared.op.Item.TheVariants.Operation}
 use Rattle.nfs_compound.specs.declared.open_args.{OpenHow.OpenHow, OpenHow.TheVariants.NoCreate, OpenClaim.TheVariants.Null}
 use Rattle.nfs_compound.specs.ArgCodecs.{rename_args, create_args, create_type, set_attr_args}
 use Rattle.nfs_compound.specs.declared.op.Op.TheVariants as Op
-use Rattle.nfs_tree.specs.{declared.object.Object.Object, Files.{object_at, object_named}, Object.is_directory}
+use Rattle.nfs_tree.specs.{declared.object.Object.Object, declared.profile.Profile.TheVariants.Unix, Files.{object_at, object_named}, Object.is_directory}
 use Rattle.nfs_opens.specs.{declared.stateid.StateId.StateId, declared.stateid.CurrentSeqid.TheVariants.{Any, Own}, declared.judging.Sort.TheVariants.{OpenOnly, LockOnly}}
 use Rattle.nfs_names.specs.{Context.anonymous, declared.context.Context.Context, declared.context.Saved.Saved, State.State, Remove.remove, Rename.rename, SaveFh.save_fh, GetFh.get_fh, Create.{attributes_in, create}, Checks.both}
 use Rattle.nfs_files.specs.{OpenTold.claimed, SetAttr.set_attr, StateIds.state_id}
 use Rattle.nfs_promises.specs.{Runs.Points.ops_of, Runs.Requests.{unchecked, stateid, words}, Locks.LockKeptWorked.{asked, gives_up, last_of, statuses}, Bytes.WrittenStaysWorked.made}
-use Rattle.nfs_promises.specs.Permission.Permitted.{Writes, Executes, Rights, rights_at, Grants, ToRoot, ToOwner, ToGroup, ToOthers}
+use Rattle.nfs_promises.specs.Permission.Permitted.{Right, Reads, Writes, Executes, Rights, rights_at, Grants, GrantsBytes, ToRoot, ToOwner, ToGroup, ToOthers}
 use Rattle.nfs_promises.specs.Answers.Asked.{StateGiven, by_state, IsCurrent, IsSpecial, AllZeros, AllOnes, StandsFor, Itself, TheCurrent, sought, InCurrent, InSaved, makes_by}
-use Rattle.nfs_promises.specs.Answers.Asked.{DirectoryOf, Target, Source, NoDirectoryOf, AFile, Linked, Used, Opened, NamedOf, Left, Kept, leaves, ToPut, Owns, MaySet, Sets, ToSet}
-use Rattle.nfs_promises.specs.Answers.Reasons.{StateTold, state_of, IsOwn, IsOld, IsBad, NoCurrent, Special, NoState, IsNameless, IsForbidden, Reason}
-use Rattle.nfs_promises.specs.Answers.ReasonsWorked.{AreAnsweredSo, AnswersRefused, Refused, opens, guarded, removes, creates, opens_up, shut, moves}
-use Rattle.nfs_promises.specs.{Names.FileStaysWorked.{missed, closes}, Permission.PermittedWorked.to_group}
-use Rattle.nfs_promises.proofs.Runs.Computing.{computing}
+use Rattle.nfs_promises.specs.Answers.Asked.{DirectoryOf, Target, Source, NoDirectoryOf, AFile, Linked, Used, Opened, NamedOf, Left, Kept, leaves, Needs, ToFind, ToAdd, ToRead, ToPut, Owns, MaySet, Sets, ToSet}
+use Rattle.nfs_promises.specs.Answers.Reasons.{StateTold, state_of, IsOwn, IsOld, IsBad, NoCurrent, Special, NoState, IsNameless, IsForbidden, IsDenied, MayDo, Reason}
+use Rattle.nfs_promises.specs.Answers.ReasonsWorked.{AreAnsweredSo, AnswersRefused, CutsRefused, Refused, opens, guarded, removes, creates, opens_up, shut, moves}
+use Rattle.nfs_promises.specs.{Names.FileStaysWorked.{missed, closes}, Permission.PermittedWorked.{to_group, runs, asks}}
+use Rattle.nfs_promises.proofs.{Permission.PermittedNames.one_of, Runs.Computing.computing}
 
 -- What has no reason, whatever the server.
 
-stands_itself : (x : Context) (k : StateGiven) (id : StateId) → (IsCurrent (state_id k.given) → ⊥) → StandsFor x k id → id ≡ state_id k.given
+pub stands_itself : (x : Context) (k : StateGiven) (id : StateId) → (IsCurrent (state_id k.given) → ⊥) → StandsFor x k id → id ≡ state_id k.given
 stands_itself x k id other (Itself fresh same) = same
 stands_itself x k id other (TheCurrent is some same) = absurd (other is)
 
@@ -45,7 +45,7 @@ module _ (s : State) (x : Context) (i : Item) (k : StateGiven) (m : StateTold) (
 
   not_bad : IsOwn x k m → (IsSpecial (state_id k.given) → ⊥) → (state_id k.given).seqid ≤ m.seqid → IsBad s x i → ⊥
   not_bad own plain late (NoCurrent j at current none) = other (subst (λ (k : StateGiven). IsCurrent (state_id k.given)) (sym (same_Some k j (sym is ∙ at))) current)
-  not_bad own plain late (Special j id at means special sort) =
+  not_bad own plain late (Special j id at means special wanted) =
       let one : k ≡ j = same_Some k j (sym is ∙ at) in
       plain (subst IsSpecial (stands_itself x k id other (subst (λ k. StandsFor x k id) (sym one) means)) special)
   not_bad own plain late (NoState j id at means some none) =
@@ -145,6 +145,20 @@ module _ (s : State) (x : Context) where
       ∙ (ap (object_named s.tree why.directory) (same_Some c.objname why.name why.is) ∙ why.there)) in
       cc
 
+  -- in `unix`, a READ of what the caller may execute
+  not_withheld : (a : Read) (n : ℕ) (r : Rights) → s.tree.profile ≡ Unix → x.current ≡ Some n → rights_at s.tree n ≡ Some r → Grants r x.who Executes
+      → IsDenied s x (Operation (Op.Read a)) → ⊥
+  not_withheld a n r unix at is runs why = why.denies (λ right asks q has. by why.number why.rights why.needs right asks q has)
+    where
+      by : (m : ℕ) (rights : List Right) → Needs s x (Operation (Op.Read a)) m rights → (right : Right) → In right rights → (q : Rights) → rights_at s.tree m ≡ Some q
+          → MayDo right (Operation (Op.Read a)) s.tree.profile q x.who
+      by m rights (ToFind k j name is_named there) right asks q has = absurd (let bad : None ≡ Some name = is_named in cc)
+      by m rights (ToAdd k j name is_made there) right asks q has = absurd (let bad : None ≡ Some name = is_made in cc)
+      by m rights (ToRead k b asked) right asks q has =
+          let same : r ≡ q = same_Some r q (sym is ∙ (ap (rights_at s.tree) (same_Some n m (sym at ∙ asked.at)) ∙ has)) in
+          one_of right Reads (λ right. MayDo right (Operation (Op.Read a)) s.tree.profile q x.who) asks
+          (subst (λ p. GrantsBytes p q x.who) (sym unix) (inr (subst (λ q. Grants q x.who Executes) same runs)))
+
 -- The runs.
 
 no_current : ◌≢◌ {A = ℕ} 7 0
@@ -204,18 +218,18 @@ are_answered_so = record { unlocked = unlocked; opened = opened; made_before = m
 -- The wrong answers.
 
 -- the LOCKU's stateid, and the state that it names
-abbrev lock_given : StateGiven
-lock_given = record { given = stateid 1 2; sort = LockOnly; form = Any }
+abbrev pub lock_given : StateGiven
+lock_given = record { given = stateid 1 2; sort = LockOnly; form = Any; here = true }
 
-abbrev lock_told : StateTold
+abbrev pub lock_told : StateTold
 lock_told = record { sort = LockOnly; client = 7 * 2 ^ 32 + 1; file = 2; seqid = 1 }
 
-not_special : IsSpecial (record { seqid = 1; instance = 7; number = 2 }) → ⊥
+pub not_special : IsSpecial (record { seqid = 1; instance = 7; number = 2 }) → ⊥
 not_special (AllZeros a b c) = no_current b
 not_special (AllOnes a b c) = not_all_ones b
 
 -- the OPENs, and the RENAME
-abbrev asking : OpenHow → Open
+abbrev pub asking : OpenHow → Open
 asking how = record { seqid = 0; share_access = 1; share_deny = 0; owner = record { clientid = 0; owner = 0x70 ∷ [] }; openhow = how; claim = Null (0x66 ∷ []) }
 
 abbrev moving : Rename
@@ -227,16 +241,16 @@ root_saved = record { object = 1; stateid = anonymous }
 old : Refused asked gives_up S.OldStateId
 unfolding computing
 old d is = let e = last_of d (ops_of asked gives_up) in
-    not_old e.before.store e.context e.item lock_given lock_told refl (λ c. no_current c.1) refl refl ((is refl).refused refl)
+    not_old e.before.store e.context e.item lock_given lock_told refl (λ c. no_current c.1) refl refl ((is.answered refl).refused refl)
 
 bad : Refused asked gives_up S.BadStateId
 unfolding computing
 bad d is = let e = last_of d (ops_of asked gives_up) in
-    not_bad e.before.store e.context e.item lock_given lock_told refl (λ c. no_current c.1) refl (record { client = refl; file = refl; sort = refl })
-    not_special (omega arith) ((is refl).refused refl)
+    not_bad e.before.store e.context e.item lock_given lock_told refl (λ c. no_current c.1) refl (record { client = refl; file = λ on. refl; sort = refl })
+    not_special (omega arith) ((is.answered refl).refused refl)
 
 abbrev open_given : StateGiven
-open_given = record { given = stateid 1 1; sort = OpenOnly; form = Own }
+open_given = record { given = stateid 1 1; sort = OpenOnly; form = Own; here = true }
 
 abbrev open_told : StateTold
 open_told = record { sort = OpenOnly; client = 7 * 2 ^ 32 + 1; file = 2; seqid = 1 }
@@ -248,13 +262,13 @@ no_special (AllOnes a b c) = not_all_ones b
 old_open : Refused missed closes S.OldStateId
 unfolding computing get_fh remove
 old_open d is = let e = last_of d (ops_of missed closes) in
-    not_old e.before.store e.context e.item open_given open_told refl (λ c. no_current c.1) refl refl ((is refl).refused refl)
+    not_old e.before.store e.context e.item open_given open_told refl (λ c. no_current c.1) refl refl ((is.answered refl).refused refl)
 
 bad_open : Refused missed closes S.BadStateId
 unfolding computing get_fh remove
 bad_open d is = let e = last_of d (ops_of missed closes) in
-    not_bad e.before.store e.context e.item open_given open_told refl (λ c. no_current c.1) refl (record { client = refl; file = refl; sort = refl })
-    no_special (omega arith) ((is refl).refused refl)
+    not_bad e.before.store e.context e.item open_given open_told refl (λ c. no_current c.1) refl (record { client = refl; file = λ on. refl; sort = refl })
+    no_special (omega arith) ((is.answered refl).refused refl)
 
 -- the mode that the owner sets, and another user
 abbrev mode_set : Wanted
@@ -282,53 +296,61 @@ no_owner (inr own) = no_user own
 unset : Refused made to_group S.Perm
 unfolding computing set_attr_args set_attr
 unset d is = let e = last_of d (ops_of made to_group) in
-    not_forbidden e.before.store e.context setting 2 (record { mode = 420; owner = 5; group = 6 }) mode_set refl refl refl its_own ((is refl).refused refl)
+    not_forbidden e.before.store e.context setting 2 (record { mode = 420; owner = 5; group = 6 }) mode_set refl refl refl its_own ((is.answered refl).refused refl)
 
 set_by_all : Refused made opens_up S.Nfs4Ok
 unfolding computing set_attr_args set_attr
-set_by_all d is = no_owner (((is refl).granted refl 1 (record { mode = 511; owner = 0; group = 0 }) mode_set refl refl refl).0.mode 32 refl)
+set_by_all d is = no_owner (((is.answered refl).granted refl 1 (record { mode = 511; owner = 0; group = 0 }) mode_set refl refl refl).0.mode 32 refl)
 
 occupied : Refused made creates S.Exist
 unfolding computing create create_args create_type
-occupied d is = let e = last_of d (ops_of made creates) in not_occupied e.before.store e.context creating 1 refl refl ((is refl).refused refl)
+occupied d is = let e = last_of d (ops_of made creates) in not_occupied e.before.store e.context creating 1 refl refl ((is.answered refl).refused refl)
 
 taken : Refused made (opens NoCreate) S.Exist
 unfolding computing
-taken d is = let e = last_of d (ops_of made (opens NoCreate)) in not_taken e.before.store e.context (asking NoCreate) refl ((is refl).refused refl)
+taken d is = let e = last_of d (ops_of made (opens NoCreate)) in not_taken e.before.store e.context (asking NoCreate) refl ((is.answered refl).refused refl)
 
 retaken : Refused made (opens unchecked) S.Exist
 unfolding computing
-retaken d is = let e = last_of d (ops_of made (opens unchecked)) in not_taken e.before.store e.context (asking unchecked) refl ((is refl).refused refl)
+retaken d is = let e = last_of d (ops_of made (opens unchecked)) in not_taken e.before.store e.context (asking unchecked) refl ((is.answered refl).refused refl)
 
 missing : Refused made (opens NoCreate) S.NoEnt
 unfolding computing
 missing d is = let e = last_of d (ops_of made (opens NoCreate)) in
-    not_missing e.before.store e.context e.item 1 2 (0x66 ∷ []) refl refl refl (λ a so. cc) refl (λ name so. cc) ((is refl).refused refl)
+    not_missing e.before.store e.context e.item 1 2 (0x66 ∷ []) refl refl refl (λ a so. cc) refl (λ name so. cc) ((is.answered refl).refused refl)
 
 directory : Refused made (opens NoCreate) S.IsDir
 unfolding computing
-directory d is = let e = last_of d (ops_of made (opens NoCreate)) in not_directory e.before.store e.context (asking NoCreate) 2 _ refl refl refl ((is refl).refused refl)
+directory d is = let e = last_of d (ops_of made (opens NoCreate)) in not_directory e.before.store e.context (asking NoCreate) 2 _ refl refl refl ((is.answered refl).refused refl)
 
 unremoved : Refused made removes S.NoEnt
 unfolding computing remove
 unremoved d is = let e = last_of d (ops_of made removes) in
-    not_missing e.before.store e.context e.item 1 2 (0x66 ∷ []) refl refl refl (λ a so. cc) refl (λ name so. cc) ((is refl).refused refl)
+    not_missing e.before.store e.context e.item 1 2 (0x66 ∷ []) refl refl refl (λ a so. cc) refl (λ name so. cc) ((is.answered refl).refused refl)
 
 unrenamed : Refused made (moves 4 2) S.NoEnt
 unfolding computing save_fh both rename rename_args
-unrenamed d is = let e = last_of d (ops_of made (moves 4 2)) in not_missing_old e.before.store e.context moving root_saved 2 refl refl ((is refl).refused refl)
+unrenamed d is = let e = last_of d (ops_of made (moves 4 2)) in not_missing_old e.before.store e.context moving root_saved 2 refl refl ((is.answered refl).refused refl)
 
 unplaced : Refused made (moves 4 2) S.NotDir
 unfolding computing save_fh both rename rename_args
-unplaced d is = let e = last_of d (ops_of made (moves 4 2)) in not_placed e.before.store e.context moving root_saved 1 _ refl refl refl refl refl ((is refl).refused refl)
+unplaced d is = let e = last_of d (ops_of made (moves 4 2)) in not_placed e.before.store e.context moving root_saved 1 _ refl refl refl refl refl ((is.answered refl).refused refl)
 
 found : Refused made (opens guarded) S.Nfs4Ok
 unfolding computing
-found d is = (let there : ◌≡◌ {A = Option ℕ} (Some 2) None = (is refl).granted refl 1 (0x66 ∷ []) refl refl refl in cc)
+found d is = (let there : ◌≡◌ {A = Option ℕ} (Some 2) None = (is.answered refl).granted refl 1 (0x66 ∷ []) refl refl refl in cc)
 
 moved : Refused shut (moves 3 1) S.Nfs4Ok
 unfolding computing save_fh both rename rename_args
-moved d is = not_writable ((is refl).granted refl 1 (Writes ∷ Executes ∷ []) (ToPut 1 moving refl) Writes (inl refl) (record { mode = 365; owner = 0; group = 0 }) refl)
+moved d is = not_writable ((is.answered refl).granted refl 1 (Writes ∷ Executes ∷ []) (ToPut 1 moving refl) Writes (inl refl) (record { mode = 365; owner = 0; group = 0 }) refl)
+
+abbrev reading : Read
+reading = record { stateid = anonymous; offset = 0; count = 8 }
+
+unread : Refused runs asks S.Access
+unfolding computing set_attr_args set_attr
+unread d is = let e = last_of d (ops_of runs asks) in
+    not_withheld e.before.store e.context reading 2 (record { mode = 64; owner = 5; group = 6 }) refl refl refl (ToOwner refl refl) ((is.answered refl).refused refl)
 
 pub answers_refused : AnswersRefused
 answers_refused = record {
@@ -348,4 +370,19 @@ answers_refused = record {
   unplaced = unplaced;
   found = found;
   moved = moved;
+  unread = unread;
 }
+
+pub no_less : (a b : ℕ) → nat_lt a b ≡ false → a < b → ⊥
+no_less a b off less = (let most : b ≤ a = ltb-false a b off in omega arith)
+
+big : Refused made removes S.RepTooBig
+unfolding computing remove
+big d is = no_less _ _ refl (is.room refl)
+
+delayed : Refused made removes S.Delay
+unfolding computing remove
+delayed d is = false≢true (is.memory refl)
+
+pub cuts_refused : CutsRefused
+cuts_refused = record { big = big; delayed = delayed }

@@ -1,7 +1,7 @@
 -- What operations answer with NFS4_OK is so.
 use Rattle.std.proofs.Common.{◌≡◌, ◌≢◌, ◌⊎◌, ℕ, ◌≤◌, suc, Bool, true, false, cond, not, List, [], ◌∷◌, Option, Some, None, refl, sym, ◌∙◌, ap, subst, arith, inl, inr}
 use Rattle.std.proofs.lemmas.{Bool.{and_parts, cases_Bool, eqb-true, eq-eqb, false≢true, ne_eqb, ltb-false, le-ltb, not-true}, Option.same_Some, Slice.Eq.bytes_eq-Decides}
-use Rattle.std.specs.{Int.bit_at, Prelude.{◌==◌, ◌||◌, ◌&&◌, ◌+◌, ◌-◌, nat_lt, bit_and, bytes_eq, Result, Ok, Err, ok_or, map, length}, Option.option_map_or}
+use Rattle.std.specs.{Int.bit_at, Prelude.{◌==◌, ◌||◌, ◌&&◌, ◌+◌, ◌-◌, nat_lt, bit_and, bytes_eq, Result, Ok, Err, ok_or, map}, Option.option_map_or}
 use Rattle.nfs_xdr.specs.{Status.status_number, Tables.In, declared.status.Status.Status}
 use Rattle.nfs_xdr.specs.declared.status.Status.TheVariants as S
 use Rattle.nfs_xdr.proofs.{Lists.find_in, Tables.{in_bounds, in_once}}
@@ -28,7 +28,8 @@ use Rattle.nfs_files.proofs.{Prompt.all_pass, TreeFiles.IsWhole, Wishes.{wish_ra
 use Rattle.nfs_exec.specs.Runs.Ops.{RanOp}
 use Rattle.nfs_exec.proofs.Runs.OneRun.{IsRun}
 use Rattle.nfs_promises.specs.Answers.{Reasons.{StateTold, one_of, state_of}}
-use Rattle.nfs_promises.specs.Answers.YesIsTrue.{IsTrueOf, IsFree, InRange, LiesBeside, IsHere, IsEntry, attributes_told, AreTold, bits, Stands, AreTested}
+use Rattle.nfs_promises.specs.Answers.Asked.{InRange, LiesBeside}
+use Rattle.nfs_promises.specs.Answers.YesIsTrue.{IsTrueOf, IsFree, IsHere, IsEntry, attributes_told, AreTold, bits, Stands, AreTested}
 use Rattle.nfs_promises.proofs.{Names.{PageLists.first_in, PageRows.{entry_at, page_told}}, Runs.AttributesTold.told}
 use Rattle.nfs_names.specs.ReadDir.{attributes_at, entry_of, read_dir}
 use Rattle.nfs_compound.specs.declared.name_args.ReadDir.{ReadDir}

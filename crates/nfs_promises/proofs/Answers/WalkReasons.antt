@@ -1,30 +1,33 @@
 -- Operations that move the filehandle, list, test and compare: what they are refused with has its reason.
-use Rattle.std.proofs.Common.{◌≡◌, ◌≢◌, ◌⊎◌, ℕ, true, false, not, List, [], ◌∷◌, Option, Some, None, refl, sym, ◌∙◌, ap, inl, inr}
-use Rattle.std.proofs.lemmas.{Bool.{false≢true, not-true, eqb-true, eq-eqb}, Slice.Eq.bytes_eq-Decides}
-use Rattle.std.specs.Prelude.{◌==◌, ◌||◌, is_some, bytes_eq, find, replicate, option_map, Ok, ok_or}
-use Rattle.nfs_xdr.specs.{declared.status.Status.Status}
+use Rattle.std.proofs.Common.{◌≡◌, ◌≢◌, ◌⊎◌, ℕ, suc, Bool, true, false, cond, not, List, [], ◌∷◌, Option, Some, None, refl, sym, ◌∙◌, ap, subst, arith, inl, inr}
+use Rattle.std.proofs.lemmas.{Bool.{and_parts, false≢true, leb-false, ltb-true, not-false, not-true, eqb-true, eq-eqb}, List.append-nil, Slice.Eq.bytes_eq-Decides}
+use Rattle.std.specs.{Prelude.{◌==◌, ◌||◌, ◌&&◌, ◌+◌, ◌<◌, ◌++◌, length, nat_le, nat_lt, is_some, bytes_eq, find, replicate, option_map, Result, Ok, Err, ok_or}, List.flat_map}
+use Rattle.nfs_xdr.specs.{Limits.most_transfer, declared.status.Status.Status}
 use Rattle.nfs_xdr.specs.declared.status.Status.TheVariants as S
 use Rattle.nfs_xdr.proofs.Lists.{none_found, none_any}
 use Rattle.nfs_compound.specs.{declared.attributes.Attributes.Attributes, declared.name_args.{ReadDir.ReadDir, SecinfoStyle.SecinfoStyle, SecinfoStyle.TheVariants.{CurrentFh, Parent}}}
 use Rattle.nfs_compound.specs.{declared.stateid.Stateid.Stateid, declared.op.Item.Item, declared.op.Item.TheVariants.Operation}
 use Rattle.nfs_compound.specs.declared.op.Op.TheVariants as Op
 use Rattle.nfs_compound.specs.declared.op_num.OpNum.TheVariants as Num
+use Rattle.nfs_results.specs.{Largest.given, declared.res.Entry.Entry, Straight.entry_text}
 use Rattle.nfs_tree.specs.{declared.object.Object.Object, declared.row.Row.Row, Files.{object_at, parent_in}}
-use Rattle.nfs_attrs.specs.{declared.handle.Handle.Handle, Handle.handle_of, Mask.{mask_of}, Permissions.{execute}}
-use Rattle.nfs_attrs.proofs.Answered.{by_compared}
+use Rattle.nfs_attrs.specs.{declared.handle.Handle.Handle, Handle.handle_of, Attributes.{supported, values}, Mask.{asks_set_only, has, mask_of, within}, Permissions.{execute}}
 use Rattle.nfs_opens.specs.Steps.{require}
 use Rattle.nfs_names.specs.{declared.context.Context.Context, declared.context.Saved.Saved, declared.node.Node.Node, State.State, Outcome.Outcome, Attributes.about}
 use Rattle.nfs_names.specs.{Access.access, LookupP.lookup_p, NVerify.nverify, PutFh.put_fh, PutPubFh.put_pub_fh, PutRootFh.put_root_fh, RestoreFh.restore_fh}
-use Rattle.nfs_names.specs.{ReadDir.{listing_checks, fits_none, read_dir}, SecinfoNoName.{style_checks, secinfo_no_name}, Verify.{compared, verify}}
+use Rattle.nfs_names.specs.{ReadDir.{left, longest, fitting, listing_checks, fits_none, read_dir}, SecinfoNoName.{style_checks, secinfo_no_name}, Verify.{compared, verify}}
 use Rattle.nfs_names.specs.Checks.{current, no_directory, no_access}
+use Rattle.nfs_names.proofs.Found.{came, ok_is}
 use Rattle.nfs_files.specs.TestStateid.{test_stateid}
 use Rattle.nfs_files.proofs.{TreeFiles.IsWhole, WrittenOps.current_number}
 use Rattle.nfs_promises.specs.Permission.Permitted.{Reads, Executes}
 use Rattle.nfs_promises.specs.Names.FileStays.{is_on_current}
 use Rattle.nfs_promises.specs.Answers.Asked.{AtSaved, Left, leaves, ToLeave, ToList}
+use Rattle.nfs_promises.specs.Answers.Invalid as invalid
+use Rattle.nfs_promises.specs.Answers.Invalid.{AreValues, LeavesNoEntry, Unreadable, Uncompared}
 use Rattle.nfs_promises.specs.Answers.Reasons.{IsNameless, Reason}
-use Rattle.nfs_promises.proofs.Answers.Blaming.{Blames, AllBlame, then_blames, there_blames, held_blames, ends_then, ends_checks, answers_blame}
-use Rattle.nfs_promises.proofs.Answers.Placed.{Answers, refused_so, done_so, unused, current_blames, denied_by, no_directory_blames, one_or}
+use Rattle.nfs_promises.proofs.Answers.Blaming.{Blames, AllBlame, bool_blames, then_blames, there_blames, held_blames, ends_then, ends_checks, answers_blame}
+use Rattle.nfs_promises.proofs.Answers.Placed.{Answers, refused_so, done_so, found_now, unused, current_blames, denied_by, no_directory_blames, one_or}
 use Rattle.nfs_promises.proofs.Permission.Granting.{may_read, may_execute}
 
 -- an object that no row names
@@ -70,6 +73,37 @@ module _ (s : State) (whole : IsWhole s) (x : Context) where
   odd_cookie : (cookie : ℕ) → cookie == 1 || cookie == 2 ≡ true → (cookie ≡ 1) ⊎ (cookie ≡ 2)
   odd_cookie cookie odd = elim (one_or (cookie == 1) (cookie == 2) odd) [ inl one ↦ inl (eqb-true _ _ one) | inr two ↦ inr (eqb-true _ _ two) ]
 
+  -- an entry is left that has no room
+  no_entry : (a : ReadDir) (d : Node) → current s x ≡ Ok d → fits_none s a d ≡ true → LeavesNoEntry s x (Operation (Op.ReadDir a))
+  unfolding fitting
+  no_entry a d e none = by (left s a d) refl none
+    where
+      too_long : (size : ℕ) (b : Bool) → cond b most_transfer a.maxcount < size → (a.maxcount < size) ⊎ (most_transfer < size)
+      too_long size true less = inr less
+      too_long size false less = inl less
+
+      first : (f : Entry) (more : List Entry) → left s a d ≡ f ∷ more → (b : Bool) → nat_le (length (entry_text f ++ []) + 16) (given a.maxcount) ≡ b → (rest : List Entry)
+          → length (cond b (f ∷ rest) []) == 0 ≡ true → LeavesNoEntry s x (Operation (Op.ReadDir a))
+      first f more are true fits rest none = (let zero : suc (length rest) ≡ 0 = eqb-true (length (f ∷ rest)) 0 none in absurd (omega arith))
+      first f more are false fits rest none = (let found = found_now s x d e in
+          record {
+            asked = a;
+            is = refl;
+            node = d;
+            at = found.0;
+            there = found.1;
+            first = f;
+            more = more;
+            are = are;
+            long = too_long (length (entry_text f) + 16) (nat_lt most_transfer a.maxcount) (subst (λ (t : List ℕ). given a.maxcount < length t + 16) (append-nil (entry_text f)) (leb-false (length (entry_text f ++ []) + 16) (given a.maxcount) fits));
+          })
+
+      by : (l : List Entry) → left s a d ≡ l
+          → nat_lt 0 (length l) && length (longest (λ entries. nat_le (length (flat_map entry_text entries) + 16) (given a.maxcount)) l) == 0 ≡ true
+          → LeavesNoEntry s x (Operation (Op.ReadDir a))
+      by [] are none = absurd (false≢true none)
+      by (f ∷ more) are none = first f more are (nat_le (length (entry_text f ++ []) + 16) (given a.maxcount)) refl _ (and_parts (nat_lt 0 (length (f ∷ more))) _ none).1
+
   pub read_dir_blames : (a : ReadDir) → Answers s x (Operation (Op.ReadDir a)) (read_dir s x a)
   unfolding read_dir
   read_dir_blames a =
@@ -82,11 +116,11 @@ module _ (s : State) (whole : IsWhole s) (x : Context) where
         λ u. (
           λ lacks. denied_by s x i d (Reads ∷ []) e (ToList d.number a (current_number s x d e)) (λ all. false≢true (sym (not-true _ lacks) ∙ may_read x d (all Reads (inl refl)))),
           λ u. (
-            λ v. refl,
-            λ u. (λ other. inr (a, refl, other_verifier a.cookieverf other), λ u. (λ odd. (a, refl, odd_cookie a.cookie odd), λ u. (λ v. refl, λ u. tt))),
+            λ some. Unreadable a.attr_request refl (one_or (has (mask_of a.attr_request) 48) (has (mask_of a.attr_request) 54) some),
+            λ u. (λ other. inr (a, refl, other_verifier a.cookieverf other), λ u. (λ odd. (a, refl, odd_cookie a.cookie odd), λ u. (λ small. inl (a, refl, ltb-true a.maxcount 16 small), λ u. tt))),
           ),
         ),
-      ) (λ placed. ends_then B Y (require (not (fits_none s a d)) S.TooSmall) _ (held_blames B (not (fits_none s a d)) S.TooSmall (λ v. refl)) (λ u e. done_so s x i tt))))
+      ) (λ placed. ends_then B Y (require (not (fits_none s a d)) S.TooSmall) _ (held_blames B (not (fits_none s a d)) S.TooSmall (λ none. inr (no_entry a d e (not-false _ none)))) (λ u e. done_so s x i tt))))
 
   pub put_fh_blames : (h : List ℕ) → Answers s x (Operation (Op.PutFh h)) (put_fh s x h)
   unfolding put_fh
@@ -152,16 +186,42 @@ module _ (s : State) (whole : IsWhole s) (x : Context) where
       answers_blame (Reason s x i) (Answers s x i) s x Num.SecinfoNoName _ (refused_so s x i Num.SecinfoNoName) (ends_then (Reason s x i) (Answers s x i) (current s x) _
       (current_blames s whole x i refl) (λ d e. ends_checks (Reason s x i) (Answers s x i) (style_checks s style d) _ (style_all style d e) (λ u. done_so s x i tt)))
 
-  compared_blames : (i : Item) (a : Attributes) → is_on_current i ≡ true → Reason s x i S.AttrNotSupp → Blames (Reason s x i) (compared s x a)
-  compared_blames i a on unknown = then_blames (Reason s x i) (current s x) _ (current_blames s whole x i on) (λ d e.
-      by_compared (Blames (Reason s x i)) unknown refl (λ equal. tt) (mask_of a.attrmask) a.attr_vals (about s d) d.object)
+  compared_blames : (i : Item) (a : Attributes) → invalid.compared i ≡ Some a → is_on_current i ≡ true → Blames (Reason s x i) (compared s x a)
+  compared_blames i a is on = then_blames (Reason s x i) (current s x) _ (current_blames s whole x i on) (λ d e.
+      bool_blames (Reason s x i) (not (within (mask_of a.attrmask) (supported s.tree.profile))) _ _ (λ unknown. inr (a, is, not-true _ unknown)) (λ known.
+      bool_blames (Reason s x i) (has (mask_of a.attrmask) 11 || asks_set_only (mask_of a.attrmask)) _ _ (λ odd.
+      Uncompared a is (by (has (mask_of a.attrmask) 11) (has (mask_of a.attrmask) 48) (has (mask_of a.attrmask) 54) odd)) (λ u. tt)))
+    where
+      by : (p q r : Bool) → p || (q || r) ≡ true → (p ≡ true) ⊎ ((q ≡ true) ⊎ (r ≡ true))
+      by true q r e = inl refl
+      by false true r e = inr (inl refl)
+      by false false r e = inr (inr e)
+
+  -- what was compared are the object's values
+  are_compared : (a : Attributes) (equal : Bool) → compared s x a ≡ Ok equal → (text : List ℕ) × AreValues s x a text × (bytes_eq a.attr_vals text ≡ equal)
+  are_compared a equal e =
+      let d = came (current s x) _ equal e in
+      let found = found_now s x d.found d.is in
+      let text = values (mask_of a.attrmask) (about s d.found) d.found.object in (
+        text,
+        record { node = d.found; at = found.0; there = found.1; are = refl },
+        by text (not (within (mask_of a.attrmask) (supported s.tree.profile))) (has (mask_of a.attrmask) 11 || asks_set_only (mask_of a.attrmask)) d.then,
+      )
+    where
+      by : (text : List ℕ) (p q : Bool) → ◌≡◌ {A = Result Bool Status} (cond p (Err S.AttrNotSupp) (cond q (Err S.Inval) (Ok (bytes_eq a.attr_vals text)))) (Ok equal)
+          → bytes_eq a.attr_vals text ≡ equal
+      by text true q e = absurd cc
+      by text false true e = absurd cc
+      by text false false e = ok_is refl e
 
   pub verify_blames : (a : Attributes) → Answers s x (Operation (Op.Verify a)) (verify s x a)
   unfolding verify
   verify_blames a =
       let i : Item = Operation (Op.Verify a) in
       answers_blame (Reason s x i) (Answers s x i) s x Num.Verify _ (refused_so s x i Num.Verify) (ends_then (Reason s x i) (Answers s x i) (compared s x a) _
-      (compared_blames i a refl refl) (λ equal e. ends_then (Reason s x i) (Answers s x i) (require equal S.NotSame) _ (held_blames (Reason s x i) equal S.NotSame (λ other. inl (a, refl)))
+      (compared_blames i a refl refl) (λ equal e. ends_then (Reason s x i) (Answers s x i) (require equal S.NotSame) _ (held_blames (Reason s x i) equal S.NotSame (λ other.
+      (let its = are_compared a equal e in
+      inl (a, refl, its.0, its.1, λ same. false≢true (sym (its.2 ∙ other) ∙ (bytes_eq-Decides a.attr_vals its.0).1 same)))))
       (λ u e. done_so s x i tt)))
 
   pub nverify_blames : (a : Attributes) → Answers s x (Operation (Op.NVerify a)) (nverify s x a)
@@ -169,7 +229,9 @@ module _ (s : State) (whole : IsWhole s) (x : Context) where
   nverify_blames a =
       let i : Item = Operation (Op.NVerify a) in
       answers_blame (Reason s x i) (Answers s x i) s x Num.NVerify _ (refused_so s x i Num.NVerify) (ends_then (Reason s x i) (Answers s x i) (compared s x a) _
-      (compared_blames i a refl refl) (λ equal e. ends_then (Reason s x i) (Answers s x i) (require (not equal) S.Same) _ (held_blames (Reason s x i) (not equal) S.Same (λ same. (a, refl)))
+      (compared_blames i a refl refl) (λ equal e. ends_then (Reason s x i) (Answers s x i) (require (not equal) S.Same) _ (held_blames (Reason s x i) (not equal) S.Same (λ same.
+      (let its = are_compared a equal e in
+      (a, refl, subst (AreValues s x a) (sym ((bytes_eq-Decides a.attr_vals its.0).0 (its.2 ∙ not-false _ same))) its.1))))
       (λ u e. done_so s x i tt)))
 
   pub put_root_blames : Answers s x (Operation Op.PutRootFh) (put_root_fh s x)

@@ -1,5 +1,5 @@
 -- CLOSE, LOCKU, WRITE and COMMIT did what they answer.
-use Rattle.std.proofs.Common.{◌≡◌, ◌≢◌, ℕ, ◌≤◌, true, not, List, [], Some, None, refl, sym, ◌∙◌, ap, subst}
+use Rattle.std.proofs.Common.{◌≡◌, ◌≢◌, ℕ, ◌≤◌, true, not, List, Some, None, refl, sym, ◌∙◌, ap, subst}
 use Rattle.std.proofs.lemmas.{Bool.{false≢true, eq-eqb, not-true, le-leb}, Option.same_Some}
 use Rattle.std.specs.Prelude.{◌==◌, nat_le, Result, Ok, Err, ok_or}
 use Rattle.nfs_xdr.specs.{Tables.In, declared.status.Status.Status, declared.time.Time.Time}
@@ -21,7 +21,7 @@ use Rattle.nfs_promises.specs.Answers.{Asked.{StateGiven, StandsFor, Itself, The
 use Rattle.nfs_promises.proofs.Answers.Blaming.{Blames, then_blames, there_blames, ends_then, ends_checks, answers_blame}
 use Rattle.nfs_promises.proofs.Answers.FileReasons.{file_blames, the_file_is, wished_blames, wished_is, may_use_blames}
 use Rattle.nfs_promises.proofs.Answers.{Placed.no_reason, StateReasons.{stands_for, meant_blames, state_blames}, TruthOfAnswers.{Off, Yes, refused_off, current_off, all_off, up_to}}
-use Rattle.nfs_promises.proofs.Permission.Granting.{may_write}
+use Rattle.nfs_promises.proofs.Permission.Granting.{may_write_bytes}
 
 -- a refusal that has a reason is none of NFS4_OK
 off_of : (s : State) (x : Context) (i : Item) {A : Type 0} (v : Result A Status) → Blames (Reason s x i) v → Blames Off v
@@ -29,7 +29,7 @@ off_of s x i (Err f) why = no_reason s x i f why
 off_of s x i (Ok a) why = tt
 
 -- what stands for a stateid is one
-stands_one : (x : Context) (k : StateGiven) (a b : StateId) → StandsFor x k a → StandsFor x k b → a ≡ b
+pub stands_one : (x : Context) (k : StateGiven) (a b : StateId) → StandsFor x k a → StandsFor x k b → a ≡ b
 stands_one x k a b (Itself other is) (Itself still so) = is ∙ sym so
 stands_one x k a b (Itself other is) (TheCurrent at some so) = absurd (other at)
 stands_one x k a b (TheCurrent at some is) (Itself other so) = absurd (other at)
@@ -45,20 +45,20 @@ module _ (s : State) (whole : IsWhole s) (x : Context) where
   unfolding close
   close_true a =
       let i : Item = Operation (Op.Close a) in
-      let k : StateGiven = record { given = a.open_stateid; sort = OpenOnly; form = Own } in
+      let k : StateGiven = record { given = a.open_stateid; sort = OpenOnly; form = Own; here = true } in
       let P : List ℕ → State → Type 0 = IsTrueOf s x i in
       answers_blame Off (Yes P) s x Num.Close _ (refused_off P s x Num.Close) (ends_then Off (Yes P) (the_file s x) _ (off_of s x i (the_file s x) (file_blames s whole x i refl refl)) (λ d e.
       (let at = current_number s x d (the_file_is s x d e) in
       ends_then Off (Yes P) (meant x Own a.open_stateid) _ (off_of s x i (meant x Own a.open_stateid) (meant_blames s x i k refl)) (λ id means.
       ends_then Off (Yes P) (closing.close s.opens id x.client d.number) _
       (then_blames Off (judge s.opens id x.client (Some d.number) OpenOnly) _ (off_of s x i (judge s.opens id x.client (Some d.number) OpenOnly)
-      (state_blames s x i k refl id (stands_for x k id means) x.client d.number refl at)) (λ n e. tt))
+      (state_blames s x i k refl id (stands_for x k id means) x.client (Some d.number) refl (refl, at))) (λ n e. tt))
       (λ did e2 ok. is_closed a id d did (stands_for x k id means) e2)))))
     where
-      is_closed : (a : Close) (id : StateId) (d : Node) (did : _) → StandsFor x (record { given = a.open_stateid; sort = OpenOnly; form = Own }) id
+      is_closed : (a : Close) (id : StateId) (d : Node) (did : _) → StandsFor x (record { given = a.open_stateid; sort = OpenOnly; form = Own; here = true }) id
           → closing.close s.opens id x.client d.number ≡ Ok did → IsClosed x a (without_unused (with_opens s did.1) d.number)
       is_closed a id d did means e k other is stands o there =
-          let k_is : record { given = a.open_stateid; sort = OpenOnly; form = Own } ≡ k = same_Some _ k is in
+          let k_is : record { given = a.open_stateid; sort = OpenOnly; form = Own; here = true } ≡ k = same_Some _ k is in
           let one : id ≡ other = stands_one x k id other (subst (λ k. StandsFor x k id) k_is means) stands in
           let n = came (judge s.opens id x.client (Some d.number) OpenOnly) _ did e in
           let left : did.1 ≡ closing.without_open s.opens id.number = ap (λ (p : _ × Table). p.1) (sym (ok_is refl n.then)) in
@@ -71,23 +71,23 @@ module _ (s : State) (whole : IsWhole s) (x : Context) where
   unfolding lock_u
   unlock_true a =
       let i : Item = Operation (Op.LockU a) in
-      let k : StateGiven = record { given = a.lock_stateid; sort = LockOnly; form = Any } in
+      let k : StateGiven = record { given = a.lock_stateid; sort = LockOnly; form = Any; here = true } in
       let P : List ℕ → State → Type 0 = IsTrueOf s x i in
       answers_blame Off (Yes P) s x Num.LockU _ (refused_off P s x Num.LockU) (ends_then Off (Yes P) (wished s x a.locktype a.offset a.length) _
-      (off_of s x i (wished s x a.locktype a.offset a.length) (wished_blames s whole x i refl refl a.locktype a.offset a.length)) (λ w e.
+      (off_of s x i (wished s x a.locktype a.offset a.length) (wished_blames s whole x i refl refl a.locktype a.offset a.length refl)) (λ w e.
       (let at = wished_is s x a.locktype a.offset a.length w e in
       ends_then Off (Yes P) (meant x Any a.lock_stateid) _ (off_of s x i (meant x Any a.lock_stateid) (meant_blames s x i k refl)) (λ id means.
       ends_then Off (Yes P) (unlock s.opens id w.client w.file w.first w.last) _
       (then_blames Off (judge s.opens id w.client (Some w.file) LockOnly) _ (off_of s x i (judge s.opens id w.client (Some w.file) LockOnly)
-      (state_blames s x i k refl id (stands_for x k id means) w.client w.file at.0 at.1)) (λ n e.
+      (state_blames s x i k refl id (stands_for x k id means) w.client (Some w.file) at.0 (refl, at.1))) (λ n e.
       then_blames Off (ok_or (lock_at s.opens id.number) S.BadStateId) _ (there_blames Off (lock_at s.opens id.number) S.BadStateId (λ none. refl)) (λ l e. tt)))
       (λ did e2 ok. holds_none a id w did e at.1 (stands_for x k id means) e2)))))
     where
       holds_none : (a : LockU) (id : StateId) (w : _) (did : _) → wished s x a.locktype a.offset a.length ≡ Ok w → x.current ≡ Some w.file
-          → StandsFor x (record { given = a.lock_stateid; sort = LockOnly; form = Any }) id → unlock s.opens id w.client w.file w.first w.last ≡ Ok did
+          → StandsFor x (record { given = a.lock_stateid; sort = LockOnly; form = Any; here = true }) id → unlock s.opens id w.client w.file w.first w.last ≡ Ok did
           → HoldsNone x a (with_opens s did.1)
       holds_none a id w did e at means e2 k other file b is stands here within =
-          let k_is : record { given = a.lock_stateid; sort = LockOnly; form = Any } ≡ k = same_Some _ k is in
+          let k_is : record { given = a.lock_stateid; sort = LockOnly; form = Any; here = true } ≡ k = same_Some _ k is in
           let one : id ≡ other = stands_one x k id other (subst (λ k. StandsFor x k id) k_is means) stands in
           let its = wish_is s x a.locktype a.offset a.length w e in
           let n = came (judge s.opens id w.client (Some w.file) LockOnly) _ did e2 in
@@ -104,12 +104,12 @@ module _ (s : State) (whole : IsWhole s) (x : Context) where
   unfolding write
   write_true now a =
       let i : Item = Operation (Op.Write a) in
-      let k : StateGiven = record { given = a.stateid; sort = Either; form = Any } in
+      let k : StateGiven = record { given = a.stateid; sort = Either; form = Any; here = true } in
       let P : List ℕ → State → Type 0 = IsTrueOf s x i in
       answers_blame Off (Yes P) s x Num.Write _ (refused_off P s x Num.Write) (ends_then Off (Yes P) (the_file s x) _ (off_of s x i (the_file s x) (file_blames s whole x i refl refl)) (λ d e.
       (let here = the_file_is s x d e in
       ends_then Off (Yes P) (may_use s x writing a.stateid d) _
-      (off_of s x i (may_use s x writing a.stateid d) (may_use_blames s whole x i k refl refl refl refl refl d here writing Writes (may_write x d) (λ id means some.
+      (off_of s x i (may_use s x writing a.stateid d) (may_use_blames s whole x i k refl refl refl refl Writes refl d here (may_write_bytes x d s.tree) (λ id means some.
       ToWrite d.number a (record { state = k; is = refl; id = id; means = stands_for x k id means; special = some; at = current_number s x d here })))) (λ n e2.
       ends_checks Off (Yes P) (write_lasts s a d) _ (all_off (write_lasts s a d) refl) (λ u ok. refl)))))
 

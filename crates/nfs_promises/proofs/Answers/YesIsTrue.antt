@@ -6,13 +6,13 @@ use Rattle.nfs_compound.specs.declared.op.{Item.{Item, TheVariants.Operation}}
 use Rattle.nfs_compound.specs.declared.op.Op.TheVariants as Op
 use Rattle.nfs_compound.specs.declared.op_num.OpNum.TheVariants as Num
 use Rattle.nfs_tree.specs.Bytes.{has_bytes}
-use Rattle.nfs_names.specs.{Outcome.is_ok, State.moment}
+use Rattle.nfs_names.specs.{Outcome.is_ok, State.time_at}
 use Rattle.nfs_names.proofs.Ones.{by_delay}
 use Rattle.nfs_files.specs.{LockU.{lock_u, wants_memory}, Write.write}
 use Rattle.nfs_exec.specs.Runs.Ops.{RanOp}
 use Rattle.nfs_exec.proofs.Runs.OneRun.{IsRun, by_ok}
 use Rattle.nfs_promises.specs.Answers.YesIsTrue.{EachYesIsTrue, IsTrueOf, IsFree}
-use Rattle.nfs_promises.proofs.Names.NameStays.{ran_in}
+use Rattle.nfs_promises.proofs.Runs.LaterRecords.{ran_in}
 use Rattle.nfs_promises.proofs.Answers.TruthOfAnswers.{Yes, refused_off, get_attr_true, get_fh_true, lookup_true, read_dir_true, read_link_true, access_true, test_true, test_stateid_true}
 use Rattle.nfs_promises.proofs.Answers.WhatIsDone.{close_true, commit_true, unlock_true, write_true}
 
@@ -45,8 +45,8 @@ by_op d r (Operation (Op.TestStateid given)) is ok =
 by_op d r (Operation (Op.Write a)) is ok =
     by_ok (IsTrueOf d.before.store d.context (Operation (Op.Write a))) d r (Operation (Op.Write a)) is ok
     (by_delay (Yes (IsTrueOf d.before.store d.context (Operation (Op.Write a)))) (has_bytes a.bytes && r.refused) d.before.store d.context Num.Write
-    (write d.before.store d.context (moment r.now) a) (refused_off (IsTrueOf d.before.store d.context (Operation (Op.Write a))) d.before.store d.context Num.Write S.Delay refl)
-    (write_true d.before.store r.whole d.context (moment r.now) a))
+    (write d.before.store d.context (time_at d.before.store r.now) a) (refused_off (IsTrueOf d.before.store d.context (Operation (Op.Write a))) d.before.store d.context Num.Write S.Delay refl)
+    (write_true d.before.store r.whole d.context (time_at d.before.store r.now) a))
 by_op d r i is ok = tt
 
 pub each_yes_is_true : EachYesIsTrue

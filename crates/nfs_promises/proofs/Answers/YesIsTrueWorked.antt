@@ -10,21 +10,22 @@ use Rattle.nfs_compound.specs.Stateid as wire_ids
 use Rattle.nfs_results.specs.Items as results
 use Rattle.nfs_results.specs.Listing as listing
 use Rattle.nfs_results.specs.{declared.res.Fattr.Fattr, ResultCodec.FitsResult}
-use Rattle.nfs_tree.specs.declared.row.Row.{Row}
+use Rattle.nfs_tree.specs.declared.{profile.Profile.TheVariants.Exact, row.Row.Row}
 use Rattle.nfs_names.specs.ReadDir.{entry_of, fitting, read_dir}
 use Rattle.nfs_promises.proofs.Names.ListsAllWorked.{are_bytes}
 use Rattle.nfs_results.specs.declared.res.Res.TheVariants as Res
 use Rattle.nfs_results.specs.Results.{spell_result}
 use Rattle.nfs_ranges.specs.declared.Kind.{Kind, TheVariants.Write}
 use Rattle.nfs_tree.specs.{declared.object.Object.Object, declared.object.FileType.TheVariants.Regular, Files.{most_text, data_at, object_at, object_named}}
-use Rattle.nfs_attrs.specs.{Mask.mask_of, Attributes.values}
+use Rattle.nfs_attrs.specs.{Mask.{common, mask_of, trimmed_words}, Attributes.{readable, values}}
 use Rattle.nfs_opens.specs.{declared.records.LockState.LockState, declared.judging.Sort.TheVariants.{OpenOnly, LockOnly}, declared.stateid.CurrentSeqid.TheVariants.{Any, Own}}
 use Rattle.nfs_names.specs.{declared.context.Context.Context, State.State, Access.access, Create.create, GetAttr.get_attr, GetFh.get_fh, ReadLink.read_link, Remove.remove}
 use Rattle.nfs_files.specs.{Commit.commit, Ranges.kind_of, LockT.lock_t, TestStateid.{code, test_stateid}}
 use Rattle.nfs_exec.specs.Runs.Ops.{RanOp}
 use Rattle.nfs_promises.specs.{Runs.{Requests.stateid, Points.ops_of}, Locks.LockKeptWorked.{asked, gives_up, last_of, statuses}, Bytes.WrittenStaysWorked.{made, writes}, Names.FileStaysWorked.{with_status, missed, closes}}
 use Rattle.nfs_promises.specs.Permission.Permitted.{Reads, Writes, Executes, Rights, rights_of, Grants, ToRoot, ToOwner, ToGroup, ToOthers}
-use Rattle.nfs_promises.specs.Answers.YesIsTrue.{TellsSo, IsFree, InRange, LiesBeside, AreTold, IsEntry, IsText, IsJudged, bits, Stands, AreTested}
+use Rattle.nfs_promises.specs.Answers.Asked.{InRange, LiesBeside}
+use Rattle.nfs_promises.specs.Answers.YesIsTrue.{TellsSo, IsFree, AreTold, IsEntry, IsText, IsJudged, bits, Stands, AreTested}
 use Rattle.nfs_promises.specs.Answers.{Asked.{StateGiven, Itself, IsCurrent}, YesIsTrueWorked.{AreAsked, YesesRefused, unchanging, telling, commits, lists, page, entry, tests, fileid, mode, may_read, reads_link, tests_stateid, misses}}
 use Rattle.nfs_promises.proofs.{Answers.ReasonsWorked.no_special, Runs.Computing.computing}
 
@@ -89,34 +90,38 @@ free d is = let e = last_of d (ops_of asked tests) in
 abbrev mode_of : Option Object → Option ℕ
 mode_of o = option_map (λ (o : Object). o.mode) o
 
-fileid_not : (s : State) (x : Context) → x.current ≡ Some 2
+fileid_not : (s : State) (x : Context) → s.tree.profile ≡ Exact → x.current ≡ Some 2
     → AreTold s x (mask_of (0x10_0000 ∷ [])) (spell_result (Res.GetAttr (record { attrmask = 0x10_0000 ∷ []; attr_vals = hyper 1 }))) → ⊥
 unfolding number hyper results.fattr results.attr_set
-fileid_not s x at why =
+fileid_not s x exact at why =
     let two : why.number ≡ 2 = same_Some why.number 2 (sym why.here.at ∙ at) in
+    let first = subst (λ p. spell_result (Res.GetAttr (record { attrmask = 0x10_0000 ∷ []; attr_vals = hyper 1 }))
+    ≡ spell_result (Res.GetAttr (record { attrmask = trimmed_words (common (mask_of (0x10_0000 ∷ [])) (readable p)); attr_vals = hyper why.number }))) exact why.told in
     let told = subst (λ n. spell_result (Res.GetAttr (record { attrmask = 0x10_0000 ∷ []; attr_vals = hyper 1 }))
-    ≡ spell_result (Res.GetAttr (record { attrmask = 0x10_0000 ∷ []; attr_vals = hyper n }))) two why.told in
+    ≡ spell_result (Res.GetAttr (record { attrmask = 0x10_0000 ∷ []; attr_vals = hyper n }))) two first in
     let bad : ◌≡◌ {A = ℕ} 1 2 = ap (λ (t : List ℕ). get_or t 27 0) told in
     absurd (omega arith)
 
-mode_not : (s : State) (x : Context) → x.current ≡ Some 2 → mode_of (object_at s.tree 2) ≡ Some 420
+mode_not : (s : State) (x : Context) → s.tree.profile ≡ Exact → x.current ≡ Some 2 → mode_of (object_at s.tree 2) ≡ Some 420
     → AreTold s x (mask_of (0 ∷ 2 ∷ [])) (spell_result (Res.GetAttr (record { attrmask = 0 ∷ 2 ∷ []; attr_vals = number 384 }))) → ⊥
 unfolding number hyper results.fattr results.attr_set
-mode_not s x at is why =
+mode_not s x exact at is why =
     let two : why.number ≡ 2 = same_Some why.number 2 (sym why.here.at ∙ at) in
     let mode : why.object.mode ≡ 420 = same_Some why.object.mode 420 (ap mode_of (sym why.here.is) ∙ (ap (λ n. mode_of (object_at s.tree n)) two ∙ is)) in
+    let first = subst (λ p. spell_result (Res.GetAttr (record { attrmask = 0 ∷ 2 ∷ []; attr_vals = number 384 }))
+    ≡ spell_result (Res.GetAttr (record { attrmask = trimmed_words (common (mask_of (0 ∷ 2 ∷ [])) (readable p)); attr_vals = number why.object.mode }))) exact why.told in
     let told = subst (λ m. spell_result (Res.GetAttr (record { attrmask = 0 ∷ 2 ∷ []; attr_vals = number 384 }))
-    ≡ spell_result (Res.GetAttr (record { attrmask = 0 ∷ 2 ∷ []; attr_vals = number m }))) mode why.told in
+    ≡ spell_result (Res.GetAttr (record { attrmask = 0 ∷ 2 ∷ []; attr_vals = number m }))) mode first in
     let bad : ◌≡◌ {A = ℕ} 128 164 = ap (λ (t : List ℕ). get_or t 27 0) told in
     absurd (omega arith)
 
 another : (d : RanOp) → TellsSo (telling (Res.GetAttr (record { attrmask = 0x10_0000 ∷ []; attr_vals = hyper 1 })) (last_of d (ops_of made fileid))) → ⊥
 unfolding computing get_attr values results.fattr
-another d is = let e = last_of d (ops_of made fileid) in fileid_not e.before.store e.context refl (is refl)
+another d is = let e = last_of d (ops_of made fileid) in fileid_not e.before.store e.context refl refl (is refl)
 
 unset : (d : RanOp) → TellsSo (telling (Res.GetAttr (record { attrmask = 0 ∷ 2 ∷ []; attr_vals = number 384 })) (last_of d (ops_of made mode))) → ⊥
 unfolding computing get_attr values results.fattr
-unset d is = let e = last_of d (ops_of made mode) in mode_not e.before.store e.context refl refl (is refl)
+unset d is = let e = last_of d (ops_of made mode) in mode_not e.before.store e.context refl refl refl (is refl)
 
 -- READDIR
 
@@ -242,10 +247,10 @@ bad d is = let e = last_of d (ops_of made tests_stateid) in let w = is refl in c
 -- LOCKU, CLOSE, WRITE and COMMIT
 
 abbrev lock_given : StateGiven
-lock_given = record { given = stateid 1 2; sort = LockOnly; form = Any }
+lock_given = record { given = stateid 1 2; sort = LockOnly; form = Any; here = true }
 
 abbrev open_given : StateGiven
-open_given = record { given = stateid 1 1; sort = OpenOnly; form = Own }
+open_given = record { given = stateid 1 1; sort = OpenOnly; form = Own; here = true }
 
 still_locked : (d : RanOp) → TellsSo (unchanging (last_of d (ops_of asked gives_up))) → ⊥
 unfolding computing

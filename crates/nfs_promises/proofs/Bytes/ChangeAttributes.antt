@@ -1,50 +1,66 @@
 -- Two GETATTRs of an object are answered the same while its change is the same.
-use Rattle.std.proofs.Common.{◌≡◌, ℕ, true, List, [], length, Option, Some, None, refl, sym, ◌∙◌, ap}
+use Rattle.std.proofs.Common.{◌≡◌, ℕ, true, List, [], length, Option, Some, None, refl, sym, ◌∙◌, ap, inl, inr}
 use Rattle.std.specs.{Prelude.{option_map, is_some, if◌then◌else◌, Ok}, Option.option_map_or}
 use Rattle.nfs_results.specs.declared.res.Res.TheVariants as Res
 use Rattle.nfs_results.specs.Results.{spell_result}
-use Rattle.nfs_tree.specs.{declared.limits.Limits.Limits, declared.stored.Stored.Stored, Object.is_directory, Files.{Files, stored_in, data_at, is_there, links_in}}
-use Rattle.nfs_attrs.specs.{Mask.{mask_of, common, trimmed_words}, Attributes.{readable, values}}
-use Rattle.nfs_names.specs.{declared.context.Context.Context, declared.node.Node.Node, Attributes.about, Checks.{node_as, node_at, current}}
+use Rattle.nfs_tree.specs.{declared.limits.Limits.Limits, declared.profile.Profile.Profile, declared.stored.Stored.Stored, Object.is_directory, Files.{Files, stored_in, data_at, is_there, links_in}}
+use Rattle.nfs_attrs.specs.{Mask.{mask_of, common, trimmed_words}, Attributes.{readable, values}, declared.about.About.About}
+use Rattle.nfs_attrs.proofs.Unasked.{values_without_room, values_in_exact}
+use Rattle.nfs_names.specs.{declared.context.Context.Context, declared.node.Node.Node, Attributes.{about, taken_by, room_in}, Checks.{node_as, node_at, current}}
 use Rattle.nfs_names.specs.State as store
 use Rattle.nfs_exec.specs.Runs.Ops.{RanOp}
 use Rattle.nfs_exec.proofs.{Step.Instances.instance_kept, Runs.OneRun.IsRun}
-use Rattle.nfs_promises.proofs.Runs.{AttributesTold.told, LeaseTold.lease_kept, LimitsKept.limits_kept}
+use Rattle.nfs_promises.proofs.Runs.{AttributesTold.told, LeaseTold.lease_kept, LimitsKept.{limits_kept, profile_kept}}
 use Rattle.nfs_serve.specs.{Step.new_state}
-use Rattle.nfs_promises.specs.{Runs.Points.reached, Bytes.ChangeTells.{GetsOf, AttributesAreAlike}}
+use Rattle.nfs_promises.specs.{Runs.Points.reached, Bytes.ChangeTells.{GetsOf, AsksNoFree, AttributesAreAlike}}
 use Rattle.nfs_promises.proofs.Runs.{Points.{IsSound, sound_all, sound_new}, LaterRecords.{op_done, first_there, later_keeps, later_done}}
 use Rattle.nfs_promises.proofs.Bytes.ChangeTells.{change_tells}
 
-abbrev text_of_size : (words : List ℕ) (n size links instance lease most : ℕ) (k : Stored) → List ℕ
-text_of_size words n size links instance lease most k =
+-- what is told of an object beside the object: of its tree its limits, its profile, and how many more objects there may be
+abbrev pub told_of : (n size links instance lease : ℕ) (limits : Limits) (profile : Profile) (free : ℕ) (k : Stored) → About
+told_of n size links instance lease limits profile free k = record {
+  number = n;
+  size = size;
+  links = if is_directory k.object.kind then 1 else links;
+  instance = instance;
+  lease = lease;
+  most_bytes = limits.bytes;
+  profile = profile;
+  used = taken_by profile size;
+  files_free = free;
+  files_total = limits.objects;
+  space_free = limits.bytes;
+  space_total = limits.bytes;
+}
+
+abbrev text_of_size : (words : List ℕ) (n size links instance lease : ℕ) (limits : Limits) (profile : Profile) (free : ℕ) (k : Stored) → List ℕ
+text_of_size words n size links instance lease limits profile free k =
     spell_result (Res.GetAttr (record {
-      attrmask = trimmed_words (common (mask_of words) readable);
-      attr_vals = values (mask_of words) (record {
-        number = n;
-        size = size;
-        links = if is_directory k.object.kind then 1 else links;
-        instance = instance;
-        lease = lease;
-        most_bytes = most;
-      }) k.object;
+      attrmask = trimmed_words (common (mask_of words) (readable profile));
+      attr_vals = values (mask_of words) (told_of n size links instance lease limits profile free k) k.object;
     }))
 
-unfoldable pub attributes_text : (words : List ℕ) (n links instance lease most : ℕ) (k : Stored) → List ℕ
-attributes_text words n links instance lease most k = text_of_size words n (length k.bytes) links instance lease most k
+unfoldable pub attributes_text : (words : List ℕ) (n links instance lease : ℕ) (limits : Limits) (profile : Profile) (free : ℕ) (k : Stored) → List ℕ
+attributes_text words n links instance lease limits profile free k = text_of_size words n (length k.bytes) links instance lease limits profile free k
+
+-- how many more objects there may be
+abbrev pub free_in : Files → ℕ
+free_in t = (room_in t).files_free
 
 -- what is answered of an object that is kept, by the size that the tree tells
 pub text_there : (words : List ℕ) (n : ℕ) (s : store.State) (k : Stored) → stored_in s.tree.objects n ≡ Some k
-    → text_of_size words n (length (data_at s.tree n)) (links_in s.tree.rows n) s.opens.instance s.lease s.tree.limits.bytes k
-    ≡ attributes_text words n (links_in s.tree.rows n) s.opens.instance s.lease s.tree.limits.bytes k
+    → text_of_size words n (length (data_at s.tree n)) (links_in s.tree.rows n) s.opens.instance s.lease s.tree.limits s.tree.profile (free_in s.tree) k
+    ≡ attributes_text words n (links_in s.tree.rows n) s.opens.instance s.lease s.tree.limits s.tree.profile (free_in s.tree) k
 unfolding attributes_text
-text_there words n s k e = ap (λ (size : ℕ). text_of_size words n size (links_in s.tree.rows n) s.opens.instance s.lease s.tree.limits.bytes k)
+text_there words n s k e =
+    ap (λ (size : ℕ). text_of_size words n size (links_in s.tree.rows n) s.opens.instance s.lease s.tree.limits s.tree.profile (free_in s.tree) k)
     (ap (λ (o : Option Stored). length (option_map_or (λ (w : Stored). w.bytes) o [])) e)
 
 -- what a GETATTR of an object answers, if it answers NFS4_OK
 pub record Attributes (n : ℕ) (words : List ℕ) (s : store.State) (text : List ℕ) : Type 0 where
   pub kept : Stored
   pub there : stored_in s.tree.objects n ≡ Some kept
-  pub answers : text ≡ attributes_text words n (links_in s.tree.rows n) s.opens.instance s.lease s.tree.limits.bytes kept
+  pub answers : text ≡ attributes_text words n (links_in s.tree.rows n) s.opens.instance s.lease s.tree.limits s.tree.profile (free_in s.tree) kept
 
 node_stored : (s : store.State) (x : Context) (n : ℕ) (d : Node) → x.current ≡ Some n → current s x ≡ Ok d
     → (st : Stored) × (stored_in s.tree.objects n ≡ Some st) × (d ≡ record { number = n; object = st.object })
@@ -64,30 +80,44 @@ gets_run n words d r gets =
       kept = it.0;
       there = it.1;
       answers = ap (λ (k : Node). spell_result (Res.GetAttr (record {
-        attrmask = trimmed_words (common (mask_of words) readable);
+        attrmask = trimmed_words (common (mask_of words) (readable d.before.store.tree.profile));
         attr_vals = values (mask_of words) (about d.before.store k) k.object;
       }))) it.2 ∙ text_there words n d.before.store it.0 it.1;
     }))
 
+-- where it is not asked how many more objects there may be, or in `exact`, the answer is the same however many that are
+pub free_same : (words : List ℕ) (n links instance lease : ℕ) (limits : Limits) (profile : Profile) (free also : ℕ) (k : Stored) → AsksNoFree profile words
+    → attributes_text words n links instance lease limits profile also k ≡ attributes_text words n links instance lease limits profile free k
+unfolding attributes_text
+free_same words n links instance lease limits profile free also k quiet =
+    ap (λ (vals : List ℕ). spell_result (Res.GetAttr (record { attrmask = trimmed_words (common (mask_of words) (readable profile)); attr_vals = vals })))
+    (elim quiet [
+      | inl exact ↦ values_in_exact (mask_of words) (told_of n (length k.bytes) links instance lease limits profile free k) k.object also exact
+      | inr none ↦ values_without_room (mask_of words) (told_of n (length k.bytes) links instance lease limits profile free k) k.object also none.0 none.1
+    ])
+
 pub text_same : (words : List ℕ) (n : ℕ) (s t : store.State) (text also : List ℕ) → t.opens.instance ≡ s.opens.instance → t.lease ≡ s.lease → t.tree.limits ≡ s.tree.limits
+    → t.tree.profile ≡ s.tree.profile → AsksNoFree s.tree.profile words
     → stored_in t.tree.objects n ≡ stored_in s.tree.objects n → links_in t.tree.rows n ≡ links_in s.tree.rows n
     → Attributes n words s text → Attributes n words t also → also ≡ text
-text_same words n s t text also instance lease limits stored links first second =
+text_same words n s t text also instance lease limits profile quiet stored links first second =
     let one : Some first.kept ≡ Some second.kept = sym first.there ∙ (sym stored ∙ second.there) in
     let kept : second.kept ≡ first.kept = cc in
     second.answers
-    ∙ (ap (attributes_text words n (links_in t.tree.rows n) t.opens.instance t.lease t.tree.limits.bytes) kept
-    ∙ (ap (λ (m : Limits). attributes_text words n (links_in t.tree.rows n) t.opens.instance t.lease m.bytes first.kept) limits
-    ∙ (ap (λ (l : ℕ). attributes_text words n (links_in t.tree.rows n) t.opens.instance l s.tree.limits.bytes first.kept) lease
-    ∙ (ap (λ (i : ℕ). attributes_text words n (links_in t.tree.rows n) i s.lease s.tree.limits.bytes first.kept) instance
-    ∙ (ap (λ (l : ℕ). attributes_text words n l s.opens.instance s.lease s.tree.limits.bytes first.kept) links
-    ∙ sym first.answers)))))
+    ∙ (ap (attributes_text words n (links_in t.tree.rows n) t.opens.instance t.lease t.tree.limits t.tree.profile (free_in t.tree)) kept
+    ∙ (ap (λ (p : Profile). attributes_text words n (links_in t.tree.rows n) t.opens.instance t.lease t.tree.limits p (free_in t.tree) first.kept) profile
+    ∙ (ap (λ (m : Limits). attributes_text words n (links_in t.tree.rows n) t.opens.instance t.lease m s.tree.profile (free_in t.tree) first.kept) limits
+    ∙ (ap (λ (l : ℕ). attributes_text words n (links_in t.tree.rows n) t.opens.instance l s.tree.limits s.tree.profile (free_in t.tree) first.kept) lease
+    ∙ (ap (λ (i : ℕ). attributes_text words n (links_in t.tree.rows n) i s.lease s.tree.limits s.tree.profile (free_in t.tree) first.kept) instance
+    ∙ (ap (λ (l : ℕ). attributes_text words n l s.opens.instance s.lease s.tree.limits s.tree.profile (free_in t.tree) first.kept) links
+    ∙ (free_same words n (links_in s.tree.rows n) s.opens.instance s.lease s.tree.limits s.tree.profile (free_in s.tree) (free_in t.tree) first.kept quiet
+    ∙ sym first.answers)))))))
 
 pub stored_there : (t : Files) (n : ℕ) (k : Stored) → stored_in t.objects n ≡ Some k → is_there t n ≡ true
 stored_there t n k e = ap is_some e
 
 pub attributes_are_alike : AttributesAreAlike
-attributes_are_alike start earlier c front d back more e n words same there equal gets also =
+attributes_are_alike start earlier c front d back more e n words same there equal quiet gets also =
     let s = reached start earlier in
     let sound : IsSound s = sound_all (new_state start) earlier (sound_new start) in
     let run : IsRun d = (op_done s c sound d (first_there s c front d back same)).run in
@@ -99,8 +129,10 @@ attributes_are_alike start earlier c front d back more e n words same there equa
     let instances = instance_kept b.opens.instance in
     let leases = lease_kept b.lease in
     let limits = limits_kept b.tree.limits in
+    let profiles = profile_kept b.tree.profile in
     text_same words n b e.before.store d.result e.result
     (later_keeps (λ t. t.opens.instance ≡ b.opens.instance) instances s c front d back more sound same (instances.run d run refl) e there)
     (later_keeps (λ t. t.lease ≡ b.lease) leases s c front d back more sound same (leases.run d run refl) e there)
     (later_keeps (λ t. t.tree.limits ≡ b.tree.limits) limits s c front d back more sound same (limits.run d run refl) e there)
-    alike.stored alike.names first second
+    (later_keeps (λ t. t.tree.profile ≡ b.tree.profile) profiles s c front d back more sound same (profiles.run d run refl) e there)
+    quiet alike.stored alike.names first second

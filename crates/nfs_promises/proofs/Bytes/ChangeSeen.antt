@@ -9,7 +9,7 @@ use Rattle.nfs_results.specs.{declared.res.ChangeInfo.ChangeInfo, declared.res.C
 use Rattle.nfs_results.specs.Results.{spell_result}
 use Rattle.nfs_results.specs.declared.res.Res.TheVariants as Res
 use Rattle.nfs_tree.specs.Files.{Files, is_there, change_of}
-use Rattle.nfs_names.specs.{State.moment, Create.create, Link.link, Outcome.is_ok, Rename.{renamed, rename}}
+use Rattle.nfs_names.specs.{State.{time_at}, Create.create, Link.link, Outcome.is_ok, Rename.{rename}}
 use Rattle.nfs_names.specs.Operation as names
 use Rattle.nfs_names.proofs.Ones.{by_delay}
 use Rattle.nfs_exec.specs.Runs.Ops.{RanOp}
@@ -29,7 +29,7 @@ reports : (n : ℕ) (d : RanOp) → IsRun d → is_ok d.status ≡ true → d.co
 reports n d r ok at =
     let s = d.before.store in
     let x = d.context in
-    let now = moment r.now in
+    let now = time_at d.before.store r.now in
     let t : Files = s.tree in
     record {
       created = λ a item. (let it = by_ok (λ result left. (k : CreateOk) × (result ≡ spell_result (Res.Create k)) × Theirs n t left.tree k.cinfo × (k.cinfo.before < k.cinfo.after))
@@ -65,11 +65,11 @@ by_report n d info is less = subst (λ (k : ℕ). k < change_of d.behind.store.t
 pub changes_raise : (n : ℕ) (d : RanOp) → IsRun d → is_there d.before.store.tree n ≡ true → is_ok d.status ≡ true → Changes n d
     → Raises n d.before.store.tree d.behind.store.tree
 changes_raise n d r there ok (Writes a item at some) = by_ok (λ result left. Raises n d.before.store.tree left.tree) d r (Operation (Op.Write a)) item ok
-    (write_raises n r.refused d.before.store d.context (moment r.now) a at there (lt-ltb 0 (length a.bytes) some))
+    (write_raises n r.refused d.before.store d.context (time_at d.before.store r.now) a at there (lt-ltb 0 (length a.bytes) some))
 changes_raise n d r there ok (Sets a wanted item at reads some) = by_ok (λ result left. Raises n d.before.store.tree left.tree) d r (Operation (Op.SetAttr a)) item ok
-    (set_attr_raises n d.before.store d.context (moment r.now) a wanted at there reads some)
+    (set_attr_raises n d.before.store d.context (time_at d.before.store r.now) a wanted at there reads some)
 changes_raise n d r there ok (Empties a item empties) = by_ok (λ result left. Raises n d.before.store.tree left.tree) d r (Operation (Op.Open a)) item ok
-    (open_raises n r.refused d.before.store d.context (moment r.now) a there empties)
+    (open_raises n r.refused d.before.store d.context (time_at d.before.store r.now) a there empties)
 changes_raise n d r there ok (Creates a item at) = (let it = (reports n d r ok at).created a item in by_report n d it.0.cinfo it.2 it.3)
 changes_raise n d r there ok (Links name item at) = (let it = (reports n d r ok at).linked name item in by_report n d it.0 it.2 it.3)
 changes_raise n d r there ok (Removes name item at) = (let it = (reports n d r ok at).removed name item in by_report n d it.0 it.2 it.3)

@@ -1,13 +1,11 @@
 -- The run of a change that is seen, and the wrong reports, computed.
-use Rattle.std.proofs.{Common.{◌≡◌, ℕ, ◌<◌, true, [], ◌∷◌, ◌++◌, take, refl, arith}, lemmas.Bool.{false≢true, ltb-true}}
+use Rattle.std.proofs.{Common.{◌≡◌, ℕ, true, [], ◌∷◌, ◌++◌, take, refl, arith}, lemmas.Bool.{false≢true, ltb-true}}
 use Rattle.nfs_compound.specs.declared.file_args.StableHow.TheVariants.{Unstable}
 use Rattle.nfs_names.specs.Context.{anonymous}
-use Rattle.nfs_results.specs.{declared.res.OpenOk.OpenOk, Results.spell_result}
-use Rattle.nfs_results.specs.declared.res.Res.TheVariants as Res
-use Rattle.nfs_tree.specs.Files.{root, is_there, change_of}
+use Rattle.nfs_results.specs.declared.res.OpenOk.{OpenOk}
 use Rattle.nfs_exec.specs.Runs.Ops.{RanOp}
 use Rattle.nfs_promises.specs.{Runs.{Requests.words, Points.ops_of}, Locks.LockKeptWorked.{outset, last_of}, Bytes.WrittenStaysWorked.{makes, made, writes}}
-use Rattle.nfs_promises.specs.Bytes.{ChangeSeen.{IsTheirs, Changes, Writes}, ChangeSeenWorked.{IsSeen, ReportsAreRefused}}
+use Rattle.nfs_promises.specs.Bytes.{ChangeSeen.Writes, ChangeSeenWorked.{IsSeen, ReportsAreRefused}}
 use Rattle.nfs_promises.proofs.{Runs.{LastOperation.{nothing, three}, Computing.computing}, Bytes.FileReadWorked.{opening, make_ops}}
 
 abbrev write : RanOp
@@ -22,45 +20,27 @@ abbrev ok : OpenOk
 ok = record {
   stateid = record { seqid = 1; other = words (7 ∷ 0 ∷ 1 ∷ []) };
   cinfo = record { atomic = true; before = 1; after = 2 };
+  rflags = 12;
   attrset = [];
 }
 
-answers : opening.result ≡ spell_result (Res.Open ok)
-unfolding computing
-answers = refl
-
-theirs : IsTheirs root opening ok.cinfo
-unfolding computing
-theirs = record { atomic = refl; before = refl; after = refl }
-
-there : is_there write.before.store.tree 2 ≡ true
-unfolding computing
-there = refl
-
-changes : Changes 2 write
-unfolding computing
-changes = Writes (record { stateid = anonymous; offset = 0; stable = Unstable; bytes = words (0x7365_656e ∷ []) }) refl refl (ltb-true 0 _ refl)
-
-raised : change_of write.before.store.tree 2 < change_of write.behind.store.tree 2
-unfolding computing
-raised = omega arith
-
 pub is_seen : IsSeen
+unfolding computing
 is_seen = record {
   front = take 1 (ops_of outset makes);
   opening = opening;
   ops = make_ops;
   ok = ok;
-  answers = answers;
-  theirs = theirs;
+  answers = refl;
+  theirs = record { atomic = refl; before = refl; after = refl };
   before = refl;
   after = refl;
   until = take 2 (ops_of made writes);
   write = write;
   last = write_ops;
-  there = there;
-  changes = changes;
-  raised = raised;
+  there = refl;
+  changes = Writes (record { stateid = anonymous; offset = 0; stable = Unstable; bytes = words (0x7365_656e ∷ []) }) refl refl (ltb-true 0 _ refl);
+  raised = omega arith;
 }
 
 pub reports_are_refused : ReportsAreRefused

@@ -8,7 +8,7 @@ use Rattle.nfs_compound.specs.declared.op_num.OpNum.TheVariants as Num
 use Rattle.nfs_results.specs.{Largest.given, Results.{spell_result, done_head}}
 use Rattle.nfs_results.specs.declared.res.Res.TheVariants as Res
 use Rattle.nfs_names.specs.{declared.node.Node.Node, Checks.{node_as, node_at, current}, declared.context.Context.Context}
-use Rattle.nfs_names.specs.{State.{with_tree, is_used, without_unused, moment}, Ending.{with_opens, table_staying, staying}, Rename.without_replaced}
+use Rattle.nfs_names.specs.{State.{with_tree, is_used, without_unused, time_at}, Ending.{with_opens, table_staying, staying}, Rename.without_replaced}
 use Rattle.nfs_names.specs.Outcome.{checked}
 use Rattle.nfs_names.proofs.{Found.{ok_is, checked_ok}, Ones.each_of, Effects.{Makes, Links, Removes, Moves}}
 use Rattle.nfs_files.specs.{Bytes.{file_checks, reading, may_use}, Parts.readable}
@@ -20,8 +20,8 @@ use Rattle.nfs_tree.specs.{declared.row.Row.Row, declared.sets.Sets.Sets, declar
 use Rattle.nfs_tree.specs.Files.{Files, root, stored_in, is_there, change_of, change_at, with_changed, with_entries_changed, with_links_changed, without_entry}
 use Rattle.nfs_tree.specs.Files.{object_named, number_named}
 use Rattle.nfs_tree.specs.Create.{New, with_new, new_object}
-use Rattle.nfs_tree.specs.{Names.{with_link, without_name, forget, Move, moves, replaced_object, with_both_changed, with_moved}, Calls.rename_fault}
-use Rattle.nfs_tree.specs.{Bytes.{written, resized, with_bytes, with_written, with_resized}, TreeInvariants.IsTree}
+use Rattle.nfs_tree.specs.{Names.{with_link, without_name, forget, Move, moves, replaced_object, touched_object, with_both_changed, with_moved}, Calls.rename_fault}
+use Rattle.nfs_tree.specs.{Bytes.{written, resized, with_bytes, with_written, with_resized, with_sets}, TreeInvariants.IsTree}
 use Rattle.nfs_tree.proofs.{Objects.{keeps_changed, stored_map, stored_within}, Moved.move_granted, Trees.entry_names}
 use Rattle.nfs_opens.specs.{TableInvariants.IsTable, Closing.without_open}
 use Rattle.nfs_names.specs.State as store
@@ -179,24 +179,27 @@ moved_follows : (n : ℕ) (t : Files) (m : Move) (now : Time) → IsTree t → r
 moved_follows n t m now is fits moves low =
     let k : ℕ = replaced_object t m in
     let Same : Type 0 = SameRows n t.rows (with_moved t m now).rows in
+    let touched : List Stored = with_links_changed (touched_object t m) now t.objects in
     record {
       given = low;
-      came = λ s e. was_after n t.objects (with_links_changed k now t.objects) s (k ≢ n) (k ≢ n → Same) Same (λ other make. make other)
-          (two_changed n m.source m.target now (with_links_changed k now t.objects) (k ≢ n → Same)
+      came = λ s e. was_after n t.objects (with_links_changed k now touched) s (k ≢ n) (k ≢ n → Same) Same (λ other make. make other)
+          (two_changed n m.source m.target now (with_links_changed k now touched) (k ≢ n → Same)
           (λ source target other. rows_moved n t m (t.last_cookie + 1) is moves (move_granted t m fits moves).old source target other) s e)
-          (λ s there. at_changed n k now no_sets t.objects (k ≢ n) (λ other. other) s there);
+          (λ s there. was_after n t.objects touched s (Unit {0}) (k ≢ n) (k ≢ n) (λ early late. late)
+          (at_changed n k now no_sets touched (k ≢ n) (λ other. other) s there)
+          (λ s there. at_changed n (touched_object t m) now no_sets t.objects (Unit {0}) (λ other. tt) s there));
     }
 
 rest_follows : (n : ℕ) (t : Files) (p : ℕ → Bool) → n ≤ t.last_object → Follows n t (record t { objects = filter (λ (s : Stored). p s.number) t.objects })
 rest_follows n t p low = record { given = low; came = λ k e. by_rest n p t.objects (SameRows n t.rows t.rows) (rows_are n t.rows) k e }
 
-changed_follows : (n : ℕ) (t : Files) (m : ℕ) (sets : Sets) (now : Time) → n ≤ t.last_object → Follows n t (record t { objects = with_changed m now sets t.objects })
+changed_follows : (n : ℕ) (t : Files) (m : ℕ) (sets : Sets) (now : Time) → n ≤ t.last_object → Follows n t (with_sets t m sets now)
 changed_follows n t m sets now low = record { given = low; came = λ k e. at_changed n m now sets t.objects (SameRows n t.rows t.rows) (λ apart. rows_are n t.rows) k e }
 
-written_follows : (n : ℕ) (t : Files) (m offset : ℕ) (text : List ℕ) (now : Time) → n ≤ t.last_object → Follows n t (with_written t m offset text now)
-written_follows n t m offset text now low = record {
+written_follows : (n : ℕ) (t : Files) (m offset : ℕ) (text : List ℕ) (sets : Sets) (now : Time) → n ≤ t.last_object → Follows n t (with_written t m offset text sets now)
+written_follows n t m offset text sets now low = record {
   given = low;
-  came = λ k e. at_bytes n m now no_sets (λ s. written s.bytes offset text) t.objects (SameRows n t.rows t.rows) (rows_are n t.rows) k e;
+  came = λ k e. at_bytes n m now sets (λ s. written s.bytes offset text) t.objects (SameRows n t.rows t.rows) (rows_are n t.rows) k e;
 }
 
 resized_follows : (n : ℕ) (t : Files) (m size : ℕ) (sets : Sets) (now : Time) → n ≤ t.last_object → Follows n t (with_resized t m size sets now)
@@ -235,12 +238,12 @@ names_behind n t s (Moves m now) fits tree is =
 files_behind : (n : ℕ) (t : Files) (s : store.State) (client : ℕ) (e : files_effects.Effect) → files_effects.Fits s client e → IsTree s.tree → Follows n t s.tree
     → Follows n t (files_effects.behind s e).tree
 files_behind n t s client (Names e) fits tree is = names_behind n t s e fits tree is
-files_behind n t s client (Writes m offset text now) fits tree is =
-    follows_on n t s.tree (with_written s.tree m offset text now) is (written_follows n s.tree m offset text now)
+files_behind n t s client (Writes m offset text sets now) fits tree is =
+    follows_on n t s.tree (with_written s.tree m offset text sets now) is (written_follows n s.tree m offset text sets now)
 files_behind n t s client (Resizes m size sets now) fits tree is =
     follows_on n t s.tree (with_resized s.tree m size sets now) is (resized_follows n s.tree m size sets now)
 files_behind n t s client (Changes m sets now) fits tree is =
-    follows_on n t s.tree (record s.tree { objects = with_changed m now sets s.tree.objects }) is (changed_follows n s.tree m sets now)
+    follows_on n t s.tree (with_sets s.tree m sets now) is (changed_follows n s.tree m sets now)
 files_behind n t s client (Closes m file) fits tree is = unused_follows n t (with_opens s (without_open s.opens m)) file is
 files_behind n t s client e fits tree is = is
 
@@ -267,8 +270,8 @@ file_item n t refused s x now i table is = (files_effected.kept_item (FollowsOn 
 pub run_follows : (n : ℕ) (t : Files) (d : RanOp) → IsRun d → Follows n t d.before.store.tree → Follows n t d.behind.store.tree
 run_follows n t d r is =
     let here : FollowsOn n t d.before.store = record { sound = record { tree = r.whole.tree; store = r.whole.store }; follows = is } in
-    by_run (λ status text s. Follows n t s.tree) d r is (names_item n t r.refused d.before.store d.context (moment r.now) d.item here)
-    (file_item n t r.refused d.before.store d.context (moment r.now) d.item r.whole.table here) (λ other. is)
+    by_run (λ status text s. Follows n t s.tree) d r is (names_item n t r.refused d.before.store d.context (time_at d.before.store r.now) d.item here)
+    (file_item n t r.refused d.before.store d.context (time_at d.before.store r.now) d.item r.whole.table here) (λ other. is)
 
 -- Records.
 

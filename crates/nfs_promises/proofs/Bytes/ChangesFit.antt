@@ -8,22 +8,21 @@ use Rattle.nfs_xdr.specs.{declared.time.Time.Time, Spelling.{number, hyper, padd
 use Rattle.nfs_xdr.proofs.{Checks.all_passed, Lists.{find_in, find_past, find_out, find_push_some, find_push_none, find_push_other}, Putting.length_number}
 use Rattle.nfs_xdr.proofs.Putting.{length_hyper}
 use Rattle.nfs_compound.specs.{declared.op.Item.Item, declared.op.Item.TheVariants.Operation, declared.op.Op.Op, OpNum.op_number}
-use Rattle.nfs_compound.specs.declared.op.Op.TheVariants as Op
 use Rattle.nfs_compound.specs.declared.op_num.OpNum.TheVariants as Num
 use Rattle.nfs_results.proofs.Lengths.{length_head}
 use Rattle.nfs_results.specs.Items as results
 use Rattle.nfs_results.specs.{declared.res.Res.Res, Results.{spell_result, done_head}}
-use Rattle.nfs_results.specs.declared.res.Res.TheVariants as Res
 use Rattle.nfs_tree.specs.{declared.sets.Sets.Sets, declared.stored.Stored.Stored, Object.{modified, no_sets}, TreeInvariants.IsTree}
 use Rattle.nfs_tree.specs.Files.{Files, root, last_count, stored_in, can_change, is_directory_at, change_of, change_at, with_changed, with_entries_changed}
 use Rattle.nfs_tree.specs.{Files.{with_links_changed, object_named, number_named}, Calls.{CanChange, rename_fault}, Create.new_object}
-use Rattle.nfs_tree.specs.{Names.{with_link, without_name, Move, moves, replaced_object, with_moved}, Bytes.{written, resized, with_bytes}}
+use Rattle.nfs_tree.specs.{Names.{with_link, without_name, Move, moves, replaced_object, touched_object, with_moved}, Bytes.{written, resized, with_bytes}}
 use Rattle.nfs_tree.proofs.{IndexedLemmas.can_of, Objects.{keeps_changed, stored_map, can_change_all, can_change_after}, Put.{create_granted, link_granted}}
 use Rattle.nfs_tree.proofs.{Sized.{write_granted, resize_granted}, Trees.{remove_granted, has_one, apart}}
-use Rattle.nfs_tree.proofs.Moved.{move_granted, replaced_source, replaced_target, replaced_can}
+use Rattle.nfs_tree.proofs.Moved.{move_granted, replaced_source, replaced_target, replaced_left, touched_source, touched_target, touched_can}
+use Rattle.nfs_tree.specs.declared.profile.Profile.{Profile}
 use Rattle.nfs_attrs.specs.{declared.mask.Mask.Mask, declared.wanted.Wanted.Wanted, Mask.{trimmed_words, common}, Attributes.readable}
-use Rattle.nfs_names.specs.{declared.start.Start.Start, declared.context.Context.Context, State.{with_tree, is_used, without_unused, moment}}
-use Rattle.nfs_names.specs.{Ending.{with_opens, table_staying}, Rename.without_replaced, Outcome.{Outcome, checked, is_ok}, Create.given_sets}
+use Rattle.nfs_names.specs.{declared.start.Start.Start, declared.context.Context.Context, declared.node.Node.Node, State.{with_tree, is_used, without_unused, time_at}}
+use Rattle.nfs_names.specs.{Ending.{with_opens, table_staying}, Rename.without_replaced, Outcome.{Outcome, checked, is_ok}}
 use Rattle.nfs_names.specs.State as store
 use Rattle.nfs_names.specs.Operation as names
 use Rattle.nfs_names.proofs.{Found.checked_ok, Ones.{by_delay, each_of}, Effects.{Makes, Links, Removes, Moves}}
@@ -115,10 +114,14 @@ moved_low : (t : Files) (m : Move) (now : Time) → IsTree t → rename_fault t 
 moved_low t m now is fits goes low =
     let granted = move_granted t m fits goes in
     let k = replaced_object t m in
-    let lost : List Stored = with_links_changed k now t.objects in
-    let low_lost : Low lost = low_changed k now no_sets t.objects (replaced_can t m is granted) low in
-    let source : CanChange lost m.source = can_change_after t.objects k m.source now no_sets (λ e. replaced_source t m is granted (sym e)) (can t m.source is granted.change_source) in
-    let target : CanChange lost m.target = can_change_after t.objects k m.target now no_sets (λ e. replaced_target t m is granted (sym e)) (can t m.target is granted.change_target) in
+    let h = touched_object t m in
+    let touched : List Stored = with_links_changed h now t.objects in
+    let lost : List Stored = with_links_changed k now touched in
+    let low_lost : Low lost = low_changed k now no_sets touched (replaced_left t m now is granted) (low_changed h now no_sets t.objects (touched_can t m is granted) low) in
+    let source : CanChange lost m.source = can_change_after touched k m.source now no_sets (λ e. replaced_source t m is granted (sym e))
+    (can_change_after t.objects h m.source now no_sets (λ e. touched_source t m is granted (sym e)) (can t m.source is granted.change_source)) in
+    let target : CanChange lost m.target = can_change_after touched k m.target now no_sets (λ e. replaced_target t m is granted (sym e))
+    (can_change_after t.objects h m.target now no_sets (λ e. touched_target t m is granted (sym e)) (can t m.target is granted.change_target)) in
     let one : Low (with_entries_changed m.source now lost) = low_changed m.source now (modified now no_sets) lost source low_lost in
     elim (cases_eq m.source m.target) [
       | inl same ↦ rw (eq-eqb m.source m.target same) one
@@ -161,15 +164,15 @@ abbrev is_set : Item → Bool
 is_set (Operation (Op.SetAttr a)) = true
 is_set i = false
 
-set_low : (t : Files) (n : ℕ) (now : Time) (wanted : Wanted) (size : Option ℕ) → wanted.size ≡ size → IsTree t
-    → of_set.gives_some wanted && not (can_change t n) ≡ false → Low t.objects → Low (of_set.with_set t n now wanted size).objects
-set_low t n now wanted (Some size) same is checks low =
+set_low : (t : Files) (x : Context) (d : Node) (now : Time) (wanted : Wanted) (size : Option ℕ) → wanted.size ≡ size → IsTree t
+    → of_set.gives_some wanted && not (can_change t d.number) ≡ false → Low t.objects → Low (of_set.with_set t x d now wanted size).objects
+set_low t x d now wanted (Some size) same is checks low =
     let some : of_set.gives_some wanted ≡ true = rw same refl in
-    low_bytes n now (given_sets now wanted) (λ s. resized s.bytes size) t.objects
-    (can t n is (not-false _ (guarded (of_set.gives_some wanted) (not (can_change t n)) checks some))) low
-set_low t n now wanted None same is checks low = elim (cases_Bool (of_set.gives_some wanted)) [
-  | inl some ↦ rw some (low_changed n now (given_sets now wanted) t.objects
-      (can t n is (not-false _ (guarded (of_set.gives_some wanted) (not (can_change t n)) checks some))) low)
+    low_bytes d.number now (of_set.settled_sets t x d now wanted) (λ s. resized s.bytes size) t.objects
+    (can t d.number is (not-false _ (guarded (of_set.gives_some wanted) (not (can_change t d.number)) checks some))) low
+set_low t x d now wanted None same is checks low = elim (cases_Bool (of_set.gives_some wanted)) [
+  | inl some ↦ rw some (low_changed d.number now (of_set.settled_sets t x d now wanted) t.objects
+      (can t d.number is (not-false _ (guarded (of_set.gives_some wanted) (not (can_change t d.number)) checks some))) low)
   | inr empty ↦ rw empty low
 ]
 
@@ -180,16 +183,16 @@ set_item refused s x now (Operation (Op.SetAttr a)) e is low =
     by_delay P (grows s x (Op.SetAttr a) && refused) s x Num.SetAttr (of_set.set_attr s x now a) low
     (subst P (sym (in_steps.set_attr_is s x now a))
     (by_found P s x Num.SetAttr (checked (set_parts.asked_for s x a) (set_parts.last_checks s)) (set_parts.was_set s x now a) (λ status. low)
-    (λ m granted. set_low s.tree m.node.number now m.wanted m.wanted.size refl is
+    (λ m granted. set_low s.tree x m.node now m.wanted m.wanted.size refl is
     (all_passed (set_parts.last_checks s m) (checked_ok (set_parts.asked_for s x a) (set_parts.last_checks s) m granted).1).1.0 low)))
 set_item refused s x now i e is low = absurd (false≢true e)
 
 files_low : (s t : store.State) (x : Context) (op : Op) (r : Res) (e : files_effects.Effect) → is_set (Operation op) ≡ false → IsTable s.opens → Caused s x op r t e → IsTree t.tree
     → Low t.tree.objects → Low (files_effects.behind t e).tree.objects
 files_low s t x op r (Names e) other table caused tree low = names_low t e (caused.fits table) tree low
-files_low s t x op r (Writes m offset text now) other table caused tree low =
+files_low s t x op r (Writes m offset text sets now) other table caused tree low =
     (let fits = caused.fits table in
-    low_bytes m now no_sets (λ s. written s.bytes offset text) t.tree.objects (can t.tree m tree (write_granted t.tree m offset text fits.0 fits.1).2) low)
+    low_bytes m now sets (λ s. written s.bytes offset text) t.tree.objects (can t.tree m tree (write_granted t.tree m offset text fits.0 fits.1).2) low)
 files_low s t x op r (Resizes m size sets now) other table caused tree low =
     low_bytes m now sets (λ s. resized s.bytes size) t.tree.objects (can t.tree m tree (resize_granted t.tree m size (caused.fits table)).2) low
 files_low s t x op r (Changes m sets now) other table caused tree low = absurd (false≢true (sym other ∙ ap (λ op. is_set (Operation op)) caused.cause.is))
@@ -220,8 +223,8 @@ file_item refused s x now i table is = elim (cases_Bool (is_set i)) [
 run_low : (d : RanOp) → IsRun d → Low d.before.store.tree.objects → Low d.behind.store.tree.objects
 run_low d r low =
     let here : IsLow d.before.store = record { sound = record { tree = r.whole.tree; store = r.whole.store }; low = low } in
-    by_run (λ status text s. Low s.tree.objects) d r low (names_item r.refused d.before.store d.context (moment r.now) d.item here)
-    (file_item r.refused d.before.store d.context (moment r.now) d.item r.whole.table here) (λ other. low)
+    by_run (λ status text s. Low s.tree.objects) d r low (names_item r.refused d.before.store d.context (time_at d.before.store r.now) d.item here)
+    (file_item r.refused d.before.store d.context (time_at d.before.store r.now) d.item r.whole.table here) (λ other. low)
 
 low_kept : IsKept (λ s. Low s.tree.objects)
 low_kept = record { run = run_low; end = λ stays s low. low_rest (is_used (with_opens s (table_staying stays s.opens))) s.tree.objects low }
@@ -293,9 +296,9 @@ values_same mask vals also e =
       rest_same 4 (number (length vals)) (number (length also)) first second (length_number (length vals)) (length_number (length also)) texts,
     )
 
-one_value : (a b : ℕ) (mask : Mask) (text : List ℕ) → a < 2 ^ 64 → b < 2 ^ 64 → TellsValue 3 (hyper a) mask text → TellsValue 3 (hyper b) mask text → a ≡ b
-one_value a b mask text small low first second =
-    let words = trimmed_words (common mask readable) in
+one_value : (p : Profile) (a b : ℕ) (mask : Mask) (text : List ℕ) → a < 2 ^ 64 → b < 2 ^ 64 → TellsValue p 3 (hyper a) mask text → TellsValue p 3 (hyper b) mask text → a ≡ b
+one_value p a b mask text small low first second =
+    let words = trimmed_words (common mask (readable p)) in
     let v = values_same words (first.front ++ (hyper a ++ first.behind)) (second.front ++ (hyper b ++ second.behind)) (sym first.answers ∙ second.answers) in
     let whole = sym (append_assoc first.front (hyper a ++ first.behind) v.0) ∙ (v.2 ∙ append_assoc second.front (hyper b ++ second.behind) v.1) in
     let rest = rest_same _ first.front second.front ((hyper a ++ first.behind) ++ v.0) ((hyper b ++ second.behind) ++ v.1) first.long second.long whole in
@@ -307,5 +310,5 @@ pub change_is_read : ChangeIsRead
 change_is_read start records c d n words change there gets asks small tells =
     let s = reached start records in
     let sound : IsSound s = sound_all (new_state start) records (sound_new start) in
-    one_value change (change_of d.before.store.tree n) _ d.result small (changes_fit start records c d n there).0 tells
+    one_value d.before.store.tree.profile change (change_of d.before.store.tree n) _ d.result small (changes_fit start records c d n there).0 tells
     (change_in d (op_done s c sound d there).run words n gets.is asks gets.ok gets.at)

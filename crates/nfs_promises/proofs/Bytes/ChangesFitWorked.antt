@@ -12,11 +12,11 @@ use Rattle.nfs_promises.specs.Bytes.{ChangeSeen.{Changes, Writes}, ChangeTells.G
 use Rattle.nfs_promises.specs.Bytes.EntriesAlikeWorked.{asked_for}
 use Rattle.nfs_promises.proofs.Runs.Computing.{computing}
 
-tells_one : (d : RanOp) → TellsValue 3 (hyper 1) (mask_of asked_for) (cut d).result
+tells_one : (d : RanOp) → TellsValue (cut d).before.store.tree.profile 3 (hyper 1) (mask_of asked_for) (cut d).result
 unfolding computing get_attr values results.fattr
 tells_one d = record { front = []; behind = words (0 ∷ 8 ∷ 420 ∷ 1 ∷ []); long = refl; answers = refl }
 
-tells_low : (d : RanOp) → TellsValue 3 (hyper (change_of (cut d).before.store.tree 2)) (mask_of asked_for) (cut d).result
+tells_low : (d : RanOp) → TellsValue (cut d).before.store.tree.profile 3 (hyper (change_of (cut d).before.store.tree 2)) (mask_of asked_for) (cut d).result
 unfolding computing get_attr values results.fattr
 tells_low d = record { front = []; behind = words (0 ∷ 8 ∷ 420 ∷ 1 ∷ []); long = refl; answers = refl }
 

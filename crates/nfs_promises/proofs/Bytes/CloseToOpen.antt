@@ -11,7 +11,7 @@ use Rattle.nfs_compound.specs.declared.op_num.OpNum.TheVariants as Num
 use Rattle.nfs_results.proofs.Lengths.{length_head}
 use Rattle.nfs_results.specs.Results.{spell_result, done_head, status_of_result}
 use Rattle.nfs_tree.specs.Files.{Files, is_there, change_of}
-use Rattle.nfs_names.specs.{declared.start.Start.Start, declared.context.Context.Context, Checks.current, Outcome.{Outcome, checked, is_ok}, State.moment}
+use Rattle.nfs_names.specs.{declared.start.Start.Start, declared.context.Context.Context, Checks.current, Outcome.{Outcome, checked, is_ok}, State.time_at}
 use Rattle.nfs_names.specs.State as store
 use Rattle.nfs_names.proofs.{Found.{checked_ok, current_is}, Ones.by_delay}
 use Rattle.nfs_files.specs.{Operation.grows, Parts.{writable, was_written}, Written.{Byte, GivesIt}}
@@ -111,7 +111,7 @@ wrote b d run w =
     let below = o.below in
     by_item (λ status text t. Wrote b.file s.tree o.asked o.count o.more status text) d run (Operation (Op.Write o.asked)) o.is
     (λ told. absurd (short Num.Write RepTooBig o.count o.more o.long told))
-    (write_told b.file run.refused s d.context (moment run.now) o.asked o.count o.more o.at o.long (omega arith)) o.answers
+    (write_told b.file run.refused s d.context (time_at s run.now) o.asked o.count o.more o.at o.long (omega arith)) o.answers
 
 got_there : (n : ℕ) (words : List ℕ) (d : RanOp) → IsRun d → GetsOf n words d → is_there d.before.store.tree n ≡ true
 got_there n words d run gets = let is = gets_run n words d run gets in stored_there d.before.store.tree n is.kept is.there

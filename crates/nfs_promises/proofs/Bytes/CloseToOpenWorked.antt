@@ -1,6 +1,7 @@
 -- The run of close-to-open, and the server that it refuses, computed.
-use Rattle.std.proofs.{Common.{◌≡◌, ℕ, ◌^◌, ◌<◌, List, [], ◌∷◌, ◌++◌, take, append_assoc, refl, sym, ◌∙◌, ap, arith}, lemmas.Bool.ltb-true}
-use Rattle.nfs_attrs.specs.Attributes.{values}
+use Rattle.std.proofs.{Common.{◌≡◌, ℕ, ◌^◌, ◌<◌, List, [], ◌∷◌, ◌++◌, take, append_assoc, refl, sym, ◌∙◌, ap, subst, arith}, lemmas.Bool.ltb-true}
+use Rattle.nfs_tree.specs.declared.profile.Profile.TheVariants.{Exact}
+use Rattle.nfs_attrs.specs.{Attributes.values, Mask.mask_of}
 use Rattle.nfs_names.specs.GetAttr.{get_attr}
 use Rattle.nfs_xdr.specs.Spelling.{hyper}
 use Rattle.nfs_results.specs.Items as results
@@ -9,7 +10,7 @@ use Rattle.nfs_results.specs.declared.res.Res.TheVariants as Res
 use Rattle.nfs_files.specs.Written.{bytes_in, GivesIt, Reads}
 use Rattle.nfs_exec.specs.{Runs.Ops.RanOp, Runs.WrittenRun.{WritesIt, AreSpared}}
 use Rattle.nfs_serve.specs.{Step.new_state}
-use Rattle.nfs_promises.specs.{Runs.{Requests.{words, exchange_id, create_session}, Started.usual, Points.{state_after, ops_of}}, Bytes.ChangeTells.GetsOf}
+use Rattle.nfs_promises.specs.{Runs.{Requests.{words, exchange_id, create_session}, Started.usual, Points.{state_after, ops_of}}, Bytes.ChangeTells.GetsOf, Runs.AttributesTold.TellsValue}
 use Rattle.nfs_promises.specs.Bytes.{CloseToOpen.{TellsChange, Keeps, IsWritten}, CloseToOpenWorked.{the_change, comes, begins, looks, reads_early, writes}}
 use Rattle.nfs_promises.specs.Bytes.CloseToOpenWorked.{closes, first_open, reads, second_open, records, there, ready, looked, read_early, written, closed}
 use Rattle.nfs_promises.specs.Bytes.{CloseToOpenWorked.{opened, read_again, IsKept, telling, StaleBytesRefused}, WrittenStaysWorked.{makes, made, byte}}
@@ -72,29 +73,12 @@ before_open = before_write ++ (write_ops ∷ close_ops ∷ [])
 abbrev before_second : List (List RanOp)
 before_second = before_open ++ (first_ops ∷ read_ops ∷ [])
 
-look : look_ops ≡ take 2 look_ops ++ last_of nothing look_ops ∷ []
-unfolding computing get_attr values results.fattr
-look = three nothing look_ops refl
+abbrev EndsThree : List RanOp → Type 0
+EndsThree ds = ds ≡ take 2 ds ++ last_of nothing ds ∷ []
 
-early : early_ops ≡ take 2 early_ops ++ last_of nothing early_ops ∷ []
+ends : EndsThree look_ops × EndsThree early_ops × EndsThree write_ops × EndsThree first_ops × EndsThree read_ops × EndsThree second_ops
 unfolding computing get_attr values results.fattr
-early = three nothing early_ops refl
-
-write : write_ops ≡ take 2 write_ops ++ last_of nothing write_ops ∷ []
-unfolding computing get_attr values results.fattr
-write = three nothing write_ops refl
-
-first : first_ops ≡ take 2 first_ops ++ last_of nothing first_ops ∷ []
-unfolding computing get_attr values results.fattr
-first = three nothing first_ops refl
-
-read : read_ops ≡ take 2 read_ops ++ last_of nothing read_ops ∷ []
-unfolding computing get_attr values results.fattr
-read = three nothing read_ops refl
-
-second : second_ops ≡ take 2 second_ops ++ last_of nothing second_ops ∷ []
-unfolding computing get_attr values results.fattr
-second = three nothing second_ops refl
+ends = (three nothing look_ops refl, three nothing early_ops refl, three nothing write_ops refl, three nothing first_ops refl, three nothing read_ops refl, three nothing second_ops refl)
 
 writes_it : WritesIt byte (last_of nothing write_ops)
 unfolding computing get_attr values results.fattr
@@ -122,21 +106,27 @@ unfolding computing get_attr values results.fattr
 spared_at_first = all_spared byte (close_ops ++ take 2 first_ops) refl
 
 -- eight bytes of one attribute, which is the change
-abbrev tells_it : (change : ℕ) (d : RanOp) → GetsOf 2 the_change d → change < 2 ^ 64
+abbrev tells_it : (change : ℕ) (d : RanOp) → GetsOf 2 the_change d → change < 2 ^ 64 → d.before.store.tree.profile ≡ Exact
     → d.result ≡ spell_result (Res.GetAttr (record { attrmask = 8 ∷ []; attr_vals = hyper change ++ [] })) → TellsChange 2 change d
-tells_it change d gets small answers = record { words = the_change; gets = gets; asks = refl; small = small; told = record { front = []; behind = []; long = refl; answers = answers } }
+tells_it change d gets small exact answers = record {
+  words = the_change;
+  gets = gets;
+  asks = refl;
+  small = small;
+  told = subst (λ p. TellsValue p 3 (hyper change) (mask_of the_change) d.result) (sym exact) (record { front = []; behind = []; long = refl; answers = answers });
+}
 
 looks_at : TellsChange 2 1 (last_of nothing look_ops)
 unfolding computing get_attr values results.fattr
-looks_at = tells_it 1 (last_of nothing look_ops) (record { is = refl; at = refl; ok = refl }) (omega arith) refl
+looks_at = tells_it 1 (last_of nothing look_ops) (record { is = refl; at = refl; ok = refl }) (omega arith) refl refl
 
 tells_first : TellsChange 2 2 (last_of nothing first_ops)
 unfolding computing get_attr values results.fattr
-tells_first = tells_it 2 (last_of nothing first_ops) (record { is = refl; at = refl; ok = refl }) (omega arith) refl
+tells_first = tells_it 2 (last_of nothing first_ops) (record { is = refl; at = refl; ok = refl }) (omega arith) refl refl
 
 tells_second : TellsChange 2 2 (last_of nothing second_ops)
 unfolding computing get_attr values results.fattr
-tells_second = tells_it 2 (last_of nothing second_ops) (record { is = refl; at = refl; ok = refl }) (omega arith) refl
+tells_second = tells_it 2 (last_of nothing second_ops) (record { is = refl; at = refl; ok = refl }) (omega arith) refl refl
 
 -- the four bytes, and none
 reads_all : (let d = last_of nothing read_ops in Reads 2 1 d.context d.item d.result)
@@ -157,7 +147,7 @@ abbrev until : List RanOp
 until = in_front before_second (take 2 second_ops)
 
 whole : all_ops (new_state usual) records ≡ until ++ last_of nothing second_ops ∷ []
-whole = in_last before_second second_ops (take 2 second_ops) (last_of nothing second_ops) [] second
+whole = in_last before_second second_ops (take 2 second_ops) (last_of nothing second_ops) [] ends.5
 
 abbrev kept : Keeps byte 2 until
 kept = record {
@@ -166,9 +156,9 @@ kept = record {
   between = take 2 read_ops;
   read = last_of nothing read_ops;
   back = take 2 second_ops;
-  order = in_last before_open first_ops (take 2 first_ops) (last_of nothing first_ops) (read_ops ++ take 2 second_ops) first
+  order = in_last before_open first_ops (take 2 first_ops) (last_of nothing first_ops) (read_ops ++ take 2 second_ops) ends.3
       ∙ ap (λ ds. in_front before_open (take 2 first_ops) ++ last_of nothing first_ops ∷ ds)
-      (in_last [] read_ops (take 2 read_ops) (last_of nothing read_ops) (take 2 second_ops) read);
+      (in_last [] read_ops (take 2 read_ops) (last_of nothing read_ops) (take 2 second_ops) ends.4);
   tells = tells_first;
   reads = reads_all;
 }
@@ -183,7 +173,7 @@ is_kept = record {
     front = in_front before_write (take 2 write_ops);
     write = last_of nothing write_ops;
     since = close_ops ++ (first_ops ++ (read_ops ++ take 2 second_ops));
-    order = in_last before_write write_ops (take 2 write_ops) (last_of nothing write_ops) (close_ops ++ (first_ops ++ (read_ops ++ take 2 second_ops))) write;
+    order = in_last before_write write_ops (take 2 write_ops) (last_of nothing write_ops) (close_ops ++ (first_ops ++ (read_ops ++ take 2 second_ops))) ends.2;
     writes = writes_it;
     spared = spared_at_last;
   };
@@ -203,9 +193,9 @@ kept_old = record {
   between = take 2 early_ops;
   read = last_of nothing early_ops;
   back = write_ops ++ (close_ops ++ take 2 first_ops);
-  order = in_last ready_ops look_ops (take 2 look_ops) (last_of nothing look_ops) (early_ops ++ (write_ops ++ (close_ops ++ take 2 first_ops))) look
+  order = in_last ready_ops look_ops (take 2 look_ops) (last_of nothing look_ops) (early_ops ++ (write_ops ++ (close_ops ++ take 2 first_ops))) ends.0
       ∙ ap (λ ds. in_front ready_ops (take 2 look_ops) ++ last_of nothing look_ops ∷ ds)
-      (in_last [] early_ops (take 2 early_ops) (last_of nothing early_ops) (write_ops ++ (close_ops ++ take 2 first_ops)) early);
+      (in_last [] early_ops (take 2 early_ops) (last_of nothing early_ops) (write_ops ++ (close_ops ++ take 2 first_ops)) ends.1);
   tells = looks_at;
   reads = reads_none;
 }
@@ -215,14 +205,14 @@ wrote_first = record {
   front = in_front before_write (take 2 write_ops);
   write = last_of nothing write_ops;
   since = close_ops ++ take 2 first_ops;
-  order = in_last before_write write_ops (take 2 write_ops) (last_of nothing write_ops) (close_ops ++ take 2 first_ops) write;
+  order = in_last before_write write_ops (take 2 write_ops) (last_of nothing write_ops) (close_ops ++ take 2 first_ops) ends.2;
   writes = writes_it;
   spared = spared_at_first;
 }
 
 tells_old : (d : RanOp) → TellsChange 2 1 (telling 1 (last_of d first_ops))
 unfolding computing get_attr values results.fattr
-tells_old d = tells_it 1 (telling 1 (last_of d first_ops)) (record { is = refl; at = refl; ok = refl }) (omega arith) refl
+tells_old d = tells_it 1 (telling 1 (last_of d first_ops)) (record { is = refl; at = refl; ok = refl }) (omega arith) refl refl
 
 not_given : GivesIt byte (last_of nothing early_ops).context (last_of nothing early_ops).item (last_of nothing early_ops).result reads_none → ⊥
 unfolding reads_none computing

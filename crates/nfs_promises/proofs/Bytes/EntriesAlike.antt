@@ -10,7 +10,7 @@ use Rattle.nfs_names.specs.ReadDir.{attributes_at, entry_of}
 use Rattle.nfs_names.specs.State as store
 use Rattle.nfs_exec.specs.Runs.Ops.{RanOp}
 use Rattle.nfs_exec.proofs.{Step.Instances.instance_kept, Runs.OneRun.IsRun}
-use Rattle.nfs_promises.proofs.Runs.{LeaseTold.lease_kept, LimitsKept.limits_kept}
+use Rattle.nfs_promises.proofs.Runs.{LeaseTold.lease_kept, LimitsKept.{limits_kept, profile_kept}}
 use Rattle.nfs_serve.specs.{Step.new_state}
 use Rattle.nfs_promises.specs.{Bytes.EntriesAlike.{TellsOf, Gets, Lists, EntriesAreAlike}, Names.ListsAll.{Page, IsPage}, Runs.Points.reached}
 use Rattle.nfs_promises.proofs.Bytes.{ChangeAttributes.{text_there, Attributes, gets_run, text_same, stored_there}, ChangeTells.{change_tells, there_stored}}
@@ -57,7 +57,7 @@ tells n words d told run (Lists directory cookie p e page op asks within leads i
     (subst (Attributes n p.asked.attr_request p.op.before.store) is (entry_told directory cookie n p e (subst IsRun (sym op) run) page within leads)))
 
 pub entries_are_alike : EntriesAreAlike
-entries_are_alike start earlier c front d back more e n words told also same there equal here behind =
+entries_are_alike start earlier c front d back more e n words told also same there equal quiet here behind =
     let s = reached start earlier in
     let sound : IsSound s = sound_all (new_state start) earlier (sound_new start) in
     let run : IsRun d = (op_done s c sound d (first_there s c front d back same)).run in
@@ -69,8 +69,10 @@ entries_are_alike start earlier c front d back more e n words told also same the
     let instances = instance_kept b.opens.instance in
     let leases = lease_kept b.lease in
     let limits = limits_kept b.tree.limits in
+    let profiles = profile_kept b.tree.profile in
     text_same words n b e.before.store told also
     (later_keeps (λ t. t.opens.instance ≡ b.opens.instance) instances s c front d back more sound same (instances.run d run refl) e there)
     (later_keeps (λ t. t.lease ≡ b.lease) leases s c front d back more sound same (leases.run d run refl) e there)
     (later_keeps (λ t. t.tree.limits ≡ b.tree.limits) limits s c front d back more sound same (limits.run d run refl) e there)
-    alike.stored alike.names first second
+    (later_keeps (λ t. t.tree.profile ≡ b.tree.profile) profiles s c front d back more sound same (profiles.run d run refl) e there)
+    quiet alike.stored alike.names first second

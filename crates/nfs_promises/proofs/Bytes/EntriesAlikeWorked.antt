@@ -124,7 +124,7 @@ no_front [] behind long e = let bad = other_byte 31 1 3 _ _ e refl refl in absur
 no_front (x ∷ front) behind long e = absurd (omega arith)
 
 other_change : (d : RanOp) → (let e = getting d (attributes 1 8 420 1) in
-    GetsOf 2 asked_for e × (TellsValue 3 (hyper (change_of e.before.store.tree 2)) (mask_of asked_for) e.result → ⊥))
+    GetsOf 2 asked_for e × (TellsValue e.before.store.tree.profile 3 (hyper (change_of e.before.store.tree 2)) (mask_of asked_for) e.result → ⊥))
 unfolding computing get_attr values results.fattr
 other_change d = (record { is = refl; at = refl; ok = refl }, λ is. no_front is.front is.behind is.long is.answers)
 

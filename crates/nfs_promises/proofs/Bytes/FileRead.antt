@@ -10,7 +10,7 @@ use Rattle.nfs_results.specs.Items as item
 use Rattle.nfs_results.specs.{declared.res.ReadOk.ReadOk, Results.{spell_result, done_head, status_of_result}}
 use Rattle.nfs_results.specs.declared.res.Res.TheVariants as Res
 use Rattle.nfs_tree.specs.{declared.stored.Stored.Stored, declared.object.Object.Object, Files.{Files, stored_in, object_at, data_at, is_there}}
-use Rattle.nfs_names.specs.{declared.{context.Context.Context, node.Node.Node}, State.moment, Checks.current, Outcome.{Outcome, is_ok}}
+use Rattle.nfs_names.specs.{declared.{context.Context.Context, node.Node.Node}, State.time_at, Checks.current, Outcome.{Outcome, is_ok}}
 use Rattle.nfs_names.specs.State as store
 use Rattle.nfs_names.specs.Operation as names
 use Rattle.nfs_names.proofs.{Found.current_is, NameLaws.current_refuses}
@@ -30,14 +30,14 @@ use Rattle.nfs_files.proofs.ChangesTold.{some_same}
 -- One operation.
 
 -- what is none of WRITE, SETATTR and OPEN leaves every file
-by_names : (n : ℕ) (img : Image) (refused : Bool) (s : store.State) (x : Context) (now : ℕ) (i : Item) (o : Outcome) → names.comes_to refused s x (moment now) i ≡ Some o
+by_names : (n : ℕ) (img : Image) (refused : Bool) (s : store.State) (x : Context) (now : ℕ) (i : Item) (o : Outcome) → names.comes_to refused s x (time_at s now) i ≡ Some o
     → Has n img o.state.tree → Left n img s x i (is_ok (status_of_result o.result)) o.state
 by_names n img refused s x now (Operation (Op.Write a)) o e is = absurd cc
 by_names n img refused s x now (Operation (Op.SetAttr a)) o e is = absurd cc
 by_names n img refused s x now (Operation (Op.Open a)) o e is = absurd cc
 by_names n img refused s x now i o e is = same_if n img o.state.tree (is_ok (status_of_result o.result)) is
 
-by_other : (n : ℕ) (img : Image) (refused ok : Bool) (s : store.State) (x : Context) (now : ℕ) (i : Item) → table.comes_to refused s x (moment now) i ≡ None
+by_other : (n : ℕ) (img : Image) (refused ok : Bool) (s : store.State) (x : Context) (now : ℕ) (i : Item) → table.comes_to refused s x (time_at s now) i ≡ None
     → Has n img s.tree → Left n img s x i ok s
 by_other n img refused ok s x now (Operation (Op.Write a)) e is = absurd cc
 by_other n img refused ok s x now (Operation (Op.SetAttr a)) e is = absurd cc
@@ -52,8 +52,8 @@ run_left n img d r is =
       | inl ok ↦ absurd (too_big d.before d.context d.item ok)
       | inr fails ↦ rw fails is
     ])
-    (λ o e. by_names n img r.refused s d.context r.now d.item o e (names_left n img r.refused s d.context (moment r.now) d.item is o e))
-    (file_left n img r.refused s d.context (moment r.now) d.item is)
+    (λ o e. by_names n img r.refused s d.context r.now d.item o e (names_left n img r.refused s d.context (time_at s r.now) d.item is o e))
+    (file_left n img r.refused s d.context (time_at s r.now) d.item is)
     (λ none. by_other n img r.refused (is_ok (otherwise d.before d.context d.item).outcome.status) s d.context r.now d.item none is)
 
 -- a READ
@@ -118,7 +118,7 @@ made_run n size d r makes =
     subst (λ (k : ℕ). Has n (unwritten k) d.behind.store.tree) makes.given
     (by_item (λ status text s. is_there s.tree n ≡ true → Has n (unwritten (unwrap_or (new_size makes.asked.openhow) 0)) s.tree) d r (Operation (Op.Open makes.asked)) makes.is
     (λ there. absurd (false≢true (sym makes.free ∙ there)))
-    (open_made n r.refused d.before.store d.context (moment r.now) makes.asked makes.free) makes.there)
+    (open_made n r.refused d.before.store d.context (time_at d.before.store r.now) makes.asked makes.free) makes.there)
 
 -- A run.
 

@@ -7,7 +7,7 @@ use Rattle.nfs_exec.specs.Runs.{Ops.RanOp, WrittenRun.{SparesIt, AreSpared, Stan
 use Rattle.nfs_serve.specs.Step.{ServerState, new_state}
 use Rattle.nfs_promises.specs.{Runs.Points.{state_after, state_after_all, reached, ops_of}, Network.Endpoint.Arrival, Bytes.HandleBytes.{ByteAt, in_file}}
 use Rattle.nfs_promises.specs.Bytes.HandleBytes.{MayBe, SparesAt, AllSpareAt, GivesAt, ReadsBack, ReadsBackThrough, names_behind, BytesFollow}
-use Rattle.nfs_promises.specs.{Bytes.{HandleBytesWorked.writes, WrittenStays.StaysWritten}, Names.KnownHandles.{KnownName, Known, IsHandleOf, starts, led_by}}
+use Rattle.nfs_promises.specs.{Bytes.{WrittenStays.StaysWritten}, Names.KnownHandles.{KnownName, Known, IsHandleOf, starts, led_by}}
 use Rattle.nfs_promises.specs.Names.KnownHandles.{opened, behind, known_after, known_after_all, names_after, root_of}
 use Rattle.nfs_promises.proofs.{Runs.Handles.handle_in, Names.KnownHandles.{HoldsAt, HoldsIn, AllHold, one_record, first_holds, numbers, same_number}}
 use Rattle.nfs_promises.proofs.{Names.NameStays.rows, Bytes.WrittenStays.bytes_stay}

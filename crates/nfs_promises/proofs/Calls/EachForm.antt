@@ -192,7 +192,7 @@ each_form = record {
   talk = λ ending old new l0 l1 h0 h1 c0 c1 h.
       let (pieces, written, consumed, appended, told, all, speaks) = h in
       (pieces, written, consumed, appended, told, spoke ending old new pieces written speaks);
-  serve = λ old new desks count l0 l1 c0 c1 served.
+  serve = λ most old new desks count l0 l1 c0 c1 served.
       let runs = runs_script old new served.rounds (at desks) served.turning in (
         runs.moves,
         record {

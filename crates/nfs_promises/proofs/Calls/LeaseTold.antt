@@ -28,7 +28,7 @@ lasts_all s [] lease sound is = is
 lasts_all s (c ∷ more) lease sound is = lasts_all (state_after s c) more lease (sound_next s c sound) (lasts_next s c lease sound is)
 
 asked_told : (m : Machine) (o : Option MachineEvent) (lease : ℕ) (words : List ℕ) → Is m → Lasts lease m → (d : RanOp) → In d (option_map_or (ops_by m) o [])
-    → d.item ≡ Operation (Op.GetAttr words) → has (mask_of words) 10 ≡ true → is_ok d.status ≡ true → TellsValue 10 (number lease) (mask_of words) d.result
+    → d.item ≡ Operation (Op.GetAttr words) → has (mask_of words) 10 ≡ true → is_ok d.status ≡ true → TellsValue d.before.store.tree.profile 10 (number lease) (mask_of words) d.result
 asked_told m None lease words is lasts d there = absurd there
 asked_told m (Some e) lease words is lasts d there = event_told m e lease words is lasts d there
 
@@ -41,7 +41,7 @@ lease_is_told start records c d words there =
 
 asked_listed : (m : Machine) (o : Option MachineEvent) (lease : ℕ) (a : ReadDir) → Is m → Lasts lease m → (d : RanOp) → In d (option_map_or (ops_by m) o [])
     → d.item ≡ Operation (Op.ReadDir a) → has (mask_of a.attr_request) 10 ≡ true → is_ok d.status ≡ true
-    → EntriesTell 10 (number lease) (mask_of a.attr_request) d.result
+    → EntriesTell d.before.store.tree.profile 10 (number lease) (mask_of a.attr_request) d.result
 asked_listed m None lease a is lasts d there = absurd there
 asked_listed m (Some e) lease a is lasts d there = event_listed m e lease a is lasts d there
 

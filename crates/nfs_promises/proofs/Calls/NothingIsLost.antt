@@ -1,7 +1,7 @@
 -- The account of a connection that is served all along.
 use Rattle.std.proofs.Common.{◌≡◌, ℕ, List, [], ◌∷◌, ◌++◌, Bool, true, false, refl, sym, ap, subst, ◌∙◌, append_assoc, append-nil}
 use Rattle.nfs_serve.specs.Step.{ServerState}
-use Rattle.nfs_serve.specs.Desk.{Desk, Act, Opened, Over, Unready, Counted, Came, ReadBlocked, Ended, Took, WriteBlocked, Failed, Closed, Stepped, Goes}
+use Rattle.nfs_serve.specs.Desk.{Desk, Act, Opened, Over, Looked, Unready, Counted, Came, ReadBlocked, Ended, Took, WriteBlocked, Failed, Closed, Stepped, Goes}
 use Rattle.nfs_promises.specs.Calls.NothingIsLost.{Account}
 
 both : {A : Type 0} (b : Bool) → b ≡ true → b ≡ false → A
@@ -15,6 +15,7 @@ dead : (port : ℕ) (s t : ServerState) (d e : Desk) (acts : List Act) → Goes 
 dead port s t d e [] h off = ap (λ x. x.live) h.1 ∙ off
 dead port s t d e (Opened ∷ acts) h off = absurd h.2
 dead port s t d e (Over ∷ acts) h off = absurd h.2
+dead port s t d e (Looked ∷ acts) h off = absurd h.2
 dead port s t d e (Counted ∷ acts) h off = absurd h.2
 dead port s t d e (Unready ∷ acts) h off = let (u, c, does, rest) = h in dead port u t c e acts rest (ap (λ x. x.live) does.2 ∙ off)
 dead port s t d e (Came bytes ∷ acts) h off = let (u, c, does, rest) = h in both d.live does.1.live off
@@ -35,6 +36,7 @@ account port s t d e [] h on = record {
 }
 account port s t d e (Opened ∷ acts) h on = absurd h.2
 account port s t d e (Over ∷ acts) h on = absurd h.2
+account port s t d e (Looked ∷ acts) h on = absurd h.2
 account port s t d e (Counted ∷ acts) h on = absurd h.2
 account port s t d e (Unready ∷ acts) h on =
     let (u, c, does, rest) = h in

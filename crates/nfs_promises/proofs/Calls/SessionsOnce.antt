@@ -10,7 +10,7 @@ use Rattle.nfs_exec.proofs.Runs.OneSession.{IsMadeBy, first_bytes, event_after, 
 use Rattle.nfs_serve.specs.{Step.{ServerState, new_state}}
 use Rattle.nfs_promises.specs.{Network.Endpoint.Arrival, Runs.Points.{state_after, state_after_all, reached, taken, before, asked_by}, Calls.SessionsOnce.asked}
 use Rattle.nfs_promises.specs.Calls.SessionsOnce.{GivesIn, WasMade, EachMakesOne, EachWasMade, RepeatsMakeNone, NextMakesOne}
-use Rattle.nfs_promises.proofs.{Runs.{Terms.asks_by, Points.{left, for_asked, next_is}}, Locks.NoneOutlives.{machine_before, machine_all}}
+use Rattle.nfs_promises.proofs.{Runs.{LaterRecords.reached_more, Terms.asks_by, Points.{left, for_asked, next_is}}, Locks.NoneOutlives.{machine_before, machine_all}}
 
 -- The client's number, from one record to the next.
 
@@ -170,10 +170,6 @@ tells_next client number body outset records c low is counted tells =
         event_tells client number body X Y (before s c) e (machine_before s c is).clients (counted_step s.machine (Expires (taken s c)) counted) low
         (told_later client number body outset records c) (told_last client number body outset records c e asks) (tells_before client number body X s c tells)
 
-next_last : (s : ServerState) (records : List Arrival) (c : Arrival) → state_after_all s (records ++ c ∷ []) ≡ state_after (state_after_all s records) c
-next_last s [] c = refl
-next_last s (first ∷ more) c = next_last (state_after s first) more c
-
 -- what the client's record tells behind these records
 abbrev TellsAt : (client number : ℕ) → List ℕ → ServerState → List Arrival → Type 0
 TellsAt client number body outset records = ToldBy client (next_number number) body (Told client number body outset records) (state_after_all outset records).machine.clients
@@ -184,7 +180,7 @@ tells_all client number body outset done [] low is counted tells = subst (TellsA
 tells_all client number body outset done (c ∷ rest) low is counted tells =
     subst (TellsAt client number body outset) (append_assoc done (c ∷ []) rest)
     (tells_all client number body outset (done ++ c ∷ []) rest low is counted
-    (subst (λ (t : ServerState). ToldBy client (next_number number) body (Told client number body outset (done ++ c ∷ [])) t.machine.clients) (sym (next_last outset done c))
+    (subst (λ (t : ServerState). ToldBy client (next_number number) body (Told client number body outset (done ++ c ∷ [])) t.machine.clients) (sym (reached_more outset done c))
     (tells_next client number body outset done c low (machine_all outset done is) (counted_all outset done counted) tells)))
 
 pub each_was_made : EachWasMade

@@ -1,12 +1,12 @@
 -- The acts of one turn: the entries that they come to, and what they put out.
-use Rattle.std.proofs.Common.{◌≡◌, ◌≢◌, ℕ, ◌≤◌, List, [], ◌∷◌, ◌++◌, length, flat_map, true, false, All, refl, sym, ap, subst, ◌∙◌, append_assoc}
+use Rattle.std.proofs.Common.{◌≡◌, ◌≢◌, ℕ, ◌<◌, List, [], ◌∷◌, ◌++◌, length, flat_map, true, false, All, refl, sym, ap, subst, ◌∙◌, append_assoc}
 use Rattle.std.proofs.{Common.{append-nil, map, arith}, lemmas.Bool.{eq-eqb, ne_eqb}, lemmas.List.Elements.{All-nil, All-cons}}
 use Rattle.nfs_rpc.specs.Stream.{End, Open, TooLong}
-use Rattle.nfs_serve.specs.{declared.form.Form.TheVariants.Plain, Script.{Entry, Fits, last_connection}, Step.ServerState}
+use Rattle.nfs_serve.specs.{declared.form.Form.TheVariants.Plain, Script.Entry, Step.ServerState}
 use Rattle.nfs_serve.specs.Run.{Streams, with_stream, TakesAll, StreamEvent, Arrives, overflow, Brings, Move, events, after, after_event, output, output_of}
 use Rattle.nfs_serve.specs.Server.{Stands}
-use Rattle.nfs_serve.specs.Desk.{Desk, closed, leaving, Act, Opened, Over, Unready, Counted, Came, ReadBlocked, Ended, Took, WriteBlocked, Failed, Closed, Stepped, Goes}
-use Rattle.nfs_promises.specs.Calls.{NothingIsLost.{came, taken, part_of}, WholeRuns.{close, entries_of, port_of, output_on}}
+use Rattle.nfs_serve.specs.Desk.{most_ports, Desk, closed, leaving, Act, Opened, Over, Looked, Unready, Counted, Came, ReadBlocked, Ended, Took, WriteBlocked, Failed, Closed, Stepped, Goes}
+use Rattle.nfs_promises.specs.Calls.{NothingIsLost.{came, taken, part_of}, WholeRuns.{close, IsEntry, entries_of, port_of, output_on}}
 use Rattle.nfs_serve.proofs.Terms.{NoneCloses}
 use Rattle.nfs_serve.proofs.{Moves.{after-append, output-append, events-append}, Runs.takes_piece}
 
@@ -75,7 +75,7 @@ pub record Flow (d : Desk) (acts : List Act) (outs : List ℕ) (e : Desk) : Type
 pub record Ran (port : ℕ) (acts : List Act) (s : ServerState) (d : Desk) (from : Streams) (t : ServerState) (e : Desk) : Type 0 where
   pub moves : List Move
   pub to : Streams
-  pub fits : All Fits (flat_map (entries_of port) acts)
+  pub fits : All IsEntry (flat_map (entries_of port) acts)
   pub reads : TakesAll from (flat_map (entries_of port) acts) (events moves) to
   pub state : t ≡ after s moves
   pub others : (c : ℕ) → c ≢ port → to c ≡ from c
@@ -103,12 +103,12 @@ module _ {port : ℕ} {acts : List Act} {s t : ServerState} {c e : Desk} {from :
 goes_from : (port : ℕ) (s u t : ServerState) (b c e : Desk) (acts : List Act) → u ≡ s → c ≡ b → Goes port u c acts t e → Goes port s b acts t e
 goes_from port s u t b c e acts same is h = subst (λ x. Goes port s x acts t e) is (subst (λ x. Goes port x c acts t e) same h)
 
-pub ran : (port : ℕ) (s t : ServerState) (d e : Desk) (acts : List Act) (from : Streams) → port ≤ last_connection → Holds (from port) d
+pub ran : (port : ℕ) (s t : ServerState) (d e : Desk) (acts : List Act) (from : Streams) → port < most_ports → Holds (from port) d
     → Goes port s d acts t e → Ran port acts s d from t e
 ran port s t d e [] from le holds h = record {
   moves = [];
   to = from;
-  fits = All-nil Fits;
+  fits = All-nil IsEntry;
   reads = (refl, refl);
   state = h.0;
   others = λ c other. refl;
@@ -123,6 +123,7 @@ ran port s t d e [] from le holds h = record {
 }
 ran port s t d e (Opened ∷ acts) from le holds h = absurd h.2
 ran port s t d e (Over ∷ acts) from le holds h = absurd h.2
+ran port s t d e (Looked ∷ acts) from le holds h = absurd h.2
 ran port s t d e (Counted ∷ acts) from le holds h = absurd h.2
 ran port s t d e (Unready ∷ acts) from le holds h =
     let (u, c, does, rest) = h in
@@ -170,7 +171,7 @@ ran port s t d e (Closed ∷ acts) from le holds h =
     let r = ran port s t closed e acts to le (record { stands = not_served }) (goes_from port s u t closed c e acts same is rest) in record {
       moves = r.moves;
       to = r.to;
-      fits = All-cons Fits (close port) (flat_map (entries_of port) acts) (omega arith, le, omega arith) r.fits;
+      fits = All-cons IsEntry (close port) (flat_map (entries_of port) acts) (omega arith, le, omega arith) r.fits;
       reads = ([], events r.moves, to, refl, (refl, refl), r.reads);
       state = r.state;
       others = λ c other. r.others c other ∙ stream_other from port (Open []) c other;
@@ -191,7 +192,7 @@ ran port s t d e (Stepped moment part late first ∷ acts) from le holds h =
     (goes_from port u u t _ c e acts refl same rest) in record {
       moves = takes.moves ++ r.moves;
       to = r.to;
-      fits = All-cons Fits entry (flat_map (entries_of port) acts)
+      fits = All-cons IsEntry entry (flat_map (entries_of port) acts)
           (steps.clock, le, steps.few) r.fits;
       reads = (
         events takes.moves,

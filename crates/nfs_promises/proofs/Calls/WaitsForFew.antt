@@ -1,6 +1,6 @@
 -- A sweep, port after port; who begins before it; and how few others have their turn between two turns of a port.
 use Rattle.std.proofs.Common.{◌≡◌, ℕ, suc, ◌+◌, ◌*◌, ◌≤◌, List, [], ◌∷◌, ◌++◌, refl, ap, subst, arith, inl, inr}
-use Rattle.nfs_serve.specs.{Step.ServerState, Script.connection_count}
+use Rattle.nfs_serve.specs.Step.{ServerState}
 use Rattle.nfs_serve.specs.Desk.{Act, most_steps, step_count}
 use Rattle.nfs_serve.specs.Hub.{Desks, Round, Opens, Turns, Turning, InOrder, IsOf, IsServed, steps_in}
 use Rattle.nfs_promises.specs.Calls.WaitsForFew.{WaitsForFew}
@@ -86,12 +86,12 @@ steps_before to port (Turns p acts) front back own h f =
     omega (arith, most, own.0)
 
 pub waits_for_few : WaitsForFew
-waits_for_few s u t old mid new first second before behind port acts one two split le more =
-    let (front, round, back, is, own) = served_at port second (two.none_passed port le more) in
+waits_for_few most s u t old mid new first second before behind port acts one two split more =
+    let (front, round, back, is, own) = served_at port second (two.none_passed port more) in
     let first_few : Few (before ++ Turns port acts ∷ behind) = subst Few split (few s u old mid first one.turning) in
     let later_few : Few behind = few_turn port acts behind (few_behind before (Turns port acts ∷ behind) first_few) in
-    let later : steps_in behind + suc port * 16 ≤ connection_count * 16 =
-    bounded (suc port) connection_count behind (behind_turn 0 connection_count port acts before behind (subst (InOrder 0 connection_count) split one.in_order)) later_few in
+    let later : steps_in behind + suc port * 16 ≤ one.made * 16 =
+    bounded (suc port) one.made behind (behind_turn 0 one.made port acts before behind (subst (InOrder 0 one.made) split one.in_order)) later_few in
     let sooner : steps_in front ≤ port * 16 =
-    steps_before connection_count port round front back own (subst (InOrder 0 connection_count) is two.in_order) (subst Few is (few u t mid new second two.turning)) in
-    (front, round, back, is, own, omega (arith, later, sooner))
+    steps_before two.made port round front back own (subst (InOrder 0 two.made) is two.in_order) (subst Few is (few u t mid new second two.turning)) in
+    (front, round, back, is, own, omega (arith, later, sooner, one.few))

@@ -1,13 +1,13 @@
 -- A run of many connections is the run of its script, and nothing is lost on a connection that is served at its end.
-use Rattle.std.proofs.Common.{◌≡◌, ◌≢◌, ◌⊎◌, ℕ, ◌≤◌, List, [], ◌∷◌, ◌++◌, flat_map, true, false, All, refl, sym, ap, subst, ◌∙◌, append_assoc}
+use Rattle.std.proofs.Common.{◌≡◌, ◌≢◌, ◌⊎◌, ℕ, ◌<◌, List, [], ◌∷◌, ◌++◌, flat_map, true, false, All, refl, sym, ap, subst, ◌∙◌, append_assoc}
 use Rattle.std.proofs.{Common.{append-nil, arith, nat_eq, eqb, if◌then◌else◌, inl, inr}, lemmas.Bool.{eq-eqb, ne_eqb}, lemmas.Bool.Decides.eqb_tells}
 use Rattle.std.proofs.{lemmas.List.Elements.{All-nil, All-cons, All-append}, lemmas.List.Concat.flat_map-append}
 use Rattle.nfs_rpc.specs.{RecordMarking.start, Stream.{Open, IsReading}}
 use Rattle.nfs_rpc.proofs.Readings.{part_unfinished}
-use Rattle.nfs_serve.specs.{declared.form.Form.TheVariants.Plain, Script.{Entry, Fits, last_connection}, Step.ServerState}
+use Rattle.nfs_serve.specs.{declared.form.Form.TheVariants.Plain, Script.Entry, Step.ServerState}
 use Rattle.nfs_serve.specs.Run.{Streams, with_stream, all_closed, TakesAll, StreamEvent, Move, events, after, after_event, output_of}
-use Rattle.nfs_serve.specs.{Desk.{opened, Act, Goes}, Hub.{Desks, none_live, Round, Opens, Turns, OthersStay, Turning}}
-use Rattle.nfs_promises.specs.Calls.{Streams.call_on, NothingIsLost.{came, taken, part_of}, WholeRuns.{close, entries_of, script, RunsScript, HubRunsScript}}
+use Rattle.nfs_serve.specs.{Desk.{most_ports, opened, Act, Goes}, Hub.{Desks, none_live, Round, Opens, Turns, OthersStay, Turning}}
+use Rattle.nfs_promises.specs.Calls.{Streams.call_on, NothingIsLost.{came, taken, part_of}, WholeRuns.{close, IsEntry, entries_of, script, RunsScript, HubRunsScript}}
 use Rattle.nfs_promises.specs.Calls.WholeRuns.{acts_on, port_of, output_on, LosesNothing, NothingIsLostInARun, TurningInto, NothingIsLostInATurn}
 use Rattle.nfs_serve.proofs.Terms.{NoneCloses}
 use Rattle.nfs_serve.proofs.{Moves.{after-append, events-append}, Pieces.{start_holds, no_bytes}}
@@ -54,7 +54,7 @@ record Begun (s : ServerState) (from : Streams) (rounds : List Round) (moves : L
 record Whole (s : ServerState) (old : Desks) (from : Streams) (rounds : List Round) (t : ServerState) (new : Desks) : Type 0 where
   moves : List Move
   to : Streams
-  fits : All Fits (script rounds)
+  fits : All IsEntry (script rounds)
   reads : TakesAll from (script rounds) (events moves) to
   state : t ≡ after s moves
   holds : (port : ℕ) → Holds (to port) (new port)
@@ -124,11 +124,11 @@ module _ (s t : ServerState) (old between new : Desks) (from : Streams) (rounds 
     out_order = b.out_order;
   }
 
-  behind_opens : p ≤ last_connection → Whole s old from (Opens p ∷ rounds) t new
+  behind_opens : p < most_ports → Whole s old from (Opens p ∷ rounds) t new
   behind_opens le = record {
     moves = w.moves;
     to = w.to;
-    fits = All-cons Fits (close p) (script rounds) (omega arith, le, omega arith) w.fits;
+    fits = All-cons IsEntry (close p) (script rounds) (omega arith, le, omega arith) w.fits;
     reads = ([], events w.moves, with_stream from p (Open []), refl, (refl, refl), w.reads);
     state = w.state;
     holds = w.holds;
@@ -191,7 +191,7 @@ module _ (s u t : ServerState) (old between new : Desks) (from : Streams) (round
   behind_turn = record {
     moves = r.moves ++ w.moves;
     to = w.to;
-    fits = All-append Fits (flat_map (entries_of p) acts) (script rounds) r.fits w.fits;
+    fits = All-append IsEntry (flat_map (entries_of p) acts) (script rounds) r.fits w.fits;
     reads = rw (events-append r.moves w.moves)
         (TakesAll-append from (flat_map (entries_of p) acts) (script rounds) (events r.moves) (events w.moves) r.to w.to r.reads w.reads);
     state = w.state ∙ ap (λ x. after x w.moves) r.state ∙ sym (after-append s r.moves w.moves);
@@ -210,9 +210,9 @@ module _ (s u t : ServerState) (old between new : Desks) (from : Streams) (round
 -- the rounds, whether or not their turns have ended
 Going : ServerState → Desks → List Round → ServerState → Desks → Type 0
 Going s old [] t new = (t ≡ s) × ((c : ℕ) → new c ≡ old c)
-Going s old (Opens port ∷ rounds) t new = (between : Desks) × (port ≤ last_connection) × (between port ≡ opened) × OthersStay old between port
+Going s old (Opens port ∷ rounds) t new = (between : Desks) × (port < most_ports) × (between port ≡ opened) × OthersStay old between port
     × Going s between rounds t new
-Going s old (Turns port acts ∷ rounds) t new = (u : ServerState) × (between : Desks) × (port ≤ last_connection) × Goes port s (old port) acts u (between port)
+Going s old (Turns port acts ∷ rounds) t new = (u : ServerState) × (between : Desks) × (port < most_ports) × Goes port s (old port) acts u (between port)
     × OthersStay old between port × Going u between rounds t new
 
 turning_goes : (s t : ServerState) (old new : Desks) (rounds : List Round) → Turning s old rounds t new → Going s old rounds t new
@@ -246,7 +246,7 @@ unfolding Going
 whole s t old new from [] holds h = record {
   moves = [];
   to = from;
-  fits = All-nil Fits;
+  fits = All-nil IsEntry;
   reads = (refl, refl);
   state = h.0;
   holds = λ port. rw (h.1 port) (holds port);

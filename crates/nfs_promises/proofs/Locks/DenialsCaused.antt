@@ -1,36 +1,37 @@
 -- A LOCK or a LOCKT that is answered NFS4ERR_DENIED found a lock that is in its way, and reports it.
 use Rattle.std.proofs.{Common.{◌≡◌, ℕ, Bool, true, false, cond, not, List, Option, Some, None, refl, sym, ◌∙◌, ap, subst}, lemmas.Bool.{false≢true}}
-use Rattle.std.specs.Prelude.{◌==◌, ◌&&◌, ◌||◌, Result, Ok, Err, ok_or}
+use Rattle.std.specs.Prelude.{◌==◌, ◌&&◌, Result, Ok, Err, ok_or}
 use Rattle.nfs_xdr.specs.{Checks.first_fault, Status.status_number, declared.time.Time.Time, declared.status.Status.Status}
 use Rattle.nfs_xdr.specs.declared.status.Status.TheVariants as S
 use Rattle.nfs_compound.specs.{OpNum.op_number, declared.lock_args.Lock.Lock, declared.lock_args.LockT.LockT, declared.lock_args.LockType.LockType}
-use Rattle.nfs_compound.specs.{declared.lock_args.Locker.Locker, declared.lock_args.Locker.TheVariants.{LockOwner, OpenOwner}, declared.stateid.Stateid.Stateid}
+use Rattle.nfs_compound.specs.{declared.lock_args.Locker.Locker, declared.lock_args.Locker.TheVariants.{LockOwner, OpenOwner}}
 use Rattle.nfs_compound.specs.declared.op_num.OpNum.TheVariants as Num
 use Rattle.nfs_compound.specs.declared.op.Op.TheVariants as Op
 use Rattle.nfs_results.specs.declared.res.Denied as result
 use Rattle.nfs_results.specs.{declared.res.Res.Res, Results.{status_of_result, refusal}}
 use Rattle.nfs_ranges.specs.declared.Held.{Held}
-use Rattle.nfs_opens.specs.{declared.judging.Seat.Seat, declared.judging.Sort.Sort, declared.judging.Seat.TheVariants.{Anonymous, ReadBypass}}
-use Rattle.nfs_opens.specs.{declared.judging.Sort.TheVariants.{OpenOnly, LockOnly, Either}, declared.locking.Wish.Wish, declared.locking.OpenFault.OpenFault}
-use Rattle.nfs_opens.specs.{declared.records.LockState.LockState, declared.share.Share.Share, declared.stateid.CurrentSeqid.CurrentSeqid}
+use Rattle.nfs_opens.specs.{declared.judging.Seat.Seat, declared.judging.Sort.Sort}
+use Rattle.nfs_opens.specs.{declared.judging.Sort.TheVariants.{OpenOnly, LockOnly}, declared.locking.Wish.Wish, declared.locking.OpenFault.OpenFault}
+use Rattle.nfs_opens.specs.{declared.records.LockState.LockState, declared.share.Share.Share}
 use Rattle.nfs_opens.specs.{declared.stateid.CurrentSeqid.TheVariants.Any, declared.stateid.StateId.StateId}
-use Rattle.nfs_opens.specs.Judging.{judge_checks, special, judge, state_named}
-use Rattle.nfs_opens.specs.{StateId.{last_number, is_anonymous, is_bypass, is_current, has_zeros, has_ones, with_seqid}, Steps.{◌>>=◌, require, map_err}}
+use Rattle.nfs_opens.specs.Judging.{judge}
+use Rattle.nfs_opens.specs.{StateId.last_number, Steps.{◌>>=◌, require, map_err}}
 use Rattle.nfs_opens.specs.Table.{Table, lock_at}
 use Rattle.nfs_opens.specs.declared.locking.OpenFault.TheVariants as F
 use Rattle.nfs_opens.specs.Locking as locking
-use Rattle.nfs_opens.proofs.{CallLaws.came, Terms.{judge_named, lock_by_owner, number_of, seated, unless_told}}
-use Rattle.nfs_names.specs.{declared.context.Context.Context, Checks.{node_as, node_at, current}, Outcome.{Outcome, passed, checked, mapped, answers}}
+use Rattle.nfs_opens.proofs.{CallLaws.came, Terms.{lock_by_owner, number_of, unless_told}}
+use Rattle.nfs_names.specs.{declared.context.Context.Context, Checks.{node_at, current}, Outcome.{Outcome, checked, mapped, answers}}
 use Rattle.nfs_names.specs.State.{State}
 use Rattle.nfs_names.proofs.{Faulted.status_of_refusal, Ones.by_delay}
-use Rattle.nfs_tree.specs.{declared.object.Object.Object, Files.object_at}
 use Rattle.nfs_files.specs.{Bytes.file_checks, Denied.{lock_denied, open_fault_status}, LockT.lock_t, Operation.grows}
-use Rattle.nfs_files.specs.{Ranges.{range, wished}, StateIds.{state_id, meant}, Target.the_file, Parts.wish}
+use Rattle.nfs_files.specs.{Ranges.{range, wished}, StateIds.meant, Target.the_file, Parts.wish}
 use Rattle.nfs_files.specs.Parts as parts
 use Rattle.nfs_files.specs.Lock as of_lock
-use Rattle.nfs_files.proofs.{Outcomes.one_or_delay, Prompt.{all_pass, first_passes, not_true}, Wishes.lock_wish}
+use Rattle.nfs_files.proofs.{Outcomes.one_or_delay, Wishes.lock_wish}
 use Rattle.nfs_files.proofs.InSteps as in_steps
 use Rattle.nfs_files.proofs.Terms.{range_checks, last_of, tested}
+use Rattle.nfs_promises.proofs.Runs.RefusedOtherwise.{IsWithout, are_good, passed_without, checked_without, then_without, mapped_without, at_without, meant_without}
+use Rattle.nfs_promises.proofs.Runs.RefusedOtherwise.{judge_without}
 
 -- What is checked first answers other statuses.
 
@@ -38,93 +39,33 @@ abbrev pub is_denied : Status → Bool
 is_denied status = status_number status == status_number S.Denied
 
 abbrev IsClear : {A : Type 0} → Result A Status → Type 0
-IsClear v = (status : Status) → v ≡ Err status → is_denied status ≡ false
-
-err_clear : {A : Type 0} (fault : Status) → is_denied fault ≡ false → IsClear {A = A} (Err fault)
-err_clear fault fails status e = let same : fault ≡ status = cc in ap is_denied (sym same) ∙ fails
-
-ok_clear : {A : Type 0} (a : A) → IsClear (Ok a)
-ok_clear a status e = absurd cc
-
-abbrev calm : List (Bool × Status) → Bool
-calm checks = all_pass (λ s. not (is_denied s)) checks
-
-first_clear : (checks : List (Bool × Status)) → calm checks ≡ true → (status : Status) → first_fault checks ≡ Some status → is_denied status ≡ false
-first_clear checks all status e = not_true (is_denied status) (first_passes (λ s. not (is_denied s)) checks all status e)
-
-passed_clear : {A : Type 0} (a : A) (o : Option Status) → ((status : Status) → o ≡ Some status → is_denied status ≡ false) → IsClear (passed a o)
-passed_clear a None each = ok_clear a
-passed_clear a (Some fault) each = err_clear fault (each fault refl)
-
-checked_clear : {A : Type 0} (v : Result A Status) (checks : A → List (Bool × Status)) → IsClear v → ((a : A) → calm (checks a) ≡ true) → IsClear (checked v checks)
-checked_clear (Err fault) checks is all = err_clear fault (is fault refl)
-checked_clear (Ok a) checks is all = passed_clear a (first_fault (checks a)) (first_clear (checks a) (all a))
-
-mapped_clear : {A B : Type 0} (f : A → B) (v : Result A Status) → IsClear v → IsClear (mapped f v)
-mapped_clear f (Err fault) is = err_clear fault (is fault refl)
-mapped_clear f (Ok a) is = ok_clear (f a)
-
-next_clear : {A B : Type 0} (v : Result A Status) (next : A → Result B Status) → IsClear v → ((a : A) → IsClear (next a)) → IsClear (v >>= next)
-next_clear (Err fault) next is more = err_clear fault (is fault refl)
-next_clear (Ok a) next is more = more a
-
-node_clear : (n : ℕ) (o : Option Object) → IsClear (node_as n o)
-node_clear n None = err_clear S.Stale refl
-node_clear n (Some o) = ok_clear _
-
-at_clear : (s : State) (o : Option ℕ) → IsClear (node_at s o)
-at_clear s None = err_clear S.NoFileHandle refl
-at_clear s (Some n) = node_clear n (object_at s.tree n)
+IsClear v = IsWithout is_denied v
 
 file_clear : (s : State) (x : Context) → IsClear (the_file s x)
 unfolding current
-file_clear s x = rw (in_steps.file_is s x) (checked_clear (node_at s x.current) file_checks (at_clear s x.current) (λ d. refl))
+file_clear s x =
+    rw (in_steps.file_is s x)
+    (checked_without is_denied (node_at s x.current) file_checks (at_without is_denied refl refl s x.current) (λ d e. are_good is_denied (file_checks d) refl))
 
 range_clear : (offset size : ℕ) → IsClear (range offset size)
 range_clear offset size =
     rw (in_steps.range_is offset size)
-    (passed_clear (last_of offset size) (first_fault (range_checks offset size)) (first_clear (range_checks offset size) refl))
+    (passed_without is_denied (last_of offset size) (first_fault (range_checks offset size)) (are_good is_denied (range_checks offset size) refl))
 
 wished_clear : (s : State) (x : Context) (how : LockType) (offset size : ℕ) → IsClear (wished s x how offset size)
 wished_clear s x how offset size =
     rw (in_steps.wished_is s x how offset size)
-    (next_clear (the_file s x) _ (file_clear s x) (λ d. mapped_clear (λ last. wish x how offset last d.number) (range offset size) (range_clear offset size)))
-
-meant_clear : (x : Context) (form : CurrentSeqid) (given : Stateid) → IsClear (meant x form given)
-meant_clear x form given = go (is_current (state_id given)) (has_zeros (state_id x.stateid) || has_ones (state_id x.stateid))
-  where
-    go : (is special : Bool) → IsClear (cond is (cond special (Err S.BadStateId) (Ok (with_seqid form (state_id x.stateid)))) (Ok (state_id given)))
-    go true true = err_clear S.BadStateId refl
-    go true false = ok_clear _
-    go false special = ok_clear _
+    (then_without is_denied (the_file s x) _ (file_clear s x) (λ d e. mapped_without is_denied _ (range offset size) (range_clear offset size)))
 
 locking_clear : (s : State) (x : Context) (a : Lock) → IsClear (parts.locking s x a)
 locking_clear s x a =
-    next_clear (checked (wished s x a.locktype a.offset a.length) (parts.reclaim_checks a)) _
-    (checked_clear (wished s x a.locktype a.offset a.length) (parts.reclaim_checks a) (wished_clear s x a.locktype a.offset a.length) (λ w. refl))
-    (λ w. mapped_clear _ (meant x Any (of_lock.stateid_in a.locker)) (meant_clear x Any (of_lock.stateid_in a.locker)))
-
-special_clear : (sort : Sort) (seat : Seat) → IsClear (special sort seat)
-special_clear Either seat = ok_clear seat
-special_clear OpenOnly seat = err_clear S.BadStateId refl
-special_clear LockOnly seat = err_clear S.BadStateId refl
-
-seated_clear : (seat : Seat) (o : Option Status) → ((status : Status) → o ≡ Some status → is_denied status ≡ false) → IsClear (seated seat o)
-seated_clear seat None each = ok_clear seat
-seated_clear seat (Some fault) each = err_clear fault (each fault refl)
-
-named_clear : (client : ℕ) (file : Option ℕ) (sort : Sort) (seqid : ℕ) (o : _) → IsClear (judge_named client file sort seqid o)
-named_clear client file sort seqid None = err_clear S.BadStateId refl
-named_clear client file sort seqid (Some n) =
-    seated_clear n.seat (first_fault (judge_checks client file sort seqid n)) (first_clear (judge_checks client file sort seqid n) refl)
+    let w = wished s x a.locktype a.offset a.length in
+    then_without is_denied (checked w (parts.reclaim_checks a)) _
+    (checked_without is_denied w (parts.reclaim_checks a) (wished_clear s x a.locktype a.offset a.length) (λ v e. are_good is_denied (parts.reclaim_checks a v) refl))
+    (λ v e. mapped_without is_denied _ (meant x Any (of_lock.stateid_in a.locker)) (meant_without is_denied refl refl x Any (of_lock.stateid_in a.locker)))
 
 judge_clear : (t : Table) (id : StateId) (client : ℕ) (file : Option ℕ) (sort : Sort) → IsClear (judge t id client file sort)
-judge_clear t id client file sort = go (is_anonymous id) (is_bypass id)
-  where
-    go : (a b : Bool) → IsClear (cond a (special sort Anonymous) (cond b (special sort ReadBypass) (judge_named client file sort id.seqid (state_named t id))))
-    go true b = special_clear sort Anonymous
-    go false true = special_clear sort ReadBypass
-    go false false = named_clear client file sort id.seqid (state_named t id)
+judge_clear t id client file sort = judge_without is_denied refl refl t id client file sort
 
 -- What the table of opens denies.
 

@@ -13,7 +13,7 @@ use Rattle.nfs_opens.specs.{declared.locking.Wish.Wish, Holding.{FileHolders, on
 use Rattle.nfs_opens.specs.{Closing.{held_within, without_open, without_lock}, Locking.raised}
 use Rattle.nfs_opens.specs.Opening as opening
 use Rattle.nfs_opens.proofs.CallLaws.{IsLocked, first_state}
-use Rattle.nfs_names.specs.{declared.context.Context.Context, Outcome.is_ok, State.{State, moment}}
+use Rattle.nfs_names.specs.{declared.context.Context.Context, Outcome.is_ok, State.{State, time_at}}
 use Rattle.nfs_names.proofs.Untouched.{leaves_each}
 use Rattle.nfs_files.specs.LockTold.{LockTold}
 use Rattle.nfs_files.proofs.Inside as inside
@@ -206,8 +206,8 @@ held_run : (k : LockTold) (owner : List ℕ) (d : RanOp) → IsRun d → Holds k
 held_run k owner d r =
     by_run (λ status text s. Holds k owner s.opens → Granting d.before.store d.context d.item (is_ok status) ⊎ Holds k owner d.before.store.opens) d r
     (λ is. inr is)
-    (λ o e is. inr (subst (Holds k owner) (leaves_each r.refused d.before.store d.context (moment r.now) d.item o e).opens is))
-    (held_item k owner d.before.store d.context (moment r.now) r.refused d.item)
+    (λ o e is. inr (subst (Holds k owner) (leaves_each r.refused d.before.store d.context (time_at d.before.store r.now) d.item o e).opens is))
+    (held_item k owner d.before.store d.context (time_at d.before.store r.now) r.refused d.item)
     (λ other is. inr is)
 
 -- what was granted was told
@@ -216,7 +216,7 @@ granted_told d r op n w item ok locks =
     let a = locks.asked in
     let is : d.item ≡ Operation (Op.Lock a) = item ∙ ap Operation locks.is in
     let told = by_ok (λ text s. IsTold Num.Lock d.before.store d.context a.locktype a.offset a.length text n w) d r (Operation (Op.Lock a)) is ok
-    (λ ok. lock_tells d.before.store d.context (moment r.now) r.refused a n w r.whole.table r.whole.few
+    (λ ok. lock_tells d.before.store d.context (time_at d.before.store r.now) r.refused a n w r.whole.table r.whole.few
     (subst (λ op. inside.Locks d.before.store d.context op n w) locks.is locks) ok) in
     record { asked = a; is = is; wish = told.wish; names = told.names }
 
@@ -240,7 +240,7 @@ held_before k owner d r behind one is = elim (held_run k owner d r is) [
       let did = locks.did in
       let item : d.item ≡ Operation (Op.Lock a) = g.is ∙ ap Operation locks.is in
       let left = by_ok (λ text u. u.opens ≡ did.1) d r (Operation (Op.Lock a)) item granting.1
-      (left_by s x (moment r.now) r.refused a (record { wish = g.wish; id = locks.id }) did locks.judged locks.granted) in
+      (left_by s x (time_at s r.now) r.refused a (record { wish = g.wish; id = locks.id }) did locks.judged locks.granted) in
       elim (locked_from k owner s.opens g.wish did r.whole.table (lock_is s.opens a.locker locks.id g.wish did locks.granted) (subst (Holds k owner) left is)) [
         | inr was ↦ inr was
         | inl by ↦ inl (by_lock g.wish (subst (λ n. LocksFor d n g.wish) (sym locks.state ∙ by.number) (granted_told d r g.op g.number g.wish g.is granting.1 locks))

@@ -10,7 +10,7 @@ use Rattle.nfs_files.specs.{Lock.stateid_in, StateIds.meant}
 use Rattle.nfs_exec.specs.Runs.Ops.{RanOp}
 use Rattle.nfs_promises.specs.Locks.LockKeptWorked as worked
 use Rattle.nfs_promises.specs.{Locks.{LockKeptWorked.{outset, locks}, LockMade.MakesUnder, LockMadeWorked.MadeUnderItsOwn}, Runs.Points.ops_of}
-use Rattle.nfs_promises.proofs.{Runs.Computing.computing, Locks.{LockKeptWorked.asking, LockMade.is_lock_item}}
+use Rattle.nfs_promises.proofs.{Runs.Computing.computing, Locks.{LockKeptWorked.asking, StatesBegun.is_lock_item}}
 
 abbrev AllSo : (RanOp → Type 0) → List RanOp → Type 0
 AllSo P [] = Unit {0}

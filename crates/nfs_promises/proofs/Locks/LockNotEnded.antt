@@ -18,7 +18,7 @@ use Rattle.nfs_opens.specs.{declared.locking.Wish.Wish, Holding.{FileHolders, on
 use Rattle.nfs_opens.specs.Locking.{unlock}
 use Rattle.nfs_opens.specs.Closing as closing
 use Rattle.nfs_opens.proofs.CallLaws.{IsUnlocked}
-use Rattle.nfs_names.specs.{declared.context.Context.Context, Ending.with_opens, Outcome.{Outcome, is_ok}, State.{State, moment}}
+use Rattle.nfs_names.specs.{declared.context.Context.Context, Ending.with_opens, Outcome.{Outcome, is_ok}, State.{State, time_at}}
 use Rattle.nfs_names.proofs.{Ones.by_delay, Untouched.unused_opens}
 use Rattle.nfs_files.specs.{Close.close, LockTold.{Names, LockTold, IsBeside}, LockU.lock_u, Operation.grows, Ranges.wished, StateIds.meant, Parts.unlocking}
 use Rattle.nfs_files.specs.Parts.{target}
@@ -122,7 +122,7 @@ unlocks_clear : (d : RanOp) (r : IsRun d) (n : ℕ) (w : Wish) → UnlocksFor d 
 unlocks_clear d r n w u =
     by_item (λ status text s. Names Num.LockU text n → IsCleared s.opens n w) d r (Operation (Op.LockU u.asked)) u.is
     (λ told. absurd (unlock_refused RepTooBig n told))
-    (λ told. clears d.before.store d.context (moment r.now) r.refused u.asked n w r.whole.table r.whole.few u.wish told) u.names
+    (λ told. clears d.before.store d.context (time_at d.before.store r.now) r.refused u.asked n w r.whole.table r.whole.few u.wish told) u.names
 
 -- CLOSE
 
@@ -170,7 +170,7 @@ closes_leave_none : (d : RanOp) (r : IsRun d) (n : ℕ) → ClosesOf d n → (l 
 closes_leave_none d r n c l there under =
     by_item (λ status text s. Names Num.Close text 0 → In l s.opens.locks → ⊥) d r (Operation (Op.Close c.asked)) c.is
     (λ told there. absurd (close_refused RepTooBig 0 told))
-    (λ told there. leaves_none d.before.store d.context (moment r.now) r.refused c.asked c.id c.means told l there (under ∙ sym c.opened)) c.names there
+    (λ told there. leaves_none d.before.store d.context (time_at d.before.store r.now) r.refused c.asked c.id c.means told l there (under ∙ sym c.opened)) c.names there
 
 -- nor the open
 leaves_no_open : (s : State) (x : Context) (now : Time) (refused : Bool) (a : Close) (id : StateId) → meant x Own a.open_stateid ≡ Ok id
@@ -188,7 +188,7 @@ pub closes_leave_no_open : (d : RanOp) (r : IsRun d) (n : ℕ) → ClosesOf d n 
 closes_leave_no_open d r n c o there its =
     by_item (λ status text s. Names Num.Close text 0 → In o s.opens.opens → ⊥) d r (Operation (Op.Close c.asked)) c.is
     (λ told there. absurd (close_refused RepTooBig 0 told))
-    (λ told there. leaves_no_open d.before.store d.context (moment r.now) r.refused c.asked c.id c.means told o there (its ∙ sym c.opened)) c.names there
+    (λ told there. leaves_no_open d.before.store d.context (time_at d.before.store r.now) r.refused c.asked c.id c.means told o there (its ∙ sym c.opened)) c.names there
 
 -- All three.
 
@@ -196,7 +196,7 @@ locks_now : (d : RanOp) (r : IsRun d) (n : ℕ) (w : Wish) (b : ℕ) → LocksFo
 locks_now d r n w b l lo hi =
     by_item (λ status text s. Names Num.Lock text n → s.opens.held w.file n b ≡ Some w.kind) d r (Operation (Op.Lock l.asked)) l.is
     (λ told. absurd (lock_refused RepTooBig n told))
-    (λ told. told_held d.before.store d.context (moment r.now) r.refused l.asked n w r.whole.table r.whole.few l.wish told b lo hi) l.names
+    (λ told. told_held d.before.store d.context (time_at d.before.store r.now) r.refused l.asked n w r.whole.table r.whole.few l.wish told b lo hi) l.names
 
 beside_or : (k : LockTold) (w : Wish) → k.last ≡ k.first → IsBeside w k ⊎ ((w.first ≤ k.first) × (k.first ≤ w.last))
 beside_or k w one = elim (cases_lt k.first w.first) [

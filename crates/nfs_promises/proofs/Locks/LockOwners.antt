@@ -2,11 +2,11 @@
 use Rattle.std.proofs.Common.{◌≡◌, ◌≢◌, ℕ, ◌+◌, ◌≤◌, cond, List, [], ◌∷◌, ◌++◌, refl, sym, subst, inl, inr}
 use Rattle.nfs_xdr.specs.Tables.{In}
 use Rattle.nfs_exec.proofs.Runs.OneWalk.{in_back}
-use Rattle.nfs_exec.specs.Runs.{Ops.RanOp, Kept.{Kept, after_all}, LockHeld.{AreSpared, the_lock}}
+use Rattle.nfs_exec.specs.Runs.{Kept.{Kept, after_all}, LockHeld.{AreSpared, the_lock}}
 use Rattle.nfs_serve.specs.Step.{ServerState, new_state}
-use Rattle.nfs_promises.specs.{Runs.Points.{state_after, state_after_all, reached, taken, ops_of}, Bytes.ChangeTells.RunsIn, Network.Endpoint.Arrival}
+use Rattle.nfs_promises.specs.{Runs.Points.{state_after, state_after_all, reached, taken, ops_of}, Network.Endpoint.Arrival}
 use Rattle.nfs_promises.specs.Locks.{LockKeptWorked.locks, LockKept.{InTimeFor, renews_by}, LockOwners.{StatesHaveOneOwner, OnlyOneOwnerIsTold}}
-use Rattle.nfs_promises.proofs.Runs.{LockStates.{Descends, descends_same, descends_kept}, OneOwner.are_one, LaterRecords.{op_done, first_there, later_keeps}}
+use Rattle.nfs_promises.proofs.Runs.{LockStates.{Descends, descends_same, descends_kept}, OneOwner.are_one, LaterRecords.{op_done, first_there, runs_last, later_keeps}}
 use Rattle.nfs_promises.proofs.{Runs.{LaterRecords.later_done, Points.{IsSound, sound_all, sound_new}}, Names.HandlesWorked.two, Locks.LockKept.only_one}
 
 pub states_have_one_owner : StatesHaveOneOwner
@@ -25,10 +25,6 @@ pub end_of : (k : Kept) (client lease last : ℕ) (way : k.Way) (s : ServerState
 end_of k client lease last way s [] Then all = (way, last, all)
 end_of k client lease last way s (c ∷ more) Then all =
     end_of k client lease (cond (renews_by client s c) (taken s c) last) (after_all k.after way (ops_of s c)) (state_after s c) more Then all.3
-
-runs_last : (s : ServerState) (cs : List Arrival) (d : Arrival) (e : RanOp) → In e (ops_of (state_after_all s cs) d) → RunsIn s (cs ++ d ∷ []) e
-runs_last s [] d e there = inl there
-runs_last s (c ∷ more) d e there = inr (runs_last (state_after s c) more d e there)
 
 pub only_one_owner : OnlyOneOwnerIsTold
 only_one_owner start earlier c k front first back between d until second behind n w told locks o p same spared all mine its range two over =

@@ -1,9 +1,9 @@
 -- A no is true: what a LOCK or a LOCKT that is denied reports was granted before, and has not ended.
-use Rattle.std.proofs.Common.{◌≡◌, not, Bool, ◌≢◌, ◌⊎◌, ℕ, suc, ◌-◌, ◌<◌, ◌≤◌, true, false, List, [], ◌∷◌, ◌++◌, length, take, Option, Some, None, refl, sym, ◌∙◌, ap, subst, arith, inl, inr}
-use Rattle.std.proofs.{Common.{append_assoc, append-nil}, lemmas.Bool.{cases_Bool, and_parts, false≢true, eq-eqb, eqb-true}, lemmas.Slice.Eq.bytes_eq-Decides}
-use Rattle.std.specs.{Prelude.{◌^◌, Ok}, Option.option_map_or}
+use Rattle.std.proofs.Common.{◌≡◌, not, Bool, ◌≢◌, ℕ, suc, ◌-◌, ◌<◌, ◌≤◌, true, false, List, [], ◌∷◌, ◌++◌, take, Option, Some, None, refl, sym, ◌∙◌, ap, subst, arith, inl, inr}
+use Rattle.std.proofs.{Common.{append_assoc, append-nil}, lemmas.Bool.{and_parts, false≢true, eq-eqb, eqb-true}, lemmas.Slice.Eq.bytes_eq-Decides}
+use Rattle.std.specs.Prelude.{◌^◌, Ok}
 use Rattle.nfs_xdr.specs.{Limits.opaque_limit, Tables.In, declared.status.Status.TheVariants.{Denied, RepTooBig}}
-use Rattle.nfs_xdr.proofs.{Lists.{in_filter, find_in, none_in}, Tables.in_once}
+use Rattle.nfs_xdr.proofs.{Lists.{find_in, none_in}, Tables.in_once}
 use Rattle.nfs_compound.specs.declared.lock_args.Lock as lock_args
 use Rattle.nfs_compound.specs.declared.lock_args.LockT as test_args
 use Rattle.nfs_compound.specs.{declared.lock_args.Locker.TheVariants.{LockOwner, OpenOwner}, declared.op.Item.Item, declared.op.Item.TheVariants.Operation}
@@ -17,45 +17,24 @@ use Rattle.nfs_opens.specs.{declared.stateid.CurrentSeqid.TheVariants.Any, decla
 use Rattle.nfs_opens.proofs.LockLemmas.{clash_tells}
 use Rattle.nfs_opens.proofs.Terms.{number_of}
 use Rattle.nfs_names.specs.State as of_store
-use Rattle.nfs_names.specs.{declared.start.Start.Start, State.moment, declared.context.Context.Context}
+use Rattle.nfs_names.specs.{declared.start.Start.Start, State.time_at, declared.context.Context.Context}
 use Rattle.nfs_files.specs.{Denied.{lock_denied, type_of, size_of}, Lock.stateid_in, LockTold.LockTold, StateIds.meant}
 use Rattle.nfs_files.proofs.Wishes.{IsRange, wish_is, wish_range}
-use Rattle.nfs_exec.specs.{Step.Laws.MachineEvent, Step.Machine.{Machine, IsMachine}, Runs.LockHeld.replaces, Runs.Ops.{RanOp, ops_by}}
-use Rattle.nfs_exec.proofs.{Step.Invariant.of_start, Runs.KeptByRuns.Is, Runs.OneRun.{IsRun, by_item}, Runs.OneWalk.none_at}
-use Rattle.nfs_promises.proofs.Runs.LockStates.{as_itself}
+use Rattle.nfs_exec.specs.Runs.Ops.{RanOp}
+use Rattle.nfs_exec.proofs.Runs.OneRun.{IsRun, by_item}
 use Rattle.nfs_serve.specs.{Step.{ServerState, new_state}}
 use Rattle.nfs_promises.specs.{Network.Endpoint.Arrival, Locks.{Denials.{IsRefusedFor, ByLock, ByTest, IsBegunBy, IsOthers, asks_for_lock}, NoIsTrue.IsInLease}}
-use Rattle.nfs_promises.specs.Locks.{NoIsTrue.{Passes, AllPass, IsGrantedIn, IsGranted, Before, Within, NoIsTrue}, LockKept.replaces_by}
-use Rattle.nfs_promises.specs.{Locks.NoneOutlives.last_renewal, Bytes.ChangeTells.RunsIn, Runs.Points.{state_after, state_after_all, reached, taken, before}}
+use Rattle.nfs_promises.specs.Locks.NoIsTrue.{Passes, AllPass, IsGrantedIn, IsGranted, Before, Within, NoIsTrue}
+use Rattle.nfs_promises.specs.{Locks.NoneOutlives.last_renewal, Runs.Points.{reached, before}}
 use Rattle.nfs_promises.specs.Runs.Points.{asked_by, ops_of}
 use Rattle.nfs_promises.proofs.Locks.{DenialsCaused.{WasDenied, IsLocker, IsTester, asker, is_denied, lock_was_denied, test_denied}, LockBeforeStep.Holds}
-use Rattle.nfs_promises.proofs.Locks.{LockBeforeStep.found_at, ReplacedByRepeat.{lock_had, replaced_none}, LockTraced.{Traced, Stood, Given, event_traced}}
-use Rattle.nfs_promises.proofs.Locks.{LockTraced.{event_until, held_staying}, OneStateEach.{HasOneEach, locker_is, each_kept}, StatesBegun.same_lock}
-use Rattle.nfs_promises.proofs.Locks.{StatesBegun.{WasThere, IsBegunIn, event_states, until_states}, NoneOutlives.{machine_before, machine_all, none_outlives}}
-use Rattle.nfs_promises.proofs.Runs.{LaterRecords.{runs_keep, op_done, first_there}, Points.{left, for_asked, next_is, IsSound, whole_before, sound_all}}
+use Rattle.nfs_promises.proofs.Locks.{LockBeforeStep.found_at, ReplacedByRepeat.{lock_had, is_alone_by}, Traced.{Stood, Given, asked_traced, asked_until}}
+use Rattle.nfs_promises.proofs.Locks.{LockTraced.{held_staying, lock_trace, lock_traced}, OneStateEach.{HasOneEach, locker_is, each_kept}, StatesBegun.same_lock}
+use Rattle.nfs_promises.proofs.Locks.{StatesBegun.begun_by, NoneOutlives.none_outlives}
+use Rattle.nfs_promises.proofs.Runs.{LaterRecords.{runs_keep, runs_last, reached_more, whole_at, op_done, first_there}, Points.{left, next_is, IsSound, sound_all}}
 use Rattle.nfs_promises.proofs.Runs.Points.{sound_new}
 
 -- Records.
-
--- what a record's compound did
-asked_traced : (k : LockTold) (owner : List ℕ) → k.last ≡ k.first → (m : Machine) (o : Option MachineEvent) → Is m → Holds k owner (left m o).store.opens
-    → Traced k owner m (option_map_or (ops_by m) o [])
-asked_traced k owner one m None is holds = Stood holds (λ d there. absurd there)
-asked_traced k owner one m (Some e) is holds = event_traced k owner one m e is holds
-
-asked_until : (k : LockTold) (owner : List ℕ) → k.last ≡ k.first → (m : Machine) (o : Option MachineEvent) (until : List RanOp) (d : RanOp) (back : List RanOp) → Is m
-    → option_map_or (ops_by m) o [] ≡ until ++ d ∷ back → Holds k owner d.before.store.opens → Traced k owner m until
-asked_until k owner one m None until d back is same holds = absurd (none_at until d back same)
-asked_until k owner one m (Some e) until d back is same holds = event_until k owner one m e until d back is same holds
-
-pub reached_more : (s : ServerState) (records : List Arrival) (c : Arrival) → state_after_all s (records ++ c ∷ []) ≡ state_after (state_after_all s records) c
-reached_more s [] c = refl
-reached_more s (r ∷ more) c = reached_more (state_after s r) more c
-
-pub whole_at : (start : Start) (records : List Arrival) (c : Arrival) → Is (before (reached start records) c)
-whole_at start records c =
-    let sound : IsSound (reached start records) = sound_all (new_state start) records (sound_new start) in
-    whole_before (reached start records) c sound.whole
 
 module _ (start : Start) (small : start.instance < 2 ^ 32) where
   -- while it is held, its client's lease lasts
@@ -70,24 +49,6 @@ module _ (start : Start) (small : start.instance < 2 ^ 32) where
         subst (λ client. last_renewal client None (new_state start) records ≡ Some time.last) (ap (λ (l : LockState). l.client) one ∙ is.client) time.renewed,
         time.within,
       )
-
-  machine_at : (records : List Arrival) (c : Arrival) → IsMachine (before (reached start records) c)
-  machine_at records c =
-      machine_before (reached start records) c (machine_all (new_state start) records (of_start start small))
-
-  -- and nobody took its client's place
-  is_alone : (k : LockTold) (owner : List ℕ) → k.last ≡ k.first → (records : List Arrival) (c : Arrival)
-      → (let s = reached start records in
-      Holds k owner (left (before s c) (asked_by s c)).store.opens → (replaces_by k.client s c ≡ false) ⊎ ((state_after s c).machine ≡ before s c))
-  is_alone k owner one records c holds =
-      let s = reached start records in
-      let m = before s c in
-      elim (cases_Bool (replaces_by k.client s c)) [
-        | inr leaves ↦ inl leaves
-        | inl takes ↦ inr (ap (λ (s : ServerState). s.machine) (next_is s c)
-            ∙ for_asked (λ o. option_map_or (replaces k.client m) o false ≡ true → Holds k owner (left m o).store.opens → left m o ≡ m) s c (λ e holds. refl)
-            (λ r who. replaced_none k.client (Holds k owner) (lock_had k owner one) m (machine_at records c) r who (length c.bytes) (taken s c) c.choice) takes holds)
-      ]
 
   pass_more : (k : LockTold) (records between : List Arrival) (c : Arrival) → AllPass start k records between
       → Passes start k (records ++ between) c → AllPass start k records (between ++ c ∷ [])
@@ -120,15 +81,15 @@ module _ (start : Start) (small : start.instance < 2 ^ 32) where
       → IsGrantedIn start k owner records
 
   unexpired : (k : LockTold) (owner : List ℕ) → k.last ≡ k.first → (s : ServerState) (c : Arrival) → Holds k owner (before s c).store.opens → Holds k owner s.machine.store.opens
-  unexpired k owner one s c is = held_staying k owner one s.machine.store.opens _ is
+  unexpired k owner one s c is = held_staying k owner s.machine.store.opens _ is
 
   known_next : (records : List Arrival) (c : Arrival) → Known records → Known (records ++ c ∷ [])
   known_next records c known k owner one is =
       let s = reached start records in
       let here : Holds k owner (left (before s c) (asked_by s c)).store.opens =
       subst (λ (s : ServerState). Holds k owner s.machine.store.opens) (reached_more (new_state start) records c ∙ next_is s c) is in
-      elim (asked_traced k owner one (before s c) (asked_by s c) (whole_at start records c) here) [
-        | Given front lock back same grants spared ↦ record {
+      elim (asked_traced (lock_trace k owner) (lock_traced k owner one) tt (before s c) (asked_by s c) (whole_at start records c) here) [
+        | Given front lock back asked same grants spared leads ↦ record {
           earlier = records;
           arrival = c;
           between = [];
@@ -141,8 +102,8 @@ module _ (start : Start) (small : start.instance < 2 ^ 32) where
           spared = spared;
           passed = tt;
         }
-        | Stood holds spared ↦ one_more k owner records c (known k owner one (unexpired k owner one s c holds))
-            (record { lasts = in_lease k owner records c holds; spared = spared; alone = is_alone k owner one records c here })
+        | Stood had holds spared leads ↦ one_more k owner records c (known k owner one (unexpired k owner one s c holds))
+            (record { lasts = in_lease k owner records c holds; spared = spared; alone = is_alone_by k.client (Holds k owner) (lock_had k owner one) start small records c here })
       ]
 
   known_all : (done more : List Arrival) → Known done → Known (done ++ more)
@@ -157,77 +118,9 @@ module _ (start : Start) (small : start.instance < 2 ^ 32) where
       → ops_of (reached start records) c ≡ until ++ d ∷ behind → Holds k owner d.before.store.opens → IsGranted start k owner records c until
   granted k owner one records c until d behind same is =
       let s = reached start records in
-      elim (asked_until k owner one (before s c) (asked_by s c) until d behind (whole_at start records c) same is) [
-        | Given front lock back at grants spared ↦ Within front lock back at grants spared
-        | Stood holds spared ↦ Before (known_all [] records known_new k owner one (unexpired k owner one s c holds)) (in_lease k owner records c holds) spared
-      ]
-
--- Who began a lock state.
-
-asked_states : (m : Machine) (o : Option MachineEvent) → Is m → (l : LockState) → In l (left m o).store.opens.locks
-    → IsBegunIn (option_map_or (ops_by m) o []) l ⊎ WasThere m.store.opens l
-asked_states m None is l there = inr (l, there, as_itself l)
-asked_states m (Some e) is l there = event_states m e is l there
-
-asked_states_until : (m : Machine) (o : Option MachineEvent) (until : List RanOp) (d : RanOp) (back : List RanOp) → Is m
-    → option_map_or (ops_by m) o [] ≡ until ++ d ∷ back → (l : LockState) → In l d.before.store.opens.locks → IsBegunIn until l ⊎ WasThere m.store.opens l
-asked_states_until m None until d back is same l there = absurd (none_at until d back same)
-asked_states_until m (Some e) until d back is same l there = until_states m e until d back is same l there
-
-runs_before : (s : ServerState) (records more : List Arrival) (d : RanOp) → RunsIn s records d → RunsIn s (records ++ more) d
-runs_before s [] more d there = absurd there
-runs_before s (c ∷ records) more d (inl here) = inl here
-runs_before s (c ∷ records) more d (inr later) = inr (runs_before (state_after s c) records more d later)
-
-runs_last : (s : ServerState) (records : List Arrival) (c : Arrival) (d : RanOp) → In d (ops_of (state_after_all s records) c) → RunsIn s (records ++ c ∷ []) d
-runs_last s [] c d there = inl there
-runs_last s (b ∷ records) c d there = inr (runs_last (state_after s b) records c d there)
-
-module _ (start : Start) where
-  abbrev IsBegun : List Arrival → LockState → Type 0
-  IsBegun records l = (first : RanOp) × RunsIn (new_state start) records first × IsBegunBy first l.number l.client l.owner
-
-  abbrev AreBegun : List Arrival → Type 0
-  AreBegun records = (l : LockState) → In l (reached start records).machine.store.opens.locks → IsBegun records l
-
-  -- what was there when a record's compound began
-  was_begun : (records : List Arrival) (c : Arrival) → AreBegun records → (l : LockState) → WasThere (before (reached start records) c).store.opens l → IsBegun records l
-  was_begun records c begun l was =
-      let s = reached start records in
-      let there = (in_filter _ s.machine.store.opens.locks was.0 was.1).0 in
-      let b = begun was.0 there in
-      let later = was.2 in (
-        b.0,
-        b.1,
-        subst (λ n. IsBegunBy b.0 n l.client l.owner) later.number
-            (subst (λ c. IsBegunBy b.0 was.0.number c l.owner) later.client (subst (IsBegunBy b.0 was.0.number was.0.client) later.owner b.2)),
-      )
-
-  begun_next : (records : List Arrival) (c : Arrival) → AreBegun records → AreBegun (records ++ c ∷ [])
-  begun_next records c begun l there =
-      let s = reached start records in
-      let here : In l (left (before s c) (asked_by s c)).store.opens.locks =
-      subst (λ (s : ServerState). In l s.machine.store.opens.locks) (reached_more (new_state start) records c ∙ next_is s c) there in
-      elim (asked_states (before s c) (asked_by s c) (whole_at start records c) l here) [
-        | inl b ↦ (b.first, runs_last (new_state start) records c b.first b.there, b.begun)
-        | inr was ↦ (let b = was_begun records c begun l was in (b.0, runs_before (new_state start) records (c ∷ []) b.0 b.1, b.2))
-      ]
-
-  begun_all : (done more : List Arrival) → AreBegun done → AreBegun (done ++ more)
-  begun_all done [] begun = subst AreBegun (sym (append-nil done)) begun
-  begun_all done (c ∷ more) begun = subst AreBegun (append_assoc done (c ∷ []) more) (begun_all (done ++ c ∷ []) more (begun_next done c begun))
-
-  begun_new : AreBegun []
-  begun_new l there = absurd there
-
-  begun_by : (records : List Arrival) (c : Arrival) (until : List RanOp) (d : RanOp) (behind : List RanOp) → ops_of (reached start records) c ≡ until ++ d ∷ behind
-      → (l : LockState) → In l d.before.store.opens.locks
-      → (first : RanOp) × (RunsIn (new_state start) records first ⊎ In first until) × IsBegunBy first l.number l.client l.owner
-  begun_by records c until d behind same l there =
-      let s = reached start records in
-      elim (asked_states_until (before s c) (asked_by s c) until d behind (whole_at start records c) same l there) [
-        | inl b ↦ (b.first, inr b.there, b.begun)
-        | inr was ↦ (let b = was_begun records c (begun_all [] records begun_new) l was in (b.0, inl b.1, b.2))
+      elim (asked_until (lock_trace k owner) (lock_traced k owner one) tt (before s c) (asked_by s c) until d behind (whole_at start records c) same is) [
+        | Given front lock back asked at grants spared leads ↦ Within front lock back at grants spared
+        | Stood had holds spared leads ↦ Before (known_all [] records known_new k owner one (unexpired k owner one s c holds)) (in_lease k owner records c holds) spared
       ]
 
 -- What was told of the clash.
@@ -323,7 +216,7 @@ lock_found d r a is status =
     let x = d.context in
     let (answer, text, did) = (by_item (λ status text u. status ≡ Denied → Reported s x a.locktype a.offset a.length text Res.LockDenied (IsLocker s x a)) d r (Operation (Op.Lock a)) is
     (λ e. let bad : RepTooBig ≡ Denied = e in absurd cc)
-    (λ e. record { was = (_, refl, lock_was_denied s x (moment r.now) r.refused a (ap is_denied e)) }) status).was in
+    (λ e. record { was = (_, refl, lock_was_denied s x (time_at s r.now) r.refused a (ap is_denied e)) }) status).was in
     record {
       wish = did.wish;
       held = did.held;
@@ -340,7 +233,7 @@ test_found d r a is status =
     let x = d.context in
     let (answer, text, did) = (by_item (λ status text u. status ≡ Denied → Reported s x a.locktype a.offset a.length text Res.LockTDenied (IsTester s x a)) d r (Operation (Op.LockT a)) is
     (λ e. let bad : RepTooBig ≡ Denied = e in absurd cc)
-    (λ e. record { was = (_, refl, test_denied s x (moment r.now) r.refused a (ap is_denied e)) }) status).was in
+    (λ e. record { was = (_, refl, test_denied s x (time_at s r.now) r.refused a (ap is_denied e)) }) status).was in
     record {
       wish = did.wish;
       held = did.held;
@@ -379,7 +272,7 @@ no_is_true start records c until d behind small same asks status =
       others = subst (λ n. IsOthers d n l.client l.owner) here.number (f.others each l here.stands here.file (λ same. false≢true
           (sym (ap not (eq-eqb h.owner f.number (sym here.number ∙ same))) ∙ (and_parts _ _ told.clash).0)));
       begun = (let b = begun_by start records c until d behind same l here.stands in
-          (b.0, b.1, subst (λ n. IsBegunBy b.0 n l.client l.owner) here.number b.2));
+          (b.0, b.1, subst (λ n. IsBegunBy b.0 n l.client l.owner) here.number b.2.by));
       clash = (
         (let within = told.within in let round = told.round in omega (arith, within.0, round.1)),
         (let within = told.within in let round = told.round in omega (arith, within.1, round.0)),

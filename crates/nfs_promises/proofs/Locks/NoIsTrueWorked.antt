@@ -21,7 +21,7 @@ use Rattle.nfs_promises.specs.Locks.{Denials.{byte_of, Grants}, NoIsTrue.{IsInLe
 use Rattle.nfs_promises.specs.Locks.NoIsTrueWorked.{before_clash, IsDeniedTruly, denies, blames_another, silence, asks_late, before_again, asks_again}
 use Rattle.nfs_promises.specs.{Locks.NoIsTrueWorked.DenialsRefused, Bytes.ChangeTells.RunsIn}
 use Rattle.nfs_promises.proofs.{Runs.{Computing.computing, LastOperation.{nothing, three}}, Locks.{LockKeptWorked.{says_ok, asking}, StatesBegun.same_lock}}
-use Rattle.nfs_promises.proofs.Locks.LockTraced.{in_front}
+use Rattle.nfs_promises.proofs.Locks.Traced.{in_front}
 
 -- A LOCK that granted something says NFS4_OK, and is among the operations of the records or of the compound.
 

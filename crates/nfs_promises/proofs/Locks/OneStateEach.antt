@@ -14,7 +14,7 @@ use Rattle.nfs_opens.specs.{Locking.{is_locker, state_of, raised, access_in, loc
 use Rattle.nfs_opens.specs.{Steps.{map_err, require}, Table.{Table, Asked, lock_at}}
 use Rattle.nfs_opens.specs.Opening as opening
 use Rattle.nfs_opens.proofs.CallLaws.{first_state, came, ok_is}
-use Rattle.nfs_names.specs.{declared.context.Context.Context, Ending.table_staying, Outcome.is_ok, State.{State, moment}}
+use Rattle.nfs_names.specs.{declared.context.Context.Context, Ending.table_staying, Outcome.is_ok, State.{State, time_at}}
 use Rattle.nfs_names.proofs.Untouched.{leaves_each}
 use Rattle.nfs_files.specs.Lock.{locks_as}
 use Rattle.nfs_files.proofs.{Effects.{Effect, Opens, Closes, Locks, Begins, Unlocks, Frees, Caused, table_behind}, Effected.caused_opens, Outcomes.comes_to}
@@ -135,8 +135,8 @@ each_item s x now refused i is =
 each_run : (d : RanOp) → IsRun d → HasOneEach d.before.store.opens → HasOneEach d.behind.store.opens
 each_run d r is = elim (by_run (λ status text s. Granting d.before.store d.context d.item (is_ok status) ⊎ HasOneEach s.opens) d r
     (inr is)
-    (λ o e. inr (subst HasOneEach (sym (leaves_each r.refused d.before.store d.context (moment r.now) d.item o e).opens) is))
-    (each_item d.before.store d.context (moment r.now) r.refused d.item is)
+    (λ o e. inr (subst HasOneEach (sym (leaves_each r.refused d.before.store d.context (time_at d.before.store r.now) d.item o e).opens) is))
+    (each_item d.before.store d.context (time_at d.before.store r.now) r.refused d.item is)
     (λ other. inr is)) [
       | inr each ↦ each
       | inl granting ↦
@@ -145,7 +145,7 @@ each_run d r is = elim (by_run (λ status text s. Granting d.before.store d.cont
           let a = locks.asked in
           let item : d.item ≡ Operation (Op.Lock a) = g.is ∙ ap Operation locks.is in
           let left = by_ok (λ text u. u.opens ≡ locks.did.1) d r (Operation (Op.Lock a)) item granting.1
-          (left_by d.before.store d.context (moment r.now) r.refused a (record { wish = g.wish; id = locks.id }) locks.did locks.judged locks.granted) in
+          (left_by d.before.store d.context (time_at d.before.store r.now) r.refused a (record { wish = g.wish; id = locks.id }) locks.did locks.judged locks.granted) in
           subst HasOneEach (sym left) (each_locked d.before.store.opens a.locker locks.id g.wish locks.did locks.granted is))
     ]
 

@@ -1,7 +1,6 @@
 -- One writer by filehandle, computed.
 use Rattle.std.proofs.Common.{◌≡◌, ◌+◌, ◌≤◌, List, [], ◌∷◌, ◌++◌, length, take, refl, arith}
 use Rattle.nfs_names.specs.GetFh.{get_fh}
-use Rattle.nfs_files.specs.{Ranges.range, Parts.wish}
 use Rattle.nfs_exec.specs.Runs.{LockHeld.AreSpared, Ops.RanOp}
 use Rattle.nfs_serve.specs.Step.{ServerState}
 use Rattle.nfs_promises.specs.{Runs.{Started.usual, Points.{state_after_all, taken, ops_of}}, Locks.OneWriterByHandle.IsKnownAt}

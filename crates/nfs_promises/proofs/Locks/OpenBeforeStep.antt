@@ -10,7 +10,7 @@ use Rattle.nfs_results.specs.{declared.res.ChangeInfo.ChangeInfo, declared.res.R
 use Rattle.nfs_opens.specs.{declared.records.OpenState.OpenState, declared.stateid.StateId.StateId, StateId.last_number, Table.{Table, Asked}, TableInvariants.IsTable}
 use Rattle.nfs_opens.specs.Calls.{open_fault, open_checks}
 use Rattle.nfs_opens.specs.Opening as opening
-use Rattle.nfs_names.specs.{declared.context.Context.Context, Outcome.{Outcome, checked}, State.{State, moment}}
+use Rattle.nfs_names.specs.{declared.context.Context.Context, Outcome.{Outcome, checked}, State.{State, time_at}}
 use Rattle.nfs_names.proofs.{Found.checked_ok, Ones.by_delay, Untouched.leaves_each}
 use Rattle.nfs_files.specs.{Open.{access_of, deny_of}, OpenTold.{names_open, OpenTold, Bits, bits_behind, IsOpenWith, claimed}, StateIds.wire_id}
 use Rattle.nfs_files.specs.OpenParts as open_parts
@@ -31,10 +31,10 @@ use Rattle.nfs_promises.proofs.Locks.LockNotEnded.{closes_leave_no_open}
 abbrev text_of : StateId → List ℕ → List ℕ
 text_of id rest = number id.seqid ++ (number id.instance ++ (hyper id.number ++ rest))
 
-open_spelled : (id : StateId) (cinfo : ChangeInfo) (attrset : List ℕ)
-    → (rest : List ℕ) × (spell_result (Res.Open (record { stateid = wire_id id; cinfo = cinfo; attrset = attrset })) ≡ done_head Num.Open ++ text_of id rest)
+open_spelled : (id : StateId) (cinfo : ChangeInfo) (rflags : ℕ) (attrset : List ℕ)
+    → (rest : List ℕ) × (spell_result (Res.Open (record { stateid = wire_id id; cinfo = cinfo; rflags = rflags; attrset = attrset })) ≡ done_head Num.Open ++ text_of id rest)
 unfolding number hyper stateid open_ok
-open_spelled id cinfo attrset = (_, refl)
+open_spelled id cinfo rflags attrset = (_, refl)
 
 open_head : (id : StateId) (rest : List ℕ) → bytes_eq (take 8 (done_head Num.Open ++ text_of id rest)) (done_head Num.Open) ≡ true
 unfolding number hyper
@@ -48,10 +48,10 @@ long_enough : (id : StateId) (rest : List ℕ) → 24 ≤ length (done_head Num.
 unfolding number hyper
 long_enough id rest = omega arith
 
-open_named : (id : StateId) (cinfo : ChangeInfo) (attrset : List ℕ) (n : ℕ) → id.number ≤ last_number → id.number ≡ n
-    → names_open Num.Open (spell_result (Res.Open (record { stateid = wire_id id; cinfo = cinfo; attrset = attrset }))) n ≡ true
-open_named id cinfo attrset n small same =
-    let (rest, is) = open_spelled id cinfo attrset in
+open_named : (id : StateId) (cinfo : ChangeInfo) (rflags : ℕ) (attrset : List ℕ) (n : ℕ) → id.number ≤ last_number → id.number ≡ n
+    → names_open Num.Open (spell_result (Res.Open (record { stateid = wire_id id; cinfo = cinfo; rflags = rflags; attrset = attrset }))) n ≡ true
+open_named id cinfo rflags attrset n small same =
+    let (rest, is) = open_spelled id cinfo rflags attrset in
     let long : nat_le 24 (length (done_head Num.Open ++ text_of id rest)) ≡ true = le-leb _ _ (long_enough id rest) in
     let read : from_be_bytes w64 (take 8 (drop 16 (done_head Num.Open ++ text_of id rest))) ≡ id.number =
     ap (from_be_bytes w64) (number_behind id rest) ∙ hyper_read id.number small in
@@ -135,8 +135,8 @@ stood_run : (k : OpenTold) (b : Bits) (d : RanOp) → IsRun d → is_open d.item
 stood_run k b d r other =
     by_run (λ status text s. IsOpenWith k b s.opens → Stood k d.before.store.opens) d r
     (λ is. (b, is))
-    (λ o e is. (b, subst (IsOpenWith k b) (leaves_each r.refused d.before.store d.context (moment r.now) d.item o e).opens is))
-    (stood_item k b d.before.store d.context (moment r.now) r.refused d.item other)
+    (λ o e is. (b, subst (IsOpenWith k b) (leaves_each r.refused d.before.store d.context (time_at d.before.store r.now) d.item o e).opens is))
+    (stood_item k b d.before.store d.context (time_at d.before.store r.now) r.refused d.item other)
     (λ off is. (b, is))
 
 -- OPEN.
@@ -178,7 +178,7 @@ opened_from k b s x now a f few asked free None own is =
     elim (in_push s.opens.opens new here.state here.there) [
       | inr old ↦ inr (as_state k b s.opens (opening.opens_by s.opens its None).after here here.state old refl refl refl refl)
       | inl same ↦ inl (record {
-        names = open_named id (of_open.info_of s.tree f) (of_open.set_of a f) k.number
+        names = open_named id (of_open.info_of s.tree f) (of_open.result_flags s.tree.profile) (of_open.set_of a f) k.number
             (let small = new_small s.opens its few own free in omega (arith, number, small))
             (number ∙ (sym (ap (λ (o : OpenState). o.number) same) ∙ here.number));
         leads = asked_leads s x now a f asked ∙ ap Some (sym (ap (λ (o : OpenState). o.file) same) ∙ here.file);
@@ -205,7 +205,7 @@ open_run : (k : OpenTold) (b : Bits) (d : RanOp) → IsRun d → (a : Open) → 
 open_run k b d r a item is =
     let s = d.before.store in
     elim (by_item (λ status text u. IsOpenWith k b u.opens → IsNew k b s d.context a text u ⊎ Stood k s.opens) d r (Operation (Op.Open a)) item (λ is. inr (b, is))
-    (open_from k b s d.context (moment r.now) r.refused a r.whole.few) is) [
+    (open_from k b s d.context (time_at s r.now) r.refused a r.whole.few) is) [
       | inr stood ↦ inr stood
       | inl new ↦ inl (record {
         opens = record { asked = a; is = item; names = new.names; leads = new.leads };

@@ -1,34 +1,23 @@
 -- Each open that stands was granted in some record, and nothing has ended it since.
-use Rattle.std.proofs.Common.{◌≡◌, ◌⊎◌, ℕ, ◌<◌, not, true, false, List, [], ◌∷◌, ◌++◌, length, Option, Some, None, refl, sym, ◌∙◌, ap, subst, inl, inr}
-use Rattle.std.proofs.{Common.{append_assoc, append-nil}, lemmas.Bool.{cases_Bool, eq-eqb, false≢true}}
-use Rattle.std.specs.{Prelude.{◌^◌, ◌==◌}, Option.option_map_or}
+use Rattle.std.proofs.Common.{◌≡◌, ℕ, ◌<◌, not, true, List, [], ◌∷◌, ◌++◌, refl, sym, ◌∙◌, ap, subst}
+use Rattle.std.proofs.{Common.{append_assoc, append-nil}, lemmas.Bool.{eq-eqb, false≢true}}
+use Rattle.std.specs.Prelude.{◌^◌, ◌==◌}
 use Rattle.nfs_xdr.proofs.Lists.{any_in, in_filter}
 use Rattle.nfs_opens.specs.{declared.records.OpenState.OpenState, Table.Table}
 use Rattle.nfs_names.specs.{declared.start.Start.Start, Ending.has_open}
 use Rattle.nfs_names.specs.State as of_store
 use Rattle.nfs_files.specs.OpenTold.{OpenTold, Bits, IsOpenWith}
-use Rattle.nfs_exec.specs.{Runs.LockHeld.replaces, Runs.Ops.{RanOp, ops_by}, Step.Laws.MachineEvent, Step.Machine.{Machine, IsMachine}}
+use Rattle.nfs_exec.specs.Runs.Ops.{RanOp}
 use Rattle.nfs_promises.specs.Runs.OpenHeld.{bits_left}
-use Rattle.nfs_exec.proofs.{Step.Invariant.of_start, Runs.KeptByRuns.Is, Runs.OneWalk.none_at}
 use Rattle.nfs_serve.specs.{Step.{ServerState, new_state}}
-use Rattle.nfs_promises.specs.{Network.Endpoint.Arrival, Locks.{LockKept.replaces_by, NoIsTrue.IsInLease, OpenGranted.{LeavesOpen, AllLeaveOpen, bits_through}}}
-use Rattle.nfs_promises.specs.{Locks.OpenGranted.{IsOpenSince, IsGrantedOpen, Before, Within}, Runs.Points.{state_after, state_after_all, reached, taken}}
+use Rattle.nfs_promises.specs.{Network.Endpoint.Arrival, Locks.{NoIsTrue.IsInLease, OpenGranted.{LeavesOpen, AllLeaveOpen, bits_through}}}
+use Rattle.nfs_promises.specs.{Locks.OpenGranted.{IsOpenSince, IsGrantedOpen, Before, Within}, Runs.Points.{state_after, state_after_all, reached}}
 use Rattle.nfs_promises.specs.Runs.Points.{before, asked_by, ops_of}
-use Rattle.nfs_promises.proofs.Locks.{ReplacedByRepeat.{IsHad, replaced_none}, NoIsTrue.{reached_more, whole_at}, OpenTraced.{TracedOpen, Stood, Given}}
-use Rattle.nfs_promises.proofs.Locks.{OpenTraced.{open_staying, event_open, event_open_until}, NoneOutlives.{machine_before, machine_all, renewed_in_time}}
-use Rattle.nfs_promises.proofs.{Locks.OneWriterByHandle.after_both, Runs.Points.{left, for_asked, next_is}}
+use Rattle.nfs_promises.proofs.Locks.{ReplacedByRepeat.{IsHad, is_alone_by}, Traced.{Stood, Given, asked_traced, asked_until}}
+use Rattle.nfs_promises.proofs.Locks.{OpenTraced.{open_staying, open_trace, open_traced}, NoneOutlives.renewed_in_time}
+use Rattle.nfs_promises.proofs.{Locks.OneWriterByHandle.after_both, Runs.{LaterRecords.{reached_more, whole_at}, Points.{left, next_is}}}
 
 -- Records.
-
-asked_open : (k : OpenTold) (b : Bits) (m : Machine) (o : Option MachineEvent) → Is m → IsOpenWith k b (left m o).store.opens
-    → TracedOpen k b m (option_map_or (ops_by m) o [])
-asked_open k b m None is stands = Stood b stands (λ d there. absurd there) refl
-asked_open k b m (Some e) is stands = event_open k b m e is stands
-
-asked_until : (k : OpenTold) (b : Bits) (m : Machine) (o : Option MachineEvent) (until : List RanOp) (d : RanOp) (back : List RanOp) → Is m
-    → option_map_or (ops_by m) o [] ≡ until ++ d ∷ back → IsOpenWith k b d.before.store.opens → TracedOpen k b m until
-asked_until k b m None until d back is same stands = absurd (none_at until d back same)
-asked_until k b m (Some e) until d back is same stands = event_open_until k b m e until d back is same stands
 
 -- with some bits
 abbrev IsSome : OpenTold → Table → Type 0
@@ -57,24 +46,6 @@ module _ (start : Start) (small : start.instance < 2 ^ 32) (k : OpenTold) where
   in_lease b records c is =
       let time = renewed_in_time start k.client records c small (has_its_open k b (before (reached start records) c).store is) in
       (time.last, time.renewed, time.within)
-
-  machine_at : (records : List Arrival) (c : Arrival) → IsMachine (before (reached start records) c)
-  machine_at records c =
-      machine_before (reached start records) c (machine_all (new_state start) records (of_start start small))
-
-  -- nobody took its client's place
-  is_alone : (b : Bits) (records : List Arrival) (c : Arrival)
-      → (let s = reached start records in
-      IsOpenWith k b (left (before s c) (asked_by s c)).store.opens → (replaces_by k.client s c ≡ false) ⊎ ((state_after s c).machine ≡ before s c))
-  is_alone b records c stands =
-      let s = reached start records in
-      let m = before s c in
-      elim (cases_Bool (replaces_by k.client s c)) [
-        | inr leaves ↦ inl leaves
-        | inl takes ↦ inr (ap (λ (s : ServerState). s.machine) (next_is s c)
-            ∙ for_asked (λ o. option_map_or (replaces k.client m) o false ≡ true → IsSome k (left m o).store.opens → left m o ≡ m) s c (λ e holds. refl)
-            (λ r who. replaced_none k.client (IsSome k) (open_had k) m (machine_at records c) r who (length c.bytes) (taken s c) c.choice) takes (b, stands))
-      ]
 
   leave_more : (records between : List Arrival) (c : Arrival) → AllLeaveOpen start k records between
       → LeavesOpen start k (records ++ between) c → AllLeaveOpen start k records (between ++ c ∷ [])
@@ -122,7 +93,7 @@ module _ (start : Start) (small : start.instance < 2 ^ 32) (k : OpenTold) where
       let s = reached start records in
       let here : IsOpenWith k b (left (before s c) (asked_by s c)).store.opens =
       subst (λ (s : ServerState). IsOpenWith k b s.machine.store.opens) (reached_more (new_state start) records c ∙ next_is s c) is in
-      elim (asked_open k b (before s c) (asked_by s c) (whole_at start records c) here) [
+      elim (asked_traced (open_trace k) (open_traced k) b (before s c) (asked_by s c) (whole_at start records c) here) [
         | Given front first back asked same grants unclosed bits ↦ record {
           earlier = records;
           arrival = c;
@@ -139,7 +110,7 @@ module _ (start : Start) (small : start.instance < 2 ^ 32) (k : OpenTold) where
           bits = bits;
         }
         | Stood had stood unclosed bits ↦ one_more had b records c (known had (unexpired had s c stood))
-            (record { lasts = in_lease had records c stood; unclosed = unclosed; alone = is_alone b records c here }) bits
+            (record { lasts = in_lease had records c stood; unclosed = unclosed; alone = is_alone_by k.client (IsSome k) (open_had k) start small records c (b, here) }) bits
       ]
 
   known_all : (done more : List Arrival) → Known done → Known (done ++ more)
@@ -154,7 +125,7 @@ module _ (start : Start) (small : start.instance < 2 ^ 32) (k : OpenTold) where
       → ops_of (reached start records) c ≡ until ++ d ∷ behind → IsOpenWith k b d.before.store.opens → IsGrantedOpen start k b records c until
   open_granted b records c until d behind same is =
       let s = reached start records in
-      elim (asked_until k b (before s c) (asked_by s c) until d behind (whole_at start records c) same is) [
+      elim (asked_until (open_trace k) (open_traced k) b (before s c) (asked_by s c) until d behind (whole_at start records c) same is) [
         | Given front first back asked at grants unclosed bits ↦ Within front first back asked at grants unclosed bits
         | Stood had stood unclosed bits ↦ Before had (known_all [] records known_new had (unexpired had s c stood)) (in_lease had records c stood) unclosed bits
       ]

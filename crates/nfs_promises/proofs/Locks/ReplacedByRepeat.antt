@@ -1,6 +1,6 @@
 -- Where a lock is still held, or an open stands, behind a CREATE_SESSION that gives another id for its client's owner, that was a repeat, and changed nothing.
-use Rattle.std.proofs.Common.{◌≡◌, ℕ, Bool, true, false, cond, eqb, not, List, [], ◌∷◌, Option, Some, None, Result, Ok, Err, refl, sym, ◌∙◌, ap, subst}
-use Rattle.std.proofs.{lemmas.Bool.{and_parts, eq-eqb, eqb-true, eqb-false, ne_eqb, false≢true}, lemmas.Slice.Eq.bytes_eq-Decides}
+use Rattle.std.proofs.Common.{inl, inr, ◌⊎◌, ◌<◌, ◌^◌, length, ◌≡◌, ℕ, Bool, true, false, cond, eqb, not, List, [], ◌∷◌, Option, Some, None, Result, Ok, Err, refl, sym, ◌∙◌, ap, subst}
+use Rattle.std.proofs.{lemmas.Bool.{cases_Bool, and_parts, eq-eqb, eqb-true, eqb-false, ne_eqb, false≢true}, lemmas.Slice.Eq.bytes_eq-Decides}
 use Rattle.std.specs.{Prelude.{◌==◌, ◌&&◌, find, option_map, bytes_eq}, Option.option_map_or}
 use Rattle.nfs_xdr.specs.{Caller.Caller, Tables.In, declared.status.Status.Status, declared.status.Status.TheVariants.{Delay, MinorVersMismatch}}
 use Rattle.nfs_xdr.proofs.{Lists.{in_filter, in_any, any_in, find_in, none_in}, Tables.in_once}
@@ -13,7 +13,7 @@ use Rattle.nfs_clients.specs.{Roster.{ClientRecord, client_at, first_id, next_id
 use Rattle.nfs_clients.specs.CreateSession as clients
 use Rattle.nfs_clients.specs.declared.created.CreateResult.TheVariants as results
 use Rattle.nfs_opens.specs.{declared.records.LockState.LockState, declared.records.OpenState.OpenState, Table.Table, TableInvariants.IsTable}
-use Rattle.nfs_names.specs.{Ending.{has_open, table_staying}, Outcome.is_ok}
+use Rattle.nfs_names.specs.{declared.start.Start.Start, Ending.{has_open, table_staying}, Outcome.is_ok}
 use Rattle.nfs_names.specs.State as of_store
 use Rattle.nfs_files.specs.LockTold.{LockTold}
 use Rattle.nfs_exec.specs.Step.{Machine.{Machine, IsMachine, MachineOutcome, with_refusal}, Place.place_fault, Parts.{without_any_opens, wish_of}}
@@ -21,9 +21,12 @@ use Rattle.nfs_exec.specs.Step.Run.{is_here}
 use Rattle.nfs_exec.specs.{Step.Compound.{carried_out, first_item, bare, by_first, compound}, Step.Laws.Asks}
 use Rattle.nfs_exec.specs.Runs.LockHeld.{is_of_owner, takes_place, replaces_in, replaces}
 use Rattle.nfs_exec.proofs.Step.{InSteps.create_session_is, Terms.by_fault}
-use Rattle.nfs_exec.proofs.Step.Invariant.{not_true}
+use Rattle.nfs_exec.proofs.Step.Invariant.{not_true, of_start}
 use Rattle.nfs_exec.specs.Step.Parts.{by_created, creates, by_number}
-use Rattle.nfs_promises.proofs.Locks.{LockBeforeStep.Holds, LockTraced.held_staying}
+use Rattle.nfs_serve.specs.Step.{ServerState, new_state}
+use Rattle.nfs_promises.specs.{Network.Endpoint.Arrival, Locks.LockKept.replaces_by, Runs.Points.{reached, state_after, taken, before, asked_by}}
+use Rattle.nfs_promises.proofs.Locks.{LockBeforeStep.Holds, LockTraced.held_staying, NoneOutlives.{machine_before, machine_all}}
+use Rattle.nfs_promises.proofs.Runs.Points.{left, for_asked, next_is}
 use Rattle.nfs_clients.proofs.Members.{leaving_by}
 
 never_both : (b : Bool) → b && false ≡ true → ⊥
@@ -168,4 +171,19 @@ lock_gone k owner t holds =
     false≢true (sym (ap not (eq-eqb holds.lock.client k.client holds.client)) ∙ passes)
 
 pub lock_had : (k : LockTold) (owner : List ℕ) → k.last ≡ k.first → IsHad k.client (Holds k owner)
-lock_had k owner one = record { opened = lock_open k owner; staying = held_staying k owner one; gone = lock_gone k owner }
+lock_had k owner one = record { opened = lock_open k owner; staying = held_staying k owner; gone = lock_gone k owner }
+
+-- In a run nobody takes the place of a client that has something in the table behind a record, or the record changes nothing.
+pub is_alone_by : (client : ℕ) (P : Table → Type 0) → IsHad client P → (start : Start) → start.instance < 2 ^ 32 → (records : List Arrival) (c : Arrival)
+    → (let s = reached start records in
+    P (left (before s c) (asked_by s c)).store.opens → (replaces_by client s c ≡ false) ⊎ ((state_after s c).machine ≡ before s c))
+is_alone_by client P had start small records c holds =
+    let s = reached start records in
+    let m = before s c in
+    let is : IsMachine m = machine_before s c (machine_all (new_state start) records (of_start start small)) in
+    elim (cases_Bool (replaces_by client s c)) [
+      | inr leaves ↦ inl leaves
+      | inl takes ↦ inr (ap (λ (s : ServerState). s.machine) (next_is s c)
+          ∙ for_asked (λ o. option_map_or (replaces client m) o false ≡ true → P (left m o).store.opens → left m o ≡ m) s c (λ e holds. refl)
+          (λ r who. replaced_none client P had m is r who (length c.bytes) (taken s c) c.choice) takes holds)
+    ]

@@ -1,10 +1,11 @@
 -- A file that is open stays, whatever becomes of its names; and an object that no name leads to is not named again.
-use Rattle.std.proofs.Common.{◌≡◌, ℕ, ◌<◌, ◌^◌, Bool, true, false, List, Some, refl, sym, ◌∙◌, ap}
-use Rattle.std.proofs.lemmas.Bool.{eq-eqb}
+use Rattle.std.proofs.Common.{◌≡◌, ◌⊎◌, ℕ, ◌<◌, ◌^◌, Bool, true, false, List, Some, refl, sym, ◌∙◌, ap, inl, inr}
+use Rattle.std.proofs.lemmas.Bool.{eq-eqb, false≢true}
 use Rattle.std.specs.Prelude.{◌==◌, ◌||◌}
 use Rattle.nfs_xdr.proofs.Lists.{any_in}
+use Rattle.nfs_compound.specs.declared.op.{Item.{Item, TheVariants.Operation}, Op.Op}
 use Rattle.nfs_attrs.specs.Handle.{handle_of}
-use Rattle.nfs_tree.specs.Files.{root, is_there, has_row}
+use Rattle.nfs_tree.specs.Files.{root, has_row}
 use Rattle.nfs_names.specs.State.{is_used, is_open}
 use Rattle.nfs_names.specs.State as store
 use Rattle.nfs_files.specs.OpenTold.{OpenTold, Bits, IsOpenWith}
@@ -13,8 +14,8 @@ use Rattle.nfs_exec.specs.Runs.Ops.{RanOp}
 use Rattle.nfs_exec.proofs.Step.Instances.{instance_kept}
 use Rattle.nfs_promises.proofs.Runs.{ToldOtherwise.from_other, Handles.{handle_in, handle_read}}
 use Rattle.nfs_exec.proofs.Runs.{OneRun.IsRun, WrittenRun.used_there}
-use Rattle.nfs_promises.specs.Names.FileStays.{IsThere, FilesStay}
-use Rattle.nfs_promises.proofs.Names.{Handles.given_at, StaleTruly.{current_other, saved_other}, ThereAnswers.{not_stale, put_other}}
+use Rattle.nfs_promises.specs.Names.FileStays.{is_on_current, is_on_saved, IsThere, FilesStay}
+use Rattle.nfs_promises.proofs.Names.{Handles.given_at, StaleTruly.{stale_for, put_found, at_current, at_saved}}
 use Rattle.nfs_promises.proofs.Locks.OpenKept.{open_kept}
 
 -- The file of an open is there.
@@ -38,15 +39,23 @@ handle_here : (instance n : ℕ) (h : List ℕ) → IsOfHandle instance n h → 
 handle_here instance n h of own same =
     ap handle_of of.1 ∙ (handle_read instance n of.0 of.2 ∙ ap (λ i. Some (record { instance = i; number = n })) (sym same))
 
+-- No object that it looks at is gone, so it is not answered NFS4ERR_STALE.
+
+op_of : (i : Item) → (is_on_current i ≡ true) ⊎ (is_on_saved i ≡ true) → (op : Op) × (i ≡ Operation op)
+op_of (Operation op) on = (op, refl)
+op_of i (inl on) = absurd (false≢true on)
+op_of i (inr on) = absurd (false≢true on)
+
 there_before : (k : OpenTold) (b : Bits) (h : List ℕ) (instance : ℕ) (d : RanOp) → IsOfHandle instance k.file h → IsRun d → d.before.store.opens.instance ≡ instance
     → IsOpenWith k b d.before.store.opens → IsThere k.file h d
 there_before k b h instance d of r own stands =
-    let there : is_there d.before.store.tree k.file ≡ true = used_there d.before.store k.file r.whole (open_used k b d.before.store stands) in
+    let used = open_used k b d.before.store stands in
     record {
-      there = there;
-      found = λ is. not_stale d.status (put_other d r k.file h there (handle_here instance k.file h of d.before.store.opens.instance own) is);
-      at_current = λ on off at. not_stale d.status (current_other d r k.file there at on off);
-      at_saved = λ on saved at same others. not_stale d.status (saved_other d r k.file there saved at same others on);
+      there = used_there d.before.store k.file r.whole used;
+      found = λ is stale. put_found d k.file used h (handle_here instance k.file h of d.before.store.opens.instance own) is (stale_for d r (Op.PutFh h) is stale);
+      at_current = λ on off at stale. (let op = op_of d.item (inl on) in at_current d k.file used on off at (stale_for d r op.0 op.1 stale));
+      at_saved = λ on saved at same others stale. (let op = op_of d.item (inr on) in
+          at_saved d k.file used on saved at same (λ on n at. r.whole.store.used n (others on n at)) (stale_for d r op.0 op.1 stale));
     }
 
 pub files_stay : FilesStay

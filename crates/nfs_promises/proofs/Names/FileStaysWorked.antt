@@ -1,24 +1,19 @@
 -- The run of a file that is open and loses its name, and the wrong answers, computed.
-use Rattle.std.proofs.Common.{◌≡◌, ◌⊎◌, ℕ, true, false, List, [], ◌∷◌, ◌++◌, length, get_or, take, Option, refl, sym, ap, subst, arith, inl, inr}
+use Rattle.std.proofs.Common.{◌≡◌, ◌⊎◌, ℕ, true, false, List, [], ◌∷◌, ◌++◌, length, get_or, take, refl, sym, ap, subst, arith, inl, inr}
 use Rattle.std.proofs.lemmas.Bool.{true≢false, false≢true}
-use Rattle.nfs_xdr.specs.{declared.status.Status.Status, declared.status.Status.TheVariants.{Nfs4Ok, NoEnt, Stale, RepTooBig}, Tables.In}
+use Rattle.nfs_xdr.specs.{declared.status.Status.Status, declared.status.Status.TheVariants.{NoEnt, RepTooBig}, Tables.In}
 use Rattle.nfs_compound.specs.{declared.file_args.Read.Read, declared.stateid.Stateid.Stateid}
-use Rattle.nfs_compound.specs.declared.op_num.OpNum.TheVariants as Num
-use Rattle.nfs_results.specs.Results.{done_head}
 use Rattle.nfs_tree.specs.Files.{is_there, has_row}
 use Rattle.nfs_names.specs.{GetFh.get_fh, Outcome.is_ok, Remove.remove}
 use Rattle.nfs_files.specs.StateIds.{state_id}
-use Rattle.nfs_promises.specs.{Runs.{Requests.words, Started.usual, Handles.Gives, OpenHeld.TellsOpen, Points.{reached, ops_of}}, Bytes.FileRead.ReadsImage}
-use Rattle.nfs_promises.specs.{Bytes.WrittenStaysWorked.{makes, made, writes, written, answering, without_objects}, Names.FileStays.{IsHandleOf, IsThere}}
-use Rattle.nfs_promises.specs.Names.{FileStays.IsNameless, FileStaysWorked.{its_bits, first_of, as_written, IsKeptOpen, with_status, at_file, LossesAreRefused}}
-use Rattle.nfs_promises.specs.{Names.{HandlesWorked.given, NameStays.Finds, NameStaysWorked.{f, with_names}, OpenReads.CanBeHad}, Locks.LockKeptWorked.earlier}
-use Rattle.nfs_promises.specs.Locks.{LockKeptWorked.{outset, last_of, statuses}, OpenKeptWorked.its_open, OpenKept.LeaveOpen}
+use Rattle.nfs_promises.specs.Runs.{Requests.words, Started.usual, Handles.Gives, OpenHeld.TellsOpen, Points.{reached, ops_of}}
+use Rattle.nfs_promises.specs.{Bytes.WrittenStaysWorked.{makes, made, writes, written}, Names.FileStays.IsHandleOf}
+use Rattle.nfs_promises.specs.Names.FileStaysWorked.{its_bits, IsKeptOpen, LossesAreRefused}
+use Rattle.nfs_promises.specs.{Names.{HandlesWorked.given, NameStays.Finds, NameStaysWorked.f}, Locks.LockKeptWorked.earlier}
+use Rattle.nfs_promises.specs.Locks.{LockKeptWorked.{outset, last_of}, OpenKeptWorked.its_open, OpenKept.LeaveOpen}
 use Rattle.nfs_exec.specs.{Runs.Ops.RanOp}
 use Rattle.nfs_promises.specs.Names.FileStaysWorked as worked
-use Rattle.nfs_promises.proofs.{Runs.{Computing.computing, LastOperation.{nothing, two}}, Locks.OpenKeptWorked.leave_open}
-
-abbrev opening : RanOp
-opening = last_of nothing (ops_of outset makes)
+use Rattle.nfs_promises.proofs.{Runs.{Computing.computing, LastOperation.{nothing, two}}, Bytes.FileReadWorked.{opening, make_ops}, Locks.OpenKeptWorked.leave_open}
 
 abbrev removal : RanOp
 removal = last_of nothing (ops_of worked.found worked.removes)
@@ -28,10 +23,6 @@ its_stateid = record { seqid = 0; other = words (7 ∷ 0 ∷ 1 ∷ []) }
 
 abbrev asked : Read
 asked = record { stateid = its_stateid; offset = 0; count = 8 }
-
-make_ops : ops_of outset makes ≡ take 1 (ops_of outset makes) ++ opening ∷ []
-unfolding computing
-make_ops = two nothing (ops_of outset makes) refl
 
 tells : TellsOpen its_open its_bits opening
 unfolding computing
@@ -80,23 +71,8 @@ taken_away : (is_there removal.before.store.tree 2 ≡ true) × (has_row removal
 unfolding computing get_fh remove
 taken_away = (refl, refl, refl)
 
-bytes : (d : RanOp) → (last_of d (ops_of worked.removed worked.reads)).result ≡ done_head Num.Read ++ words (1 ∷ 4 ∷ 0x7365_656e ∷ [])
-unfolding computing get_fh remove
-bytes d = refl
-
-none : statuses (ops_of worked.read_once worked.misses) ≡ Nfs4Ok ∷ NoEnt ∷ []
-unfolding computing get_fh remove
-none = refl
-
-shut : statuses (ops_of worked.missed worked.closes) ≡ Nfs4Ok ∷ Nfs4Ok ∷ []
-unfolding computing get_fh remove
-shut = refl
-
-gone : statuses (ops_of worked.closed worked.returns) ≡ Stale ∷ []
-unfolding computing get_fh remove
-gone = refl
-
 pub is_kept_open : IsKeptOpen
+unfolding computing get_fh remove
 is_kept_open = record {
   front = take 1 (ops_of outset makes);
   told = opening;
@@ -110,51 +86,28 @@ is_kept_open = record {
   there = taken_away.0;
   named = taken_away.1;
   unnamed = taken_away.2;
-  read = bytes;
-  none = none;
-  shut = shut;
-  gone = gone;
+  read = λ d. refl;
+  none = refl;
+  shut = refl;
+  gone = refl;
 }
 
 -- The wrong answers.
-
-stale_handle : (d : RanOp) → IsThere 2 given (with_status Stale (first_of d (ops_of worked.removed worked.reads))) → ⊥
-unfolding computing get_fh remove
-stale_handle d is = is.found refl refl
-
-unread : (d : RanOp) → IsThere 2 given (with_status Stale (last_of d (ops_of worked.removed worked.reads))) → ⊥
-unfolding computing get_fh remove
-unread d is = is.at_current refl refl refl refl
-
-unclosed : (d : RanOp) → IsThere 2 given (with_status Stale (last_of d (ops_of worked.missed worked.closes))) → ⊥
-unfolding computing get_fh remove
-unclosed d is = is.at_current refl refl refl refl
 
 not_answered : (is_ok NoEnt ≡ true) ⊎ (◌≡◌ {A = Status} NoEnt RepTooBig) → ⊥
 not_answered (inl ok) = false≢true ok
 not_answered (inr same) = absurd cc
 
-failed : (d : RanOp) → CanBeHad its_open its_bits (with_status NoEnt (last_of d (ops_of worked.removed worked.reads))) → ⊥
-unfolding computing get_fh remove
-failed d is = not_answered (is.read asked (state_id its_stateid) refl refl refl refl refl refl refl refl)
-
-dropped : (d : RanOp) → IsThere 2 given (without_objects (last_of d (ops_of worked.removed worked.reads))) → ⊥
-unfolding computing get_fh remove
-dropped d is = false≢true is.there
-
--- the count stands in bytes 12 to 15 of the answer
-emptied : (d : RanOp) → ReadsImage 2 as_written (answering (words (1 ∷ 0 ∷ [])) (last_of d (ops_of worked.removed worked.reads))) → ⊥
-unfolding computing get_fh remove
-emptied d is = (let bad : ◌≡◌ {A = ℕ} 0 4 = ap (λ (text : List ℕ). get_or text 15 0) (is asked refl refl refl) in absurd (omega arith))
-
-named : (d : RanOp) (next : Option _)
-    → IsNameless 2 (with_names (last_of d (ops_of worked.found worked.removes)).before.store.tree.rows (last_of d (ops_of worked.closed worked.returns))) next → ⊥
-unfolding computing get_fh remove
-named d next is = true≢false is.unnamed
-
-shown : (d : RanOp) → (let e = last_of d (ops_of worked.read_once worked.misses) in IsNameless 2 (record e { result = done_head Num.Lookup }) (at_file e) → ⊥)
-unfolding computing get_fh remove
-shown d is = is.unsaid f refl (Finds refl refl ([], refl) (_, refl, refl))
-
 pub losses_are_refused : LossesAreRefused
-losses_are_refused = record { stale = stale_handle; unread = unread; unclosed = unclosed; failed = failed; dropped = dropped; emptied = emptied; named = named; shown = shown }
+unfolding computing get_fh remove
+losses_are_refused = record {
+  stale = λ d is. is.found refl refl;
+  unread = λ d is. is.at_current refl refl refl refl;
+  unclosed = λ d is. is.at_current refl refl refl refl;
+  failed = λ d is. not_answered (is.read asked (state_id its_stateid) refl refl refl refl refl refl refl refl);
+  dropped = λ d is. false≢true is.there;
+  -- the count stands in bytes 12 to 15 of the answer
+  emptied = λ d is. (let bad : ◌≡◌ {A = ℕ} 0 4 = ap (λ (text : List ℕ). get_or text 15 0) (is asked refl refl refl) in absurd (omega arith));
+  named = λ d next is. true≢false is.unnamed;
+  shown = λ d is. is.unsaid f refl (Finds refl refl ([], refl) (_, refl, refl));
+}

@@ -9,8 +9,8 @@ use Rattle.nfs_exec.specs.{Step.{Laws.MachineEvent, Machine.Machine}, Runs.Ops.{
 use Rattle.nfs_serve.specs.Step.{ServerState, new_state}
 use Rattle.nfs_promises.specs.Runs.{Handles.{Gives, Leads}, Points.{state_after, state_after_all, reached, before, asked_by, ops_of}}
 use Rattle.nfs_promises.specs.{Network.Endpoint.Arrival, Names.Handles.{HandlesLead, HandlesTell}}
-use Rattle.nfs_promises.proofs.Runs.{Handles.{given_in, handle_in, handle_read, event_leads}, Points.{IsSound, whole_before, sound_all, sound_new}}
-use Rattle.nfs_promises.proofs.Runs.LaterRecords.{op_done, op_keeps, next_keeps, all_keeps}
+use Rattle.nfs_promises.proofs.Runs.{Handles.{given_in, handle_in, handle_read, event_leads}, Points.{IsSound, sound_all, sound_new}}
+use Rattle.nfs_promises.proofs.Runs.LaterRecords.{op_done, op_keeps, next_keeps, all_keeps, whole_at}
 
 -- The instance does not change.
 
@@ -27,11 +27,6 @@ leads_by : (m : Machine) (o : Option MachineEvent) (instance n : ℕ) (h : List 
     → Leads n h (option_map_or (ops_by m) o [])
 leads_by m None instance n h is own same small low = tt
 leads_by m (Some e) instance n h is own same small low = event_leads instance n h same small low m e is own
-
-whole_at : (start : Start) (records : List Arrival) (c : Arrival) → Is (before (reached start records) c)
-whole_at start records c =
-    let sound : IsSound (reached start records) = sound_all (new_state start) records (sound_new start) in
-    whole_before (reached start records) c sound.whole
 
 pub given_at : (start : Start) (records : List Arrival) (c : Arrival) (get : RanOp) (n : ℕ) (h : List ℕ)
     → In get (ops_of (reached start records) c) → Gives n h get → (h ≡ handle_in start.instance n) × (n < 2 ^ 64)

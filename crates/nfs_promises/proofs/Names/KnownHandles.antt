@@ -3,10 +3,10 @@ use Rattle.std.proofs.Common.{◌≡◌, ℕ, zero, suc, ◌<◌, ◌^◌, Bool,
 use Rattle.std.proofs.Common.{refl, sym, ◌∙◌, ap, subst, arith, inl, inr}
 use Rattle.std.proofs.lemmas.Bool.{and_parts, and_from, not-true, eqb-true, ltb-true, true≢false}
 use Rattle.std.proofs.{lemmas.List.{take_at, drop_at}, lemmas.Option.same_Some, lemmas.Slice.Eq.bytes_eq-Decides}
-use Rattle.std.specs.{Prelude.{◌==◌, bytes_eq, find, is_some, option_map, option_and_then, Result, Ok, Err}, Int.{w32, from_be_bytes}}
+use Rattle.std.specs.{Prelude.{◌==◌, bytes_eq, find, is_some, option_map, option_and_then}, Int.{w32, from_be_bytes}}
 use Rattle.std.specs.Option.{option_map_or}
-use Rattle.nfs_xdr.specs.{Spelling.{number, fixed, opaque}, Tables.In, Status.status_number, declared.status.Status.Status}
-use Rattle.nfs_xdr.specs.declared.status.Status.TheVariants.{Nfs4Ok, NoFileHandle, Stale, RepTooBig}
+use Rattle.nfs_xdr.specs.{Spelling.{number, fixed, opaque}, Tables.In}
+use Rattle.nfs_xdr.specs.declared.status.Status.TheVariants.{Nfs4Ok, NoFileHandle, RepTooBig}
 use Rattle.nfs_xdr.proofs.{Lists.{find_in, in_filter}, Putting.length_number}
 use Rattle.nfs_compound.specs.declared.{name_args.Rename.Rename, open_args.OpenClaim.OpenClaim}
 use Rattle.nfs_compound.specs.{declared.open_args.OpenClaim.TheVariants.Null, declared.op.Item.Item, declared.op.Item.TheVariants.Operation, OpNum.op_number}
@@ -15,29 +15,28 @@ use Rattle.nfs_compound.specs.declared.op_num.OpNum.TheVariants as Num
 use Rattle.nfs_results.specs.declared.res.Res.TheVariants as Res
 use Rattle.nfs_results.specs.Results.{spell_result, done_head, refusal}
 use Rattle.nfs_results.proofs.Lengths.{length_head}
-use Rattle.nfs_tree.specs.{declared.object.Object.Object, declared.row.Row.Row, Files.{root, object_at, is_entry, entry, is_directory_at}}
+use Rattle.nfs_tree.specs.{declared.row.Row.Row, Files.{root, is_entry, entry, is_directory_at}}
 use Rattle.nfs_tree.proofs.RowsKept.{entry_parts}
 use Rattle.nfs_attrs.specs.Handle.{handle_of}
 use Rattle.nfs_attrs.proofs.{Lengths.length_handle, Texts.handle_is}
-use Rattle.nfs_names.specs.{declared.start.Start.Start, declared.context.Context.Context, declared.node.Node.Node}
-use Rattle.nfs_names.specs.{Checks.{saved_object, node_as, node_at, current}, GetFh.get_fh, Outcome.{or_refusal, is_ok}}
-use Rattle.nfs_names.specs.Outcome as outcome
-use Rattle.nfs_names.specs.State as store
-use Rattle.nfs_opens.specs.Steps.{◌>>=◌}
+use Rattle.nfs_names.specs.{declared.start.Start.Start, declared.context.Context.Context}
+use Rattle.nfs_names.specs.{Checks.{saved_object, current}, Outcome.is_ok}
 use Rattle.nfs_files.proofs.WrittenOps.{number_back}
 use Rattle.nfs_files.proofs.ChangesTold.{some_same}
-use Rattle.nfs_exec.specs.Step.{Machine.Machine, Run.in_room}
+use Rattle.nfs_exec.specs.Step.Machine.{Machine}
 use Rattle.nfs_promises.specs.Runs.Handles.{Gives}
 use Rattle.nfs_exec.specs.Runs.Ops.{RanOp, done, left_by, AreChained}
-use Rattle.nfs_exec.proofs.{Step.Instances.instance_kept, Runs.KeptByRuns.Is, Runs.OneRun.{IsRun, in_room_is}}
+use Rattle.nfs_exec.proofs.{Step.Instances.instance_kept, Runs.KeptByRuns.Is, Runs.OneRun.{IsRun, by_item}}
 use Rattle.nfs_promises.proofs.Runs.{LaterRecords.op_keeps, Handles.{handle_in, handle_read}}
 use Rattle.nfs_promises.proofs.Runs.Handles as handles
+use Rattle.nfs_promises.specs.Answers.Reasons.{Reason}
+use Rattle.nfs_promises.proofs.{Answers.NameReasons.get_fh_blames, Runs.StatusTold.is_told}
 use Rattle.nfs_serve.specs.{Step.{ServerState, new_state}}
 use Rattle.nfs_promises.specs.{Network.Endpoint.Arrival, Names.KnownHandles.{Place, KnownName, Known, starts, is_at, object_of, directory_of, may_be, without}}
 use Rattle.nfs_promises.specs.Names.KnownHandles.{with_name, place_in, are_bytes, led_by, opened, given_in, behind, IsHandleOf, known_after, known_after_all}
 use Rattle.nfs_promises.specs.Names.{KnownHandles.{Tells, Follow, names_after, FollowThrough, root_of, HandlesFollow}, NameStays.{IsDone, TakesIt, Removed}}
 use Rattle.nfs_promises.specs.{Names.NameStays.{MovedAway, MovedOver, next_of, Links, Renames}, Runs.Points.{state_after, before, asked_by, ops_of}}
-use Rattle.nfs_promises.proofs.Names.{Handles.{Has, has_next, number_in}, NameRows.{run_rows, kept_rows, takes_names, spared}, NameSaid.status_in}
+use Rattle.nfs_promises.proofs.Names.{Handles.{Has, has_next, number_in}, NameRows.{run_rows, kept_rows, takes_names, spared}}
 use Rattle.nfs_promises.proofs.{Names.NameStays.{RunsTo, AreLinked, rows, ran_as, as_step, asked_runs, missed, says_leads}, Runs.Points.{IsSound, whole_before}}
 use Rattle.nfs_promises.proofs.Runs.{Points.{sound_next, sound_new, next_is}, Seats.{Room, LedTo, PutTo, IsParent, OpenedTo, plain_same, was_put, root_put}}
 use Rattle.nfs_promises.proofs.Runs.Seats.{public_put, was_saved, was_restored, was_spent, looked_up, was_created, was_opened, by_name, parent_found}
@@ -90,36 +89,15 @@ leads_kept d r directory name n leads spares = go (entry (rows d.before) directo
         ap (option_map (λ (r : Row). r.object)) (kept_rows d.before.store.tree (rows d.behind) d.context d.item d.result directory name row (run_rows d r) e spares) ∙ is
 
 -- a GETFH with an object is not answered NFS4ERR_NOFILEHANDLE
-abbrev none_there : List ℕ
-none_there = spell_result (refusal (op_number Num.GetFh) NoFileHandle)
-
-stale_as : (n : ℕ) (o : Option Object) (f : Status) → node_as n o ≡ Err f → f ≡ Stale
-stale_as n None f e = cc
-stale_as n (Some object) f e = absurd cc
-
-stale_at : (s : store.State) (o : Option ℕ) (n : ℕ) (f : Status) → o ≡ Some n → node_at s o ≡ Err f → f ≡ Stale
-stale_at s None n f at e = absurd cc
-stale_at s (Some k) n f at e = stale_as k (object_at s.tree k) f e
-
-got_spelled : (s : store.State) (x : Context) (n : ℕ) → x.current ≡ Some n → spell_result (get_fh s x).result ≡ none_there → ⊥
-unfolding get_fh current
-got_spelled s x n at = go (node_at s x.current) refl
-  where
-    go : (v : Result Node Status) → node_at s x.current ≡ v
-        → spell_result (or_refusal s x Num.GetFh (v >>= λ d. Ok (outcome.done s x (Res.GetFh (handle_in s.opens.instance d.number))))).result ≡ none_there → ⊥
-    go (Err f) e told =
-        let same : ◌≡◌ {A = ℕ} 70 10020 =
-        ap status_number (sym (stale_at s x.current n f at e)) ∙ status_in 10 10 f NoFileHandle [] [] told in
-        absurd (omega arith)
-    go (Ok d) e told =
-        let same : ◌≡◌ {A = ℕ} 0 10020 = status_in 10 10 Nfs4Ok NoFileHandle (opaque (handle_in s.opens.instance d.number)) [] told in absurd (omega arith)
-
-got_there : (r : Room) (m : Machine) (x : Context) (n : ℕ) → x.current ≡ Some n
-    → (in_room r.limit r.sofar r.now r.refused m x (Operation Op.GetFh)).outcome.result ≡ none_there → ⊥
-got_there r m x n at =
-    in_room_is (λ s. s.outcome.result ≡ none_there → ⊥) r.limit r.sofar r.now r.refused m x (Operation Op.GetFh)
-    (λ told. (let same : ◌≡◌ {A = ℕ} 10066 10020 = status_in 10 10 RepTooBig NoFileHandle [] [] told in absurd (omega arith)))
-    (got_spelled m.store x n at)
+got_there : (d : RanOp) → IsRun d → (n : ℕ) → d.context.current ≡ Some n → d.item ≡ Operation Op.GetFh → d.result ≡ spell_result (refusal (op_number Num.GetFh) NoFileHandle) → ⊥
+got_there d r n at item told =
+    let s = d.before.store in
+    elim (by_item (λ status text t. status ≡ NoFileHandle → Reason s d.context (Operation Op.GetFh) NoFileHandle) d r (Operation Op.GetFh) item
+    (λ e. absurd (let bad : RepTooBig ≡ NoFileHandle = e in cc))
+    (λ e. subst (Reason s d.context (Operation Op.GetFh)) e ((get_fh_blames s r.whole d.context).refused (ap is_ok e))) (is_told d r (op_number Num.GetFh) NoFileHandle told)) [
+      | inl none ↦ (let bad : None ≡ Some n = sym none.1 ∙ at in cc)
+      | inr saved ↦ true≢false (sym saved.0)
+    ]
 
 -- What is known, as it stands in a server of an instance.
 
@@ -572,7 +550,7 @@ module _ (instance : ℕ) (low : instance < 2 ^ 32) where
         ∙ (ap (λ n. spell_result (Res.GetFh (handle_in instance n))) same ∙ ap (λ h. spell_result (Res.GetFh h)) (sym at.1.is)))));
     there = λ h known item told.
         (let at = holds.seated.at_current h known in
-        got_there (room_of d r) d.before d.context at.0 at.2 (sym (result_is d r (Operation Op.GetFh) item) ∙ told));
+        got_there d r at.0 at.2 item told);
     finds = λ h name object known leads item told.
         (let n = numbers k.names (rows d.before) (Some h) d.context.current name object holds.names (λ g e. holds.seated.at_current g (known ∙ e)) leads in
         missed d r n.directory name n.number item n.at n.leads told);

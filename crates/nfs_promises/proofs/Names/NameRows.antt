@@ -2,46 +2,36 @@
 use Rattle.std.proofs.Common.{◌≡◌, ℕ, ◌+◌, Bool, true, false, not, List, [], ◌∷◌, ◌++◌, Option, Some, None, refl, sym, ◌∙◌, ap, subst, inl, inr}
 use Rattle.std.proofs.lemmas.Bool.{cases_Bool, true≢false}
 use Rattle.std.specs.{Prelude.{◌&&◌, IfSome, Ok}, Option.ForSome}
-use Rattle.nfs_xdr.specs.{Checks.judged, Spelling.number, declared.time.Time.Time}
+use Rattle.nfs_xdr.specs.{declared.time.Time.Time}
 use Rattle.nfs_xdr.proofs.Lists.{find_in, find_kept, find_none_kept, find_push_some, find_push_other}
-use Rattle.nfs_compound.specs.{Arguments.arguments, declared.{lock_args.LockU.LockU, name_args.Rename.Rename}}
-use Rattle.nfs_compound.specs.{declared.open_args.Open.Open, declared.open_args.Close.Close, declared.open_args.OpenDowngrade.OpenDowngrade}
-use Rattle.nfs_compound.specs.{declared.file_args.Write.Write, declared.file_args.SetAttr.SetAttr, declared.stateid.Stateid.Stateid, declared.op.Op.Op}
+use Rattle.nfs_compound.specs.{Arguments.arguments, declared.name_args.Rename.Rename}
+use Rattle.nfs_compound.specs.declared.open_args.Open.{Open}
+use Rattle.nfs_compound.specs.declared.op.Op.{Op}
 use Rattle.nfs_compound.specs.declared.op.Item.{Item, TheVariants.{Operation, Fault}}
-use Rattle.nfs_compound.specs.declared.lock_args.Lock as locks
-use Rattle.nfs_compound.specs.declared.op.Op.TheVariants as Op
 use Rattle.nfs_compound.specs.declared.op_num.OpNum.TheVariants as Num
-use Rattle.nfs_results.specs.Results.{spell_result}
-use Rattle.nfs_ranges.specs.declared.Held.{Held}
-use Rattle.nfs_tree.specs.{declared.object.Object.Object, declared.row.Row.Row, Files.{Files, object_at, is_entry, entry, object_named, without_entry}}
-use Rattle.nfs_tree.specs.{Bytes.has_bytes, Names.{Move, moves, moved_object, with_row}}
+use Rattle.nfs_results.specs.{declared.res.Res.Res, Results.spell_result}
+use Rattle.nfs_tree.specs.{declared.row.Row.Row, Files.{Files, is_entry, entry, object_named, without_entry}}
+use Rattle.nfs_tree.specs.Names.{Move, moves, moved_object, with_row}
 use Rattle.nfs_tree.proofs.RowsKept.{entry_parts}
-use Rattle.nfs_attrs.specs.declared.wanted.Wanted.{Wanted}
 use Rattle.nfs_opens.specs.Closing as closing
-use Rattle.nfs_opens.specs.Locking as locking
-use Rattle.nfs_names.specs.{declared.{context.Context.Context, node.Node.Node}, State.{State, is_used, without_unused, moment}}
-use Rattle.nfs_names.specs.{Ending.with_opens, Checks.{node_as, node_at, saved_object, current, both}, Outcome.{Outcome, checked}, PutPubFh.put_pub_fh}
+use Rattle.nfs_names.specs.{declared.context.Context.Context, State.{State, is_used, without_unused, time_at}}
+use Rattle.nfs_names.specs.{Ending.with_opens, Checks.{saved_object, both}, Outcome.{Outcome, checked}, PutPubFh.put_pub_fh}
 use Rattle.nfs_names.specs.{PutRootFh.put_root_fh, Rename.{without_replaced, move_of, renamed}}
 use Rattle.nfs_names.specs.Operation as names
-use Rattle.nfs_names.proofs.{Found.{came, ok_is, checked_ok}, Ones.{if_delayed, each_of, by_delay}}
+use Rattle.nfs_names.proofs.{Found.checked_ok, Ones.{if_delayed, each_of, by_delay}}
 use Rattle.nfs_names.proofs.NameLaws as law
-use Rattle.nfs_files.specs.{Operation.grows, Close.close, FreeStateid.free_stateid, LockU.lock_u, Parts.writable}
-use Rattle.nfs_files.specs.{OpenDowngrade.open_downgrade, Read.read, TestStateid.test_stateid}
-use Rattle.nfs_files.specs.Parts as parts
-use Rattle.nfs_files.specs.Lock as of_lock
+use Rattle.nfs_files.specs.Operation.{grows}
 use Rattle.nfs_files.specs.OpenParts as open_parts
 use Rattle.nfs_files.specs.Open as of_open
-use Rattle.nfs_files.specs.SetAttrParts as set_parts
-use Rattle.nfs_files.specs.SetAttr as of_set
-use Rattle.nfs_files.specs.Write as of_write
-use Rattle.nfs_files.proofs.Terms.{tested}
+use Rattle.nfs_files.proofs.Effected.{caused_item}
+use Rattle.nfs_files.proofs.Effects as effects
 use Rattle.nfs_files.proofs.Outcomes as files
 use Rattle.nfs_files.proofs.{Outcomes.for_each, OpenRows.{OpensRows, Kept, Put, opened_rows}, WrittenOps.{by_found, current_number}}
-use Rattle.nfs_files.proofs.OpensMoved.{by_close, by_free, by_downgrade, by_lock, by_unlock}
 use Rattle.nfs_exec.specs.{Step.{Machine.Machine, Behind.{Step, step, on_store}}, Runs.Ops.RanOp}
 use Rattle.nfs_exec.proofs.{Step.Behind.by_step, Runs.KeptByRuns.otherwise_store, Runs.WhatWasDone.{in_room_is, IsRun}}
 use Rattle.nfs_promises.specs.Names.NameStays.{IsDone, Makes, ByCreate, ByOpen, ByLink, ByRename, Takes, TakesIt, Removed, MovedAway, MovedOver}
 use Rattle.nfs_files.proofs.InSteps as in_steps
+use Rattle.nfs_promises.proofs.{Answers.Placed.{node_found, both_saved}, Permission.PermittedNames.both_current}
 
 -- The rows are the same, or one more is there, or those of a name are gone, or an entry moved.
 pub data DidRows (t : Files) (rows : List Row) (x : Context) (i : Item) (result : List ℕ) : Type 0 where
@@ -63,30 +53,15 @@ replaced_rows s (Some n) = unused_rows s n
 
 -- The objects of the current filehandle and of the saved one.
 
-number_as : (n : ℕ) (o : Option Object) (d : Node) → node_as n o ≡ Ok d → Some n ≡ Some d.number
-number_as n None d e = absurd cc
-number_as n (Some o) d e = let same : record { number = n; object = o } ≡ d = cc in ap (λ (h : Node). Some h.number) same
-
-number_at : (s : State) (o : Option ℕ) (d : Node) → node_at s o ≡ Ok d → o ≡ Some d.number
-number_at s None d e = absurd cc
-number_at s (Some n) d e = number_as n (object_at s.tree n) d e
-
 pub record AreAt (x : Context) (current saved : ℕ) : Type 0 where
   pub current_is : x.current ≡ Some current
   pub saved_is : saved_object x.saved ≡ Some saved
 
-picked : {P : Type 0} (a b : P) → a ≡ b → (pick : P → Option ℕ) → pick a ≡ pick b
-picked a b same pick = ap pick same
-
 pub both_at : (s : State) (x : Context) (p : _) → both s x ≡ Ok p → AreAt x p.current.number p.saved.number
-unfolding both
-both_at s x p e =
-    let d = came (current s x) _ p e in
-    let k = came (node_at s (saved_object x.saved)) _ p d.then in
-    record {
-      current_is = current_number s x d.found d.is ∙ picked _ p (ok_is refl k.then) (λ q. Some q.current.number);
-      saved_is = number_at s (saved_object x.saved) k.found k.is ∙ picked _ p (ok_is refl k.then) (λ q. Some q.saved.number);
-    }
+both_at s x p e = record {
+  current_is = current_number s x p.current (both_current s x p e);
+  saved_is = (node_found s (saved_object x.saved) p.saved (both_saved s x p e)).0;
+}
 
 -- Operations on names.
 
@@ -148,64 +123,21 @@ did_open s x now o =
     did_opened s x o _ _ (_, refl) (opened_rows s x now o f (checked_ok (open_parts.asked_for s x o) (of_open.last_checks s x o) f granted).0)))
 
 -- the others leave the rows
-abbrev Keeps : State → State → Type 0
-Keeps s t = t.tree.rows ≡ s.tree.rows
+abbrev opens : Op → Bool
+opens (Op.Open o) = true
+opens op = false
 
-kept_close : (s : State) (x : Context) (a : Close) → Keeps s (close s x a).state
-kept_close s x a = by_close (λ o. Keeps s o.state) s x a (λ status. refl) (λ t did judged granted its. unused_rows (with_opens s (closing.without_open s.opens t.id.number)) t.file)
-
-kept_lock : (s : State) (x : Context) (a : locks.Lock) → Keeps s (of_lock.lock s x a).state
-kept_lock s x a = by_lock (λ o. Keeps s o.state) s x a (λ status. refl) (λ h. refl) (λ m did judged granted locked. refl)
-
-kept_unlock : (s : State) (x : Context) (a : LockU) → Keeps s (lock_u s x a).state
-kept_unlock s x a = by_unlock (λ o. Keeps s o.state) s x a (λ status. refl) (λ m did judged granted unlocked. refl)
-
-kept_free : (s : State) (x : Context) (given : Stateid) → Keeps s (free_stateid s x given).state
-kept_free s x given = by_free (λ o. Keeps s o.state) s x given (λ status. refl) (λ id did freed. refl)
-
-kept_downgrade : (s : State) (x : Context) (a : OpenDowngrade) → Keeps s (open_downgrade s x a).state
-kept_downgrade s x a = by_downgrade (λ o. Keeps s o.state) s x a (λ status. refl) (λ t did narrowed. refl)
-
-kept_tested : (s : State) (x : Context) (o : Option Held) → Keeps s (tested s x o).state
-kept_tested s x None = refl
-kept_tested s x (Some h) = refl
-
-kept_write : (s : State) (x : Context) (now : Time) (w : Write) → Keeps s (of_write.write s x now w).state
-kept_write s x now w =
-    rw (in_steps.write_is s x now w)
-    (by_found (λ o. Keeps s o.state) s x Num.Write (checked (writable s x w.stateid (current s x)) (of_write.last_checks s w)) (parts.was_written s x now w)
-    (λ status. refl) (λ d granted. elim (cases_Bool (has_bytes w.bytes)) [ inl some ↦ rw some refl | inr empty ↦ rw empty refl ]))
-
-kept_set : (s : State) (n : ℕ) (now : Time) (w : Wanted) (size : Option ℕ) → (of_set.with_set s.tree n now w size).rows ≡ s.tree.rows
-kept_set s n now w (Some size) = refl
-kept_set s n now w None = elim (cases_Bool (of_set.gives_some w)) [ inl some ↦ rw some refl | inr nothing ↦ rw nothing refl ]
-
-kept_set_attr : (s : State) (x : Context) (now : Time) (a : SetAttr) → Keeps s (of_set.set_attr s x now a).state
-kept_set_attr s x now a =
-    rw (in_steps.set_attr_is s x now a)
-    (by_found (λ o. Keeps s o.state) s x Num.SetAttr (checked (set_parts.asked_for s x a) (set_parts.last_checks s)) (set_parts.was_set s x now a)
-    (λ status. refl) (λ m granted. kept_set s m.node.number now m.wanted m.wanted.size))
-
-did_file : (s : State) (x : Context) (now : Time) (op : Op) → Did s x (Operation op) (files.one s x now op)
-unfolding test_stateid
-did_file s x now (Op.Close a) = Same (kept_close s x a)
-did_file s x now (Op.Commit a) = Same (rw (in_steps.commit_is s x) (by_found (λ o. Keeps s o.state) s x Num.Commit _ _ (λ status. refl) (λ d e. refl)))
-did_file s x now (Op.FreeStateid given) = Same (kept_free s x given)
-did_file s x now (Op.Lock a) = Same (kept_lock s x a)
-did_file s x now (Op.LockT a) =
-    Same (rw (in_steps.test_is s x a) (by_found (λ o. Keeps s o.state) s x Num.LockT _ _ (λ status. refl) (λ w e. kept_tested s x (locking.test_lock s.opens a.owner.owner w))))
-did_file s x now (Op.LockU a) = Same (kept_unlock s x a)
-did_file s x now (Op.Open a) = did_open s x now a
-did_file s x now (Op.OpenDowngrade a) = Same (kept_downgrade s x a)
-did_file s x now (Op.Read a) = Same (rw (in_steps.read_is s x a) (by_found (λ o. Keeps s o.state) s x Num.Read _ _ (λ status. refl) (λ d e. refl)))
-did_file s x now (Op.SetAttr a) = Same (kept_set_attr s x now a)
-did_file s x now (Op.TestStateid given) = Same refl
-did_file s x now (Op.Write a) = Same (kept_write s x now a)
-did_file s x now op = Same refl
+leaves_rows : (s t : State) (x : Context) (op : Op) (r : Res) (e : effects.Effect) (rows : List Row) → opens op ≡ false → effects.Caused s x op r t e → t.tree.rows ≡ rows
+    → (effects.behind t e).tree.rows ≡ rows
+leaves_rows s t x op r (effects.Names e) rows other caused is = absurd (true≢false (sym (ap opens caused.cause.1.is) ∙ other))
+leaves_rows s t x op r (effects.Closes n file) rows other caused is = unused_rows (with_opens t (closing.without_open t.opens n)) file ∙ is
+leaves_rows s t x op r e rows other caused is = is
 
 did_files : (refused : Bool) (s : State) (x : Context) (now : Time) (i : Item) → Did s x i (files.comes_to refused s x now i)
-did_files refused s x now (Operation op) =
-    by_delay (Did s x (Operation op)) (grows s x op && refused) s x (arguments op).op (files.one s x now op) (Same refl) (did_file s x now op)
+did_files refused s x now (Operation (Op.Open o)) =
+    by_delay (Did s x (Operation (Op.Open o))) (grows s x (Op.Open o) && refused) s x Num.Open (of_open.open_file s x now o) (Same refl) (did_open s x now o)
+did_files refused s x now (Operation op) = Same (caused_item (λ t. t.tree.rows ≡ s.tree.rows) refused s x now (Operation op) (λ one same t e caused is.
+    leaves_rows s t x one _ e s.tree.rows (let its : Operation op ≡ Operation one = same in (let at : op ≡ one = cc in ap opens (sym at))) caused is) refl)
 did_files refused s x now (Fault n status) = Same refl
 
 -- One operation of a compound.
@@ -215,8 +147,8 @@ DidStep m x i s = DidRows m.store.tree s.outcome.machine.store.tree.rows x i s.o
 
 step_rows : (m : Machine) (x : Context) (now : ℕ) (refused : Bool) (i : Item) → DidStep m x i (step m x now refused i)
 step_rows m x now refused i =
-    by_step (DidStep m x i) m x now refused i (did_names refused m.store x (moment now) i)
-    (for_each (λ o. DidStep m x i (on_store m o)) refused m.store x (moment now) i (did_files refused m.store x (moment now) i))
+    by_step (DidStep m x i) m x now refused i (did_names refused m.store x (time_at m.store now) i)
+    (for_each (λ o. DidStep m x i (on_store m o)) refused m.store x (time_at m.store now) i (did_files refused m.store x (time_at m.store now) i))
     (λ none other. Same (ap (λ (s : State). s.tree.rows) (otherwise_store m x i)))
 
 pub run_rows : (d : RanOp) → IsRun d → DidRows d.before.store.tree d.behind.store.tree.rows d.context d.item d.result

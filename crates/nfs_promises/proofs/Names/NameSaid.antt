@@ -1,9 +1,9 @@
 -- What an operation said of a name holds of the tree behind it.
-use Rattle.std.proofs.Common.{◌≡◌, ◌≢◌, ℕ, ◌+◌, ◌≤◌, Bool, true, false, cond, not, eqb, List, [], ◌∷◌, ◌++◌, take, drop, Option, Some, None, refl, sym, ◌∙◌, ap, subst, arith, append_assoc, inl, inr}
-use Rattle.std.proofs.{lemmas.Bool.{cases_Bool, and_parts, not-true, not-false, eqb-true, true≢false}, lemmas.List.{take_at, drop_at}}
-use Rattle.std.specs.{Prelude.{◌&&◌, option_map, unwrap_or, is_some, Result, Ok, Err, ok_or}, Int.{w32, from_be_bytes}, List.list_all}
-use Rattle.nfs_xdr.specs.{Checks.{first_fault, judged}, Spelling.number, Status.status_number, declared.time.Time.Time, declared.status.Status.Status}
-use Rattle.nfs_xdr.specs.declared.status.Status.TheVariants.{Nfs4Ok, NoEnt, Stale, NoFileHandle, Symlink, Delay, RepTooBig}
+use Rattle.std.proofs.Common.{◌≡◌, ◌≢◌, ℕ, ◌+◌, ◌≤◌, Bool, true, false, not, eqb, List, [], ◌∷◌, ◌++◌, take, drop, Option, Some, None, refl, sym, ◌∙◌, ap, subst, arith, append_assoc, inl, inr}
+use Rattle.std.proofs.{lemmas.Bool.{cases_Bool, not-false, eqb-true, true≢false}, lemmas.List.{take_at, drop_at}}
+use Rattle.std.specs.{Prelude.{◌&&◌, option_map, unwrap_or, is_some, Ok}, Int.{w32, from_be_bytes}}
+use Rattle.nfs_xdr.specs.{Checks.first_fault, Spelling.number, Status.status_number, declared.time.Time.Time, declared.status.Status.Status}
+use Rattle.nfs_xdr.specs.declared.status.Status.TheVariants.{Nfs4Ok, Delay, RepTooBig}
 use Rattle.nfs_xdr.proofs.{Checks.all_passed, Lists.{find_in, find_none_kept, find_push_none, find_push_other, find_out}, Putting.length_number}
 use Rattle.nfs_xdr.proofs.StatusLaws.{is_status_listing}
 use Rattle.nfs_compound.specs.{declared.name_args.Create.Create, declared.name_args.Rename.Rename, declared.open_args.Open.Open}
@@ -13,28 +13,25 @@ use Rattle.nfs_compound.specs.declared.op.Op.TheVariants as Op
 use Rattle.nfs_compound.specs.declared.op_num.OpNum.TheVariants as Num
 use Rattle.nfs_results.specs.declared.res.Res.TheVariants as Res
 use Rattle.nfs_results.specs.Results.{spell_result, head}
-use Rattle.nfs_tree.specs.Object.{is_link}
-use Rattle.nfs_tree.specs.{declared.object.Object.Object, declared.row.Row.Row}
-use Rattle.nfs_tree.specs.Files.{Files, root, object_at, is_entry, entry, object_named, number_named, without_entry}
+use Rattle.nfs_tree.specs.declared.row.Row.{Row}
+use Rattle.nfs_tree.specs.Files.{Files, root, is_entry, entry, object_named, number_named, without_entry}
 use Rattle.nfs_tree.specs.{Create.create_checks, Names.{moves, moved_object, replaced_object, link_checks, rename_checks}}
 use Rattle.nfs_tree.specs.TreeInvariants.{IsTree}
 use Rattle.nfs_tree.proofs.{Objects.stored_within, RowsKept.{entry_parts, entry_self}}
 use Rattle.nfs_tree.proofs.Put.{vacant_of}
-use Rattle.nfs_attrs.specs.Permissions.{execute}
-use Rattle.nfs_names.specs.{declared.{context.Context.Context, node.Node.Node}, State.{State, moment}, Context.at_object}
-use Rattle.nfs_names.specs.{Checks.{node_as, node_at, saved_object, current, both, no_directory, no_access, name_checks}, Create.{new_of, create}, Link.link}
-use Rattle.nfs_names.specs.{Lookup.lookup as look_up, Outcome.{Outcome, done, checked, or_refusal}, Rename.{move_of, renamed, rename}}
+use Rattle.nfs_names.specs.{declared.context.Context.Context, State.{State, time_at}}
+use Rattle.nfs_names.specs.{Checks.{saved_object, both}, Create.{new_of, create}, Link.link}
+use Rattle.nfs_names.specs.{Outcome.{Outcome, checked}, Rename.{move_of, renamed, rename}}
 use Rattle.nfs_names.specs.Operation as names
 use Rattle.nfs_names.proofs.{Found.checked_ok, Ones.by_delay}
 use Rattle.nfs_names.proofs.NameLaws as law
-use Rattle.nfs_opens.specs.Steps.{in_order, ◌>>=◌, ◌>>◌}
 use Rattle.nfs_files.specs.OpenParts as open_parts
 use Rattle.nfs_files.specs.Open as of_open
 use Rattle.nfs_files.specs.OpenTold.{names_open, named_in, claimed}
 use Rattle.nfs_files.proofs.{ToldOpens.{short_names_none, asked_leads}, WrittenOps.{by_found, current_number, number_back}}
 use Rattle.nfs_exec.specs.Step.{Machine.Machine, Run.in_room}
 use Rattle.nfs_exec.proofs.{Runs.KeptByRuns.Is, Runs.WhatWasDone.in_room_is}
-use Rattle.nfs_promises.specs.Names.NameStays.{Name, IsDone, finds_none}
+use Rattle.nfs_promises.specs.Names.NameStays.{Name, IsDone}
 use Rattle.nfs_promises.proofs.Names.NameRows.{both_at, unused_rows, replaced_rows}
 use Rattle.nfs_files.proofs.InSteps as in_steps
 use Rattle.nfs_files.proofs.ChangesTold.{some_same}
@@ -87,8 +84,8 @@ pub create_leads : (k : Name) (limit sofar now : ℕ) (refused : Bool) (m : Mach
 create_leads k limit sofar now refused m x a name at =
     in_room_is (λ s. IsDone Num.Create s.outcome.result → s.context.current ≡ Some k.object → Leads k s.outcome.machine.store.tree)
     limit sofar now refused m x (Operation (Op.Create a)) (λ is there. absurd (not_done Num.Create 6 RepTooBig refl is))
-    (by_delay (Created k) refused m.store x Num.Create (create m.store x (moment now) a) (λ is there. absurd (not_done Num.Create 6 Delay refl is))
-    (law.by_create (Created k) m.store x (moment now) a (λ f h is there. absurd (not_done Num.Create 6 f h.done is)) (λ d wanted here placed read row is there.
+    (by_delay (Created k) refused m.store x Num.Create (create m.store x (time_at m.store now) a) (λ is there. absurd (not_done Num.Create 6 Delay refl is))
+    (law.by_create (Created k) m.store x (time_at m.store now) a (λ f h is there. absurd (not_done Num.Create 6 f h.done is)) (λ d wanted here placed read row is there.
     (let t = m.store.tree in
     let passed = all_passed (create_checks t d.number a.objname (new_of a.objtype)) row in
     let new : Row = record { directory = d.number; name = a.objname; object = t.last_object + 1; cookie = t.last_cookie + 1 } in
@@ -104,8 +101,8 @@ pub link_leads : (k : Name) (limit sofar now : ℕ) (refused : Bool) (m : Machin
 link_leads k limit sofar now refused m x at saved =
     in_room_is (λ s. IsDone Num.Link s.outcome.result → Leads k s.outcome.machine.store.tree)
     limit sofar now refused m x (Operation (Op.Link k.name)) (λ is. absurd (not_done Num.Link 11 RepTooBig refl is))
-    (by_delay (Linked k) refused m.store x Num.Link (link m.store x (moment now) k.name) (λ is. absurd (not_done Num.Link 11 Delay refl is))
-    (law.by_link (Linked k) m.store x (moment now) k.name (λ f h is. absurd (not_done Num.Link 11 f h.done is)) (λ p here placed row is.
+    (by_delay (Linked k) refused m.store x Num.Link (link m.store x (time_at m.store now) k.name) (λ is. absurd (not_done Num.Link 11 Delay refl is))
+    (law.by_link (Linked k) m.store x (time_at m.store now) k.name (λ f h is. absurd (not_done Num.Link 11 f h.done is)) (λ p here placed row is.
     (let t = m.store.tree in
     let are = both_at m.store x p here in
     let passed = all_passed (link_checks t p.saved.number p.current.number k.name) row in
@@ -134,13 +131,13 @@ pub open_leads : (k : Name) (limit sofar now : ℕ) (refused : Bool) (m : Machin
 open_leads k limit sofar now refused m x a n claim at =
     in_room_is (λ s. names_open Num.Open s.outcome.result n ≡ true → s.context.current ≡ Some k.object → Leads k s.outcome.machine.store.tree)
     limit sofar now refused m x (Operation (Op.Open a)) (λ is there. absurd (true≢false (sym is ∙ short_names_none Num.Open 18 RepTooBig n)))
-    (by_delay (Opened k n) refused m.store x Num.Open (of_open.open_file m.store x (moment now) a)
+    (by_delay (Opened k n) refused m.store x Num.Open (of_open.open_file m.store x (time_at m.store now) a)
     (λ is there. absurd (true≢false (sym is ∙ short_names_none Num.Open 18 Delay n)))
-    (rw (in_steps.open_is m.store x (moment now) a) (by_found (Opened k n) m.store x Num.Open (checked (open_parts.asked_for m.store x a) (of_open.last_checks m.store x a)) (of_open.opened m.store x (moment now) a)
+    (rw (in_steps.open_is m.store x (time_at m.store now) a) (by_found (Opened k n) m.store x Num.Open (checked (open_parts.asked_for m.store x a) (of_open.last_checks m.store x a)) (of_open.opened m.store x (time_at m.store now) a)
     (λ f is there. absurd (true≢false (sym is ∙ short_names_none Num.Open 18 f n))) (λ f granted is there.
-    (let t = of_open.tree_of m.store.tree x (moment now) a f in
+    (let t = of_open.tree_of m.store.tree x (time_at m.store now) a f in
     let asked = (checked_ok (open_parts.asked_for m.store x a) (of_open.last_checks m.store x a) f granted).0 in
-    let leads = asked_leads m.store x (moment now) a f asked in
+    let leads = asked_leads m.store x (time_at m.store now) a f asked in
     let by_name : claimed t x (Null k.name) ≡ Some (of_open.file_of m.store.tree f) = ap (claimed t x) (sym claim) ∙ leads in
     sym (ap (λ o. named_in t k.name o) at) ∙ (by_name ∙ there))))))
 
@@ -191,12 +188,12 @@ pub rename_leads : (k : Name) (limit sofar now : ℕ) (refused : Bool) (m : Mach
 rename_leads k limit sofar now refused m x a source whole name at saved from =
     in_room_is (λ s. IsDone Num.Rename s.outcome.result → Leads k s.outcome.machine.store.tree)
     limit sofar now refused m x (Operation (Op.Rename a)) (λ is. absurd (not_done Num.Rename 29 RepTooBig refl is))
-    (by_delay (Renamed k) (names.moves_in m.store a (both m.store x) && refused) m.store x Num.Rename (rename m.store x (moment now) a)
+    (by_delay (Renamed k) (names.moves_in m.store a (both m.store x) && refused) m.store x Num.Rename (rename m.store x (time_at m.store now) a)
     (λ is. absurd (not_done Num.Rename 29 Delay refl is))
-    (law.by_rename (Renamed k) m.store x (moment now) a (λ f h is. absurd (not_done Num.Rename 29 f h.done is)) (λ p here row is.
+    (law.by_rename (Renamed k) m.store x (time_at m.store now) a (λ f h is. absurd (not_done Num.Rename 29 f h.done is)) (λ p here row is.
     (let are = both_at m.store x p here in
     let source_is : source ≡ p.saved.number = some_same (saved_object x.saved) source p.saved.number saved are.saved_is in
-    moved_leads k m.store x (moment now) a p (moves m.store.tree (move_of a p)) here whole.tree name (some_same x.current p.current.number k.directory are.current_is at)
+    moved_leads k m.store x (time_at m.store now) a p (moves m.store.tree (move_of a p)) here whole.tree name (some_same x.current p.current.number k.directory are.current_is at)
     (subst (λ d. object_named m.store.tree d a.oldname ≡ Some k.object) source_is from) refl))))
 
 -- What leads nowhere.
@@ -213,7 +210,7 @@ pub remove_gone : (d : ℕ) (name : List ℕ) (limit sofar now : ℕ) (refused :
 remove_gone d name limit sofar now refused m x at =
     in_room_is (λ s. IsDone Num.Remove s.outcome.result → IsGone d name s.outcome.machine.store.tree)
     limit sofar now refused m x (Operation (Op.Remove name)) (λ is. absurd (not_done Num.Remove 28 RepTooBig refl is))
-    (law.by_remove (λ o. IsDone Num.Remove (spell_result o.result) → IsGone d name o.state.tree) m.store x (moment now) name
+    (law.by_remove (λ o. IsDone Num.Remove (spell_result o.result) → IsGone d name o.state.tree) m.store x (time_at m.store now) name
     (λ f h is. absurd (not_done Num.Remove 28 f h.done is)) (λ n here placed row is.
     (let same : n.number ≡ d = some_same x.current n.number d (current_number m.store x n here) at in
     ap (λ rows. entry rows d name) (unused_rows _ _)
@@ -254,83 +251,19 @@ pub rename_gone : (d : ℕ) (name : List ℕ) (limit sofar now : ℕ) (refused :
 rename_gone d name limit sofar now refused m x a target whole old saved at differ =
     in_room_is (λ s. IsDone Num.Rename s.outcome.result → IsGone d name s.outcome.machine.store.tree)
     limit sofar now refused m x (Operation (Op.Rename a)) (λ is. absurd (not_done Num.Rename 29 RepTooBig refl is))
-    (by_delay (MovedOff d name) (names.moves_in m.store a (both m.store x) && refused) m.store x Num.Rename (rename m.store x (moment now) a)
+    (by_delay (MovedOff d name) (names.moves_in m.store a (both m.store x) && refused) m.store x Num.Rename (rename m.store x (time_at m.store now) a)
     (λ is. absurd (not_done Num.Rename 29 Delay refl is))
-    (law.by_rename (MovedOff d name) m.store x (moment now) a (λ f h is. absurd (not_done Num.Rename 29 f h.done is)) (λ p here row is.
+    (law.by_rename (MovedOff d name) m.store x (time_at m.store now) a (λ f h is. absurd (not_done Num.Rename 29 f h.done is)) (λ p here row is.
     (let are = both_at m.store x p here in
     let from : p.saved.number ≡ d = some_same (saved_object x.saved) p.saved.number d are.saved_is saved in
     let to : target ≡ p.current.number = some_same x.current target p.current.number at are.current_is in
-    let gone = moved_gone m.store x (moment now) a p (moves m.store.tree (move_of a p)) here whole.tree row
+    let gone = moved_gone m.store x (time_at m.store now) a p (moves m.store.tree (move_of a p)) here whole.tree row
     (λ same. differ (ap (λ e. object_named m.store.tree e name) (sym from)
     ∙ (ap (object_named m.store.tree p.saved.number) (sym old) ∙ (same ∙ ap (λ e. object_named m.store.tree e a.newname) (sym to))))) refl in
-    subst (λ e. IsGone e name (renamed m.store x (moment now) a p (moves m.store.tree (move_of a p))).state.tree) from
-    (subst (λ n. IsGone p.saved.number n (renamed m.store x (moment now) a p (moves m.store.tree (move_of a p))).state.tree) old gone)))))
+    subst (λ e. IsGone e name (renamed m.store x (time_at m.store now) a p (moves m.store.tree (move_of a p))).state.tree) from
+    (subst (λ n. IsGone p.saved.number n (renamed m.store x (time_at m.store now) a p (moves m.store.tree (move_of a p))).state.tree) old gone)))))
 
--- A LOOKUP of what is there is not answered NFS4ERR_NOENT.
-
-abbrev is_other : Status → Bool
-is_other f = not (eqb (status_number f) 2)
-
-other_found : (f : Status) → is_other f ≡ true → spell_result (Res.Refused 15 f) ≡ finds_none → ⊥
-other_found f other e =
-    let same : status_number f ≡ 2 = status_in 15 15 f NoEnt [] [] e in
-    true≢false (ap (λ k. eqb k 2) (sym same) ∙ not-true _ other)
-
-done_found : spell_result Res.Lookup ≡ finds_none → ⊥
-done_found e = let same : ◌≡◌ {A = ℕ} 0 2 = status_in 15 15 Nfs4Ok NoEnt [] [] e in absurd (omega arith)
-
-abbrev all_other : List (Bool × Status) → Bool
-all_other checks = list_all (λ check. is_other check.1) checks
-
-first_other : (checks : List (Bool × Status)) → all_other checks ≡ true → (f : Status) → first_fault checks ≡ Some f → is_other f ≡ true
-first_other [] all f e = absurd cc
-first_other (check ∷ checks) all f e =
-    let parts = and_parts (is_other check.1) (all_other checks) all in
-    by_test check.0 parts.0 (first_other checks parts.1 f) e
-  where
-    by_test : (b : Bool) → is_other check.1 ≡ true → (first_fault checks ≡ Some f → is_other f ≡ true) → cond b (Some check.1) (first_fault checks) ≡ Some f → is_other f ≡ true
-    by_test true here more e = let same : check.1 ≡ f = cc in subst (λ f. is_other f ≡ true) same here
-    by_test false here more e = more e
-
-current_other : (s : State) (o : Option ℕ) (f : Status) → node_at s o ≡ Err f → is_other f ≡ true
-current_other s None f e = let same : NoFileHandle ≡ f = cc in subst (λ f. is_other f ≡ true) same refl
-current_other s (Some n) f e = go (object_at s.tree n) e
-  where
-    go : (o : Option Object) → node_as n o ≡ Err f → is_other f ≡ true
-    go None e = let same : Stale ≡ f = cc in subst (λ f. is_other f ≡ true) same refl
-    go (Some object) e = absurd cc
-
-abbrev places : Context → List ℕ → Node → List (Bool × Status)
-places x name d = (is_link d.object.kind, Symlink) ∷ no_directory d ∷ no_access x d execute ∷ name_checks name
-
-abbrev Sees : State → Context → Result Outcome Status → Type 0
-Sees s x v = spell_result (or_refusal s x Num.Lookup v).result ≡ finds_none → ⊥
-
-abbrev next : State → Context → List ℕ → Node → Result Outcome Status
-next s x name k = ok_or (object_named s.tree k.number name) NoEnt >>= λ n. Ok (done s (at_object x n) Res.Lookup)
-
-looked_up : (s : State) (x : Context) (name : List ℕ) (d n : ℕ) → x.current ≡ Some d → object_named s.tree d name ≡ Some n
-    → spell_result (look_up s x name).result ≡ finds_none → ⊥
-unfolding look_up current
-looked_up s x name d n at named = by_node (node_at s x.current) refl
-  where
-    by_fault : (k : Node) (o : Option Status) → first_fault (places x name k) ≡ o → object_named s.tree k.number name ≡ Some n → Sees s x (judged o >> next s x name k)
-    by_fault k (Some f) e there = other_found f (first_other (places x name k) refl f e)
-    by_fault k None e there = subst (λ o. Sees s x (ok_or o NoEnt >>= λ n. Ok (done s (at_object x n) Res.Lookup))) (sym there) done_found
-
-    by_node : (v : Result Node Status) → node_at s x.current ≡ v → Sees s x (v >>= λ k. in_order (places x name k) >> next s x name k)
-    by_node (Err f) e = other_found f (current_other s x.current f e)
-    by_node (Ok k) e =
-        let same : d ≡ k.number = some_same x.current d k.number at (current_number s x k e) in
-        by_fault k (first_fault (places x name k)) refl (subst (λ d. object_named s.tree d name ≡ Some n) same named)
-
-pub found_room : (d : ℕ) (name : List ℕ) (n : ℕ) (limit sofar now : ℕ) (refused : Bool) (m : Machine) (x : Context) → x.current ≡ Some d → object_named m.store.tree d name ≡ Some n
-    → (in_room limit sofar now refused m x (Operation (Op.Lookup name))).outcome.result ≡ finds_none → ⊥
-found_room d name n limit sofar now refused m x at number_named =
-    in_room_is (λ s. s.outcome.result ≡ finds_none → ⊥) limit sofar now refused m x (Operation (Op.Lookup name)) (other_found RepTooBig refl)
-    (looked_up m.store x name d n at number_named)
-
--- and one of what is not there is not answered NFS4_OK
+-- A LOOKUP of what is not there is not answered NFS4_OK.
 pub none_room : (d : ℕ) (name : List ℕ) (limit sofar now : ℕ) (refused : Bool) (m : Machine) (x : Context) → x.current ≡ Some d → object_named m.store.tree d name ≡ None
     → IsDone Num.Lookup (in_room limit sofar now refused m x (Operation (Op.Lookup name))).outcome.result → ⊥
 none_room d name limit sofar now refused m x at none =

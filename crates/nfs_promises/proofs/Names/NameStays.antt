@@ -1,15 +1,18 @@
 -- A name that was said stays, and one that is gone stays gone, through whatever records come.
 use Rattle.std.proofs.Common.{◌≡◌, ℕ, ◌+◌, Bool, true, false, cond, eqb, List, [], ◌∷◌, ◌++◌, length, Option, Some, None, refl, sym, ◌∙◌, ap, subst, inl, inr}
+use Rattle.std.proofs.lemmas.{Bool.false≢true, Option.same_Some}
 use Rattle.std.specs.{Prelude.option_map, Option.option_map_or}
-use Rattle.nfs_xdr.specs.{Caller.Caller, Tables.In, declared.status.Status.TheVariants.MinorVersMismatch}
+use Rattle.nfs_xdr.specs.{Caller.Caller, declared.status.Status.TheVariants.{MinorVersMismatch, NoEnt, RepTooBig}}
 use Rattle.nfs_xdr.proofs.Lists.{some_or_none}
 use Rattle.nfs_compound.specs.{declared.op.Item.Item, declared.op.Item.TheVariants.Operation, Request.Request, declared.session_args.Sequence.Sequence}
 use Rattle.nfs_compound.specs.declared.op.Op.TheVariants as Op
 use Rattle.nfs_compound.specs.declared.op_num.OpNum.TheVariants as Num
+use Rattle.nfs_compound.specs.OpNum.{op_number}
 use Rattle.nfs_sessions.specs.Id.{id_of}
 use Rattle.nfs_tree.specs.{declared.row.Row.Row, Files.{Files, entry, object_named}}
 use Rattle.nfs_names.specs.{declared.start.Start.Start, declared.context.Context.Context, Context.begins, Outcome.is_ok}
 use Rattle.nfs_names.specs.State as store
+use Rattle.nfs_names.specs.State.{State}
 use Rattle.nfs_files.specs.OpenTold.{names_open}
 use Rattle.nfs_exec.specs.Step.{Machine.Machine, Behind.Step, Run.{in_room, is_here, behind_here}, Parts.without_any_opens}
 use Rattle.nfs_exec.specs.{Step.Sequence.{Sequenced, sequenced}, Step.Compound.{first_item, renewed, begun, bare, in_session, by_first}}
@@ -22,16 +25,19 @@ use Rattle.nfs_promises.specs.{Network.Endpoint.Arrival, Runs.Points.{state_afte
 use Rattle.nfs_promises.specs.Names.NameStays.{finds_none, MakesIt, ByCreate, ByOpen, ByLink, ByRename, TakesIt, Removed, MovedAway, MovedOver, next_of, Leaves}
 use Rattle.nfs_promises.specs.Names.NameStays.{Says, Creates, Opens, Finds, Links, Renames, Denies, Removes, RenamesIt, Misses, HoldsWhile, AllSpare}
 use Rattle.nfs_promises.specs.Names.NameStays.{HoldsThrough, HoldsFrom, row_of, LeadsBefore, NameStays, MissesBefore, GoneStays}
+use Rattle.nfs_exec.proofs.Runs.OneRun.{by_item}
+use Rattle.nfs_promises.specs.Answers.{Asked.{Seeks, InCurrent, InSaved, NamedOf, Left, Kept}, Reasons.Reason}
+use Rattle.nfs_promises.proofs.{Answers.NameReasons.lookup_blames, Runs.StatusTold.is_told}
 use Rattle.nfs_promises.proofs.{Runs.Points.{left, next_is, IsSound, whole_before, sound_next, sound_all, sound_new}, Names.NameRows.{run_rows, kept_rows}}
 use Rattle.nfs_promises.proofs.Names.{NameRows.{gone_rows, entry_at}, NameSaid.{create_leads, link_leads, find_leads, open_leads, rename_leads, remove_gone}}
-use Rattle.nfs_promises.proofs.Names.NameSaid.{rename_gone, found_room, none_room}
+use Rattle.nfs_promises.proofs.Names.NameSaid.{rename_gone, none_room}
 
 -- what an item would come to in the place of an operation that was run, and that its own item came to that
 abbrev pub ran_as : (d : RanOp) → IsRun d → Item → Step
 ran_as d r i = in_room r.limit r.sofar r.now r.refused d.before d.context i
 
-pub as_step : (d : RanOp) (r : IsRun d) (i : Item) → d.item ≡ i → d ≡ done d.before d.context i (ran_as d r i)
-as_step d r i same = r.is ∙ ap (λ i. done d.before d.context i (ran_as d r i)) same
+pub as_step : (d : RanOp) (r : IsRun d) (i : Item) → d.item ≡ i → d ≡ done r.limit r.sofar r.refused d.before d.context i (ran_as d r i)
+as_step d r i same = r.is ∙ ap (λ i. done r.limit r.sofar r.refused d.before d.context i (ran_as d r i)) same
 
 -- Operations that were run one after the other: each hands its context on to the next one.
 
@@ -187,17 +193,6 @@ runs_at s c front d back sound same =
 pub sound_at : (start : Start) (earlier : List Arrival) → IsSound (reached start earlier)
 sound_at start earlier = sound_all (new_state start) earlier (sound_new start)
 
--- and so was each that a record's compound ran
-linked_in : (d : RanOp) (ds : List RanOp) → AreLinked ds → In d ds → IsRun d
-linked_in d [] linked there = absurd there
-linked_in d (e ∷ ds) linked (inl is) = subst IsRun (sym is) linked.0.run
-linked_in d (e ∷ ds) linked (inr later) = linked_in d ds linked.1 later
-
-pub ran_in : (start : Start) (earlier : List Arrival) (c : Arrival) (d : RanOp) → In d (ops_of (reached start earlier) c) → IsRun d
-ran_in start earlier c d there =
-    let s = reached start earlier in
-    linked_in d (ops_of s c) (asked_runs (before s c) (asked_by s c) (whole_before s c (sound_at start earlier).whole)).linked there
-
 -- A name that was said.
 
 some_is : (a b : ℕ) → Some a ≡ Some b → a ≡ b
@@ -208,20 +203,40 @@ seen : (d : RanOp) (next : Option Context) (k : Name) → RunsTo d next → d.it
     → IsDone Num.Lookup d.result → (y : Context) → next ≡ Some y → y.current ≡ object_named d.before.store.tree k.directory k.name
 seen d next k to item at is y here =
     let r = to.run in
-    let same : d ≡ done d.before d.context (Operation (Op.Lookup k.name)) (ran_as d r (Operation (Op.Lookup k.name))) = as_step d r (Operation (Op.Lookup k.name)) item in
+    let same : d ≡ done r.limit r.sofar r.refused d.before d.context (Operation (Op.Lookup k.name)) (ran_as d r (Operation (Op.Lookup k.name))) = as_step d r (Operation (Op.Lookup k.name)) item in
     ap (λ (y : Context). y.current) (to.hands y here ∙ ap (λ i. (ran_as d r i).context) item)
     ∙ find_leads k r.limit r.sofar r.now r.refused d.before d.context at (subst (λ (d : RanOp). IsDone Num.Lookup d.result) same is)
+
+-- a LOOKUP of what is there has no reason to be answered NFS4ERR_NOENT
+not_missing : (s : State) (x : Context) (name : List ℕ) (directory n : ℕ) → x.current ≡ Some directory → object_named s.tree directory name ≡ Some n
+    → Reason s x (Operation (Op.Lookup name)) NoEnt → ⊥
+not_missing s x name directory n at named (inl missing) = by missing.directory missing.name missing.seeks missing.gone
+  where
+    by : (d : ℕ) (called : List ℕ) → Seeks x (Operation (Op.Lookup name)) d called → object_named s.tree d called ≡ None → ⊥
+    by d called (InCurrent here is) gone =
+        let one = same_Some d directory (sym here ∙ at) in
+        let bad : None ≡ Some n = sym gone ∙ (ap (λ e. object_named s.tree e called) one ∙ (ap (object_named s.tree directory) (sym (same_Some name called is)) ∙ named)) in
+        absurd cc
+    by d called (InSaved a saved is old kept same) gone = absurd cc
+not_missing s x name directory n at named (inr nameless) = by nameless.number nameless.of
+  where
+    by : (m : ℕ) → NamedOf x (Operation (Op.Lookup name)) m → ⊥
+    by m (Left on here) = false≢true on
+    by m (Kept called saved is kept same) = absurd cc
 
 pub missed : (d : RanOp) → IsRun d → (directory : ℕ) (name : List ℕ) (n : ℕ) → d.item ≡ Operation (Op.Lookup name) → d.context.current ≡ Some directory
     → object_named d.before.store.tree directory name ≡ Some n → d.result ≡ finds_none → ⊥
 missed d r directory name n item at named told =
-    let same : d ≡ done d.before d.context (Operation (Op.Lookup name)) (ran_as d r (Operation (Op.Lookup name))) = as_step d r (Operation (Op.Lookup name)) item in
-    found_room directory name n r.limit r.sofar r.now r.refused d.before d.context at named (ap (λ (d : RanOp). d.result) (sym same) ∙ told)
+    let s = d.before.store in
+    let i : Item = Operation (Op.Lookup name) in
+    not_missing s d.context name directory n at named (by_item (λ status text t. status ≡ NoEnt → Reason s d.context i NoEnt) d r i item
+    (λ e. absurd (let bad : RepTooBig ≡ NoEnt = e in cc))
+    (λ e. subst (Reason s d.context i) e ((lookup_blames s r.whole d.context name).refused (ap is_ok e))) (is_told d r (op_number Num.Lookup) NoEnt told))
 
 none_seen : (d : RanOp) → IsRun d → (directory : ℕ) (name : List ℕ) → d.item ≡ Operation (Op.Lookup name) → d.context.current ≡ Some directory
     → entry (rows d.before) directory name ≡ None → IsDone Num.Lookup d.result → ⊥
 none_seen d r directory name item at gone is =
-    let same : d ≡ done d.before d.context (Operation (Op.Lookup name)) (ran_as d r (Operation (Op.Lookup name))) = as_step d r (Operation (Op.Lookup name)) item in
+    let same : d ≡ done r.limit r.sofar r.refused d.before d.context (Operation (Op.Lookup name)) (ran_as d r (Operation (Op.Lookup name))) = as_step d r (Operation (Op.Lookup name)) item in
     none_room directory name r.limit r.sofar r.now r.refused d.before d.context at (ap (option_map (λ (r : Row). r.object)) gone)
     (subst (λ (d : RanOp). IsDone Num.Lookup d.result) same is)
 
@@ -277,14 +292,14 @@ pub says_leads : (k : Name) (d : RanOp) (next : Option Context) → RunsTo d nex
 says_leads k d next to (Creates a item name at is leaves) =
     let r = to.run in
     let i = Operation (Op.Create a) in
-    let same : d ≡ done d.before d.context i (ran_as d r i) = as_step d r i item in
+    let same : d ≡ done r.limit r.sofar r.refused d.before d.context i (ran_as d r i) = as_step d r i item in
     subst (λ (d : RanOp). object_named d.behind.store.tree k.directory k.name ≡ Some k.object) (sym same)
     (create_leads k r.limit r.sofar r.now r.refused d.before d.context a name at (subst (λ (d : RanOp). IsDone Num.Create d.result) same is)
     (handed d next i k.object to item leaves))
 says_leads k d next to (Opens a item claim at n names leaves) =
     let r = to.run in
     let i = Operation (Op.Open a) in
-    let same : d ≡ done d.before d.context i (ran_as d r i) = as_step d r i item in
+    let same : d ≡ done r.limit r.sofar r.refused d.before d.context i (ran_as d r i) = as_step d r i item in
     subst (λ (d : RanOp). object_named d.behind.store.tree k.directory k.name ≡ Some k.object) (sym same)
     (open_leads k r.limit r.sofar r.now r.refused d.before d.context a n claim at (subst (λ (d : RanOp). names_open Num.Open d.result n ≡ true) same names)
     (handed d next i k.object to item leaves))
@@ -297,13 +312,13 @@ says_leads k d next to (Finds item at is leaves) =
 says_leads k d next to (Links item at saved is) =
     let r = to.run in
     let i = Operation (Op.Link k.name) in
-    let same : d ≡ done d.before d.context i (ran_as d r i) = as_step d r i item in
+    let same : d ≡ done r.limit r.sofar r.refused d.before d.context i (ran_as d r i) = as_step d r i item in
     subst (λ (d : RanOp). object_named d.behind.store.tree k.directory k.name ≡ Some k.object) (sym same)
     (link_leads k r.limit r.sofar r.now r.refused d.before d.context at saved (subst (λ (d : RanOp). IsDone Num.Link d.result) same is))
 says_leads k d next to (Renames a item name at source saved from is) =
     let r = to.run in
     let i = Operation (Op.Rename a) in
-    let same : d ≡ done d.before d.context i (ran_as d r i) = as_step d r i item in
+    let same : d ≡ done r.limit r.sofar r.refused d.before d.context i (ran_as d r i) = as_step d r i item in
     subst (λ (d : RanOp). object_named d.behind.store.tree k.directory k.name ≡ Some k.object) (sym same)
     (rename_leads k r.limit r.sofar r.now r.refused d.before d.context a source r.whole name at saved from
     (subst (λ (d : RanOp). IsDone Num.Rename d.result) same is))
@@ -332,12 +347,12 @@ gone_kept directory name = record {
 denies_gone : (directory : ℕ) (name : List ℕ) (d : RanOp) → IsRun d → Denies directory name d → IsGone directory name (rows d.behind)
 denies_gone directory name d r (Removes item at is) =
     let i = Operation (Op.Remove name) in
-    let same : d ≡ done d.before d.context i (ran_as d r i) = as_step d r i item in
+    let same : d ≡ done r.limit r.sofar r.refused d.before d.context i (ran_as d r i) = as_step d r i item in
     subst (λ (d : RanOp). IsGone directory name (rows d.behind)) (sym same)
     (remove_gone directory name r.limit r.sofar r.now r.refused d.before d.context at (subst (λ (d : RanOp). IsDone Num.Remove d.result) same is))
 denies_gone directory name d r (RenamesIt a item old saved target at differ is) =
     let i = Operation (Op.Rename a) in
-    let same : d ≡ done d.before d.context i (ran_as d r i) = as_step d r i item in
+    let same : d ≡ done r.limit r.sofar r.refused d.before d.context i (ran_as d r i) = as_step d r i item in
     subst (λ (d : RanOp). IsGone directory name (rows d.behind)) (sym same)
     (rename_gone directory name r.limit r.sofar r.now r.refused d.before d.context a target r.whole old saved at differ
     (subst (λ (d : RanOp). IsDone Num.Rename d.result) same is))

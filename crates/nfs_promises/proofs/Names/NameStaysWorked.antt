@@ -9,9 +9,9 @@ use Rattle.nfs_tree.specs.declared.row.Row.{Row}
 use Rattle.nfs_names.specs.{Checks.both, GetFh.get_fh, Remove.remove, Rename.rename, SaveFh.save_fh}
 use Rattle.nfs_exec.specs.Runs.Ops.{RanOp}
 use Rattle.nfs_promises.specs.{Runs.{Requests.words, Points.ops_of}, Locks.LockKeptWorked.last_of, Bytes.WrittenStaysWorked.made, Names.NameStays.IsDone}
-use Rattle.nfs_promises.specs.Names.NameStays.{finds_none, TakesIt, MovedAway, Leaves, Says, Finds, Renames, Denies, Removes, RenamesIt, AllSpare, next_of}
-use Rattle.nfs_promises.specs.Names.NameStaysWorked.{finds, finds_again, renames, finds_new, misses, removes, misses_new, found, found_again, renamed}
-use Rattle.nfs_promises.specs.Names.NameStaysWorked.{found_new, missed, removed, f, g, second_of, LeadsTo, NamesAreRefused}
+use Rattle.nfs_promises.specs.Names.NameStays.{TakesIt, MovedAway, Leaves, Says, Finds, Renames, Denies, Removes, RenamesIt, AllSpare, next_of}
+use Rattle.nfs_promises.specs.Names.NameStaysWorked.{finds, finds_again, renames, finds_new, found, found_again, renamed}
+use Rattle.nfs_promises.specs.Names.NameStaysWorked.{f, g, second_of, LeadsTo, NamesAreRefused}
 use Rattle.nfs_promises.proofs.{Runs.{LastOperation.{nothing, three}, Computing.computing}, Names.NameRows.{takes_names, spared}}
 
 middle : (x : RanOp) (ds : List RanOp) → length ds ≡ 3 → ds ≡ take 1 ds ++ second_of x ds ∷ last_of x ds ∷ []
@@ -106,19 +106,8 @@ new_leads : IsDone Num.Lookup new.result × Leaves (next_of (new_get ∷ [])) 2
 unfolding computing get_fh save_fh both rename rename_args results.rename
 new_leads = (([], refl), (new_get.context, refl, refl))
 
-old : (d : RanOp) → (last_of d (ops_of found_new misses)).result ≡ finds_none
-unfolding computing get_fh save_fh both rename rename_args results.rename
-old d = refl
-
-gone : (d : RanOp) → Denies g.directory g.name (last_of d (ops_of missed removes))
-unfolding computing get_fh save_fh both rename rename_args results.rename remove
-gone d = Removes refl refl (words (1 ∷ 0 ∷ 3 ∷ 0 ∷ 4 ∷ []), refl)
-
-none : (d : RanOp) → (last_of d (ops_of removed misses_new)).result ≡ finds_none
-unfolding computing get_fh save_fh both rename rename_args results.rename remove
-none d = refl
-
 pub leads_to : LeadsTo
+unfolding computing get_fh save_fh both rename rename_args results.rename remove
 leads_to = record {
   front = take 1 (ops_of made finds);
   look = look;
@@ -144,13 +133,10 @@ leads_to = record {
   new_ops = new_ops;
   new_leads = new_leads.0;
   new_there = new_leads.1;
-  old = old;
-  gone = gone;
-  none = none;
+  old = λ d. refl;
+  gone = λ d. Removes refl refl (words (1 ∷ 0 ∷ 3 ∷ 0 ∷ 4 ∷ []), refl);
+  none = λ d. refl;
 }
-
-another_object : ◌≢◌ {A = Option ℕ} (Some 3) (Some 2)
-another_object e = let same : ◌≡◌ {A = ℕ} 3 2 = cc in absurd (omega arith)
 
 no_row : {r : Row} → ◌≢◌ {A = Option Row} None (Some r)
 no_row e = absurd cc
@@ -162,7 +148,7 @@ pub names_are_refused : NamesAreRefused
 unfolding computing get_fh save_fh both rename rename_args results.rename
 names_are_refused = record {
   unfound = λ d cookie is. is.found refl refl refl;
-  another = λ d cookie is. another_object (is.there refl refl ([], refl) _ refl);
+  another = λ d cookie is. (let other : ◌≡◌ {A = Option ℕ} (Some 3) (Some 2) = is.there refl refl ([], refl) _ refl in let same : ◌≡◌ {A = ℕ} 3 2 = cc in absurd (omega arith));
   lost = λ d cookie is. no_row is.stands;
   both = λ d is. some_row is.gone;
   shown = λ d is. is.missed refl refl ([], refl);

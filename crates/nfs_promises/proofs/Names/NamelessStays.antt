@@ -9,7 +9,7 @@ use Rattle.nfs_tree.specs.{declared.row.Row.Row, Files.{Files, root, is_there, h
 use Rattle.nfs_tree.specs.Names.{link_checks, moved_object}
 use Rattle.nfs_tree.proofs.Objects.{stored_within}
 use Rattle.nfs_opens.specs.{Closing.without_open, TableInvariants.IsTable}
-use Rattle.nfs_names.specs.{declared.context.Context.Context, Ending.{with_opens, staying}, Rename.without_replaced, State.{is_used, without_unused, moment}}
+use Rattle.nfs_names.specs.{declared.context.Context.Context, Ending.{with_opens, staying}, Rename.without_replaced, State.{is_used, without_unused, time_at}}
 use Rattle.nfs_names.specs.Operation as names
 use Rattle.nfs_names.specs.State as store
 use Rattle.nfs_names.proofs.{Ones.each_of, Effects.{Makes, Links, Removes, Moves}}
@@ -110,7 +110,7 @@ as_before n t u rows last is = record { none = subst (NoRow n) (sym rows) is.non
 
 files_behind : (n client : ℕ) (s : store.State) (e : files_effects.Effect) → files_effects.Fits s client e → Nameless n s.tree → Nameless n (files_effects.behind s e).tree
 files_behind n client s (Names e) fits is = names_behind n s e fits is
-files_behind n client s (Writes m offset text now) fits is = as_before n s.tree _ refl refl is
+files_behind n client s (Writes m offset text sets now) fits is = as_before n s.tree _ refl refl is
 files_behind n client s (Resizes m size sets now) fits is = as_before n s.tree _ refl refl is
 files_behind n client s (Changes m sets now) fits is = as_before n s.tree _ refl refl is
 files_behind n client s (Closes m file) fits is = unused_nameless n (with_opens s (without_open s.opens m)) file is
@@ -132,8 +132,8 @@ file_item n refused s x now i table is =
 
 run_nameless : (n : ℕ) (d : RanOp) → IsRun d → Nameless n d.before.store.tree → Nameless n d.behind.store.tree
 run_nameless n d r is =
-    by_run (λ status text s. Nameless n s.tree) d r is (names_item n r.refused d.before.store d.context (moment r.now) d.item is)
-    (file_item n r.refused d.before.store d.context (moment r.now) d.item r.whole.table is) (λ other. is)
+    by_run (λ status text s. Nameless n s.tree) d r is (names_item n r.refused d.before.store d.context (time_at d.before.store r.now) d.item is)
+    (file_item n r.refused d.before.store d.context (time_at d.before.store r.now) d.item r.whole.table is) (λ other. is)
 
 abbrev Here : ℕ → store.State → Type 0
 Here n s = Nameless n s.tree

@@ -10,6 +10,7 @@ use Rattle.nfs_results.specs.{Largest.given, declared.res.Entry.Entry, declared.
 use Rattle.nfs_results.specs.Results.{spell_result}
 use Rattle.nfs_results.specs.declared.res.Res.TheVariants as Res
 use Rattle.nfs_tree.specs.{declared.object.Object.Object, declared.row.Row.Row, Files.{Files, listed, object_at, entry}, TreeInvariants.IsTree}
+use Rattle.nfs_tree.specs.{declared.profile.Profile.Profile, declared.profile.Profile.TheVariants.{Exact, Unix}}
 use Rattle.nfs_attrs.specs.{Attributes.readable, Mask.{mask_of, common, without_last_zeros}, declared.mask.Mask.Mask}
 use Rattle.nfs_attrs.proofs.Bounds.{attributes_within}
 use Rattle.nfs_names.specs.{Attributes.about, ReadDir.{attributes_at, entry_of, left, longest, fitting, fits_none}, State.State}
@@ -152,17 +153,21 @@ trimmed_small [] small = tt
 trimmed_small (word ∷ words) small =
     zero_words ((word == 0) && (length (without_last_zeros words) == 0)) word (without_last_zeros words) small.0 (trimmed_small words small.1)
 
-common_small : (mask : Mask) → AreWords (common mask readable).words
-common_small mask = (
+common_small : (mask : Mask) (p : Profile) → AreWords (common mask (readable p)).words
+common_small mask Exact = (
   omega (arith, and_le_r (get_or mask.words 0 0) 0xf8180fff),
   (omega (arith, and_le_r (get_or mask.words 1 0) 0x00b0a03a), (omega (arith, and_le_r (get_or mask.words 2 0) 0x00000800), tt)),
+)
+common_small mask Unix = (
+  omega (arith, and_le_r (get_or mask.words 0 0) 0xf8f80fff),
+  (omega (arith, and_le_r (get_or mask.words 1 0) 0x00b8bc3a), (omega (arith, and_le_r (get_or mask.words 2 0) 0x00000800), tt)),
 )
 
 attrs_plain : (s : State) (mask : Mask) (n : ℕ) (o : Option Object) → ArePlain (attributes_at s mask n o)
 attrs_plain s mask n None = record { few = omega arith; words = tt; values = omega arith }
 attrs_plain s mask n (Some o) = record {
-  few = omega (arith, at_most_three_words mask readable);
-  words = trimmed_small (common mask readable).words (common_small mask);
+  few = omega (arith, at_most_three_words mask (readable s.tree.profile));
+  words = trimmed_small (common mask (readable s.tree.profile)).words (common_small mask s.tree.profile);
   values = omega (arith, attributes_within mask (about s (record { number = n; object = o })) o);
 }
 

@@ -14,6 +14,13 @@ comes xid highest = record { bytes = xid ∷ 2 ∷ 1 ∷ highest ∷ []; now = 0
 abbrev says : (xid highest : ℕ) → Heading
 says xid highest = record { xid = xid; place = place 2; compound = record { number = 1; uid = 6; args = 2 ∷ 1 ∷ [] }; highest = highest }
 
+-- .. and of compound 2
+abbrev follows : (xid highest : ℕ) → Arrival
+follows xid highest = record { bytes = xid ∷ 2 ∷ 2 ∷ highest ∷ []; now = 0; choice = None }
+
+abbrev follow : (xid highest : ℕ) → Heading
+follow xid highest = record { xid = xid; place = place 2; compound = record { number = 2; uid = 6; args = 2 ∷ 2 ∷ [] }; highest = highest }
+
 -- it comes twice, with another highest slot then
 abbrev stood : Server → Type 0
 stood s = Stands s (stepped s s.new (comes 8 2)).state (place 2) 3 0
@@ -45,6 +52,9 @@ answers_are_refused = record {
   admitted = λ before a h between b g fits reads does. absurd (false≢true does);
   none_run = λ law.
       let is = law [] (comes 8 2) (says 8 2) (is_bytes _ refl) refl (record { slot = _; here = refl; top = _; below = refl }) refl tt in
+      false≢true is.executes;
+  one_runs = λ law.
+      let is = law [] (comes 8 2) (says 8 2) [] (follows 9 2) (follow 9 2) (is_bytes _ refl) refl refl tt (is_bytes _ refl) refl refl refl (record { slot = _; here = refl; top = _; below = refl }) tt in
       false≢true is.executes;
   silent = λ under. under;
   another = λ under. let same : 8 ≡ 7 = ap (λ (reply : List ℕ). get_or reply 3 0) under.1 in omega arith;

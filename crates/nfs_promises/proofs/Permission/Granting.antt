@@ -4,13 +4,15 @@ use Rattle.std.proofs.lemmas.Bool.{cases_Bool, cases_eq, and_parts, eqb-true, eq
 use Rattle.std.specs.{Prelude.{◌==◌, ◌&&◌, ◌||◌, option_map, Ok}, Int.bit_at, List.list_any}
 use Rattle.nfs_xdr.specs.{Caller.Caller, Tables.In}
 use Rattle.nfs_xdr.proofs.Lists.{any_in, in_any}
-use Rattle.nfs_tree.specs.{declared.object.Object.Object, declared.stored.Stored.Stored, Files.stored_in}
-use Rattle.nfs_attrs.specs.Permissions.{in_group, class_bits, read, write, execute, change_entries}
+use Rattle.nfs_tree.specs.{declared.object.Object.Object, declared.stored.Stored.Stored, Files.{Files, stored_in}}
+use Rattle.nfs_tree.specs.{declared.profile.Profile.Profile, declared.profile.Profile.TheVariants.{Exact, Unix}}
+use Rattle.nfs_attrs.specs.Permissions.{in_group, class_bits, may, may_use_bytes, by_executing, read, write, execute, change_entries}
 use Rattle.nfs_opens.specs.declared.share.Share.{Share}
 use Rattle.nfs_names.specs.{declared.context.Context.Context, declared.node.Node.Node, Checks.{node_as, node_at, permits, current}, State.State}
-use Rattle.nfs_files.specs.Bytes.{want_of}
+use Rattle.nfs_files.specs.Bytes.{want_of, lets_use, reading, writing}
+use Rattle.nfs_files.proofs.Storing.{or_left}
 use Rattle.nfs_promises.specs.Permission.Permitted.{Rights, Right, Reads, Writes, Executes, place, IsIn, First, Further, Grants, ToRoot, ToOwner, ToGroup}
-use Rattle.nfs_promises.specs.Permission.Permitted.{ToOthers, rights_of, rights_at, has_right}
+use Rattle.nfs_promises.specs.Permission.Permitted.{ToOthers, GrantsBytes, GrantsUse, rights_of, rights_at, has_right}
 use Rattle.nfs_exec.proofs.Step.Delayed.{or_right}
 
 -- Groups.
@@ -129,6 +131,15 @@ first_two true true r e = (refl, refl)
 first_two true false r e = absurd (false≢true e)
 first_two false q r e = absurd (false≢true e)
 
+last_one : (p q r : Bool) → p && q && r ≡ true → r ≡ true
+last_one true true r e = e
+last_one true false r e = absurd (false≢true e)
+last_one false q r e = absurd (false≢true e)
+
+by_either : {G : Type 0} (a b : Bool) → (a ≡ true → G) → (b ≡ true → G) → a || b ≡ true → G
+by_either true b first second e = first refl
+by_either false b first second e = second e
+
 if_wanted : (want p : Bool) → not want || p ≡ true → want ≡ true → p ≡ true
 if_wanted true p e is = e
 if_wanted false p e is = absurd (false≢true is)
@@ -157,16 +168,6 @@ module _ (x : Context) (d : Node) where
   pub changes : permits x d change_entries ≡ true → Gets Writes × Gets Executes
   unfolding permits
   changes e = let p = and_parts (bit_of Writes) (bit_of Executes) e in (granted d.object x.who Writes p.0, granted d.object x.who Executes p.1)
-
-  pub asks : (access : Share) → permits x d (want_of access) ≡ true → (right : Right) → has_right access right ≡ true → Gets right
-  unfolding permits
-  asks access e Reads has =
-      granted d.object x.who Reads
-      (if_wanted access.reads (bit_of Reads) (first_two (not access.reads || bit_of Reads) (not access.writes || bit_of Writes) (not false || bit_of Executes) e).0 has)
-  asks access e Writes has =
-      granted d.object x.who Writes
-      (if_wanted access.writes (bit_of Writes) (first_two (not access.reads || bit_of Reads) (not access.writes || bit_of Writes) (not false || bit_of Executes) e).1 has)
-  asks access e Executes has = absurd (false≢true has)
 
   pub may_read : Gets Reads → permits x d read ≡ true
   unfolding permits
@@ -199,12 +200,86 @@ module _ (x : Context) (d : Node) where
   three_bits true false r e f g = absurd (false≢true f)
   three_bits false q r e f g = absurd (false≢true e)
 
-  pub may_ask : (access : Share) → ((right : Right) → has_right access right ≡ true → Gets right) → permits x d (want_of access) ≡ true
-  unfolding permits
-  may_ask access gets =
+  -- Of a file's bytes, by the profile.
+
+  abbrev Uses : Right → Profile → Type 0
+  Uses right p = GrantsUse right p (rights_of d.object) x.who
+
+  by_bits : (access : Share) → may d.object x.who (want_of access) ≡ true → (right : Right) → has_right access right ≡ true → Gets right
+  by_bits access e Reads has =
+      granted d.object x.who Reads
+      (if_wanted access.reads (bit_of Reads) (first_two (not access.reads || bit_of Reads) (not access.writes || bit_of Writes) (not false || bit_of Executes) e).0 has)
+  by_bits access e Writes has =
+      granted d.object x.who Writes
+      (if_wanted access.writes (bit_of Writes) (first_two (not access.reads || bit_of Reads) (not access.writes || bit_of Writes) (not false || bit_of Executes) e).1 has)
+  by_bits access e Executes has = absurd (false≢true has)
+
+  by_x : (access : Share) → may d.object x.who (by_executing (want_of access)) ≡ true → (right : Right) → has_right access right ≡ true → Uses right Unix
+  by_x access e Reads has = inr (granted d.object x.who Executes (last_one (not false || bit_of Reads) (not access.writes || bit_of Writes) (not true || bit_of Executes) e))
+  by_x access e Writes has =
+      granted d.object x.who Writes
+      (if_wanted access.writes (bit_of Writes) (first_two (not false || bit_of Reads) (not access.writes || bit_of Writes) (not true || bit_of Executes) e).1 has)
+  by_x access e Executes has = absurd (false≢true has)
+
+  with_x : (right : Right) → Gets right → Uses right Unix
+  with_x Reads gets = inl gets
+  with_x Writes gets = gets
+  with_x Executes gets = gets
+
+  by_profile : (p : Profile) (access : Share) → may_use_bytes p d.object x.who (want_of access) ≡ true → (right : Right) → has_right access right ≡ true → Uses right p
+  by_profile Exact access e Reads has = by_bits access e Reads has
+  by_profile Exact access e Writes has = by_bits access e Writes has
+  by_profile Exact access e Executes has = absurd (false≢true has)
+  by_profile Unix access e right has =
+      by_either (may d.object x.who (want_of access)) (may d.object x.who (by_executing (want_of access))) (λ plain. with_x right (by_bits access plain right has))
+      (λ runs. by_x access runs right has) e
+
+  pub uses : (t : Files) (access : Share) → lets_use t x d access ≡ true → (right : Right) → has_right access right ≡ true → Uses right t.profile
+  unfolding lets_use
+  uses t access e right has = by_profile t.profile access e right has
+
+  writes_bits : (access : Share) → ((right : Right) → has_right access right ≡ true → Uses right Unix) → not access.writes || bit_of Writes ≡ true
+  writes_bits access gives = want_or access.writes (bit_of Writes) (λ has. has_granted d.object x.who Writes (gives Writes has))
+
+  may_by_profile : (p : Profile) (access : Share) → ((right : Right) → has_right access right ≡ true → Uses right p) → may_use_bytes p d.object x.who (want_of access) ≡ true
+  may_by_profile Exact access gives =
       three_bits (not access.reads || bit_of Reads) (not access.writes || bit_of Writes) (not false || bit_of Executes)
-      (want_or access.reads (bit_of Reads) (λ has. has_granted d.object x.who Reads (gets Reads has)))
-      (want_or access.writes (bit_of Writes) (λ has. has_granted d.object x.who Writes (gets Writes has))) refl
+      (want_or access.reads (bit_of Reads) (λ has. has_granted d.object x.who Reads (gives Reads has)))
+      (want_or access.writes (bit_of Writes) (λ has. has_granted d.object x.who Writes (gives Writes has))) refl
+  may_by_profile Unix access gives = elim (cases_Bool access.reads) [
+    | inl on ↦ elim (gives Reads on) [
+      | inl reads ↦ plainly (λ has. has_granted d.object x.who Reads reads)
+      | inr runs ↦ or_right (may d.object x.who (want_of access)) _
+          (three_bits (not false || bit_of Reads) (not access.writes || bit_of Writes) (not true || bit_of Executes) refl (writes_bits access gives) (has_granted d.object x.who Executes runs))
+    ]
+    | inr off ↦ plainly (λ has. absurd (false≢true (sym off ∙ has)))
+  ]
+    where
+      plainly : (access.reads ≡ true → Has d.object x.who Reads) → may_use_bytes Unix d.object x.who (want_of access) ≡ true
+      plainly reads =
+          or_left (may d.object x.who (want_of access)) (may d.object x.who (by_executing (want_of access)))
+          (three_bits (not access.reads || bit_of Reads) (not access.writes || bit_of Writes) (not false || bit_of Executes)
+          (want_or access.reads (bit_of Reads) reads) (writes_bits access gives) refl)
+
+  pub may_use : (t : Files) (access : Share) → ((right : Right) → has_right access right ≡ true → Uses right t.profile) → lets_use t x d access ≡ true
+  unfolding lets_use
+  may_use t access gives = may_by_profile t.profile access gives
+
+  pub may_read_bytes : (t : Files) → GrantsBytes t.profile (rights_of d.object) x.who → lets_use t x d reading ≡ true
+  may_read_bytes t gives = may_use t reading only
+    where
+      only : (right : Right) → has_right reading right ≡ true → Uses right t.profile
+      only Reads has = gives
+      only Writes has = absurd (false≢true has)
+      only Executes has = absurd (false≢true has)
+
+  pub may_write_bytes : (t : Files) → Gets Writes → lets_use t x d writing ≡ true
+  may_write_bytes t gets = may_use t writing only
+    where
+      only : (right : Right) → has_right writing right ≡ true → Uses right t.profile
+      only Reads has = absurd (false≢true has)
+      only Writes has = gets
+      only Executes has = absurd (false≢true has)
 
 -- the object of a filehandle
 rights_as : (n : ℕ) (o : Option Stored) (r : Rights) (d : Node) → option_map (λ (s : Stored). rights_of s.object) o ≡ Some r

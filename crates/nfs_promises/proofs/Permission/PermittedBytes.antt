@@ -1,10 +1,10 @@
 -- A READ and a WRITE that were answered NFS4_OK were granted by the file, or by an open of the client that stands; and one that was refused by NFS4ERR_ACCESS was not granted
 -- by the file.
-use Rattle.std.proofs.Common.{◌≡◌, ◌≢◌, ℕ, Bool, true, false, cond, not, [], ◌∷◌, Option, Some, None, refl, sym, ◌∙◌, ap, subst}
+use Rattle.std.proofs.Common.{◌≡◌, ◌≢◌, ℕ, Bool, true, false, cond, not, Option, Some, None, refl, sym, ◌∙◌, ap, subst}
 use Rattle.std.proofs.lemmas.Bool.{eqb-true, not-false, false≢true}
 use Rattle.std.specs.Prelude.{◌==◌, ◌&&◌, ◌||◌, nat_lt, Result, Ok, Err}
-use Rattle.nfs_xdr.specs.{Checks.first_fault, Tables.In, declared.time.Time.Time, declared.status.Status.Status}
-use Rattle.nfs_xdr.specs.declared.status.Status.TheVariants.{Access, BadStateId, OldStateId, Locked}
+use Rattle.nfs_xdr.specs.{Checks.first_fault, Tables.In, declared.status.Status.Status}
+use Rattle.nfs_xdr.specs.declared.status.Status.TheVariants.{BadStateId, OldStateId}
 use Rattle.nfs_xdr.proofs.{Checks.all_passed, Lists.find_in, Tables.in_once}
 use Rattle.nfs_compound.specs.{OpNum.op_number, declared.file_args.Read.Read, declared.file_args.Write.Write, declared.op.Item.TheVariants.Operation}
 use Rattle.nfs_compound.specs.{declared.op_num.OpNum.OpNum, declared.stateid.Stateid.Stateid}
@@ -15,24 +15,21 @@ use Rattle.nfs_tree.specs.Bytes.{has_bytes}
 use Rattle.nfs_opens.specs.{declared.judging.Seat.Seat, declared.judging.Seat.TheVariants.{Anonymous, ReadBypass, Open, Lock}}
 use Rattle.nfs_opens.specs.{declared.judging.Sort.TheVariants.Either, declared.records.LockState.LockState, declared.records.OpenState.OpenState}
 use Rattle.nfs_opens.specs.{declared.share.Share.Share, declared.stateid.CurrentSeqid.TheVariants.Any, declared.stateid.StateId.StateId}
-use Rattle.nfs_opens.specs.{Judging.{judge, special, named_by}, Share.{meets, is_part}, StateId.{is_anonymous, is_bypass}}
-use Rattle.nfs_opens.specs.{Table.{Table, denials, open_at, lock_at}, TableInvariants.IsTable}
+use Rattle.nfs_opens.specs.{Judging.{judge, special, named_by}, Share.is_part, StateId.{is_anonymous, is_bypass}}
+use Rattle.nfs_opens.specs.{Table.{Table, open_at, lock_at}, TableInvariants.IsTable}
 use Rattle.nfs_opens.proofs.Terms.{access_of, judge_named, seated}
-use Rattle.nfs_names.specs.{declared.context.Context.Context, declared.node.Node.Node, Checks.{permits, current}, Outcome.{Outcome, is_ok, checked, answers}}
-use Rattle.nfs_names.specs.State.{State, moment}
+use Rattle.nfs_names.specs.{declared.context.Context.Context, declared.node.Node.Node, Checks.current, Outcome.{Outcome, is_ok, checked, answers}}
+use Rattle.nfs_names.specs.State.{State, time_at}
 use Rattle.nfs_names.proofs.{Faulted.status_of_refusal, Found.{came, ok_is, checked_ok}, NameLaws.current_refuses, Ones.by_delay}
 use Rattle.nfs_names.proofs.Refusing.{Refuses, refuses_checked}
-use Rattle.nfs_files.specs.{Bytes.{file_checks, seat, reading, writing, want_of, seat_checks, may_use}, StateIds.meant, Parts.{readable, writable}}
-use Rattle.nfs_files.specs.Read as of_read
+use Rattle.nfs_files.specs.{Bytes.{file_checks, seat, reading, writing, lets_use, seat_checks, may_use}, StateIds.meant, Parts.{readable, writable}}
 use Rattle.nfs_files.specs.Write as of_write
 use Rattle.nfs_files.proofs.{Passing.if_passed_ok, Seats.{readable_refuses, writable_refuses}, WrittenOps.current_number}
 use Rattle.nfs_exec.specs.Runs.Ops.{RanOp}
-use Rattle.nfs_exec.proofs.Runs.OneRun.{IsRun, by_item, by_ok}
-use Rattle.nfs_promises.specs.Permission.Permitted.{Rights, Right, Reads, Writes, Executes, Grants, rights_of, rights_at, has_right, HasOpen, IsAt, is_special}
+use Rattle.nfs_exec.proofs.Runs.OneRun.{IsRun, by_ok}
+use Rattle.nfs_promises.specs.Permission.Permitted.{Rights, Right, Reads, Writes, Executes, GrantsUse, rights_of, has_right, HasOpen, IsAt, is_special}
 use Rattle.nfs_promises.specs.Permission.Permitted.{ByStateid}
-use Rattle.nfs_promises.proofs.Permission.{Granting.{reads, writes, may_read, may_write}, PermittedNames.{gets, gives, is_access, lets, current_without}}
-use Rattle.nfs_promises.proofs.{Permission.PermittedNames.{big_other, not_access}, Runs.RefusedOtherwise.{AreGood, are_good, IsWithout, checked_without}}
-use Rattle.nfs_promises.proofs.Runs.RefusedOtherwise.{if_passed_without, Answers, answers_without, seat_without}
+use Rattle.nfs_promises.proofs.Permission.{Granting.uses, PermittedNames.here}
 use Rattle.nfs_files.proofs.InSteps as in_steps
 
 -- Bytes: by the stateid.
@@ -198,12 +195,12 @@ part_has Executes access e other = absurd (other refl)
 
 record Used (s : State) (x : Context) (given : Stateid) (right : Right) (d : Node) : Type 0 where
   pub there : current s x ≡ Ok d
-  pub special : (id : StateId) → meant x Any given ≡ Ok id → is_special id ≡ true → Grants (rights_of d.object) x.who right
+  pub special : (id : StateId) → meant x Any given ≡ Ok id → is_special id ≡ true → GrantsUse right s.tree.profile (rights_of d.object) x.who
   pub state : (id : StateId) → meant x Any given ≡ Ok id → is_special id ≡ false → HasOpen s.opens x.client d.number right
 
 -- the checks of a seat
 special_grants : (s : State) (x : Context) (right : Right) (d : Node) (k : Seat) → is_state k ≡ false → first_fault (seat_checks s x (wanted_by right) d k) ≡ None
-    → permits x d (want_of (wanted_by right)) ≡ true
+    → lets_use s.tree x d (wanted_by right) ≡ true
 special_grants s x right d Anonymous is passed = (let checks = all_passed (seat_checks s x (wanted_by right) d Anonymous) passed in not-false _ checks.1.0)
 special_grants s x right d ReadBypass is passed = (let checks = all_passed (seat_checks s x (wanted_by right) d ReadBypass) passed in not-false _ checks.1.0)
 special_grants s x right d (Open number access) is passed = absurd (false≢true (sym is))
@@ -224,7 +221,7 @@ seat_came s x given d k e id means =
     subst (λ id. judge s.opens id x.client (Some d.number) Either ≡ Ok k) (ok_is refl (sym c.is ∙ means)) c.then
 
 used_by : (s : State) (x : Context) (given : Stateid) (d : Node) (right : Right) (k : Seat) → IsTable s.opens → right ≢ Executes → current s x ≡ Ok d
-    → (permits x d (want_of (wanted_by right)) ≡ true → Grants (rights_of d.object) x.who right) → may_use s x (wanted_by right) given d ≡ Ok k → Used s x given right d
+    → (lets_use s.tree x d (wanted_by right) ≡ true → GrantsUse right s.tree.profile (rights_of d.object) x.who) → may_use s x (wanted_by right) given d ≡ Ok k → Used s x given right d
 used_by s x given d right k table other there grants e =
     let its = checked_ok (seat s x given d) (seat_checks s x (wanted_by right) d) k (sym (in_steps.may_use_is s x (wanted_by right) given d) ∙ e) in
     record {
@@ -245,13 +242,13 @@ readable_used : (s : State) (x : Context) (given : Stateid) (d : Node) → IsTab
 unfolding readable
 readable_used s x given d table e =
     let its = if_passed_ok (checked (current s x) file_checks) (may_use s x reading given) d e in
-    used_by s x given d Reads its.1.0 table reads_no_more (checked_ok (current s x) file_checks d its.0).0 (reads x d) its.1.1
+    used_by s x given d Reads its.1.0 table reads_no_more (checked_ok (current s x) file_checks d its.0).0 (λ e. uses x d s.tree reading e Reads refl) its.1.1
 
 writable_used : (s : State) (x : Context) (given : Stateid) (d : Node) → IsTable s.opens → writable s x given (current s x) ≡ Ok d → Used s x given Writes d
 unfolding writable
 writable_used s x given d table e =
     let its = if_passed_ok (checked (current s x) file_checks) (may_use s x writing given) d e in
-    used_by s x given d Writes its.1.0 table writes_no_more (checked_ok (current s x) file_checks d its.0).0 (writes x d) its.1.1
+    used_by s x given d Writes its.1.0 table writes_no_more (checked_ok (current s x) file_checks d its.0).0 (λ e. uses x d s.tree writing e Writes refl) its.1.1
 
 -- Of an operation that was run.
 
@@ -259,9 +256,10 @@ some_number : (n m : ℕ) → Some n ≡ Some m → n ≡ m
 some_number n m e = cc
 
 used_here : (d : RanOp) (n : ℕ) (r : Rights) (k : Node) (given : Stateid) (right : Right) → IsAt n r d → Used d.before.store d.context given right k
-    → ByStateid n r d given right
+    → ByStateid d.before.store.tree.profile n r d given right
 used_here d n r k given right at used = record {
-  special = λ id means some. gets d.before.store d.context n r k right at.at at.is used.there (used.special id means some);
+  special = λ id means some. subst (λ r. GrantsUse right d.before.store.tree.profile r d.context.who)
+      (here d.before.store d.context n r k at.at at.is used.there) (used.special id means some);
   state = λ id means none. subst (λ n. HasOpen d.before.store.opens d.context.client n right)
       (some_number k.number n (sym (current_number d.before.store d.context k used.there) ∙ at.at)) (used.state id means none);
 }
@@ -273,75 +271,25 @@ done_by s x op (Err status) f all ok =
 done_by s x op (Ok a) f all ok = (a, refl)
 
 pub read_granted : (d : RanOp) → IsRun d → (n : ℕ) (r : Rights) → IsAt n r d → is_ok d.status ≡ true → (a : Read) → d.item ≡ Operation (Op.Read a)
-    → ByStateid n r d a.stateid Reads
+    → ByStateid d.before.store.tree.profile n r d a.stateid Reads
 read_granted d run n r at ok a same =
     let s = d.before.store in
     let x = d.context in
-    by_ok (λ text t. ByStateid n r d a.stateid Reads) d run (Operation (Op.Read a)) same ok (λ fine.
+    by_ok (λ text t. ByStateid s.tree.profile n r d a.stateid Reads) d run (Operation (Op.Read a)) same ok (λ fine.
     (let its = done_by s x Num.Read (readable s x a.stateid (current s x)) _ (readable_refuses s x a.stateid (current s x) (current_refuses s x))
     (subst (λ (o : Outcome). is_ok (status_of_result o.result) ≡ true) (in_steps.read_is s x a) fine) in
     used_here d n r its.0 a.stateid Reads at (readable_used s x a.stateid its.0 run.whole.table its.1)))
 
 pub write_granted : (d : RanOp) → IsRun d → (n : ℕ) (r : Rights) → IsAt n r d → is_ok d.status ≡ true → (a : Write) → d.item ≡ Operation (Op.Write a)
-    → ByStateid n r d a.stateid Writes
+    → ByStateid d.before.store.tree.profile n r d a.stateid Writes
 write_granted d run n r at ok a same =
     let s = d.before.store in
     let x = d.context in
     let v = writable s x a.stateid (current s x) in
-    by_ok (λ text t. ByStateid n r d a.stateid Writes) d run (Operation (Op.Write a)) same ok
-    (by_delay (λ o. is_ok (status_of_result o.result) ≡ true → ByStateid n r d a.stateid Writes) (has_bytes a.bytes && run.refused) s x Num.Write (of_write.write s x (moment run.now) a)
+    by_ok (λ text t. ByStateid s.tree.profile n r d a.stateid Writes) d run (Operation (Op.Write a)) same ok
+    (by_delay (λ o. is_ok (status_of_result o.result) ≡ true → ByStateid s.tree.profile n r d a.stateid Writes) (has_bytes a.bytes && run.refused) s x Num.Write (of_write.write s x (time_at s run.now) a)
     (λ delayed. absurd (false≢true delayed)) (λ fine.
     (let its = done_by s x Num.Write (checked v (of_write.last_checks s a)) _
     (refuses_checked v (of_write.last_checks s a) (writable_refuses s x a.stateid (current s x) (current_refuses s x)) (λ d. refl))
-    (subst (λ (o : Outcome). is_ok (status_of_result o.result) ≡ true) (in_steps.write_is s x (moment run.now) a) fine) in
+    (subst (λ (o : Outcome). is_ok (status_of_result o.result) ≡ true) (in_steps.write_is s x (time_at s run.now) a) fine) in
     used_here d n r its.0 a.stateid Writes at (writable_used s x a.stateid its.0 run.whole.table (checked_ok v (of_write.last_checks s a) its.0 its.1).0))))
-
--- What is refused by NFS4ERR_ACCESS.
-
-seat_let : (s : State) (x : Context) (right : Right) (d : Node) (k : Seat) → permits x d (want_of (wanted_by right)) ≡ true → AreGood is_access (seat_checks s x (wanted_by right) d k)
-seat_let s x right d Anonymous may = lets ((meets (wanted_by right) (denials s.opens d.number), Locked) ∷ []) [] (permits x d (want_of (wanted_by right))) may refl
-seat_let s x right d ReadBypass may = lets (((wanted_by right).writes && (denials s.opens d.number).writes, Locked) ∷ []) [] (permits x d (want_of (wanted_by right))) may refl
-seat_let s x right d (Open number access) may = are_good is_access (seat_checks s x (wanted_by right) d (Open number access)) refl
-seat_let s x right d (Lock number access) may = are_good is_access (seat_checks s x (wanted_by right) d (Lock number access)) refl
-
-may_use_let : (s : State) (x : Context) (right : Right) (given : Stateid) (d : Node) → permits x d (want_of (wanted_by right)) ≡ true
-    → IsWithout is_access (may_use s x (wanted_by right) given d)
-may_use_let s x right given d may =
-    rw (in_steps.may_use_is s x (wanted_by right) given d)
-    (checked_without is_access (seat s x given d) (seat_checks s x (wanted_by right) d) (seat_without is_access refl refl s x given d) (λ k e. seat_let s x right d k may))
-
-found_let : (s : State) (x : Context) → IsWithout is_access (checked (current s x) file_checks)
-found_let s x = checked_without is_access (current s x) file_checks (current_without s x) (λ d e. are_good is_access (file_checks d) refl)
-
-read_let : (s : State) (x : Context) (n : ℕ) (r : Rights) → x.current ≡ Some n → rights_at s.tree n ≡ Some r → (a : Read) → Grants r x.who Reads
-    → Answers is_access (of_read.read s x a)
-unfolding readable
-read_let s x n r at is a grants =
-    rw (in_steps.read_is s x a)
-    (answers_without is_access s x Num.Read (readable s x a.stateid (current s x)) _
-    (if_passed_without is_access (checked (current s x) file_checks) (may_use s x reading a.stateid) (found_let s x) (λ d e.
-    may_use_let s x Reads a.stateid d (may_read x d (gives s x n r d Reads at is (checked_ok (current s x) file_checks d e).0 grants)))) (λ d e. refl))
-
-write_let : (s : State) (x : Context) (now : Time) (n : ℕ) (r : Rights) → x.current ≡ Some n → rights_at s.tree n ≡ Some r → (a : Write) → Grants r x.who Writes
-    → Answers is_access (of_write.write s x now a)
-unfolding writable
-write_let s x now n r at is a grants =
-    rw (in_steps.write_is s x now a)
-    (answers_without is_access s x Num.Write (checked (writable s x a.stateid (current s x)) (of_write.last_checks s a)) _
-    (checked_without is_access (writable s x a.stateid (current s x)) (of_write.last_checks s a)
-    (if_passed_without is_access (checked (current s x) file_checks) (may_use s x writing a.stateid) (found_let s x) (λ d e.
-    may_use_let s x Writes a.stateid d (may_write x d (gives s x n r d Writes at is (checked_ok (current s x) file_checks d e).0 grants))))
-    (λ d e. are_good is_access (of_write.last_checks s a d) refl)) (λ d e. refl))
-
-pub read_refused : (d : RanOp) → IsRun d → (n : ℕ) (r : Rights) → IsAt n r d → d.status ≡ Access → (a : Read) → d.item ≡ Operation (Op.Read a)
-    → Grants r d.context.who Reads → ⊥
-read_refused d run n r at refused a same grants =
-    not_access d.status (by_item (λ status text s. is_access status ≡ false) d run (Operation (Op.Read a)) same (big_other d (Operation (Op.Read a)))
-    (read_let d.before.store d.context n r at.at at.is a grants)) refused
-
-pub write_refused : (d : RanOp) → IsRun d → (n : ℕ) (r : Rights) → IsAt n r d → d.status ≡ Access → (a : Write) → d.item ≡ Operation (Op.Write a)
-    → Grants r d.context.who Writes → ⊥
-write_refused d run n r at refused a same grants =
-    not_access d.status (by_item (λ status text s. is_access status ≡ false) d run (Operation (Op.Write a)) same (big_other d (Operation (Op.Write a)))
-    (by_delay (Answers is_access) (has_bytes a.bytes && run.refused) d.before.store d.context Num.Write (of_write.write d.before.store d.context (moment run.now) a) refl
-    (write_let d.before.store d.context (moment run.now) n r at.at at.is a grants))) refused

@@ -11,7 +11,7 @@ use Rattle.nfs_results.specs.Results.{status_of_result}
 use Rattle.nfs_tree.specs.Files.{object_named}
 use Rattle.nfs_attrs.specs.declared.wanted.Wanted.{Wanted}
 use Rattle.nfs_names.specs.{declared.context.Context.Context, declared.making.Making.Making, declared.node.Node.Node, Checks.{node_at, current}}
-use Rattle.nfs_names.specs.{Create.attributes_in, Outcome.{Outcome, is_ok, checked}, State.{State, moment}}
+use Rattle.nfs_names.specs.{Create.attributes_in, Outcome.{Outcome, is_ok, checked}, State.{State, time_at}}
 use Rattle.nfs_names.proofs.{Found.{came, ok_is, checked_ok}, Ones.by_delay}
 use Rattle.nfs_files.specs.Open.{access_of, makes, there_checks, last_checks}
 use Rattle.nfs_files.specs.OpenParts.{argument_checks, place_checks, absent_checks, found_by, by_name, by_handle, by_claim, asked_for}
@@ -19,8 +19,8 @@ use Rattle.nfs_files.specs.{Open.{opened, open_file}, OpenTold.{named_in, claime
 use Rattle.nfs_files.proofs.{OpenAnswers.open_refuses, Passing.mapped_came, WrittenOps.current_number}
 use Rattle.nfs_exec.specs.Runs.Ops.{RanOp}
 use Rattle.nfs_exec.proofs.Runs.OneRun.{IsRun, by_ok}
-use Rattle.nfs_promises.specs.Permission.Permitted.{Rights, Right, Writes, Executes, Grants, rights_of, rights_at, has_right, IsAt}
-use Rattle.nfs_promises.proofs.Permission.{Granting.{writes, executes, asks, rights_here}, PermittedBytes.done_by, PermittedNames.gets}
+use Rattle.nfs_promises.specs.Permission.Permitted.{Rights, Right, Writes, Executes, Grants, GrantsUse, rights_of, rights_at, has_right, IsAt}
+use Rattle.nfs_promises.proofs.Permission.{Granting.{writes, executes, uses, rights_here}, PermittedBytes.done_by, PermittedNames.gets}
 use Rattle.nfs_files.proofs.InSteps as in_steps
 
 -- What was found, by the claim.
@@ -60,33 +60,33 @@ makes_there s x o m f e =
 
 -- what is there gives all that is asked for
 there_gives : (s : State) (x : Context) (o : Open) (n : ℕ) (r : Rights) (k : Node) (right : Right) → rights_at s.tree n ≡ Some r → node_at s (Some n) ≡ Ok k
-    → (f : Node) → checked (Ok k) (there_checks x o) ≡ Ok f → has_right (access_of o) right ≡ true → Grants r x.who right
+    → (f : Node) → checked (Ok k) (there_checks s.tree x o) ≡ Ok f → has_right (access_of o) right ≡ true → GrantsUse right s.tree.profile r x.who
 there_gives s x o n r k right is at f e has =
-    let its = checked_ok (Ok k) (there_checks x o) f e in
+    let its = checked_ok (Ok k) (there_checks s.tree x o) f e in
     let same : k ≡ f = ok_is refl its.0 in
-    let checks = all_passed (there_checks x o f) its.1 in
-    subst (λ r. Grants r x.who right) (rights_here s n r k is at)
-    (subst (λ (k : Node). Grants (rights_of k.object) x.who right) (sym same) (asks x f (access_of o) (not-false _ checks.1.1.1.0) right has))
+    let checks = all_passed (there_checks s.tree x o f) its.1 in
+    subst (λ r. GrantsUse right s.tree.profile r x.who) (rights_here s n r k is at)
+    (subst (λ (k : Node). GrantsUse right s.tree.profile (rights_of k.object) x.who) (sym same) (uses x f s.tree (access_of o) (not-false _ checks.1.1.1.0) right has))
 
 finds_there : (s : State) (x : Context) (o : Open) (m : Making) (n : ℕ) (r : Rights) (f : _) (right : Right) → rights_at s.tree n ≡ Some r
-    → found_by s x o m (Some n) ≡ Ok f → has_right (access_of o) right ≡ true → Grants r x.who right
+    → found_by s x o m (Some n) ≡ Ok f → has_right (access_of o) right ≡ true → GrantsUse right s.tree.profile r x.who
 finds_there s x o m n r f right is e has =
-    let c = mapped_came _ (checked (node_at s (Some n)) (there_checks x o)) f e in
-    let at : node_at s (Some n) ≡ Ok c.found = (checked_ok (node_at s (Some n)) (there_checks x o) c.found c.is).0 in
-    there_gives s x o n r c.found right is at c.found (ap (λ v. checked v (there_checks x o)) (sym at) ∙ c.is) has
+    let c = mapped_came _ (checked (node_at s (Some n)) (there_checks s.tree x o)) f e in
+    let at : node_at s (Some n) ≡ Ok c.found = (checked_ok (node_at s (Some n)) (there_checks s.tree x o) c.found c.is).0 in
+    there_gives s x o n r c.found right is at c.found (ap (λ v. checked v (there_checks s.tree x o)) (sym at) ∙ c.is) has
 
 handle_there : (s : State) (x : Context) (o : Open) (d : Node) (n : ℕ) (r : Rights) (f : _) (right : Right) (creates : Bool) → rights_at s.tree n ≡ Some r
-    → node_at s (Some n) ≡ Ok d → cond creates (Err Inval) (by_handle x o d) ≡ Ok f → has_right (access_of o) right ≡ true → Grants r x.who right
+    → node_at s (Some n) ≡ Ok d → cond creates (Err Inval) (by_handle s.tree x o d) ≡ Ok f → has_right (access_of o) right ≡ true → GrantsUse right s.tree.profile r x.who
 handle_there s x o d n r f right true is at e has = absurd cc
 handle_there s x o d n r f right false is at e has =
-    let c = mapped_came _ (checked (Ok d) (there_checks x o)) f e in there_gives s x o n r d right is at c.found c.is has
+    let c = mapped_came _ (checked (Ok d) (there_checks s.tree x o)) f e in there_gives s x o n r d right is at c.found c.is has
 
 here_at : (s : State) (x : Context) (n : ℕ) (d : Node) → current s x ≡ Ok d → x.current ≡ Some n → node_at s (Some n) ≡ Ok d
 unfolding current
 here_at s x n d there at = ap (node_at s) (sym at) ∙ there
 
 claim_gives : (s : State) (x : Context) (o : Open) (claim : OpenClaim) (d : Node) (n : ℕ) (r : Rights) (f : _) (right : Right) → current s x ≡ Ok d
-    → rights_at s.tree n ≡ Some r → claimed s.tree x claim ≡ Some n → by_claim s x o claim d ≡ Ok f → has_right (access_of o) right ≡ true → Grants r x.who right
+    → rights_at s.tree n ≡ Some r → claimed s.tree x claim ≡ Some n → by_claim s x o claim d ≡ Ok f → has_right (access_of o) right ≡ true → GrantsUse right s.tree.profile r x.who
 claim_gives s x o (Null name) d n r f right there is leads e has =
     let its = finds s x o name d f e in
     let found : object_named s.tree d.number name ≡ Some n = ap (named_in s.tree name) (sym (current_number s x d there)) ∙ leads in
@@ -108,15 +108,15 @@ open_done d run G ok a same then =
     let s = d.before.store in
     let x = d.context in
     by_ok (λ text t. G) d run (Operation (Op.Open a)) same ok
-    (by_delay (λ o. is_ok (status_of_result o.result) ≡ true → G) run.refused s x Num.Open (open_file s x (moment run.now) a) (λ delayed. absurd (false≢true delayed)) (λ fine.
-    (let its = done_by s x Num.Open (checked (asked_for s x a) (last_checks s x a)) (opened s x (moment run.now) a) (open_refuses s x a)
-    (subst (λ (o : Outcome). is_ok (status_of_result o.result) ≡ true) (in_steps.open_is s x (moment run.now) a) fine) in
+    (by_delay (λ o. is_ok (status_of_result o.result) ≡ true → G) run.refused s x Num.Open (open_file s x (time_at s run.now) a) (λ delayed. absurd (false≢true delayed)) (λ fine.
+    (let its = done_by s x Num.Open (checked (asked_for s x a) (last_checks s x a)) (opened s x (time_at s run.now) a) (open_refuses s x a)
+    (subst (λ (o : Outcome). is_ok (status_of_result o.result) ≡ true) (in_steps.open_is s x (time_at s run.now) a) fine) in
     then its.0 (checked_ok (asked_for s x a) (last_checks s x a) its.0 its.1).0)))
 
 pub open_granted : (d : RanOp) → IsRun d → (n : ℕ) (r : Rights) → rights_at d.before.store.tree n ≡ Some r → is_ok d.status ≡ true → (a : Open)
     → d.item ≡ Operation (Op.Open a) → claimed d.before.store.tree d.context a.claim ≡ Some n → (right : Right) → has_right (access_of a) right ≡ true
-    → Grants r d.context.who right
-open_granted d run n r is ok a same leads right has = open_done d run (Grants r d.context.who right) ok a same (λ f asked.
+    → GrantsUse right d.before.store.tree.profile r d.context.who
+open_granted d run n r is ok a same leads right has = open_done d run (GrantsUse right d.before.store.tree.profile r d.context.who) ok a same (λ f asked.
     (let its = found_as d.before.store d.context a f asked in claim_gives d.before.store d.context a a.claim its.0 n r f right its.1 is leads its.2 has))
 
 pub enter_granted : (d : RanOp) → IsRun d → (n : ℕ) (r : Rights) → IsAt n r d → is_ok d.status ≡ true → (a : Open) (name : List ℕ) → d.item ≡ Operation (Op.Open a)

@@ -1,228 +1,314 @@
--- The mode, owner and group that an object was made with, and that SETATTRs set since, are those that it has.
-use Rattle.std.proofs.Common.{◌≡◌, ◌≢◌, ℕ, ◌+◌, Bool, true, false, cond, List, [], ◌∷◌, ◌++◌, map, Option, Some, None, refl, sym, ◌∙◌, ap, subst, arith, inl, inr}
-use Rattle.std.proofs.lemmas.Bool.{cases_Bool, cases_eq, eq-eqb, ne_eqb, false≢true}
-use Rattle.std.specs.{Prelude.{◌==◌, ◌||◌, option_map, is_some, unwrap_or, if◌then◌else◌, Result, Ok, Err}}
-use Rattle.nfs_xdr.specs.{declared.time.Time.Time, declared.status.Status.Status, declared.status.Status.TheVariants.{RepTooBig, Inval}}
+-- The mode, owner and group that an object was made with, and what operations have left of them since, are those that it has.
+use Rattle.std.proofs.Common.{◌≡◌, ◌≢◌, ℕ, ◌+◌, Bool, true, false, cond, not, List, [], ◌∷◌, ◌++◌, map, Option, Some, None, refl, sym, ◌∙◌, ap, subst, arith, inl, inr}
+use Rattle.std.proofs.lemmas.Bool.{cases_Bool, cases_eq, eq-eqb, ne_eqb, and_right, false≢true}
+use Rattle.std.specs.Prelude.{◌==◌, ◌||◌, ◌&&◌, option_map, is_some, unwrap_or, if◌then◌else◌, Result, Ok, Err}
+use Rattle.nfs_xdr.specs.{Caller.Caller, declared.time.Time.Time, declared.status.Status.Status, declared.status.Status.TheVariants.RepTooBig, Tables.In}
 use Rattle.nfs_xdr.proofs.Lists.{find_push_none, find_push_other}
 use Rattle.nfs_compound.specs.{Request.item_number, declared.file_args.SetAttr.SetAttr, declared.name_args.Create.Create, declared.op.Item.Item}
-use Rattle.nfs_compound.specs.{declared.op.Item.TheVariants.Operation, declared.op_num.OpNum.OpNum, declared.open_args.Open.Open}
-use Rattle.nfs_compound.specs.declared.open_args.OpenClaim.{OpenClaim}
-use Rattle.nfs_compound.specs.declared.open_args.OpenClaim.TheVariants.{Null, Previous, DelegateCur, DelegatePrev, Fh, DelegCurFh, DelegPrevFh}
-use Rattle.nfs_compound.specs.OpNum.{op_number}
+use Rattle.nfs_compound.specs.{declared.op.Item.TheVariants.Operation, declared.op_num.OpNum.OpNum, declared.open_args.Open.Open, declared.file_args.Write.Write}
+use Rattle.nfs_compound.specs.{declared.name_args.CreateType.CreateType, declared.name_args.CreateType.TheVariants.{Symlink, Block, Character, Other}, OpNum.op_number}
 use Rattle.nfs_compound.specs.declared.op.Op.TheVariants as Op
 use Rattle.nfs_compound.specs.declared.op_num.OpNum.TheVariants as Num
 use Rattle.nfs_results.specs.Results.{status_of_result}
-use Rattle.nfs_tree.specs.{declared.sets.Sets.Sets, declared.stored.Stored.Stored, Object.{modified, no_sets}}
-use Rattle.nfs_tree.specs.Files.{Files, root, stored_in, is_there, change_at, with_changed, with_entries_changed, object_named}
-use Rattle.nfs_tree.specs.{declared.limits.Limits.Limits, Create.{New, with_new, new_object, new_directory, new_tree}, Bytes.{resized, with_bytes, with_resized}}
+use Rattle.nfs_tree.specs.{declared.object.Object.Object, declared.sets.Sets.Sets, declared.stored.Stored.Stored, Object.{is_directory, is_regular, modified, no_sets}}
+use Rattle.nfs_tree.specs.Files.{Files, root, stored_in, object_at, is_there, change_at, with_entries_changed}
+use Rattle.nfs_tree.specs.{declared.limits.Limits.Limits, declared.profile.Profile.Profile, declared.profile.Profile.TheVariants.{Exact, Unix}}
+use Rattle.nfs_tree.specs.{Create.{New, with_new, new_object, new_directory, new_tree}, Bytes.{has_bytes, written, resized, with_bytes, with_resized, with_sets}}
 use Rattle.nfs_tree.proofs.Objects.{keeps_changed, stored_map}
-use Rattle.nfs_attrs.specs.declared.wanted.Wanted.{Wanted}
-use Rattle.nfs_names.specs.{declared.context.Context.Context, declared.making.Making.Making, declared.node.Node.Node, Checks.{node_at, current}}
-use Rattle.nfs_names.specs.{Create.{attributes_in, given_sets, new_of, plain_mode, create}, Outcome.{Outcome, is_ok, checked, answers, refuses}, State.moment}
+use Rattle.nfs_attrs.specs.{declared.wanted.Wanted.Wanted, SetId.{settled, mode_behind, mode_if, made_in}}
+use Rattle.nfs_names.specs.{declared.context.Context.Context, declared.node.Node.Node, declared.start.Start.Start, Checks.current}
+use Rattle.nfs_names.specs.{Create.{attributes_in, new_of, plain_mode, create}, Outcome.{Outcome, is_ok, checked, answers, refuses}, State.{moment, time_at}}
 use Rattle.nfs_names.specs.Create as creating
 use Rattle.nfs_names.specs.State as store
-use Rattle.nfs_names.proofs.{Faulted.status_of_refusal, Found.{came, ok_is, checked_ok}, NameLaws.by_create, Ones.by_delay}
+use Rattle.nfs_names.proofs.{Faulted.status_of_refusal, Found.{IsHeld, ok_is, checked_ok, current_is}, NameLaws.{by_create, current_refuses}, Ones.by_delay}
 use Rattle.nfs_names.proofs.Refusing.{IsRefusal, Refuses, refuses_checked}
-use Rattle.nfs_files.specs.{FileImage.is_number, Open.{makes, open_file}, SetAttr.set_attr}
+use Rattle.nfs_files.specs.{Parts.writable, Bytes.behind_sets, FileImage.{is_number, asks_empty}, Open.{makes, open_file}, Operation.grows, SetAttr.set_attr}
 use Rattle.nfs_files.specs.OpenParts as open_parts
 use Rattle.nfs_files.specs.Open as of_open
+use Rattle.nfs_files.specs.Parts as parts
 use Rattle.nfs_files.specs.SetAttrParts as set_parts
 use Rattle.nfs_files.specs.SetAttr as of_set
-use Rattle.nfs_files.proofs.{Passing.{if_passed_ok, mapped_came}, SetAnswers.asked_refuses, WrittenOps.{by_found, current_number}}
+use Rattle.nfs_files.specs.Write as of_write
+use Rattle.nfs_files.proofs.{ChangesTold.some_same, FileOps.setting_is, OpenAnswers.open_refuses, Seats.writable_refuses}
+use Rattle.nfs_files.proofs.OpenedTrees.{LeftBy, Same, Emptied, Made, opened_tree, set_held}
+use Rattle.nfs_files.proofs.{SetAnswers.asked_refuses, WrittenOps.{by_found, current_number, writable_at}}
 use Rattle.nfs_exec.specs.{Step.Behind.refused_step, Runs.Ops.RanOp}
 use Rattle.nfs_exec.proofs.Runs.OneRun.{IsRun, by_item, by_run}
 use Rattle.nfs_serve.specs.Step.{new_state}
-use Rattle.nfs_promises.specs.Permission.{Permitted.{Rights, rights_of}, RightsTold.{with_given, with_wanted, rights_left, rights_after, HasRights}}
+use Rattle.nfs_promises.specs.{Network.Endpoint.Arrival, Runs.Points.{reached, ops_of}, Permission.Permitted.{Rights, rights_of, rights_at}}
+use Rattle.nfs_promises.specs.Permission.RightsTold.{Subject, with_given, with_wanted, with_cleared, rights_left, rights_after, HasRights}
 use Rattle.nfs_promises.specs.Permission.RightsTold.{user_rights, MakesWith, ByCreate, ByOpen, RightsAreTold, RootIsTold}
-use Rattle.nfs_promises.proofs.Permission.{PermittedOpens.finds, RightsKept.{Are, Have, map_to, new_have, resized_have, staying_have, is_quiet, names_item}}
-use Rattle.nfs_promises.proofs.{Permission.{RightsKept.quiet_item, PermittedNames.picked}, Runs.{Points.sound_new, Followed.{Follows, through, from}}}
+use Rattle.nfs_promises.proofs.Permission.RightsKept.{Known, known_of, Are, Have, map_to, new_have, staying_have, is_quiet, names_item, quiet_item}
+use Rattle.nfs_promises.proofs.Runs.{LaterRecords.{op_keeps, all_keeps, first_there}, LimitsKept.profile_kept}
+use Rattle.nfs_promises.proofs.Runs.{Points.{sound_new, sound_all}, Followed.{Follows, through, from}}
 use Rattle.nfs_files.proofs.InSteps as in_steps
 
--- What an OPEN leaves of a tree: as it is, cut, or with a file that was made.
-data OpenTree (t : Files) (x : Context) (now : Time) (o : Open) (u : Files) : Type 0 where
-  Same : u ≡ t → OpenTree t x now o u
-  Cut : (m : ℕ) → u ≡ with_resized t m 0 no_sets now → OpenTree t x now o u
-  Made : (d : ℕ) (name : List ℕ) (w : Wanted) → attributes_in (makes o.openhow).attributes ≡ Ok w
-      → u ≡ with_new t d name (of_open.new_of o w) (of_open.sets_of x now o w) now → OpenTree t x now o u
+-- The object, with these rights.
 
-there_tree : (t : Files) (x : Context) (now : Time) (o : Open) (m : ℕ) (cut : Bool) → OpenTree t x now o (if cut then with_resized t m 0 no_sets now else t)
-there_tree t x now o m true = Cut m refl
-there_tree t x now o m false = Same refl
+abbrev pub known : Subject → Rights → Known
+known k r = record { rights = r; regular = k.regular; profile = k.profile }
 
-found_tree : (s : store.State) (x : Context) (now : Time) (o : Open) (m : Making) (at : Option ℕ) (f : _) → attributes_in (makes o.openhow).attributes ≡ Ok m.wanted
-    → open_parts.found_by s x o m at ≡ Ok f → OpenTree s.tree x now o (of_open.tree_of s.tree x now o f)
-found_tree s x now o m None f wanted e =
-    let c = mapped_came _ (checked (Ok m) (open_parts.absent_checks x o)) f e in
-    let same : m ≡ c.found = ok_is refl (checked_ok (Ok m) (open_parts.absent_checks x o) c.found c.is).0 in
-    subst (λ f. OpenTree s.tree x now o (of_open.tree_of s.tree x now o f)) c.same
-    (Made c.found.place.number (of_open.name_of o.claim) c.found.wanted (wanted ∙ ap (λ (m : Making). Ok m.wanted) same) refl)
-found_tree s x now o m (Some n) f wanted e =
-    let c = mapped_came _ (checked (node_at s (Some n)) (of_open.there_checks x o)) f e in
-    subst (λ f. OpenTree s.tree x now o (of_open.tree_of s.tree x now o f)) c.same (there_tree s.tree x now o c.found.number (of_open.cuts o m.wanted))
+abbrev pub Holds : Subject → Rights → Files → Type 0
+Holds k r t = Have k.number (known k r) t
 
-handle_tree : (s : store.State) (x : Context) (now : Time) (o : Open) (b : Bool) (d : Node) (f : _) → cond b (Err Inval) (open_parts.by_handle x o d) ≡ Ok f
-    → OpenTree s.tree x now o (of_open.tree_of s.tree x now o f)
-handle_tree s x now o true d f e = absurd cc
-handle_tree s x now o false d f e =
-    let c = mapped_came _ (checked (Ok d) (of_open.there_checks x o)) f e in
-    subst (λ f. OpenTree s.tree x now o (of_open.tree_of s.tree x now o f)) c.same (Same refl)
+-- What is looked at of it is what it has.
+node_known : (n : ℕ) (r : Known) (t : Files) (d : Node) → Have n r t → IsHeld t d → d.number ≡ n → known_of r.profile d.object ≡ r
+node_known n r t d is held at = go (stored_in t.objects n) refl (subst (λ j. object_at t j ≡ Some d.object) at held.object)
+  where
+    go : (o : Option Stored) → stored_in t.objects n ≡ o → option_map (λ (s : Stored). s.object) (stored_in t.objects n) ≡ Some d.object → known_of r.profile d.object ≡ r
+    go None none there = absurd (let bad : None ≡ Some d.object = sym (ap (option_map (λ (s : Stored). s.object)) none) ∙ there in cc)
+    go (Some s) some there =
+        let one : Some s.object ≡ Some d.object = sym (ap (option_map (λ (s : Stored). s.object)) some) ∙ there in
+        let same : s.object ≡ d.object = cc in
+        ap (λ (o : Object). known_of r.profile o) (sym same) ∙ is.rights s some
 
-claim_tree : (s : store.State) (x : Context) (now : Time) (o : Open) (claim : OpenClaim) (d : Node) (f : _) → open_parts.by_claim s x o claim d ≡ Ok f
-    → OpenTree s.tree x now o (of_open.tree_of s.tree x now o f)
-claim_tree s x now o (Null name) d f e =
-    let its = finds s x o name d f e in
-    found_tree s x now o (record { place = d; wanted = its.0 }) (object_named s.tree d.number name) f its.1 its.2
-claim_tree s x now o Fh d f e = handle_tree s x now o (makes o.openhow).creates d f e
-claim_tree s x now o (Previous type) d f e = absurd cc
-claim_tree s x now o (DelegateCur id file) d f e = absurd cc
-claim_tree s x now o (DelegatePrev file) d f e = absurd cc
-claim_tree s x now o (DelegCurFh id) d f e = absurd cc
-claim_tree s x now o DelegPrevFh d f e = absurd cc
+settled_same : (k : Subject) (r : Rights) (t : Files) (d : Node) (who : Caller) (w : Wanted) → Holds k r t → IsHeld t d → d.number ≡ k.number
+    → settled t.profile (is_regular d.object.kind) d.object.mode d.object.group who w ≡ settled k.profile k.regular r.mode r.group who w
+settled_same k r t d who w is held at =
+    ap (λ p. settled p (is_regular d.object.kind) d.object.mode d.object.group who w) is.profile
+    ∙ ap (λ (q : Known). settled q.profile q.regular q.rights.mode q.rights.group who w) (node_known k.number (known k r) t d is held at)
 
-asked_tree : (s : store.State) (x : Context) (now : Time) (o : Open) (f : _) → open_parts.asked_for s x o ≡ Ok f → OpenTree s.tree x now o (of_open.tree_of s.tree x now o f)
-unfolding open_parts.asked_for
-asked_tree s x now o f e =
-    let c = came (checked (current s x) (open_parts.argument_checks o)) (open_parts.by_claim s x o o.claim) f e in claim_tree s x now o o.claim c.found f c.then
+behind_same : (k : Subject) (r : Rights) (t : Files) (d : Node) (who : Caller) → Holds k r t → IsHeld t d → d.number ≡ k.number
+    → mode_behind t.profile d.object.mode who ≡ mode_behind k.profile r.mode who
+behind_same k r t d who is held at =
+    ap (λ p. mode_behind p d.object.mode who) is.profile
+    ∙ ap (λ (q : Known). mode_behind q.profile q.rights.mode who) (node_known k.number (known k r) t d is held at)
 
-open_tree : (s : store.State) (x : Context) (now : Time) (o : Open) → OpenTree s.tree x now o (open_file s x now o).state.tree
-open_tree s x now o =
-    rw (in_steps.open_is s x now o)
-    (by_found (λ k. OpenTree s.tree x now o k.state.tree) s x Num.Open (checked (open_parts.asked_for s x o) (of_open.last_checks s x o)) (of_open.opened s x now o)
-    (λ status. Same refl) (λ f e. asked_tree s x now o f (checked_ok (open_parts.asked_for s x o) (of_open.last_checks s x o) f e).0))
-
--- It sets nothing of a file that is there.
-open_have : (n : ℕ) (r : Rights) (t : Files) (x : Context) (now : Time) (o : Open) (u : Files) → OpenTree t x now o u → Have n r t → Have n r u
-open_have n r t x now o u (Same same) is = subst (Have n r) (sym same) is
-open_have n r t x now o u (Cut m same) is = subst (Have n r) (sym same) (resized_have n r t m 0 now is)
-open_have n r t x now o u (Made d name w wanted same) is =
-    subst (Have n r) (sym same) (new_have n r t d name (of_open.new_of o w) (of_open.sets_of x now o w) now is)
-
--- SETATTR sets what is given.
-
-set_at : (n m : ℕ) (r : Rights) (w : Wanted) (f : Stored → Stored) (xs : List Stored) → ((s : Stored) → (f s).number ≡ s.number)
-    → ((s : Stored) → s.number ≡ m → rights_of (f s).object ≡ with_given (rights_of s.object) w) → ((s : Stored) → s.number ≢ m → f s ≡ s) → Are n r xs
-    → Are n (cond (m == n) (with_given r w) r) (map f xs)
-set_at n m r w f xs number set other is = elim (cases_eq m n) [
-  | inl same ↦ subst (λ b. Are n (cond b (with_given r w) r) (map f xs)) (sym (eq-eqb m n same))
-      (map_to n r (with_given r w) f xs number (λ s at has. set s (at ∙ sym same) ∙ ap (λ r. with_given r w) has) is)
-  | inr apart ↦ subst (λ b. Are n (cond b (with_given r w) r) (map f xs)) (sym (ne_eqb m n apart))
-      (map_to n r r f xs number (λ s at has. ap (λ (s : Stored). rights_of s.object) (other s (λ here. apart (sym here ∙ at))) ∙ has) is)
+-- one object changes
+set_at : (k : Subject) (m : ℕ) (r q : Rights) (f : Stored → Stored) (xs : List Stored) → ((s : Stored) → (f s).number ≡ s.number)
+    → ((s : Stored) → s.number ≡ m → m ≡ k.number → known_of k.profile s.object ≡ known k r → known_of k.profile (f s).object ≡ known k q)
+    → ((s : Stored) → s.number ≢ m → f s ≡ s) → Are k.number (known k r) xs → Are k.number (known k (cond (m == k.number) q r)) (map f xs)
+set_at k m r q f xs number set other is = elim (cases_eq m k.number) [
+  | inl same ↦ subst (λ b. Are k.number (known k (cond b q r)) (map f xs)) (sym (eq-eqb m k.number same))
+      (map_to k.number (known k r) (known k q) f xs number (λ s at has. set s (at ∙ sym same) same has) is)
+  | inr apart ↦ subst (λ b. Are k.number (known k (cond b q r)) (map f xs)) (sym (ne_eqb m k.number apart))
+      (map_to k.number (known k r) (known k r) f xs number
+      (λ s at has. ap (λ (s : Stored). known_of k.profile s.object) (other s (λ here. apart (sym here ∙ at))) ∙ has) is)
 ]
 
-sized_set : (n m size : ℕ) (r : Rights) (w : Wanted) (now : Time) (t : Files) → Have n r t
-    → Have n (cond (m == n) (with_given r w) r) (with_resized t m size (given_sets now w) now)
-sized_set n m size r w now t is = record {
-  given = is.given;
-  rights = set_at n m r w (λ (s : Stored). if s.number == m then with_bytes now (given_sets now w) (resized s.bytes size) s else s) t.objects
-      (λ s. elim (s.number == m) as (λ v. (cond v (with_bytes now (given_sets now w) (resized s.bytes size) s) s).number ≡ s.number) [ true ↦ refl | false ↦ refl ])
-      (λ s here. rw (eq-eqb s.number m here) refl) (λ s apart. rw (ne_eqb s.number m apart) refl) is.rights;
-}
+abbrev given_by : Subject → Rights → Caller → Wanted → Rights
+given_by k r who w = with_given r (settled k.profile k.regular r.mode r.group who w)
 
-changed_set : (n m : ℕ) (r : Rights) (w : Wanted) (now : Time) (t : Files) → Have n r t
-    → Have n (cond (m == n) (with_given r w) r) (record t { objects = with_changed m now (given_sets now w) t.objects })
-changed_set n m r w now t is = record {
-  given = is.given;
-  rights = set_at n m r w (change_at m now (given_sets now w)) t.objects (keeps_changed m now (given_sets now w) []).number
-      (λ s here. rw (eq-eqb s.number m here) refl) (λ s apart. rw (ne_eqb s.number m apart) refl) is.rights;
-}
+abbrev changes : Files → Node → Caller → Wanted → Wanted
+changes t d who w = settled t.profile (is_regular d.object.kind) d.object.mode d.object.group who w
+
+-- what a SETATTR makes of what is known
+known_given : (k : Subject) (r : Rights) (t : Files) (d : Node) (who : Caller) (w : Wanted) (o : Object) → Holds k r t → IsHeld t d → d.number ≡ k.number
+    → known_of k.profile o ≡ known k r → record (known_of k.profile o) { rights = with_given (rights_of o) (changes t d who w) } ≡ known k (given_by k r who w)
+known_given k r t d who w o is held at has =
+    ap (λ (q : Known). record q { rights = with_given q.rights (changes t d who w) }) has
+    ∙ ap (λ (w : Wanted). known k (with_given r w)) (settled_same k r t d who w is held at)
+
+sized_set : (k : Subject) (r : Rights) (t : Files) (x : Context) (d : Node) (size : ℕ) (w : Wanted) (now : Time) → IsHeld t d → Holds k r t
+    → Holds k (cond (d.number == k.number) (given_by k r x.who w) r) (with_resized t d.number size (of_set.settled_sets t x d now w) now)
+sized_set k r t x d size w now held is =
+    let sets = of_set.settled_sets t x d now w in
+    record {
+      given = is.given;
+      profile = is.profile;
+      rights = set_at k d.number r (given_by k r x.who w) (λ (s : Stored). if s.number == d.number then with_bytes now sets (resized s.bytes size) s else s) t.objects
+          (λ s. elim (s.number == d.number) as (λ v. (cond v (with_bytes now sets (resized s.bytes size) s) s).number ≡ s.number) [ true ↦ refl | false ↦ refl ])
+          (λ s here at has. rw (eq-eqb s.number d.number here) (known_given k r t d x.who w s.object is held at has))
+          (λ s apart. rw (ne_eqb s.number d.number apart) refl) is.rights;
+    }
+
+changed_set : (k : Subject) (r : Rights) (t : Files) (x : Context) (d : Node) (w : Wanted) (now : Time) → IsHeld t d → Holds k r t
+    → Holds k (cond (d.number == k.number) (given_by k r x.who w) r) (with_sets t d.number (of_set.settled_sets t x d now w) now)
+changed_set k r t x d w now held is =
+    let sets = of_set.settled_sets t x d now w in
+    record {
+      given = is.given;
+      profile = is.profile;
+      rights = set_at k d.number r (given_by k r x.who w) (change_at d.number now sets) t.objects (keeps_changed d.number now sets []).number
+          (λ s here at has. rw (eq-eqb s.number d.number here) (known_given k r t d x.who w s.object is held at has))
+          (λ s apart. rw (ne_eqb s.number d.number apart) refl) is.rights;
+    }
+
+-- a change of bytes
+bytes_set : (k : Subject) (r : Rights) (t : Files) (x : Context) (d : Node) (bytes : Stored → List ℕ) (now : Time) → IsHeld t d → Holds k r t
+    → Are k.number (known k (cond (d.number == k.number) (with_cleared k x.who r) r))
+    (map (λ (s : Stored). if s.number == d.number then with_bytes now (behind_sets t x d) (bytes s) s else s) t.objects)
+bytes_set k r t x d bytes now held is =
+    let sets = behind_sets t x d in
+    set_at k d.number r (with_cleared k x.who r) (λ (s : Stored). if s.number == d.number then with_bytes now sets (bytes s) s else s) t.objects
+    (λ s. elim (s.number == d.number) as (λ v. (cond v (with_bytes now sets (bytes s) s) s).number ≡ s.number) [ true ↦ refl | false ↦ refl ])
+    (λ s here at has. rw (eq-eqb s.number d.number here)
+    (ap (λ (q : Known). record q { rights = record q.rights { mode = unwrap_or (mode_behind t.profile d.object.mode x.who) q.rights.mode } }) has
+    ∙ ap (λ (o : Option ℕ). known k (record r { mode = unwrap_or o r.mode })) (behind_same k r t d x.who is held at)))
+    (λ s apart. rw (ne_eqb s.number d.number apart) refl) is.rights
 
 -- nothing given sets nothing
 none_given : {A : Type 0} (o : Option A) → is_some o ≡ false → o ≡ None
 none_given None e = refl
 none_given (Some a) e = absurd (false≢true (sym e))
 
-some_of_six : (a b c d e f : Bool) → a || b || c || d || e || f ≡ false → (b ≡ false) × (c ≡ false) × (d ≡ false)
-some_of_six false false false false e f is = (refl, refl, refl)
+some_of_six : (a b c d e f : Bool) → a || b || c || d || e || f ≡ false → (a ≡ false) × (b ≡ false) × (c ≡ false) × (d ≡ false)
+some_of_six false false false false e f is = (refl, refl, refl, refl)
 some_of_six true b c d e f is = absurd (false≢true (sym is))
 some_of_six false true c d e f is = absurd (false≢true (sym is))
 some_of_six false false true d e f is = absurd (false≢true (sym is))
 some_of_six false false false true e f is = absurd (false≢true (sym is))
 
-given_none : (r : Rights) (w : Wanted) → of_set.gives_some w ≡ false → with_given r w ≡ r
-given_none r w e =
+given_none : (k : Subject) (r : Rights) (who : Caller) (w : Wanted) → of_set.gives_some w ≡ false → given_by k r who w ≡ r
+given_none k r who w e =
     let none = some_of_six (is_some w.size) (is_some w.mode) (is_some w.owner) (is_some w.group) (is_some w.access) (is_some w.modify) e in
-    ap (λ m. record { mode = unwrap_or m r.mode; owner = unwrap_or w.owner r.owner; group = unwrap_or w.group r.group }) (none_given w.mode none.0)
-    ∙ (ap (λ o. record { mode = r.mode; owner = unwrap_or o r.owner; group = unwrap_or w.group r.group }) (none_given w.owner none.1)
-    ∙ ap (λ g. record { mode = r.mode; owner = r.owner; group = unwrap_or g r.group }) (none_given w.group none.2))
+    by k.profile (none_given w.size none.0) (none_given w.mode none.1) (none_given w.owner none.2) (none_given w.group none.3)
+  where
+    plain : (v : Wanted) → v.mode ≡ None → v.owner ≡ None → v.group ≡ None → with_given r v ≡ r
+    plain v mode owner group =
+        ap (λ m. record { mode = unwrap_or m r.mode; owner = unwrap_or v.owner r.owner; group = unwrap_or v.group r.group }) mode
+        ∙ (ap (λ o. record { mode = r.mode; owner = unwrap_or o r.owner; group = unwrap_or v.group r.group }) owner
+        ∙ ap (λ g. record { mode = r.mode; owner = r.owner; group = unwrap_or g r.group }) group)
+
+    uncleared : (regular b : Bool) → mode_if (regular && (false || false || false && b)) None r.mode ≡ None
+    uncleared true b = refl
+    uncleared false b = refl
+
+    by : (p : Profile) → w.size ≡ None → w.mode ≡ None → w.owner ≡ None → w.group ≡ None → with_given r (settled p k.regular r.mode r.group who w) ≡ r
+    by Exact size mode owner group = plain w mode owner group
+    by Unix size mode owner group = plain (settled Unix k.regular r.mode r.group who w)
+        (rw (size, mode, owner, group) (uncleared k.regular (not (who.uid == 0)))) owner group
 
 either_same : (b : Bool) (r q : Rights) → q ≡ r → cond b q r ≡ r
 either_same true r q same = same
 either_same false r q same = refl
 
-with_set_have : (n m : ℕ) (r : Rights) (w : Wanted) (now : Time) (t : Files) (size : Option ℕ) → Have n r t
-    → Have n (cond (m == n) (with_given r w) r) (of_set.with_set t m now w size)
-with_set_have n m r w now t (Some size) is = sized_set n m size r w now t is
-with_set_have n m r w now t None is = elim (cases_Bool (of_set.gives_some w)) [
-  | inl some ↦ rw some (changed_set n m r w now t is)
-  | inr nothing ↦ rw nothing (subst (λ q. Have n q t) (sym (either_same (m == n) r (with_given r w) (given_none r w nothing))) is)
+with_set_have : (k : Subject) (r : Rights) (t : Files) (x : Context) (d : Node) (w : Wanted) (now : Time) (size : Option ℕ) → IsHeld t d → Holds k r t
+    → Holds k (cond (d.number == k.number) (given_by k r x.who w) r) (of_set.with_set t x d now w size)
+with_set_have k r t x d w now (Some size) held is = sized_set k r t x d size w now held is
+with_set_have k r t x d w now None held is = elim (cases_Bool (of_set.gives_some w)) [
+  | inl some ↦ rw some (changed_set k r t x d w now held is)
+  | inr nothing ↦ rw nothing (subst (λ q. Holds k q t) (sym (either_same (d.number == k.number) r (given_by k r x.who w) (given_none k r x.who w nothing))) is)
 ]
 
-setting_is : (s : store.State) (x : Context) (a : SetAttr) (m : _) → set_parts.asked_for s x a ≡ Ok m
-    → (x.current ≡ Some m.node.number) × (attributes_in a.obj_attributes ≡ Ok m.wanted)
-unfolding set_parts.asked_for
-setting_is s x a m e =
-    let set = (if_passed_ok (set_parts.setting s x a) (set_parts.sized s x a.stateid) m e).0 in
-    let d = came (current s x) _ m set in
-    let w = came (attributes_in a.obj_attributes) _ m d.then in
-    let same = ok_is refl (checked_ok _ (set_parts.owner_checks x) m w.then).0 in (
-      current_number s x d.found d.is ∙ picked _ m same (λ m. Some m.node.number),
-      w.is ∙ picked _ m same (λ m. Ok m.wanted),
-    )
+set_left : (k : Subject) (m : ℕ) (r : Rights) (t : Files) (x : Context) (a : SetAttr) (w : Wanted) → x.current ≡ Some m → attributes_in a.obj_attributes ≡ Ok w
+    → rights_left k r t x (Operation (Op.SetAttr a)) ≡ cond (m == k.number) (given_by k r x.who w) r
+set_left k m r t x a w at given =
+    ap (λ o. cond (is_number k.number o) (with_wanted k x.who r (attributes_in a.obj_attributes)) r) at
+    ∙ ap (λ v. cond (m == k.number) (with_wanted k x.who r v) r) given
 
-set_left : (n m : ℕ) (r : Rights) (x : Context) (a : SetAttr) (w : Wanted) → x.current ≡ Some m → attributes_in a.obj_attributes ≡ Ok w
-    → rights_left n r x (Operation (Op.SetAttr a)) ≡ cond (m == n) (with_given r w) r
-set_left n m r x a w at given =
-    ap (λ o. cond (is_number n o) (with_wanted r (attributes_in a.obj_attributes)) r) at ∙ ap (λ v. cond (m == n) (with_wanted r v) r) given
+abbrev pub Leaves : Subject → Rights → Rights → Status → store.State → Type 0
+Leaves k r q status u = Holds k (cond (is_ok status) q r) u.tree
 
-abbrev Leaves : ℕ → Rights → Rights → Status → store.State → Type 0
-Leaves n r q status u = Have n (cond (is_ok status) q r) u.tree
-
-refused_have : (n : ℕ) (r q : Rights) (status : Status) (u : store.State) → is_ok status ≡ false → Have n r u.tree → Leaves n r q status u
-refused_have n r q status u absent is = subst (λ b. Have n (cond b q r) u.tree) (sym absent) is
+refused_have : (k : Subject) (r q : Rights) (status : Status) (u : store.State) → is_ok status ≡ false → Holds k r u.tree → Leaves k r q status u
+refused_have k r q status u absent is = subst (λ b. Holds k (cond b q r) u.tree) (sym absent) is
 
 by_refusal : {A : Type 0} (P : Outcome → Type 0) (s : store.State) (x : Context) (op : OpNum) (v : Result A Status) (f : A → Outcome) → Refuses v
     → ((status : Status) → IsRefusal status → P (refuses s x op status)) → ((a : A) → v ≡ Ok a → P (f a)) → P (answers s x op v f)
 by_refusal P s x op (Err status) f all refused done = refused status (all.each status refl)
 by_refusal P s x op (Ok a) f all refused done = done a refl
 
-set_have : (n : ℕ) (r : Rights) (s : store.State) (x : Context) (now : Time) (a : SetAttr) → Have n r s.tree
-    → (let o = set_attr s x now a in Leaves n r (rights_left n r x (Operation (Op.SetAttr a))) (status_of_result o.result) o.state)
-set_have n r s x now a is =
+set_have : (k : Subject) (r : Rights) (s : store.State) (x : Context) (now : Time) (a : SetAttr) → Holds k r s.tree
+    → (let o = set_attr s x now a in Leaves k r (rights_left k r s.tree x (Operation (Op.SetAttr a))) (status_of_result o.result) o.state)
+set_have k r s x now a is =
     rw (in_steps.set_attr_is s x now a)
-    (let q = rights_left n r x (Operation (Op.SetAttr a)) in
-    by_refusal (λ o. Leaves n r q (status_of_result o.result) o.state) s x Num.SetAttr (checked (set_parts.asked_for s x a) (set_parts.last_checks s)) (set_parts.was_set s x now a)
+    (let q = rights_left k r s.tree x (Operation (Op.SetAttr a)) in
+    by_refusal (λ o. Leaves k r q (status_of_result o.result) o.state) s x Num.SetAttr (checked (set_parts.asked_for s x a) (set_parts.last_checks s)) (set_parts.was_set s x now a)
     (refuses_checked (set_parts.asked_for s x a) (set_parts.last_checks s) (asked_refuses s x a) (λ m. refl))
-    (λ status refusal. refused_have n r q _ s (ap is_ok (status_of_refusal (op_number Num.SetAttr) status) ∙ refusal.done) is) (λ m e.
-    (let its = setting_is s x a m (checked_ok (set_parts.asked_for s x a) (set_parts.last_checks s) m e).0 in
-    subst (λ q. Have n q (of_set.with_set s.tree m.node.number now m.wanted m.wanted.size)) (sym (set_left n m.node.number r x a m.wanted its.0 its.1))
-    (with_set_have n m.node.number r m.wanted now s.tree m.wanted.size is))))
+    (λ status refusal. refused_have k r q _ s (ap is_ok (status_of_refusal (op_number Num.SetAttr) status) ∙ refusal.done) is) (λ m e.
+    (let asked = (checked_ok (set_parts.asked_for s x a) (set_parts.last_checks s) m e).0 in
+    let its = setting_is s x a m asked in
+    subst (λ q. Holds k q (of_set.with_set s.tree x m.node now m.wanted m.wanted.size)) (sym (set_left k m.node.number r s.tree x a m.wanted its.at its.reads))
+    (with_set_have k r s.tree x m.node m.wanted now m.wanted.size (set_held s x a m asked) is))))
+
+-- WRITE
+
+both_true : (b c : Bool) → c ≡ true → b && c ≡ b
+both_true true c e = e
+both_true false c e = refl
+
+written_have : (k : Subject) (r : Rights) (s : store.State) (x : Context) (now : Time) (w : Write) (d : Node) → current s x ≡ Ok d → Holds k r s.tree
+    → Holds k (rights_left k r s.tree x (Operation (Op.Write w))) (of_write.with_bytes s.tree x w d now)
+written_have k r s x now w d at is =
+    let q = with_cleared k x.who r in
+    let here : is_number k.number x.current ≡ (d.number == k.number) = ap (is_number k.number) (current_number s x d at) in
+    let held = current_is s x d at in
+    elim (cases_Bool (has_bytes w.bytes)) [
+      | inl some ↦ subst (λ b. Holds k (cond b q r) (of_write.with_bytes s.tree x w d now))
+          (sym (both_true (is_number k.number x.current) (has_bytes w.bytes) some ∙ here))
+          (rw some (record {
+            given = is.given;
+            profile = is.profile;
+            rights = bytes_set k r s.tree x d (λ s. written s.bytes w.offset w.bytes) now held is;
+          }))
+      | inr empty ↦ subst (λ b. Holds k (cond b q r) (of_write.with_bytes s.tree x w d now)) (sym (and_right (is_number k.number x.current) (has_bytes w.bytes) empty))
+          (rw empty is)
+    ]
+
+write_have : (k : Subject) (r : Rights) (s : store.State) (x : Context) (now : Time) (w : Write) → Holds k r s.tree
+    → (let o = of_write.write s x now w in Leaves k r (rights_left k r s.tree x (Operation (Op.Write w))) (status_of_result o.result) o.state)
+write_have k r s x now w is =
+    rw (in_steps.write_is s x now w)
+    (let q = rights_left k r s.tree x (Operation (Op.Write w)) in
+    by_refusal (λ o. Leaves k r q (status_of_result o.result) o.state) s x Num.Write (checked (writable s x w.stateid (current s x)) (of_write.last_checks s w)) (parts.was_written s x now w)
+    (refuses_checked (writable s x w.stateid (current s x)) (of_write.last_checks s w) (writable_refuses s x w.stateid (current s x) (current_refuses s x)) (λ d. refl))
+    (λ status refusal. refused_have k r q _ s (ap is_ok (status_of_refusal (op_number Num.Write) status) ∙ refusal.done) is) (λ d e.
+    written_have k r s x now w d (writable_at s x w.stateid d (checked_ok (writable s x w.stateid (current s x)) (of_write.last_checks s w) d e).0) is))
+
+-- OPEN
+
+opened_have : (k : Subject) (r : Rights) (s : store.State) (x : Context) (now : Time) (o : Open) (u : Files) → LeftBy s x now o u → Holds k r s.tree
+    → Holds k (rights_left k r s.tree x (Operation (Op.Open o))) u
+opened_have k r s x now o u (Same same empties) is =
+    subst (λ b. Holds k (cond b (with_cleared k x.who r) r) u) (sym (empties k.number)) (subst (Holds k r) (sym same) is)
+opened_have k r s x now o u (Emptied g held empties same) is =
+    subst (λ b. Holds k (cond b (with_cleared k x.who r) r) u) (sym (empties k.number))
+    (subst (Holds k (cond (g.number == k.number) (with_cleared k x.who r) r)) (sym same)
+    (record { given = is.given; profile = is.profile; rights = bytes_set k r s.tree x g (λ s. resized s.bytes 0) now held is }))
+opened_have k r s x now o u (Made m held at none reads same) is =
+    subst (λ (n : Option ℕ). Holds k (cond (is_number k.number n && asks_empty o) (with_cleared k x.who r) r) u) (sym none)
+    (subst (Holds k r) (sym same)
+    (new_have k.number (known k r) s.tree m.place.number (of_open.name_of o.claim) (of_open.new_of o m.wanted) (of_open.made_sets s.tree x now o m) now is))
+
+open_have : (k : Subject) (r : Rights) (s : store.State) (x : Context) (now : Time) (o : Open) → Holds k r s.tree
+    → (let did = open_file s x now o in Leaves k r (rights_left k r s.tree x (Operation (Op.Open o))) (status_of_result did.result) did.state)
+open_have k r s x now o is =
+    rw (in_steps.open_is s x now o)
+    (let q = rights_left k r s.tree x (Operation (Op.Open o)) in
+    by_refusal (λ o. Leaves k r q (status_of_result o.result) o.state) s x Num.Open (checked (open_parts.asked_for s x o) (of_open.last_checks s x o)) (of_open.opened s x now o)
+    (open_refuses s x o)
+    (λ status refusal. refused_have k r q _ s (ap is_ok (status_of_refusal (op_number Num.Open) status) ∙ refusal.done) is) (λ f e.
+    opened_have k r s x now o _ (opened_tree s x now o f (checked_ok (open_parts.asked_for s x o) (of_open.last_checks s x o) f e).0) is))
 
 -- An operation that was run.
 
-run_quiet : (n : ℕ) (r : Rights) (d : RanOp) → IsRun d → is_quiet d.item ≡ true → Have n r d.before.store.tree → Have n r d.behind.store.tree
-run_quiet n r d run quiet is =
-    by_run (λ status text s. Have n r s.tree) d run is (names_item n r run.refused d.before.store d.context (moment run.now) d.item is)
-    (quiet_item n r run.refused d.before.store d.context (moment run.now) d.item quiet is) (λ other. is)
+run_quiet : (k : Subject) (r : Rights) (d : RanOp) → IsRun d → is_quiet d.item ≡ true → Holds k r d.before.store.tree → Holds k r d.behind.store.tree
+run_quiet k r d run quiet is =
+    by_run (λ status text s. Holds k r s.tree) d run is (names_item k.number (known k r) run.refused d.before.store d.context (time_at d.before.store run.now) d.item is)
+    (quiet_item k.number (known k r) run.refused d.before.store d.context (time_at d.before.store run.now) d.item quiet is) (λ other. is)
 
-same_left : (n : ℕ) (r : Rights) (b : Bool) (t : Files) → Have n r t → Have n (cond b r r) t
-same_left n r true t is = is
-same_left n r false t is = is
+same_left : (k : Subject) (r : Rights) (b : Bool) (t : Files) → Holds k r t → Holds k (cond b r r) t
+same_left k r true t is = is
+same_left k r false t is = is
 
-run_have : (n : ℕ) (r : Rights) (d : RanOp) → IsRun d → Have n r d.before.store.tree → (i : Item) → d.item ≡ i
-    → Leaves n r (rights_left n r d.context i) d.status d.behind.store
-run_have n r d run is (Operation (Op.SetAttr a)) same =
-    by_item (λ status text u. Leaves n r (rights_left n r d.context (Operation (Op.SetAttr a))) status u) d run (Operation (Op.SetAttr a)) same
-    (refused_have n r (rights_left n r d.context (Operation (Op.SetAttr a))) (refused_step d.before d.context (Operation (Op.SetAttr a)) RepTooBig).outcome.status d.before.store
-    (ap is_ok (status_of_refusal (item_number (Operation (Op.SetAttr a))) RepTooBig)) is)
-    (set_have n r d.before.store d.context (moment run.now) a is)
-run_have n r d run is (Operation (Op.Open a)) same =
-    by_item (λ status text u. Leaves n r r status u) d run (Operation (Op.Open a)) same
-    (same_left n r (is_ok (refused_step d.before d.context (Operation (Op.Open a)) RepTooBig).outcome.status) d.before.store.tree is)
-    (by_delay (λ o. Leaves n r r (status_of_result o.result) o.state) run.refused d.before.store d.context Num.Open (open_file d.before.store d.context (moment run.now) a) is
-    (let o = open_file d.before.store d.context (moment run.now) a in
-    same_left n r (is_ok (status_of_result o.result)) o.state.tree
-    (open_have n r d.before.store.tree d.context (moment run.now) a o.state.tree (open_tree d.before.store d.context (moment run.now) a) is)))
-run_have n r d run is i same = same_left n r (is_ok d.status) d.behind.store.tree (run_quiet n r d run (ap is_quiet same ∙ refl) is)
+-- one that asks for memory has no effect without
+run_set : (k : Subject) (r : Rights) (d : RanOp) (op : _) → IsRun d → Holds k r d.before.store.tree → d.item ≡ Operation op
+    → Leaves k r (rights_left k r d.before.store.tree d.context (Operation op)) (refused_step d.before d.context (Operation op) RepTooBig).outcome.status d.before.store
+run_set k r d op run is same =
+    refused_have k r (rights_left k r d.before.store.tree d.context (Operation op)) (refused_step d.before d.context (Operation op) RepTooBig).outcome.status d.before.store
+    (ap is_ok (status_of_refusal (item_number (Operation op)) RepTooBig)) is
+
+pub run_have : (k : Subject) (r : Rights) (d : RanOp) → IsRun d → Holds k r d.before.store.tree → (i : Item) → d.item ≡ i
+    → Leaves k r (rights_left k r d.before.store.tree d.context i) d.status d.behind.store
+run_have k r d run is (Operation (Op.SetAttr a)) same =
+    by_item (λ status text u. Leaves k r (rights_left k r d.before.store.tree d.context (Operation (Op.SetAttr a))) status u) d run (Operation (Op.SetAttr a)) same
+    (run_set k r d (Op.SetAttr a) run is same)
+    (set_have k r d.before.store d.context (time_at d.before.store run.now) a is)
+run_have k r d run is (Operation (Op.Write a)) same =
+    (let q = rights_left k r d.before.store.tree d.context (Operation (Op.Write a)) in
+    by_item (λ status text u. Leaves k r q status u) d run (Operation (Op.Write a)) same
+    (run_set k r d (Op.Write a) run is same)
+    (by_delay (λ o. Leaves k r q (status_of_result o.result) o.state) (grows d.before.store d.context (Op.Write a) && run.refused) d.before.store d.context Num.Write
+    (of_write.write d.before.store d.context (time_at d.before.store run.now) a) is
+    (write_have k r d.before.store d.context (time_at d.before.store run.now) a is)))
+run_have k r d run is (Operation (Op.Open a)) same =
+    (let q = rights_left k r d.before.store.tree d.context (Operation (Op.Open a)) in
+    by_item (λ status text u. Leaves k r q status u) d run (Operation (Op.Open a)) same
+    (run_set k r d (Op.Open a) run is same)
+    (by_delay (λ o. Leaves k r q (status_of_result o.result) o.state) run.refused d.before.store d.context Num.Open
+    (open_file d.before.store d.context (time_at d.before.store run.now) a) is
+    (open_have k r d.before.store d.context (time_at d.before.store run.now) a is)))
+run_have k r d run is i same = same_left k r (is_ok d.status) d.behind.store.tree (run_quiet k r d run (ap is_quiet same ∙ refl) is)
 
 -- What made it.
 
@@ -241,95 +327,161 @@ still_none n d now t none =
     stored_map t.objects (change_at d now (modified now no_sets)) n (keeps_changed d now (modified now no_sets) []).number
     ∙ ap (option_map (change_at d now (modified now no_sets))) none
 
-new_made : (n : ℕ) (t : Files) (d : ℕ) (name : List ℕ) (new : New) (sets : Sets) (now : Time) (r : Rights) → is_there t n ≡ false
-    → is_there (with_new t d name new sets now) n ≡ true → rights_of (new_object now new sets) ≡ r → Have n r (with_new t d name new sets now)
-new_made n t d name new sets now r absent there has =
+new_made : (n : ℕ) (t : Files) (d : ℕ) (name : List ℕ) (new : New) (sets : Sets) (now : Time) (r : Known) → is_there t n ≡ false
+    → is_there (with_new t d name new sets now) n ≡ true → t.profile ≡ r.profile → known_of r.profile (new_object now new sets) ≡ r → Have n r (with_new t d name new sets now)
+new_made n t d name new sets now r absent there profile has =
     let xs = with_entries_changed d now t.objects in
     let made : Stored = record { number = t.last_object + 1; object = new_object now new sets; bytes = new.bytes } in
     let none : stored_in xs n ≡ None = still_none n d now t (none_there t n absent) in
     elim (cases_eq (t.last_object + 1) n) [
       | inl same ↦ record {
         given = omega (arith, same);
+        profile = profile;
         rights = λ k e. (let found : Some made ≡ Some k =
             sym (find_push_none (λ (s : Stored). s.number == n) xs made none (eq-eqb (t.last_object + 1) n same)) ∙ e in
             let is : made ≡ k = cc in
-            ap (λ (k : Stored). rights_of k.object) (sym is) ∙ has);
+            ap (λ (k : Stored). known_of r.profile k.object) (sym is) ∙ has);
       }
       | inr other ↦ absurd (not_there (stored_in (xs ++ made ∷ []) n)
           (find_push_other (λ (s : Stored). s.number == n) xs made (ne_eqb (t.last_object + 1) n other) ∙ none) there)
     ]
 
-abbrev IsMade : ℕ → Rights → store.State → Type 0
-IsMade n r u = is_there u.tree n ≡ true → Have n r u.tree
+abbrev IsMade : Subject → Rights → store.State → Type 0
+IsMade k r u = is_there u.tree k.number ≡ true → Holds k r u.tree
 
-create_made : (n : ℕ) (s : store.State) (x : Context) (now : Time) (c : Create) (w : Wanted) → is_there s.tree n ≡ false → attributes_in c.createattrs ≡ Ok w
-    → IsMade n (with_given (user_rights (plain_mode (new_of c.objtype)) x.who) w) (create s x now c).state
-create_made n s x now c w absent is =
-    let r = with_given (user_rights (plain_mode (new_of c.objtype)) x.who) w in
-    by_create (λ o. IsMade n r o.state) s x now c (λ f refusal there. absurd (false≢true (sym absent ∙ there))) (λ d wanted found placed read row there.
-    (let same : wanted ≡ w = ok_is refl (sym read ∙ is) in
-    new_made n s.tree d.number c.objname (new_of c.objtype) (creating.sets_of x now (new_of c.objtype) wanted) now r absent there
-    (ap (λ w. with_given (user_rights (plain_mode (new_of c.objtype)) x.who) w) same)))
+-- what the place gives
+made_same : (k : Subject) (s : store.State) (d : Node) (place : ℕ) (q : Rights) (who : Caller) (directory : Bool) (plain : ℕ) (w : Wanted)
+    → s.tree.profile ≡ k.profile → IsHeld s.tree d → d.number ≡ place → rights_at s.tree place ≡ Some q
+    → made_in s.tree.profile d.object.mode d.object.group who directory plain w ≡ made_in k.profile q.mode q.group who directory plain w
+made_same k s d place q who directory plain w profile held at has =
+    ap (λ p. made_in p d.object.mode d.object.group who directory plain w) profile
+    ∙ ap (λ (q : Rights). made_in k.profile q.mode q.group who directory plain w) (go (stored_in s.tree.objects place)
+    (subst (λ j. object_at s.tree j ≡ Some d.object) at held.object) has)
+  where
+    go : (o : Option Stored) → option_map (λ (s : Stored). s.object) o ≡ Some d.object → option_map (λ (s : Stored). rights_of s.object) o ≡ Some q → rights_of d.object ≡ q
+    go None there has = absurd cc
+    go (Some s) there has = (let one : s.object ≡ d.object = cc in let same : rights_of s.object ≡ q = cc in ap rights_of (sym one) ∙ same)
 
-resized_there : (n : ℕ) (t : Files) (m size : ℕ) (now : Time) → stored_in t.objects n ≡ None → stored_in (with_resized t m size no_sets now).objects n ≡ None
-resized_there n t m size now none =
-    stored_map t.objects (λ (s : Stored). if s.number == m then with_bytes now no_sets (resized s.bytes size) s else s) n
-    (λ s. elim (s.number == m) as (λ v. (cond v (with_bytes now no_sets (resized s.bytes size) s) s).number ≡ s.number) [ true ↦ refl | false ↦ refl ])
-    ∙ ap (option_map (λ (s : Stored). if s.number == m then with_bytes now no_sets (resized s.bytes size) s else s)) none
+not_regular : (type : CreateType) → is_regular (new_of type).kind ≡ false
+not_regular (Symlink text) = refl
+not_regular (Block device) = refl
+not_regular (Character device) = refl
+not_regular (Other type) = refl
 
-open_made : (n : ℕ) (t : Files) (x : Context) (now : Time) (o : Open) (w : Wanted) (u : Files) → OpenTree t x now o u → is_there t n ≡ false
-    → attributes_in (makes o.openhow).attributes ≡ Ok w → is_there u n ≡ true → Have n (with_given (user_rights 420 x.who) w) u
-open_made n t x now o w u (Same same) absent is there = absurd (false≢true (sym absent ∙ (ap (λ t. is_there t n) (sym same) ∙ there)))
-open_made n t x now o w u (Cut m same) absent is there =
-    absurd (not_there (stored_in (with_resized t m 0 no_sets now).objects n) (resized_there n t m 0 now (none_there t n absent)) (ap (λ t. is_there t n) (sym same) ∙ there))
-open_made n t x now o w u (Made d name wanted read same) absent is there =
-    let given : wanted ≡ w = ok_is refl (sym read ∙ is) in
-    let r = with_given (user_rights 420 x.who) w in
-    subst (Have n r) (sym same) (new_made n t d name (of_open.new_of o wanted) (of_open.sets_of x now o wanted) now r absent (ap (λ t. is_there t n) (sym same) ∙ there)
-    (ap (λ w. with_given (user_rights 420 x.who) w) given))
+create_made : (k : Subject) (s : store.State) (x : Context) (now : Time) (c : Create) (w : Wanted) (place : ℕ) (q : Rights) → s.tree.profile ≡ k.profile → k.regular ≡ false
+    → is_there s.tree k.number ≡ false → attributes_in c.createattrs ≡ Ok w → x.current ≡ Some place → rights_at s.tree place ≡ Some q
+    → (let plain = plain_mode (new_of c.objtype) in
+    IsMade k (with_given (user_rights plain x.who) (made_in k.profile q.mode q.group x.who (is_directory (new_of c.objtype).kind) plain w)) (create s x now c).state)
+create_made k s x now c w place q profile kind absent is at has =
+    let new = new_of c.objtype in
+    let plain = plain_mode new in
+    let r = with_given (user_rights plain x.who) (made_in k.profile q.mode q.group x.who (is_directory new.kind) plain w) in
+    by_create (λ o. IsMade k r o.state) s x now c (λ f refusal there. absurd (false≢true (sym absent ∙ there))) (λ d wanted found placed read row there.
+    (let given : wanted ≡ w = ok_is refl (sym read ∙ is) in
+    let here : d.number ≡ place = some_same x.current d.number place (current_number s x d found) at in
+    let made : Wanted → Wanted = λ w. made_in s.tree.profile d.object.mode d.object.group x.who (is_directory new.kind) plain w in
+    new_made k.number s.tree d.number c.objname new (creating.made_sets s x now d new wanted) now (known k r) absent there profile
+    (ap (λ (w : Wanted). record { rights = with_given (user_rights plain x.who) (made w); regular = is_regular new.kind; profile = k.profile }) given
+    ∙ (ap (λ (v : Wanted). record { rights = with_given (user_rights plain x.who) v; regular = is_regular new.kind; profile = k.profile })
+    (made_same k s d place q x.who (is_directory new.kind) plain w profile (current_is s x d found) here has)
+    ∙ ap (λ (b : Bool). record { rights = r; regular = b; profile = k.profile }) (not_regular c.objtype ∙ sym kind)))))
 
-run_made : (n : ℕ) (r : Rights) (d : RanOp) → IsRun d → MakesWith n r d → is_there d.before.store.tree n ≡ false → is_there d.behind.store.tree n ≡ true
-    → Have n r d.behind.store.tree
-run_made n r d run (ByCreate a w item given is) absent there =
-    let q = with_given (user_rights (plain_mode (new_of a.objtype)) d.context.who) w in
-    subst (λ r. Have n r d.behind.store.tree) (sym is) (by_item (λ status text u. IsMade n q u) d run (Operation (Op.Create a)) item
+emptied_there : (n : ℕ) (t : Files) (g : ℕ) (sets : Sets) (now : Time) → stored_in t.objects n ≡ None
+    → stored_in (with_resized t g 0 sets now).objects n ≡ None
+emptied_there n t g sets now none =
+    stored_map t.objects (λ (s : Stored). if s.number == g then with_bytes now sets (resized s.bytes 0) s else s) n
+    (λ s. elim (s.number == g) as (λ v. (cond v (with_bytes now sets (resized s.bytes 0) s) s).number ≡ s.number) [ true ↦ refl | false ↦ refl ])
+    ∙ ap (option_map (λ (s : Stored). if s.number == g then with_bytes now sets (resized s.bytes 0) s else s)) none
+
+open_found : (k : Subject) (s : store.State) (x : Context) (now : Time) (o : Open) (w : Wanted) (place : ℕ) (q : Rights) (u : Files) → s.tree.profile ≡ k.profile → k.regular ≡ true
+    → is_there s.tree k.number ≡ false → attributes_in (makes o.openhow).attributes ≡ Ok w → x.current ≡ Some place → rights_at s.tree place ≡ Some q → LeftBy s x now o u
+    → is_there u k.number ≡ true → Holds k (with_given (user_rights 420 x.who) (made_in k.profile q.mode q.group x.who false 420 w)) u
+open_found k s x now o w place q u profile kind absent is at has (Same same empties) there =
+    absurd (false≢true (sym absent ∙ (ap (λ t. is_there t k.number) (sym same) ∙ there)))
+open_found k s x now o w place q u profile kind absent is at has (Emptied g held empties same) there =
+    absurd (not_there (stored_in (with_resized s.tree g.number 0 (behind_sets s.tree x g) now).objects k.number)
+    (emptied_there k.number s.tree g.number (behind_sets s.tree x g) now (none_there s.tree k.number absent)) (ap (λ t. is_there t k.number) (sym same) ∙ there))
+open_found k s x now o w place q u profile kind absent is at has (Made m held stands none reads same) there =
+    let given : m.wanted ≡ w = ok_is refl (sym reads ∙ is) in
+    let here : m.place.number ≡ place = some_same x.current m.place.number place stands at in
+    let r = with_given (user_rights 420 x.who) (made_in k.profile q.mode q.group x.who false 420 w) in
+    let made : Wanted → Wanted = λ w. made_in s.tree.profile m.place.object.mode m.place.object.group x.who false 420 w in
+    subst (Holds k r) (sym same)
+    (new_made k.number s.tree m.place.number (of_open.name_of o.claim) (of_open.new_of o m.wanted) (of_open.made_sets s.tree x now o m) now (known k r) absent
+    (ap (λ t. is_there t k.number) (sym same) ∙ there) profile
+    (ap (λ (w : Wanted). record { rights = with_given (user_rights 420 x.who) (made w); regular = true; profile = k.profile }) given
+    ∙ (ap (λ (v : Wanted). record { rights = with_given (user_rights 420 x.who) v; regular = true; profile = k.profile })
+    (made_same k s m.place place q x.who false 420 w profile held here has)
+    ∙ ap (λ (b : Bool). record { rights = r; regular = b; profile = k.profile }) (sym kind))))
+
+open_made : (k : Subject) (s : store.State) (x : Context) (now : Time) (o : Open) (w : Wanted) (place : ℕ) (q : Rights) → s.tree.profile ≡ k.profile → k.regular ≡ true
+    → is_there s.tree k.number ≡ false → attributes_in (makes o.openhow).attributes ≡ Ok w → x.current ≡ Some place → rights_at s.tree place ≡ Some q
+    → IsMade k (with_given (user_rights 420 x.who) (made_in k.profile q.mode q.group x.who false 420 w)) (open_file s x now o).state
+open_made k s x now o w place q profile kind absent is at has =
+    let r = with_given (user_rights 420 x.who) (made_in k.profile q.mode q.group x.who false 420 w) in
+    rw (in_steps.open_is s x now o)
+    (by_found (λ o. IsMade k r o.state) s x Num.Open (checked (open_parts.asked_for s x o) (of_open.last_checks s x o)) (of_open.opened s x now o)
+    (λ status there. absurd (false≢true (sym absent ∙ there)))
+    (λ f e there. open_found k s x now o w place q _ profile kind absent is at has
+    (opened_tree s x now o f (checked_ok (open_parts.asked_for s x o) (of_open.last_checks s x o) f e).0) there))
+
+run_made : (k : Subject) (r : Rights) (d : RanOp) → IsRun d → d.before.store.tree.profile ≡ k.profile → MakesWith k r d → is_there d.before.store.tree k.number ≡ false
+    → is_there d.behind.store.tree k.number ≡ true → Holds k r d.behind.store.tree
+run_made k r d run profile (ByCreate a w place q item given at has kind is) absent there =
+    let plain = plain_mode (new_of a.objtype) in
+    let v = with_given (user_rights plain d.context.who) (made_in k.profile q.mode q.group d.context.who (is_directory (new_of a.objtype).kind) plain w) in
+    subst (λ r. Holds k r d.behind.store.tree) (sym is) (by_item (λ status text u. IsMade k v u) d run (Operation (Op.Create a)) item
     (λ there. absurd (false≢true (sym absent ∙ there)))
-    (by_delay (λ o. IsMade n q o.state) run.refused d.before.store d.context Num.Create (create d.before.store d.context (moment run.now) a)
-    (λ there. absurd (false≢true (sym absent ∙ there))) (create_made n d.before.store d.context (moment run.now) a w absent given)) there)
-run_made n r d run (ByOpen a w item given is) absent there =
-    let q = with_given (user_rights 420 d.context.who) w in
-    subst (λ r. Have n r d.behind.store.tree) (sym is) (by_item (λ status text u. IsMade n q u) d run (Operation (Op.Open a)) item
+    (by_delay (λ o. IsMade k v o.state) run.refused d.before.store d.context Num.Create (create d.before.store d.context (time_at d.before.store run.now) a)
     (λ there. absurd (false≢true (sym absent ∙ there)))
-    (by_delay (λ o. IsMade n q o.state) run.refused d.before.store d.context Num.Open (open_file d.before.store d.context (moment run.now) a)
-    (λ there. absurd (false≢true (sym absent ∙ there))) (open_made n d.before.store.tree d.context (moment run.now) a w _ (open_tree d.before.store d.context (moment run.now) a) absent given)) there)
+    (create_made k d.before.store d.context (time_at d.before.store run.now) a w place q profile kind absent given at has)) there)
+run_made k r d run profile (ByOpen a w place q item given at has kind is) absent there =
+    let v = with_given (user_rights 420 d.context.who) (made_in k.profile q.mode q.group d.context.who false 420 w) in
+    subst (λ r. Holds k r d.behind.store.tree) (sym is) (by_item (λ status text u. IsMade k v u) d run (Operation (Op.Open a)) item
+    (λ there. absurd (false≢true (sym absent ∙ there)))
+    (by_delay (λ o. IsMade k v o.state) run.refused d.before.store d.context Num.Open (open_file d.before.store d.context (time_at d.before.store run.now) a)
+    (λ there. absurd (false≢true (sym absent ∙ there)))
+    (open_made k d.before.store d.context (time_at d.before.store run.now) a w place q profile kind absent given at has)) there)
 
 -- Records.
 
-has_rights : (n : ℕ) (r : Rights) (d : RanOp) → Have n r d.before.store.tree → HasRights n r d
-has_rights n r d is q e = go (stored_in d.before.store.tree.objects n) refl e
+has_rights : (k : Subject) (r : Rights) (d : RanOp) → Holds k r d.before.store.tree → HasRights k.number r d
+has_rights k r d is q e = go (stored_in d.before.store.tree.objects k.number) refl e
   where
-    go : (o : Option Stored) → stored_in d.before.store.tree.objects n ≡ o → option_map (λ (s : Stored). rights_of s.object) o ≡ Some q → q ≡ r
+    go : (o : Option Stored) → stored_in d.before.store.tree.objects k.number ≡ o → option_map (λ (s : Stored). rights_of s.object) o ≡ Some q → q ≡ r
     go None there same = absurd cc
-    go (Some k) there same = (let has : rights_of k.object ≡ q = cc in sym has ∙ is.rights k there)
+    go (Some s) there same = (let has : rights_of s.object ≡ q = cc in sym has ∙ ap (λ (q : Known). q.rights) (is.rights s there))
 
-follows : (n : ℕ) → Follows (HasRights n) (rights_after n) (λ r s. Have n r s.tree)
-follows n = record {
-  run = λ r d run is. (has_rights n r d is, run_have n r d run is d.item refl);
-  end = λ r stays s is. staying_have n r stays s is;
+follows : (k : Subject) → Follows (HasRights k.number) (rights_after k) (λ r s. Holds k r s.tree)
+follows k = record {
+  run = λ r d run is. (has_rights k r d is, run_have k r d run is d.item refl);
+  end = λ r stays s is. staying_have k.number (known k r) stays s is;
 }
 
-pub rights_are_told : RightsAreTold
-rights_are_told start earlier c front d back n r same making absent there =
-    from (HasRights n) (rights_after n) (λ r s. Have n r s.tree) (follows n) start earlier c front d back r same (λ run. run_made n r d run making absent there)
+-- the profile is that of the start
+pub profile_here : (start : Start) (earlier : List Arrival) (c : Arrival) (d : RanOp) → In d (ops_of (reached start earlier) c) → d.before.store.tree.profile ≡ start.profile
+profile_here start earlier c d there =
+    let held = profile_kept start.profile in
+    let P : store.State → Type 0 = λ s. s.tree.profile ≡ start.profile in
+    op_keeps P held (reached start earlier) c (sound_all (new_state start) earlier (sound_new start))
+    (all_keeps P held (new_state start) earlier (sound_new start) refl) d there
 
-root_has : (mode : ℕ) (now : Time) (limits : Limits) → Have root (record { mode = mode; owner = 0; group = 0 }) (new_tree mode now limits)
-root_has mode now limits = record {
+pub rights_are_told : RightsAreTold
+rights_are_told start earlier c front d back k r same profile making absent there =
+    from (HasRights k.number) (rights_after k) (λ r s. Holds k r s.tree) (follows k) start earlier c front d back r same
+    (λ run. run_made k r d run (profile_here start earlier c d (first_there (reached start earlier) c front d back same) ∙ sym profile) making absent there)
+
+root_has : (mode : ℕ) (now : Time) (limits : Limits) (profile : Profile)
+    → Have root (record { rights = record { mode = mode; owner = 0; group = 0 }; regular = false; profile = profile }) (new_tree mode now limits profile)
+root_has mode now limits profile = record {
   given = omega arith;
+  profile = refl;
   rights = λ k e. (let one : record { number = root; object = new_object now new_directory (record no_sets { mode = Some mode }); bytes = [] } ≡ k = cc in
-      ap (λ (k : Stored). rights_of k.object) (sym one));
+      ap (λ (k : Stored). known_of profile k.object) (sym one));
 }
 
 pub root_is_told : RootIsTold
 root_is_told start records =
-    through (HasRights root) (rights_after root) (λ r s. Have root r s.tree) (follows root) (record { mode = start.mode; owner = 0; group = 0 }) (new_state start) records
-    (sound_new start) (root_has start.mode (moment 0) start.limits)
+    let k : Subject = record { number = root; regular = false; profile = start.profile } in
+    through (HasRights root) (rights_after k) (λ r s. Holds k r s.tree) (follows k) (record { mode = start.mode; owner = 0; group = 0 }) (new_state start) records
+    (sound_new start) (root_has start.mode (moment 0) start.limits start.profile)

@@ -19,7 +19,7 @@ use Rattle.nfs_exec.proofs.{Runs.OneRun.{IsRun, by_ok}}
 use Rattle.nfs_promises.proofs.Runs.AttributesTold.{lease_long, lease_cut, values_in}
 use Rattle.nfs_names.proofs.Terms.{fits}
 
-lease_at : (s : State) (asked : Mask) (n : ℕ) (o : Option Object) → has asked 10 ≡ true → is_some o ≡ true → HasValue 10 (number s.lease) asked (attributes_at s asked n o)
+lease_at : (s : State) (asked : Mask) (n : ℕ) (o : Option Object) → has asked 10 ≡ true → is_some o ≡ true → HasValue s.tree.profile 10 (number s.lease) asked (attributes_at s asked n o)
 lease_at s asked n None is there = absurd (false≢true there)
 lease_at s asked n (Some o) is there = (let a = about s (record { number = n; object = o }) in
     record {
@@ -31,7 +31,7 @@ lease_at s asked n (Some o) is there = (let a = about s (record { number = n; ob
     })
 
 lease_of : (s : State) (asked : Mask) (e : Listed) → has asked 10 ≡ true → is_some (object_at s.tree e.number) ≡ true
-    → HasValue 10 (number s.lease) asked (entry_of s asked e).attrs
+    → HasValue s.tree.profile 10 (number s.lease) asked (entry_of s asked e).attrs
 unfolding entry_of
 lease_of s asked e is there = lease_at s asked e.number (object_at s.tree e.number) is there
 
@@ -49,10 +49,10 @@ unfolding fitting
 in_fitting s a d e there = in_longest (fits (given a.maxcount)) (left s a d) e there
 
 pub lease_listed : (d : RanOp) → IsRun d → (a : ReadDir) → d.item ≡ Operation (Op.ReadDir a) → has (mask_of a.attr_request) 10 ≡ true → is_ok d.status ≡ true
-    → EntriesTell 10 (number d.before.store.lease) (mask_of a.attr_request) d.result
+    → EntriesTell d.before.store.tree.profile 10 (number d.before.store.lease) (mask_of a.attr_request) d.result
 lease_listed d r a item is ok =
     let s = d.before.store in
-    let P : List ℕ → Type 0 = EntriesTell 10 (number s.lease) (mask_of a.attr_request) in
+    let P : List ℕ → Type 0 = EntriesTell d.before.store.tree.profile 10 (number s.lease) (mask_of a.attr_request) in
     by_ok (λ text u. P text) d r (Operation (Op.ReadDir a)) item ok
     (by_read_dir (λ o. of_store.is_ok (status_of_result o.result) ≡ true → P (spell_result o.result)) s d.context a
     (λ f h ok. absurd (false≢true (sym h.done ∙ ok)))
@@ -62,6 +62,6 @@ lease_listed d r a item is ok =
       verifier = refl;
       each = λ e fits.
           (let from = in_map (entry_of s (mask_of a.attr_request)) (listing s.tree.rows k.number a.cookie) e (in_fitting s a k e fits) in
-          subst (λ (e : Entry). HasValue 10 (number s.lease) (mask_of a.attr_request) e.attrs) (sym from.2)
+          subst (λ (e : Entry). HasValue s.tree.profile 10 (number s.lease) (mask_of a.attr_request) e.attrs) (sym from.2)
           (lease_of s (mask_of a.attr_request) from.0 is (listed_there s.tree k.number a.cookie r.whole.tree from.0 from.1)));
     }))

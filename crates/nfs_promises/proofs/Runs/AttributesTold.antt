@@ -11,7 +11,8 @@ use Rattle.nfs_results.specs.declared.res.Res.TheVariants as Res
 use Rattle.nfs_results.specs.Results.{spell_result, status_of_result}
 use Rattle.nfs_tree.specs.{declared.object.Object.Object, declared.stored.Stored.Stored, Files.{stored_in, data_at, change_of}}
 use Rattle.nfs_attrs.specs.{declared.about.About.About, declared.mask.Mask.Mask, Mask.{mask_of, has, trimmed_words, common}}
-use Rattle.nfs_attrs.specs.Attributes.{Attribute, read_only, read_write, type_number, value_of, readable, attributes, values}
+use Rattle.nfs_tree.specs.{declared.profile.Profile.Profile, declared.profile.Profile.TheVariants.{Exact, Unix}}
+use Rattle.nfs_attrs.specs.{Wire.bitmap4, Attributes.{Attribute, read_only, read_write, type_number, value_of, supported, readable, attributes, values}}
 use Rattle.nfs_names.specs.{declared.context.Context.Context, declared.node.Node.Node, Attributes.about, Checks.{current, node_at, node_as}, Outcome.is_ok}
 use Rattle.nfs_names.specs.State.{State}
 use Rattle.nfs_names.specs.Outcome as of_store
@@ -39,15 +40,21 @@ long_if : (b : Bool) (value rest : List ℕ) (bytes n : ℕ) → length value �
 long_if true value rest bytes n e f = length-append value rest ∙ (ap (λ (k : ℕ). k + length rest) e ∙ ap (λ (k : ℕ). bytes + k) f)
 long_if false value rest bytes n e f = f ∙ no_more n
 
+-- what is supported takes three words in each profile
+mask_long : (p : Profile) → length (bitmap4 (trimmed_words (supported p))).bytes ≡ 16
+unfolding number
+mask_long Exact = refl
+mask_long Unix = refl
+
 change_long : (asked : Mask) (a : About) (o : Object) → length (values_in (take 3 attributes) asked a o) ≡ asked_from asked 0 (take 3 sizes)
 unfolding attributes number
 change_long asked a o =
-    long_if (has asked 0) _ _ 16 _ refl (long_if (has asked 1) _ _ 4 _ (length_number (type_number o.kind)) (long_if (has asked 2) _ [] 4 0 refl refl))
+    long_if (has asked 0) _ _ 16 _ (mask_long a.profile) (long_if (has asked 1) _ _ 4 _ (length_number (type_number o.kind)) (long_if (has asked 2) _ [] 4 0 refl refl))
 
 size_long : (asked : Mask) (a : About) (o : Object) → length (values_in (take 4 attributes) asked a o) ≡ asked_from asked 0 (take 4 sizes)
 unfolding attributes number hyper
 size_long asked a o =
-    long_if (has asked 0) _ _ 16 _ refl
+    long_if (has asked 0) _ _ 16 _ (mask_long a.profile)
     (long_if (has asked 1) _ _ 4 _ (length_number (type_number o.kind))
     (long_if (has asked 2) _ _ 4 _ refl
     (long_if (has asked 3) _ [] 8 0 (length_hyper o.change) refl)))
@@ -55,7 +62,7 @@ size_long asked a o =
 pub lease_long : (asked : Mask) (a : About) (o : Object) → length (values_in (take 10 attributes) asked a o) ≡ asked_from asked 0 (take 10 sizes)
 unfolding attributes number hyper
 lease_long asked a o =
-    long_if (has asked 0) _ _ 16 _ refl
+    long_if (has asked 0) _ _ 16 _ (mask_long a.profile)
     (long_if (has asked 1) _ _ 4 _ (length_number (type_number o.kind))
     (long_if (has asked 2) _ _ 4 _ refl
     (long_if (has asked 3) _ _ 8 _ (length_hyper o.change)
@@ -95,7 +102,7 @@ change_found s x n d at there = by (stored_in s.tree.objects n) refl (sym (ap (n
 -- what GETATTR answers, where it answers NFS4_OK
 pub told : (P : List ℕ → Type 0) (d : RanOp) → IsRun d → (words : List ℕ) → d.item ≡ Operation (Op.GetAttr words) → is_ok d.status ≡ true
     → ((k : Node) → current d.before.store d.context ≡ Ok k
-    → P (spell_result (Res.GetAttr (record { attrmask = trimmed_words (common (mask_of words) readable); attr_vals = values (mask_of words) (about d.before.store k) k.object }))))
+    → P (spell_result (Res.GetAttr (record { attrmask = trimmed_words (common (mask_of words) (readable d.before.store.tree.profile)); attr_vals = values (mask_of words) (about d.before.store k) k.object }))))
     → P d.result
 told P d r words item ok each =
     by_ok (λ text s. P text) d r (Operation (Op.GetAttr words)) item ok
@@ -103,41 +110,41 @@ told P d r words item ok each =
     (λ f h ok. absurd (false≢true (sym h.done ∙ ok))) (λ k there plain ok. each k there))
 
 pub change_in : (d : RanOp) → IsRun d → (words : List ℕ) (n : ℕ) → d.item ≡ Operation (Op.GetAttr words) → has (mask_of words) 3 ≡ true → is_ok d.status ≡ true
-    → d.context.current ≡ Some n → TellsValue 3 (hyper (change_of d.before.store.tree n)) (mask_of words) d.result
+    → d.context.current ≡ Some n → TellsValue d.before.store.tree.profile 3 (hyper (change_of d.before.store.tree n)) (mask_of words) d.result
 change_in d r words n item is ok at =
-    told (TellsValue 3 (hyper (change_of d.before.store.tree n)) (mask_of words)) d r words item ok (λ k there. (let a = about d.before.store k in
+    told (TellsValue d.before.store.tree.profile 3 (hyper (change_of d.before.store.tree n)) (mask_of words)) d r words item ok (λ k there. (let a = about d.before.store k in
     record {
       front = values_in (take 3 attributes) (mask_of words) a k.object;
       behind = values_in (drop 4 attributes) (mask_of words) a k.object;
       long = change_long (mask_of words) a k.object;
-      answers = ap (λ (vals : List ℕ). spell_result (Res.GetAttr (record { attrmask = trimmed_words (common (mask_of words) readable); attr_vals = vals })))
+      answers = ap (λ (vals : List ℕ). spell_result (Res.GetAttr (record { attrmask = trimmed_words (common (mask_of words) (readable d.before.store.tree.profile)); attr_vals = vals })))
           (change_cut (mask_of words) a k.object is
           ∙ ap (λ (c : ℕ). values_in (take 3 attributes) (mask_of words) a k.object ++ (hyper c ++ values_in (drop 4 attributes) (mask_of words) a k.object))
           (change_found d.before.store d.context n k at there));
     }))
 
 pub size_in : (d : RanOp) → IsRun d → (words : List ℕ) (size : ℕ) → d.item ≡ Operation (Op.GetAttr words) → has (mask_of words) 4 ≡ true → is_ok d.status ≡ true
-    → ((k : Node) → current d.before.store d.context ≡ Ok k → length (data_at d.before.store.tree k.number) ≡ size) → TellsValue 4 (hyper size) (mask_of words) d.result
+    → ((k : Node) → current d.before.store d.context ≡ Ok k → length (data_at d.before.store.tree k.number) ≡ size) → TellsValue d.before.store.tree.profile 4 (hyper size) (mask_of words) d.result
 size_in d r words size item is ok found =
-    told (TellsValue 4 (hyper size) (mask_of words)) d r words item ok (λ k there. (let a = about d.before.store k in
+    told (TellsValue d.before.store.tree.profile 4 (hyper size) (mask_of words)) d r words item ok (λ k there. (let a = about d.before.store k in
     record {
       front = values_in (take 4 attributes) (mask_of words) a k.object;
       behind = values_in (drop 5 attributes) (mask_of words) a k.object;
       long = size_long (mask_of words) a k.object;
-      answers = ap (λ (vals : List ℕ). spell_result (Res.GetAttr (record { attrmask = trimmed_words (common (mask_of words) readable); attr_vals = vals })))
+      answers = ap (λ (vals : List ℕ). spell_result (Res.GetAttr (record { attrmask = trimmed_words (common (mask_of words) (readable d.before.store.tree.profile)); attr_vals = vals })))
           (size_cut (mask_of words) a k.object is
           ∙ ap (λ (c : ℕ). values_in (take 4 attributes) (mask_of words) a k.object ++ (hyper c ++ values_in (drop 5 attributes) (mask_of words) a k.object))
           (found k there));
     }))
 
 pub lease_in : (d : RanOp) → IsRun d → (words : List ℕ) → d.item ≡ Operation (Op.GetAttr words) → has (mask_of words) 10 ≡ true → is_ok d.status ≡ true
-    → TellsValue 10 (number d.before.store.lease) (mask_of words) d.result
+    → TellsValue d.before.store.tree.profile 10 (number d.before.store.lease) (mask_of words) d.result
 lease_in d r words item is ok =
-    told (TellsValue 10 (number d.before.store.lease) (mask_of words)) d r words item ok (λ k there. (let a = about d.before.store k in
+    told (TellsValue d.before.store.tree.profile 10 (number d.before.store.lease) (mask_of words)) d r words item ok (λ k there. (let a = about d.before.store k in
     record {
       front = values_in (take 10 attributes) (mask_of words) a k.object;
       behind = values_in (drop 11 attributes) (mask_of words) a k.object;
       long = lease_long (mask_of words) a k.object;
-      answers = ap (λ (vals : List ℕ). spell_result (Res.GetAttr (record { attrmask = trimmed_words (common (mask_of words) readable); attr_vals = vals })))
+      answers = ap (λ (vals : List ℕ). spell_result (Res.GetAttr (record { attrmask = trimmed_words (common (mask_of words) (readable d.before.store.tree.profile)); attr_vals = vals })))
           (lease_cut (mask_of words) a k.object is);
     }))

@@ -12,7 +12,7 @@ use Rattle.nfs_ranges.specs.Told.{told}
 use Rattle.nfs_attrs.specs.{Attributes.attributes, SettingsCodec.{settings, settings_of}, Handle.handle}
 use Rattle.nfs_names.specs.{Create.attributes_in, Checks.{current, permits}, PutFh.put_fh, PutRootFh.put_root_fh, Lookup.lookup}
 use Rattle.nfs_files.specs.{Open.open_file, Target.the_file, Ranges.{range, wished}, Denied.lock_denied, Lock.lock, LockU.lock_u}
-use Rattle.nfs_files.specs.{OpenDowngrade.open_downgrade, Bytes.{seat, may_use}, Close.close}
+use Rattle.nfs_files.specs.{OpenDowngrade.open_downgrade, Bytes.{seat, may_use, lets_use}, Close.close}
 use Rattle.nfs_files.specs.Read as file_read
 use Rattle.nfs_files.specs.Write as file_write
 use Rattle.nfs_serve.specs.Step.{step}
@@ -24,6 +24,6 @@ unfolding number hyper step call_of header opaque_auth opaque_at fixed_at behind
     compound_attributes.bitmap compound_attributes.attributes create_how open_how delegation_type open_claim open_args lock_type open_to_lock_owner
     exist_lock_owner locker lock_args lock_u_args results.exchange_id results.create_session results.sequence results.open_ok results.change_info
     results.attr_set results.denied told attributes settings settings_of handle attributes_in current permits put_fh put_root_fh open_file the_file
-    range wished lock_denied lock lock_u open_downgrade_args open_downgrade read_args write_args stable_how results.read_ok results.write_ok lookup seat may_use
+    range wished lock_denied lock lock_u open_downgrade_args open_downgrade read_args write_args stable_how results.read_ok results.write_ok lookup seat may_use lets_use
     file_read.read file_write.write close_args close found
 computing = tt

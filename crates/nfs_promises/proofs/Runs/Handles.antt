@@ -151,7 +151,7 @@ first_behind : (limit sofar now : ℕ) (choice : Option ℕ) (m : Machine) (x : 
     → ops limit sofar now choice m x items ≡ e ∷ more → e.context ≡ x
 first_behind limit sofar now choice m x [] e more is = absurd cc
 first_behind limit sofar now choice m x (i ∷ items) e more is =
-    let one : done m x i (in_room limit sofar now (is_here choice) m x i) ≡ e = cc in ap (λ (d : RanOp). d.context) (sym one)
+    let one : done limit sofar (is_here choice) m x i (in_room limit sofar now (is_here choice) m x i) ≡ e = cc in ap (λ (d : RanOp). d.context) (sym one)
 
 in_follow : (b : Bool) (ds : List RanOp) (e : RanOp) (more : List RanOp) → cond b ds [] ≡ e ∷ more → (b ≡ true) × (ds ≡ e ∷ more)
 in_follow true ds e more is = (refl, is)
@@ -171,7 +171,8 @@ leads_on instance n h is small low limit sofar now choice m x (i ∷ more) whole
     let rest = ops limit next now (behind_here choice) s.outcome.machine s.context more in
     let k : Handle = record { instance = instance; number = n } in
     let read : handle_of h ≡ Some k = ap handle_of is ∙ handle_read instance n small low in
-    let run : IsRun (done m x i s) = record { limit = limit; sofar = sofar; now = now; refused = is_here choice; whole = whole; is = refl } in (
+    let ran : RanOp = done limit sofar (is_here choice) m x i s in
+    let run : IsRun ran = record { limit = limit; sofar = sofar; now = now; refused = is_here choice; whole = whole; is = refl } in (
       record {
         leads = λ put e behind same.
             (let there = in_follow (is_ok s.outcome.status) rest e behind same in
@@ -180,14 +181,14 @@ leads_on instance n h is small low limit sofar now choice m x (i ∷ more) whole
             ap (λ (y : Context). y.current) at
             ∙ (ap (λ (s : Step). s.context.current) same_item
             ∙ put_leads limit sofar now (is_here choice) m x h k read (ap (λ (s : Step). is_ok s.outcome.status) (sym same_item) ∙ there.0)));
-        found = λ put used told. put_run (done m x i s) run n (used_there m.store n whole used) h put
+        found = λ put used told. put_run ran run n (used_there m.store n whole used) h put
             (read ∙ ap (λ instance. Some (record { instance = instance; number = n })) (sym own)) told;
         known = λ put told. known_room limit sofar now (is_here choice) m x h k read
             (ap (λ (s : Step). s.outcome.result) (sym (item_in i h limit sofar now (is_here choice) m x put)) ∙ told);
       },
       follow_leads (is_ok s.outcome.status) rest (leads_on instance n h is small low limit next now (behind_here choice) s.outcome.machine s.context more
           (whole_room limit sofar now (is_here choice) m x i whole)
-          ((instance_kept instance).run (done m x i s) run own)),
+          ((instance_kept instance).run ran run own)),
     )
   where
     follow_leads : (b : Bool) (ds : List RanOp) → Leads n h ds → Leads n h (cond b ds [])

@@ -1,5 +1,5 @@
 -- The last operation of a compound, in runs that are worked by hand.
-use Rattle.std.proofs.Common.{◌≡◌, List, [], ◌∷◌, ◌++◌, length, take, refl, arith}
+use Rattle.std.proofs.Common.{◌≡◌, false, List, [], ◌∷◌, ◌++◌, length, take, refl, arith}
 use Rattle.nfs_xdr.specs.declared.status.Status.TheVariants.{Nfs4Ok}
 use Rattle.nfs_compound.specs.declared.op.Item.TheVariants.{Operation}
 use Rattle.nfs_compound.specs.declared.op.Op.TheVariants as Op
@@ -10,6 +10,9 @@ use Rattle.nfs_promises.specs.Locks.LockKeptWorked.{outset, last_of}
 -- what stands behind the list is of no account
 pub nothing : RanOp
 nothing = record {
+  limit = 0;
+  sofar = 0;
+  refused = false;
   before = outset.machine;
   context = begins 0 (record { uid = 0; gid = 0; gids = [] });
   item = Operation Op.PutRootFh;

@@ -3,13 +3,14 @@ use Rattle.std.proofs.Common.{◌≡◌, ◌⊎◌, List, [], ◌∷◌, ◌++�
 use Rattle.std.specs.{Option.option_map_or, Prelude.not}
 use Rattle.nfs_xdr.specs.Tables.{In}
 use Rattle.nfs_lease.specs.Renewals.{has_run_out}
+use Rattle.nfs_names.specs.declared.start.Start.{Start}
 use Rattle.nfs_names.specs.State as of_store
 use Rattle.nfs_exec.specs.{Step.Laws.{MachineEvent, Asks}, Step.Machine.Machine, Runs.Ops.{RanOp, ops_by}}
 use Rattle.nfs_exec.proofs.{Runs.WhatWasDone.event_run, Runs.OneRun.IsRun, Runs.OneWalk.{IsKept, Throughout, throughout, throughout_behind, none_at, in_back}}
 use Rattle.nfs_exec.proofs.Runs.KeptByRuns.{Is, event_ops}
-use Rattle.nfs_serve.specs.{Step.ServerState}
-use Rattle.nfs_promises.specs.{Bytes.ChangeTells.RunsIn, Network.Endpoint.Arrival, Runs.Points.{state_after, state_after_all, taken, before, asked_by, ops_of}}
-use Rattle.nfs_promises.proofs.Runs.Points.{left, for_asked, next_is, IsSound, whole_before, sound_next}
+use Rattle.nfs_serve.specs.Step.{ServerState, new_state}
+use Rattle.nfs_promises.specs.{Bytes.ChangeTells.RunsIn, Network.Endpoint.Arrival, Runs.Points.{state_after, state_after_all, reached, taken, before, asked_by, ops_of}}
+use Rattle.nfs_promises.proofs.Runs.Points.{left, for_asked, next_is, IsSound, whole_before, sound_next, sound_all, sound_new}
 
 -- An operation of a record was run, between two machines that are whole.
 
@@ -17,17 +18,39 @@ pub record IsDone (d : RanOp) : Type 0 where
   pub run : IsRun d
   pub behind : Is d.behind
 
-asked_done : (m : Machine) (o : Option MachineEvent) → Is m → (d : RanOp) → In d (option_map_or (ops_by m) o []) → IsDone d
+pub asked_done : (m : Machine) (o : Option MachineEvent) → Is m → (d : RanOp) → In d (option_map_or (ops_by m) o []) → IsDone d
 asked_done m None is d there = absurd there
 asked_done m (Some e) is d there = record { run = (event_run m e is d there).0; behind = (event_ops m e is d there).1 }
 
 pub op_done : (s : ServerState) (c : Arrival) → IsSound s → (d : RanOp) → In d (ops_of s c) → IsDone d
 op_done s c sound d there = asked_done (before s c) (asked_by s c) (whole_before s c sound.whole) d there
 
+pub ran_in : (start : Start) (records : List Arrival) (c : Arrival) (d : RanOp) → In d (ops_of (reached start records) c) → IsRun d
+ran_in start records c d there = (op_done (reached start records) c (sound_all (new_state start) records (sound_new start)) d there).run
+
 pub run_done : (s : ServerState) (records : List Arrival) → IsSound s → (d : RanOp) → RunsIn s records d → IsDone d
 run_done s [] sound d there = absurd there
 run_done s (c ∷ more) sound d (inl here) = op_done s c sound d here
 run_done s (c ∷ more) sound d (inr later) = run_done (state_after s c) more (sound_next s c sound) d later
+
+pub reached_more : (s : ServerState) (records : List Arrival) (c : Arrival) → state_after_all s (records ++ c ∷ []) ≡ state_after (state_after_all s records) c
+reached_more s [] c = refl
+reached_more s (r ∷ more) c = reached_more (state_after s r) more c
+
+pub whole_at : (start : Start) (records : List Arrival) (c : Arrival) → Is (before (reached start records) c)
+whole_at start records c =
+    let sound : IsSound (reached start records) = sound_all (new_state start) records (sound_new start) in
+    whole_before (reached start records) c sound.whole
+
+-- what a record before others ran, and what the last one did
+pub runs_before : (s : ServerState) (records more : List Arrival) (d : RanOp) → RunsIn s records d → RunsIn s (records ++ more) d
+runs_before s [] more d there = absurd there
+runs_before s (c ∷ records) more d (inl here) = inl here
+runs_before s (c ∷ records) more d (inr later) = inr (runs_before (state_after s c) records more d later)
+
+pub runs_last : (s : ServerState) (records : List Arrival) (c : Arrival) (d : RanOp) → In d (ops_of (state_after_all s records) c) → RunsIn s (records ++ c ∷ []) d
+runs_last s [] c d there = inl there
+runs_last s (b ∷ records) c d there = inr (runs_last (state_after s b) records c d there)
 
 module _ (P : of_store.State → Type 0) (held : IsKept P) where
   pub before_keeps : (s : ServerState) (c : Arrival) → P s.machine.store → P (before s c).store

@@ -5,7 +5,7 @@ use Rattle.nfs_xdr.specs.Tables.{In}
 use Rattle.nfs_xdr.proofs.Lists.{in_filter, stays_in}
 use Rattle.nfs_compound.specs.{declared.op.Op.Op, declared.op.Item.TheVariants.Operation}
 use Rattle.nfs_opens.specs.{declared.records.LockState.LockState, Table.Table}
-use Rattle.nfs_names.specs.{Outcome.is_ok, State.moment}
+use Rattle.nfs_names.specs.{Outcome.is_ok, State.time_at}
 use Rattle.nfs_names.proofs.Untouched.{leaves_each}
 use Rattle.nfs_files.specs.{LockTold.{LockTold, Stands}, Own.HasAsBefore}
 use Rattle.nfs_files.proofs.Inside as inside
@@ -37,8 +37,8 @@ lock_behind : (k : LockTold) → k.first ≤ k.last → (d : RanOp) → IsRun d 
 lock_behind k some d r stands spares =
     by_run (λ status text s. (is_ok status ≡ true → (op : Op) → d.item ≡ Operation op → inside.Spares k d.before.store d.context op) → Stands k s.opens) d r
     (λ spares. stands)
-    (λ o e spares. subst (Stands k) (sym (leaves_each r.refused d.before.store d.context (moment r.now) d.item o e).opens) stands)
-    (λ spares. spared k d.before.store d.context (moment r.now) r.refused d.item r.whole.table some spares stands)
+    (λ o e spares. subst (Stands k) (sym (leaves_each r.refused d.before.store d.context (time_at d.before.store r.now) d.item o e).opens) stands)
+    (λ spares. spared k d.before.store d.context (time_at d.before.store r.now) r.refused d.item r.whole.table some spares stands)
     (λ other spares. stands)
     (λ ok op item. spared_inside k d r spares op item ok)
 

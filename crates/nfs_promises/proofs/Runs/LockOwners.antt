@@ -7,7 +7,7 @@ use Rattle.nfs_compound.specs.{declared.lock_args.Locker.TheVariants.OpenOwner, 
 use Rattle.nfs_compound.specs.declared.op.Item.TheVariants.{Operation}
 use Rattle.nfs_compound.specs.declared.op.Op.TheVariants as Op
 use Rattle.nfs_opens.specs.{declared.locking.Wish.Wish, declared.records.LockState.LockState, Table.Table}
-use Rattle.nfs_names.specs.State.{moment}
+use Rattle.nfs_names.specs.State.{time_at}
 use Rattle.nfs_files.specs.{Lock.locks_as, Parts.locking}
 use Rattle.nfs_files.proofs.{LockOwners.under_owner, ToldLocks.left_by}
 use Rattle.nfs_exec.specs.{Runs.LockHeld.LocksFor, Runs.Ops.RanOp}
@@ -28,7 +28,7 @@ owned_behind d r n w told o owner l =
     (let same : locks.asked ≡ a = asked_is locks.asked a locks.is in
     let granted : locks_as s.opens (OpenOwner o) locks.id w ≡ Ok locks.did =
     ap (λ k. locks_as s.opens k locks.id w) (sym owner) ∙ (ap (λ (k : args.Lock). locks_as s.opens k.locker locks.id w) (sym same) ∙ locks.granted) in
-    let left = left_by s x (moment r.now) r.refused a (record { wish = w; id = locks.id }) locks.did
+    let left = left_by s x (time_at s r.now) r.refused a (record { wish = w; id = locks.id }) locks.did
     (subst (λ (k : args.Lock). locking s x k ≡ Ok (record { wish = w; id = locks.id })) same locks.judged)
     (subst (λ (k : args.Lock). locks_as s.opens k.locker locks.id w ≡ Ok locks.did) same locks.granted) ok in
     under_owner s.opens locks.id o.lock_owner.owner w locks.did r.whole.table granted l (subst (λ (t : Table). In l t.locks) left inside)

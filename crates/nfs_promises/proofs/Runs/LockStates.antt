@@ -5,7 +5,7 @@ use Rattle.nfs_xdr.specs.Tables.{In}
 use Rattle.nfs_xdr.proofs.Lists.{in_filter, in_map, in_push}
 use Rattle.nfs_opens.specs.{declared.records.LockState.LockState, declared.records.OpenState.OpenState, Locking.raised}
 use Rattle.nfs_opens.specs.{Opening.{own_open, opens_by}, Table.{Table, Asked}}
-use Rattle.nfs_names.specs.{Ending.table_staying, State.moment}
+use Rattle.nfs_names.specs.{Ending.table_staying, State.time_at}
 use Rattle.nfs_names.proofs.Untouched.{leaves_each}
 use Rattle.nfs_files.proofs.{Effected.kept_opens, Effects.{Effect, Opens, Closes, Locks, Begins, Unlocks, Frees, table_behind}}
 use Rattle.nfs_exec.proofs.{Runs.OneRun.by_run, Runs.OneWalk.IsKept}
@@ -27,7 +27,7 @@ pub record Descends (t u : Table) : Type 0 where
 pub as_itself : (l : LockState) → IsAs l l
 as_itself l = record { number = refl; client = refl; owner = refl; file = refl; opened = refl }
 
-as_both : (j k l : LockState) → IsAs j k → IsAs k l → IsAs j l
+pub as_both : (j k l : LockState) → IsAs j k → IsAs k l → IsAs j l
 as_both j k l a b = record {
   number = a.number ∙ b.number;
   client = a.client ∙ b.client;
@@ -109,8 +109,8 @@ descends_ends t u stays is =
 pub descends_kept : (t : Table) → IsKept (λ s. Descends t s.opens)
 descends_kept t = record {
   run = λ d r is. by_run (λ status text s. Descends t s.opens) d r is
-      (λ o e. subst (Descends t) (sym (leaves_each r.refused d.before.store d.context (moment r.now) d.item o e).opens) is)
-      (kept_opens (Descends t) r.refused d.before.store d.context (moment r.now) d.item (λ u e fits here. both t u.opens (table_behind u.opens e) here (effect u.opens e)) is)
+      (λ o e. subst (Descends t) (sym (leaves_each r.refused d.before.store d.context (time_at d.before.store r.now) d.item o e).opens) is)
+      (kept_opens (Descends t) r.refused d.before.store d.context (time_at d.before.store r.now) d.item (λ u e fits here. both t u.opens (table_behind u.opens e) here (effect u.opens e)) is)
       (λ other. is);
   end = λ stays s is. descends_ends t s.opens stays is;
 }

@@ -9,7 +9,7 @@ use Rattle.nfs_compound.specs.Request.{item_number}
 use Rattle.nfs_compound.specs.declared.op_num.OpNum.TheVariants as Num
 use Rattle.nfs_results.specs.Results.{spell_result, refusal}
 use Rattle.nfs_opens.specs.{declared.records.OpenState.OpenState, Opening.own_open, Table.Table}
-use Rattle.nfs_names.specs.{declared.context.Context.Context, Outcome.{Outcome as OfStore, is_ok}, State.{State, moment}}
+use Rattle.nfs_names.specs.{declared.context.Context.Context, Outcome.{Outcome as OfStore, is_ok}, State.{State, time_at}}
 use Rattle.nfs_names.specs.Operation as names
 use Rattle.nfs_names.proofs.Untouched.{leaves_each}
 use Rattle.nfs_files.specs.Operation as table
@@ -66,10 +66,10 @@ open_behind k b d r stands spares =
     by_run (λ status text u. (is_ok status ≡ true → (op : Op) → d.item ≡ Operation op → (n : ℕ) → Closes s d.context op n → n ≢ k.number)
     → IsOpenWith k (bits_behind k.number d.item text b) u.opens) d r
     (λ spares. subst (λ c. IsOpenWith k c s.opens) (sym (refused_bits k.number d.item RepTooBig b)) stands)
-    (λ o e spares. subst (λ c. IsOpenWith k c o.state.opens) (sym (named_bits k.number d.item (spell_result o.result) b r.refused s d.context (moment r.now) o e))
-    (same_opens k b s.opens o.state.opens (ap (λ (t : Table). t.opens) (leaves_each r.refused s d.context (moment r.now) d.item o e).opens) stands))
-    (λ spares. told_open_left k b r.refused s d.context (moment r.now) d.item r.whole.table r.whole.few spares stands)
-    (λ other spares. subst (λ c. IsOpenWith k c s.opens) (sym (other_bits k.number d.item _ b r.refused s d.context (moment r.now) other)) stands)
+    (λ o e spares. subst (λ c. IsOpenWith k c o.state.opens) (sym (named_bits k.number d.item (spell_result o.result) b r.refused s d.context (time_at s r.now) o e))
+    (same_opens k b s.opens o.state.opens (ap (λ (t : Table). t.opens) (leaves_each r.refused s d.context (time_at s r.now) d.item o e).opens) stands))
+    (λ spares. told_open_left k b r.refused s d.context (time_at s r.now) d.item r.whole.table r.whole.few spares stands)
+    (λ other spares. subst (λ c. IsOpenWith k c s.opens) (sym (other_bits k.number d.item _ b r.refused s d.context (time_at s r.now) other)) stands)
     (λ ok op item n closes mine. spares (subst (ClosesOf d) mine (told_close d r op n item ok closes)))
 
 -- An OPEN that answers its stateid.
@@ -79,7 +79,7 @@ before_open k b d r stands = record {
   stands = stands;
   refused = λ n o e. by_item (λ status text s. names_open Num.Open text n ≡ true → claimed s.tree d.context o.asked.claim ≡ Some k.file → ⊥) d r
       (Operation (Op.Open o.asked)) o.is (λ named leads. true≢false (sym named ∙ short_names_none Num.Open (op_number Num.Open) RepTooBig n))
-      (λ named leads. opens_refused k b r.refused d.before.store d.context (moment r.now) o.asked n r.whole.table r.whole.few stands named leads e) o.names o.leads;
+      (λ named leads. opens_refused k b r.refused d.before.store d.context (time_at d.before.store r.now) o.asked n r.whole.table r.whole.few stands named leads e) o.names o.leads;
 }
 
 pub open_stays : (k : OpenTold) → Stays (the_open k) (SparesClient k.client)
@@ -95,7 +95,7 @@ run_told : (d : RanOp) → IsRun d → (a : Open) (n : ℕ) → d.item ≡ Opera
     → (file : ℕ) × IsToldOpen d.before.store d.context a n d.behind.store file
 run_told d r a n item = by_item (λ status text s. names_open Num.Open text n ≡ true → (file : ℕ) × IsToldOpen d.before.store d.context a n s file) d r
     (Operation (Op.Open a)) item (λ named. absurd (true≢false (sym named ∙ short_names_none Num.Open (op_number Num.Open) RepTooBig n)))
-    (λ named. told_opens r.refused d.before.store d.context (moment r.now) a n r.whole.table r.whole.few named)
+    (λ named. told_opens r.refused d.before.store d.context (time_at d.before.store r.now) a n r.whole.table r.whole.few named)
 
 told_stands : (k : OpenTold) (b : Bits) (d : RanOp) → IsRun d → TellsOpen k b d → IsOpenWith k b d.behind.store.opens
 told_stands k b d r tells =

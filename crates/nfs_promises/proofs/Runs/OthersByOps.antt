@@ -7,7 +7,7 @@ use Rattle.nfs_xdr.proofs.Tables.{at_with}
 use Rattle.nfs_compound.specs.{declared.op.Item.Item, declared.op.Item.TheVariants.Operation}
 use Rattle.nfs_compound.specs.declared.op.Op.TheVariants as Op
 use Rattle.nfs_clients.specs.{Roster.{ClientRecord, Roster, client_at, with_changed}, Marks.has_reclaimed}
-use Rattle.nfs_names.specs.{declared.context.Context.Context, declared.node.Node.Node, Checks.current, State.{State, moment}}
+use Rattle.nfs_names.specs.{declared.context.Context.Context, declared.node.Node.Node, Checks.current, State.{State, time_at}}
 use Rattle.nfs_names.proofs.Untouched.{leaves_each}
 use Rattle.nfs_files.proofs.{Outcomes.for_each, Effected.same_client, OthersTables.{same, both}, OthersOps.{is_other, item_apart}}
 use Rattle.nfs_results.specs.Largest.{largest}
@@ -62,12 +62,12 @@ step_apart : (c : ℕ) (m : Machine) (x : Context) (now : ℕ) (refused : Bool) 
     → StepsApart c m x (step m x now refused i).outcome.machine (step m x now refused i).context
 step_apart c m x now refused i is other =
     by_step (λ s. StepsApart c m x s.outcome.machine s.context) m x now refused i
-    (λ o e. (let leaves = leaves_each refused m.store x (moment now) i o e in (
+    (λ o e. (let leaves = leaves_each refused m.store x (time_at m.store now) i o e in (
       record { own = subst (HasAsBefore c m.store.opens) (sym leaves.opens) (same c m.store.opens); known = refl },
       leaves.client,
     )))
-    (for_each (λ o. StepsApart c m x (record m { store = o.state }) o.context) refused m.store x (moment now) i
-    (record { own = item_apart c refused m.store x (moment now) i is.table other; known = refl }, same_client refused m.store x (moment now) i))
+    (for_each (λ o. StepsApart c m x (record m { store = o.state }) o.context) refused m.store x (time_at m.store now) i
+    (record { own = item_apart c refused m.store x (time_at m.store now) i is.table other; known = refl }, same_client refused m.store x (time_at m.store now) i))
     (λ none off. (
       record {
         own = subst (λ (s : State). HasAsBefore c m.store.opens s.opens) (sym (otherwise_store m x i)) (same c m.store.opens);

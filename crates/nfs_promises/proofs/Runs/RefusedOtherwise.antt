@@ -1,27 +1,22 @@
 -- What an operation is refused with is none of some statuses: `bad` says which.
-use Rattle.std.proofs.Common.{◌≡◌, ℕ, Bool, true, false, cond, not, List, [], ◌∷◌, ◌++◌, Option, Some, None, refl, sym, ◌∙◌, ap}
-use Rattle.std.specs.Prelude.{Result, Ok, Err, ok_or}
-use Rattle.nfs_xdr.specs.{Checks.{first_fault, judged}, declared.status.Status.Status}
+use Rattle.std.proofs.Common.{◌≡◌, ℕ, Bool, true, false, cond, not, List, Option, Some, None, refl, sym, ◌∙◌, ap}
+use Rattle.std.specs.Prelude.{Result, Ok, Err}
+use Rattle.nfs_xdr.specs.{Checks.first_fault, declared.status.Status.Status}
 use Rattle.nfs_xdr.specs.declared.status.Status.TheVariants as S
-use Rattle.nfs_compound.specs.{OpNum.op_number, declared.op_num.OpNum.OpNum, declared.stateid.Stateid.Stateid}
-use Rattle.nfs_results.specs.Results.{status_of_result}
+use Rattle.nfs_compound.specs.declared.stateid.Stateid.{Stateid}
 use Rattle.nfs_opens.specs.{declared.judging.Seat.Seat, declared.judging.Seat.TheVariants.{Anonymous, ReadBypass}, declared.judging.Sort.Sort}
 use Rattle.nfs_opens.specs.{declared.judging.Sort.TheVariants.{Either, LockOnly, OpenOnly}, declared.stateid.CurrentSeqid.CurrentSeqid}
-use Rattle.nfs_opens.specs.{declared.stateid.CurrentSeqid.TheVariants.Any, declared.stateid.StateId.StateId}
+use Rattle.nfs_opens.specs.declared.stateid.StateId.{StateId}
 use Rattle.nfs_opens.specs.{Judging.{judge_checks, special, judge, state_named}, StateId.{is_current, with_seqid, is_anonymous, is_bypass}}
 use Rattle.nfs_opens.specs.Table.{Table}
-use Rattle.nfs_opens.specs.Steps.{◌>>=◌, ◌>>◌, in_order, require}
+use Rattle.nfs_opens.specs.Steps.{◌>>=◌}
 use Rattle.nfs_opens.proofs.Terms.{judge_named, seated}
-use Rattle.nfs_names.specs.{declared.context.Context.Context, declared.node.Node.Node, Outcome.{Outcome, passed, checked, mapped, answers, or_refusal}}
+use Rattle.nfs_tree.specs.Files.{object_at}
+use Rattle.nfs_names.specs.Checks.{node_as, node_at}
+use Rattle.nfs_names.specs.{declared.context.Context.Context, Outcome.{passed, checked, mapped}}
 use Rattle.nfs_names.specs.State.{State}
-use Rattle.nfs_names.proofs.Faulted.{status_of_refusal}
-use Rattle.nfs_files.specs.{Bytes.seat, StateIds.{state_id, meant}, Parts.if_passed}
+use Rattle.nfs_files.specs.{StateIds.{state_id, meant}}
 use Rattle.nfs_files.proofs.Prompt.{all_pass, first_passes, not_true}
-
--- a check that passes stands in the way of no other
-pub past : (front back : List (Bool × Status)) (b : Bool) (f : Status) → b ≡ false → first_fault (front ++ (b, f) ∷ back) ≡ first_fault (front ++ back)
-past [] back b f passes = rw passes refl
-past (check ∷ front) back b f passes = ap (λ rest. cond check.0 (Some check.1) rest) (past front back b f passes)
 
 module _ (bad : Status → Bool) where
   abbrev pub IsWithout : {A : Type 0} → Result A Status → Type 0
@@ -63,50 +58,16 @@ module _ (bad : Status → Bool) where
   mapped_without f (Err g) is h e = is h (let same : g ≡ h = cc in ap Err same)
   mapped_without f (Ok a) is h e = absurd cc
 
-  pub if_passed_without : {A B : Type 0} (v : Result A Status) (next : A → Result B Status) → IsWithout v → ((a : A) → v ≡ Ok a → IsWithout (next a))
-      → IsWithout (if_passed v next)
-  if_passed_without (Err g) next is each f e = is f (let same : g ≡ f = cc in ap Err same)
-  if_passed_without (Ok a) next is each f e = mapped_without (λ b. a) (next a) (each a refl) f e
+-- Filehandles, where neither of the statuses that they are refused with is meant.
+module _ (bad : Status → Bool) (stale : bad S.Stale ≡ false) (none : bad S.NoFileHandle ≡ false) where
+  pub at_without : (s : State) (o : Option ℕ) → IsWithout bad (node_at s o)
+  at_without s None = err_without bad S.NoFileHandle none
+  at_without s (Some n) = elim (object_at s.tree n) as (λ o. IsWithout bad (node_as n o)) [
+    | None ↦ err_without bad S.Stale stale
+    | Some o ↦ ok_without bad (record { number = n; object = o })
+  ]
 
-  -- What is answered.
-
-  abbrev pub Answers : Outcome → Type 0
-  Answers o = bad (status_of_result o.result) ≡ false
-
-  pub answers_without : {A : Type 0} (s : State) (x : Context) (op : OpNum) (v : Result A Status) (f : A → Outcome) → IsWithout v → ((a : A) → v ≡ Ok a → Answers (f a))
-      → Answers (answers s x op v f)
-  answers_without s x op (Err g) f is done = ap bad (status_of_refusal (op_number op) g) ∙ is g refl
-  answers_without s x op (Ok a) f is done = done a refl
-
-  -- how steps end
-  abbrev pub Ends : Result Outcome Status → Type 0
-  Ends (Err g) = bad g ≡ false
-  Ends (Ok o) = Answers o
-
-  pub ends_then : {A : Type 0} (v : Result A Status) (next : A → Result Outcome Status) → IsWithout v → ((a : A) → v ≡ Ok a → Ends (next a)) → Ends (v >>= next)
-  ends_then (Err g) next is each = is g refl
-  ends_then (Ok a) next is each = each a refl
-
-  pub ends_held : (b : Bool) (g : Status) (next : Result Outcome Status) → bad g ≡ false → Ends next → Ends (require b g >> next)
-  ends_held true g next other ends = ends
-  ends_held false g next other ends = other
-
-  pub ends_there : {A : Type 0} (o : Option A) (g : Status) (next : A → Result Outcome Status) → bad g ≡ false → ((a : A) → Ends (next a)) → Ends (ok_or o g >>= next)
-  ends_there None g next other each = other
-  ends_there (Some a) g next other each = each a
-
-  pub ends_passed : (checks : List (Bool × Status)) (next : Result Outcome Status) → AreGood checks → Ends next → Ends (in_order checks >> next)
-  ends_passed checks next good ends = go (first_fault checks) refl
-    where
-      go : (o : Option Status) → first_fault checks ≡ o → Ends (judged o >> next)
-      go None e = ends
-      go (Some f) e = good f e
-
-  pub steps_answer : (s : State) (x : Context) (op : OpNum) (v : Result Outcome Status) → Ends v → Answers (or_refusal s x op v)
-  steps_answer s x op (Err g) ends = ap bad (status_of_refusal (op_number op) g) ∙ ends
-  steps_answer s x op (Ok o) ends = ends
-
--- Stateids, where neither of the statuses that they are refused with is meant.
+-- Stateids likewise.
 module _ (bad : Status → Bool) (b : bad S.BadStateId ≡ false) (o : bad S.OldStateId ≡ false) where
   pub meant_without : (x : Context) (form : CurrentSeqid) (given : Stateid) → IsWithout bad (meant x form given)
   meant_without x form given =
@@ -133,7 +94,3 @@ module _ (bad : Status → Bool) (b : bad S.BadStateId ≡ false) (o : bad S.Old
   judge_without t id client file sort =
       by_bool bad (is_anonymous id) _ _ (special_without sort Anonymous)
       (by_bool bad (is_bypass id) _ _ (special_without sort ReadBypass) (named_without t id client file sort))
-
-  pub seat_without : (s : State) (x : Context) (given : Stateid) (d : Node) → IsWithout bad (seat s x given d)
-  unfolding seat
-  seat_without s x given d = then_without bad (meant x Any given) _ (meant_without x Any given) (λ id e. judge_without s.opens id x.client (Some d.number) Either)

@@ -8,7 +8,6 @@ use Rattle.nfs_compound.specs.{Arguments.arguments, declared.name_args.Create.Cr
 use Rattle.nfs_compound.specs.{declared.name_args.SecinfoStyle.SecinfoStyle, declared.open_args.Open.Open, declared.open_args.OpenClaim.OpenClaim}
 use Rattle.nfs_compound.specs.{declared.open_args.OpenClaim.TheVariants.Null, declared.op.Op.Op, declared.op.Item.Item}
 use Rattle.nfs_compound.specs.{declared.op.Item.TheVariants.{Operation, Fault}, declared.op_num.OpNum.OpNum}
-use Rattle.nfs_compound.specs.declared.op.Op.TheVariants as Op
 use Rattle.nfs_compound.specs.declared.op_num.OpNum.TheVariants as Num
 use Rattle.nfs_results.specs.declared.res.Res.TheVariants as Res
 use Rattle.nfs_results.specs.Results.{spell_result, status_of_result}
@@ -20,11 +19,11 @@ use Rattle.nfs_attrs.specs.{declared.handle.Handle.Handle, Handle.handle_of, Per
 use Rattle.nfs_opens.specs.Locking as locking
 use Rattle.nfs_names.specs.{declared.context.Context.Context, Checks.{saved_object, no_directory, no_access}, Create.{new_of, create}, Link.link}
 use Rattle.nfs_names.specs.{Outcome.{Outcome, checked, is_ok}, PutPubFh.put_pub_fh, PutRootFh.put_root_fh, Rename.{move_of, renamed, rename}}
-use Rattle.nfs_names.specs.State.{State, moment}
+use Rattle.nfs_names.specs.State.{State, time_at}
 use Rattle.nfs_names.specs.Operation as names
 use Rattle.nfs_names.proofs.{Found.{current_is, checked_ok}, Ones.{each_of, if_delayed, by_delay}}
 use Rattle.nfs_names.proofs.NameLaws as law
-use Rattle.nfs_files.specs.{OpenTold.{named_in, claimed}, Operation.grows, Read.read, TestStateid.test_stateid}
+use Rattle.nfs_files.specs.{OpenTold.{named_in, claimed}, Operation.grows, TestStateid.test_stateid}
 use Rattle.nfs_files.specs.OpenParts as open_parts
 use Rattle.nfs_files.specs.Open as of_open
 use Rattle.nfs_files.proofs.Terms.{tested}
@@ -124,8 +123,8 @@ otherwise_same m x i = (refl, refl)
 
 plain_step : (m : Machine) (x : Context) (now : ℕ) (refused : Bool) (i : Item) → is_plain i ≡ true → Same x (step m x now refused i).context
 plain_step m x now refused i e =
-    by_step (λ s. Same x s.context) m x now refused i (plain_names refused m.store x (moment now) i e)
-    (for_each (λ o. Same x o.context) refused m.store x (moment now) i (plain_files refused m.store x (moment now) i e))
+    by_step (λ s. Same x s.context) m x now refused i (plain_names refused m.store x (time_at m.store now) i e)
+    (for_each (λ o. Same x o.context) refused m.store x (time_at m.store now) i (plain_files refused m.store x (time_at m.store now) i e))
     (λ none other. otherwise_same m x i)
 
 -- The room that an operation runs in, and what it came to there.
@@ -228,8 +227,8 @@ pub was_created : (r : Room) (m : Machine) (x : Context) (a : Create)
 was_created r m x a =
     in_room_is (λ s. WasOk s → LedTo a.objname s.outcome.machine.store.tree x s.context) r.limit r.sofar r.now r.refused m x (Operation (Op.Create a))
     (λ ok. absurd (too_big m x (Operation (Op.Create a)) ok))
-    (by_delay (Done (λ o. LedTo a.objname o.state.tree x o.context)) r.refused m.store x Num.Create (create m.store x (moment r.now) a) (λ ok. absurd (false≢true ok))
-    (law.by_create (Done (λ o. LedTo a.objname o.state.tree x o.context)) m.store x (moment r.now) a (λ f refusal ok. absurd (false≢true (sym refusal.done ∙ ok)))
+    (by_delay (Done (λ o. LedTo a.objname o.state.tree x o.context)) r.refused m.store x Num.Create (create m.store x (time_at m.store r.now) a) (λ ok. absurd (false≢true ok))
+    (law.by_create (Done (λ o. LedTo a.objname o.state.tree x o.context)) m.store x (time_at m.store r.now) a (λ f refusal ok. absurd (false≢true (sym refusal.done ∙ ok)))
     (λ d wanted here placed read row ok.
     (let t = m.store.tree in
     let passed = all_passed (create_checks t d.number a.objname (new_of a.objtype)) row in
@@ -252,11 +251,11 @@ pub was_opened : (r : Room) (m : Machine) (x : Context) (a : Open)
 was_opened r m x a =
     in_room_is (λ s. WasOk s → OpenedTo a.claim s.outcome.machine.store.tree x s.context) r.limit r.sofar r.now r.refused m x (Operation (Op.Open a))
     (λ ok. absurd (too_big m x (Operation (Op.Open a)) ok))
-    (by_delay (Done (λ o. OpenedTo a.claim o.state.tree x o.context)) r.refused m.store x Num.Open (of_open.open_file m.store x (moment r.now) a) (λ ok. absurd (false≢true ok))
-    (rw (in_steps.open_is m.store x (moment r.now) a) (by_granted (Done (λ o. OpenedTo a.claim o.state.tree x o.context)) m.store x Num.Open (checked (open_parts.asked_for m.store x a) (of_open.last_checks m.store x a))
-    (of_open.opened m.store x (moment r.now) a) (open_refuses m.store x a) (λ status refusal ok. absurd (false≢true (sym refusal.done ∙ ok)))
+    (by_delay (Done (λ o. OpenedTo a.claim o.state.tree x o.context)) r.refused m.store x Num.Open (of_open.open_file m.store x (time_at m.store r.now) a) (λ ok. absurd (false≢true ok))
+    (rw (in_steps.open_is m.store x (time_at m.store r.now) a) (by_granted (Done (λ o. OpenedTo a.claim o.state.tree x o.context)) m.store x Num.Open (checked (open_parts.asked_for m.store x a) (of_open.last_checks m.store x a))
+    (of_open.opened m.store x (time_at m.store r.now) a) (open_refuses m.store x a) (λ status refusal ok. absurd (false≢true (sym refusal.done ∙ ok)))
     (λ f granted ok. (let asked = (checked_ok (open_parts.asked_for m.store x a) (of_open.last_checks m.store x a) f granted).0 in
-    (asked_leads m.store x (moment r.now) a f asked, of_open.file_of m.store.tree f, refl, refl))))))
+    (asked_leads m.store x (time_at m.store r.now) a f asked, of_open.file_of m.store.tree f, refl, refl))))))
 
 pub by_name : (name : List ℕ) (t : Files) (x y : Context) → OpenedTo (Null name) t x y → LedTo name t x y
 by_name name t x y is = go x.current refl is.0
@@ -310,7 +309,7 @@ pub removed_so : (r : Room) (m : Machine) (x : Context) (name : List ℕ) → An
 removed_so r m x name =
     in_room_is (AnsweredAs Num.Remove) r.limit r.sofar r.now r.refused m x (Operation (Op.Remove name))
     (λ ok. absurd (too_big m x (Operation (Op.Remove name)) ok), λ bad is. not_done Num.Remove 28 RepTooBig refl is)
-    (law.by_remove (AnsweredBy Num.Remove) m.store x (moment r.now) name
+    (law.by_remove (AnsweredBy Num.Remove) m.store x (time_at m.store r.now) name
     (λ f h. (λ ok. absurd (false≢true (sym h.done ∙ ok)), λ bad is. not_done Num.Remove 28 f h.done is))
     (λ d there placed row. (λ ok. (_, refl), λ bad. absurd (true≢false bad))))
 
@@ -318,19 +317,19 @@ pub renamed_as : (r : Room) (m : Machine) (x : Context) (a : Rename) → Answere
 renamed_as r m x a =
     in_room_is (AnsweredAs Num.Rename) r.limit r.sofar r.now r.refused m x (Operation (Op.Rename a))
     (λ ok. absurd (too_big m x (Operation (Op.Rename a)) ok), λ bad is. not_done Num.Rename 29 RepTooBig refl is)
-    (by_delay (AnsweredBy Num.Rename) (names.grows m.store x (Op.Rename a) && r.refused) m.store x Num.Rename (rename m.store x (moment r.now) a)
+    (by_delay (AnsweredBy Num.Rename) (names.grows m.store x (Op.Rename a) && r.refused) m.store x Num.Rename (rename m.store x (time_at m.store r.now) a)
     (λ ok. absurd (false≢true ok), λ bad is. not_done Num.Rename 29 Delay refl is)
-    (law.by_rename (AnsweredBy Num.Rename) m.store x (moment r.now) a
+    (law.by_rename (AnsweredBy Num.Rename) m.store x (time_at m.store r.now) a
     (λ f h. (λ ok. absurd (false≢true (sym h.done ∙ ok)), λ bad is. not_done Num.Rename 29 f h.done is))
-    (λ p there row. renamed_so m.store x (moment r.now) a p (moves m.store.tree (move_of a p)))))
+    (λ p there row. renamed_so m.store x (time_at m.store r.now) a p (moves m.store.tree (move_of a p)))))
 
 pub linked_as : (r : Room) (m : Machine) (x : Context) (name : List ℕ) → AnsweredAs Num.Link (ran_in r m x (Operation (Op.Link name)))
 linked_as r m x name =
     in_room_is (AnsweredAs Num.Link) r.limit r.sofar r.now r.refused m x (Operation (Op.Link name))
     (λ ok. absurd (too_big m x (Operation (Op.Link name)) ok), λ bad is. not_done Num.Link 11 RepTooBig refl is)
-    (by_delay (AnsweredBy Num.Link) r.refused m.store x Num.Link (link m.store x (moment r.now) name)
+    (by_delay (AnsweredBy Num.Link) r.refused m.store x Num.Link (link m.store x (time_at m.store r.now) name)
     (λ ok. absurd (false≢true ok), λ bad is. not_done Num.Link 11 Delay refl is)
-    (law.by_link (AnsweredBy Num.Link) m.store x (moment r.now) name
+    (law.by_link (AnsweredBy Num.Link) m.store x (time_at m.store r.now) name
     (λ f h. (λ ok. absurd (false≢true (sym h.done ∙ ok)), λ bad is. not_done Num.Link 11 f h.done is))
     (λ p there placed row. (λ ok. (_, refl), λ bad. absurd (true≢false bad)))))
 

@@ -1,7 +1,8 @@
 -- What a request looks at, which names and which stateid it gives, and which rights it needs: a line for each operation (RFC 8881 sections 18.3 to 18.32).
-use Rattle.std.specs.Prelude.{◌≡◌, ◌⊎◌, ℕ, Bool, true, false, List, [], ◌∷◌, Option, Some, None, is_some, Result, Ok, Err, if◌then◌else◌}
+use Rattle.std.specs.Prelude.{◌≡◌, ◌⊎◌, ℕ, ◌+◌, ◌<◌, ◌≤◌, Bool, true, false, List, [], ◌∷◌, Option, Some, None, is_some, Result, Ok, Err, if◌then◌else◌}
 use Rattle.nfs_xdr.specs.{Caller.Caller, declared.time.Time.Time, declared.status.Status.Status}
-use Rattle.nfs_compound.specs.{declared.attributes.Attributes.Attributes, declared.lock_args.Locker.{Locker, TheVariants.{OpenOwner, LockOwner}}}
+use Rattle.nfs_compound.specs.{declared.attributes.Attributes.Attributes, declared.lock_args.{LockType.LockType, Locker.{Locker, TheVariants.{OpenOwner, LockOwner}}}}
+use Rattle.nfs_compound.specs.declared.lock_args.LockType.TheVariants as LockTypes
 use Rattle.nfs_compound.specs.declared.name_args.{ReadDir.ReadDir, SecinfoStyle.TheVariants.Parent}
 use Rattle.nfs_compound.specs.declared.name_args.Create as args
 use Rattle.nfs_compound.specs.{declared.file_args.{Read.Read, SetAttr.SetAttr, Write.Write}, declared.name_args.Rename.Rename, declared.open_args.{Open.Open, OpenHow.OpenHow}}
@@ -9,6 +10,8 @@ use Rattle.nfs_compound.specs.declared.open_args.{OpenClaim.OpenClaim, OpenClaim
 use Rattle.nfs_compound.specs.declared.open_args.CreateHow.TheVariants.{Unchecked, Guarded, Exclusive, Exclusive41}
 use Rattle.nfs_compound.specs.{declared.stateid.Stateid.Stateid, declared.op.Item.Item, declared.op.Item.TheVariants.Operation}
 use Rattle.nfs_compound.specs.declared.op.Op.TheVariants as Op
+use Rattle.nfs_ranges.specs.declared.Kind.{Kind}
+use Rattle.nfs_ranges.specs.declared.Kind.TheVariants as Kinds
 use Rattle.nfs_tree.specs.Files.{object_named}
 use Rattle.nfs_attrs.specs.{declared.set_time.SetTime.TheVariants.{Now, Given}, declared.wanted.Wanted.Wanted}
 use Rattle.nfs_opens.specs.{declared.judging.Sort.Sort, declared.judging.Sort.TheVariants.{Either, OpenOnly, LockOnly}, declared.stateid.StateId.StateId}
@@ -142,6 +145,12 @@ abbrev pub creates : OpenHow → Bool
 creates NoCreate = false
 creates (Create how) = true
 
+-- an object is made, of a size if one is given
+abbrev pub adds : Item → Bool
+adds (Operation (Op.Create c)) = true
+adds (Operation (Op.Open a)) = creates a.openhow
+adds item = false
+
 -- what is open is asked for again; what was delegated is
 abbrev pub reclaims : OpenClaim → Bool
 reclaims (Previous type) = true
@@ -155,26 +164,42 @@ is_delegated claim = true
 
 -- Stateids.
 
--- a stateid that is given: of what it has to be, and with which seqid the current stateid stands for it
+-- a stateid that is given: of what it has to be, with which seqid the current stateid stands for it, and whether it has to be of the current file
 pub record StateGiven : Type 0 where
   pub given : Stateid
   pub sort : Sort
   pub form : CurrentSeqid
+  pub here : Bool
 
 -- a new lock owner names an open, another one its lock state
 abbrev pub of_locker : Locker → StateGiven
-of_locker (OpenOwner o) = record { given = o.open_stateid; sort = OpenOnly; form = Any }
-of_locker (LockOwner o) = record { given = o.lock_stateid; sort = LockOnly; form = Any }
+of_locker (OpenOwner o) = record { given = o.open_stateid; sort = OpenOnly; form = Any; here = true }
+of_locker (LockOwner o) = record { given = o.lock_stateid; sort = LockOnly; form = Any; here = true }
 
 abbrev pub by_state : Item → Option StateGiven
-by_state (Operation (Op.Close a)) = Some (record { given = a.open_stateid; sort = OpenOnly; form = Own })
+by_state (Operation (Op.Close a)) = Some (record { given = a.open_stateid; sort = OpenOnly; form = Own; here = true })
+by_state (Operation (Op.FreeStateid given)) = Some (record { given = given; sort = Either; form = Any; here = false })
 by_state (Operation (Op.Lock a)) = Some (of_locker a.locker)
-by_state (Operation (Op.OpenDowngrade a)) = Some (record { given = a.open_stateid; sort = OpenOnly; form = Own })
-by_state (Operation (Op.Read a)) = Some (record { given = a.stateid; sort = Either; form = Any })
-by_state (Operation (Op.SetAttr a)) = if sets_size a then Some (record { given = a.stateid; sort = Either; form = Any }) else None
-by_state (Operation (Op.Write a)) = Some (record { given = a.stateid; sort = Either; form = Any })
-by_state (Operation (Op.LockU a)) = Some (record { given = a.lock_stateid; sort = LockOnly; form = Any })
+by_state (Operation (Op.OpenDowngrade a)) = Some (record { given = a.open_stateid; sort = OpenOnly; form = Own; here = true })
+by_state (Operation (Op.Read a)) = Some (record { given = a.stateid; sort = Either; form = Any; here = true })
+by_state (Operation (Op.SetAttr a)) = if sets_size a then Some (record { given = a.stateid; sort = Either; form = Any; here = true }) else None
+by_state (Operation (Op.Write a)) = Some (record { given = a.stateid; sort = Either; form = Any; here = true })
+by_state (Operation (Op.LockU a)) = Some (record { given = a.lock_stateid; sort = LockOnly; form = Any; here = true })
 by_state item = None
+
+-- the access that a request needs of the open that its stateid is of
+abbrev pub of_type : LockType → Right
+of_type LockTypes.Read = Reads
+of_type LockTypes.ReadW = Reads
+of_type LockTypes.Write = Writes
+of_type LockTypes.WriteW = Writes
+
+abbrev pub used : Item → Option Right
+used (Operation (Op.Lock a)) = Some (of_type a.locktype)
+used (Operation (Op.Read a)) = Some Reads
+used (Operation (Op.SetAttr a)) = Some Writes
+used (Operation (Op.Write a)) = Some Writes
+used item = None
 
 -- seqid 1 and zeros stand for the current stateid (section 8.2.3)
 abbrev pub IsCurrent : StateId → Type 0
@@ -199,6 +224,27 @@ as_given Own id = id
 pub data StandsFor (x : Context) (k : StateGiven) (id : StateId) : Type 0 where
   Itself : (IsCurrent (state_id k.given) → ⊥) → id ≡ state_id k.given → StandsFor x k id
   TheCurrent : IsCurrent (state_id k.given) → (IsNone (state_id x.stateid) → ⊥) → id ≡ as_given k.form (state_id x.stateid) → StandsFor x k id
+
+-- Locks.
+
+-- the bytes that are to be locked or asked for
+pub record Range : Type 0 where
+  pub type : LockType
+  pub offset : ℕ
+  pub size : ℕ
+
+abbrev pub locked : Item → Option Range
+locked (Operation (Op.Lock a)) = Some (record { type = a.locktype; offset = a.offset; size = a.length })
+locked (Operation (Op.LockT a)) = Some (record { type = a.locktype; offset = a.offset; size = a.length })
+locked item = None
+
+-- the byte is in the range: a length of all ones goes to the last byte there can be
+abbrev pub InRange : (offset size b : ℕ) → Type 0
+InRange offset size b = (offset ≤ b) × (b ≤ 0xffff_ffff_ffff_ffff) × ((size ≡ 0xffff_ffff_ffff_ffff) ⊎ (b < offset + size))
+
+-- it may be locked in this way beside a holder
+abbrev pub LiesBeside : Kind → Option Kind → Type 0
+LiesBeside kind held = (held ≡ None) ⊎ ((kind ≡ Kinds.Read) × (held ≡ Some Kinds.Read))
 
 -- Rights.
 

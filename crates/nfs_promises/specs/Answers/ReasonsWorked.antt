@@ -3,7 +3,7 @@
 -- SETATTR of its mode by another user.
 use Rattle.std.specs.Prelude.{◌≡◌, ℕ, ◌+◌, [], ◌∷◌}
 use Rattle.nfs_xdr.specs.declared.status.Status.{Status}
-use Rattle.nfs_xdr.specs.declared.status.Status.TheVariants.{Nfs4Ok, Perm, OldStateId, BadStateId, Exist, NoEnt, IsDir, Access, NotDir}
+use Rattle.nfs_xdr.specs.declared.status.Status.TheVariants.{Nfs4Ok, Perm, OldStateId, BadStateId, Exist, NoEnt, IsDir, Access, NotDir, RepTooBig, Delay}
 use Rattle.nfs_compound.specs.declared.open_args.{OpenHow.OpenHow, OpenHow.TheVariants.{NoCreate, Create}, CreateHow.TheVariants.Guarded}
 use Rattle.nfs_compound.specs.declared.op.Op.TheVariants as Op
 use Rattle.nfs_compound.specs.declared.name_args.CreateType.TheVariants.{Other}
@@ -12,7 +12,7 @@ use Rattle.nfs_exec.specs.Runs.Ops.{RanOp}
 use Rattle.nfs_serve.specs.Step.{ServerState}
 use Rattle.nfs_promises.specs.{Runs.{Requests.{words, in_session, opening_by, unchecked}, Started.usual, Points.{reached, ops_of}}, Network.Endpoint.Arrival, Answers.Reasons.AnswersSo}
 use Rattle.nfs_promises.specs.Locks.LockKeptWorked.{came, earlier, asked, gives_up, last_of, statuses}
-use Rattle.nfs_promises.specs.{Bytes.WrittenStaysWorked.made, Names.FileStaysWorked.{with_status, missed, closes}, Permission.PermittedWorked.to_group}
+use Rattle.nfs_promises.specs.{Bytes.WrittenStaysWorked.made, Names.FileStaysWorked.{with_status, missed, closes}, Permission.PermittedWorked.{to_group, runs, asks}}
 
 -- PUTROOTFH, and an OPEN of `f` for reading by another open owner
 abbrev pub opens : OpenHow → Arrival
@@ -81,3 +81,12 @@ pub record AnswersRefused : Type 0 where
   pub found : Refused made (opens guarded) Nfs4Ok
   -- the RENAME asks nobody's permission
   pub moved : Refused shut (moves 3 1) Nfs4Ok
+  -- in `unix`, a READ of a program by who may execute it
+  pub unread : Refused runs asks Access
+
+-- The promise refuses these refusals of a REMOVE, too, in a session whose replies have 4,100 bytes.
+pub record CutsRefused : Type 0 where
+  -- the reply has no room
+  pub big : Refused made removes RepTooBig
+  -- there is no memory, where none was refused
+  pub delayed : Refused made removes Delay

@@ -1,34 +1,25 @@
 -- Each yes is true: what an operation that is answered NFS4_OK answers is so, by what the server has (RFC 8881 sections 5, 6.2.4, 18.1, 18.7, 18.8, 18.11, 18.13, 18.24 and
 -- 18.48). A table with a row for each kind of answer.
-use Rattle.std.specs.Prelude.{◌≡◌, ◌≢◌, ◌⊎◌, ℕ, ◌+◌, ◌<◌, ◌≤◌, ◌==◌, ◌&&◌, Bool, true, bit_and, List, [], ◌∷◌, ◌++◌, length, take, replicate, Option, Some, None, if◌then◌else◌}
+use Rattle.std.specs.Prelude.{◌≡◌, ◌≢◌, ◌⊎◌, ℕ, ◌+◌, ◌-◌, ◌==◌, ◌&&◌, ◌||◌, Bool, true, bit_and, List, [], ◌∷◌, ◌++◌, length, take, replicate, Some, None, if◌then◌else◌}
 use Rattle.std.specs.{List.flat_map, Fmt.decimal}
 use Rattle.nfs_xdr.specs.{Limits.fhsize, Tables.In, Spelling.number, Text.{uint32, uint64, opaque, most}, Wire.nfstime4}
 use Rattle.nfs_compound.specs.{declared.lock_args.LockT.LockT, declared.stateid.Stateid.Stateid, declared.op.Item.Item, declared.op.Item.TheVariants.Operation}
 use Rattle.nfs_compound.specs.declared.op.Op.TheVariants as Op
-use Rattle.nfs_compound.specs.{declared.file_args.{StableHow.TheVariants.FileSync, Write.Write}, declared.lock_args.LockU.LockU, declared.open_args.Close.Close}
+use Rattle.nfs_compound.specs.{declared.file_args.{StableHow.TheVariants.FileSync}, declared.lock_args.LockU.LockU, declared.open_args.Close.Close}
 use Rattle.nfs_compound.specs.declared.name_args.ReadDir.{ReadDir}
 use Rattle.nfs_results.specs.{declared.res.Entry.Entry, declared.res.Fattr.Fattr, declared.res.ReadDirOk.ReadDirOk, ResultCodec.FitsResult, Results.spell_result}
 use Rattle.nfs_results.specs.declared.res.Res.TheVariants as Res
-use Rattle.nfs_ranges.specs.declared.Kind.{Kind, TheVariants.{Read}}
 use Rattle.nfs_tree.specs.{declared.object.FileType.FileType, declared.object.FileType.TheVariants.{Directory}, declared.object.Object.Object, declared.row.Row.Row}
-use Rattle.nfs_tree.specs.{Object.{is_directory, is_link}, Files.{most_text, data_at, links_in, object_at, object_named}}
+use Rattle.nfs_tree.specs.{Profile.is_unix, Object.{is_directory, is_link}, Files.{most_text, data_at, links_in, object_at, object_named}}
 use Rattle.nfs_attrs.specs.{declared.mask.Mask.Mask, Mask.{has, mask_of, trimmed_words, common}, Attributes.{readable, attributes, value_at, type_number}, Wire.nfs_fh4}
 use Rattle.nfs_opens.specs.{declared.records.{LockState.LockState, OpenState.OpenState}, declared.stateid.StateId.StateId}
-use Rattle.nfs_names.specs.{declared.{start.Start.Start, context.Context.Context}, Attributes.about, Outcome.is_ok, State.State}
+use Rattle.nfs_names.specs.{declared.{start.Start.Start, context.Context.Context}, Attributes.{about, taken_by}, Outcome.is_ok, State.State}
 use Rattle.nfs_files.specs.{Ranges.kind_of, StateIds.state_id}
 use Rattle.nfs_exec.specs.Runs.Ops.{RanOp}
 use Rattle.nfs_promises.specs.{Network.Endpoint.Arrival, Runs.Points.{reached, ops_of}, Permission.Permitted.{Reads, Writes, Executes, Grants, rights_of}}
-use Rattle.nfs_promises.specs.Answers.{Asked.{StateGiven, by_state, StandsFor, IsCurrent, IsSpecial}, Reasons.{StateTold, state_of}}
+use Rattle.nfs_promises.specs.Answers.{Asked.{InRange, LiesBeside, StateGiven, by_state, StandsFor, IsCurrent, IsSpecial}, Reasons.{StateTold, state_of}}
 
 -- Locks.
-
--- the byte is in the range: a length of all ones goes to the last byte there can be
-abbrev pub InRange : (offset size b : ℕ) → Type 0
-InRange offset size b = (offset ≤ b) × (b ≤ 0xffff_ffff_ffff_ffff) × ((size ≡ 0xffff_ffff_ffff_ffff) ⊎ (b < offset + size))
-
--- it may be locked in this way beside a holder
-abbrev pub LiesBeside : Kind → Option Kind → Type 0
-LiesBeside kind held = (held ≡ None) ⊎ ((kind ≡ Read) × (held ≡ Some Read))
 
 -- LOCKT: no other lock owner's state holds a byte of the range so that the two clash
 pub record IsFree (s : State) (x : Context) (a : LockT) : Type 0 where
@@ -52,6 +43,10 @@ handle_text s n = (nfs_fh4 (record { instance = s.opens.instance; number = n }))
 abbrev pub names_of : State → ℕ → Object → ℕ
 names_of s n o = if is_directory o.kind then 1 else links_in s.tree.rows n
 
+-- what the profile `unix` alone tells
+abbrev pub in_unix : State → List ℕ → List ℕ
+in_unix s text = if is_unix s.tree.profile then text else []
+
 -- What an attribute of an object is. Of the others, which are the same of all objects, and of the lease, the table of attributes says it.
 abbrev pub value : State → ℕ → Object → ℕ → List ℕ
 value s n o k =
@@ -60,11 +55,13 @@ value s n o k =
     else if k == 4 then (uint64 (length (data_at s.tree n))).bytes
     else if k == 19 then (opaque fhsize (handle_text s n)).bytes
     else if k == 20 then (uint64 n).bytes
+    else if k == 21 || k == 22 then in_unix s (uint64 (s.tree.limits.objects - length s.tree.objects)).bytes
+    else if k == 23 then in_unix s (uint64 s.tree.limits.objects).bytes
     else if k == 33 then (uint32 o.mode).bytes
     else if k == 35 then (uint32 (names_of s n o)).bytes
     else if k == 36 then (opaque most (decimal o.owner)).bytes
     else if k == 37 then (opaque most (decimal o.group)).bytes
-    else if k == 45 then (uint64 (length (data_at s.tree n))).bytes
+    else if k == 45 then (uint64 (taken_by s.tree.profile (length (data_at s.tree n)))).bytes
     else if k == 47 then (nfstime4 o.access).bytes
     else if k == 52 then (nfstime4 o.metadata).bytes
     else if k == 53 then (nfstime4 o.modify).bytes
@@ -73,12 +70,12 @@ value s n o k =
 
 -- attributes in rising order of their numbers
 abbrev pub numbers : List ℕ
-numbers = 0 ∷ 1 ∷ 2 ∷ 3 ∷ 4 ∷ 5 ∷ 6 ∷ 7 ∷ 8 ∷ 9 ∷ 10 ∷ 11 ∷ 19 ∷ 20 ∷ 27 ∷ 28 ∷ 29 ∷ 30 ∷ 31 ∷ 33 ∷ 35 ∷ 36 ∷ 37 ∷ 45 ∷ 47 ∷ 48 ∷ 52 ∷ 53 ∷ 54 ∷ 55 ∷ 75 ∷ []
+numbers = 0 ∷ 1 ∷ 2 ∷ 3 ∷ 4 ∷ 5 ∷ 6 ∷ 7 ∷ 8 ∷ 9 ∷ 10 ∷ 11 ∷ 19 ∷ 20 ∷ 21 ∷ 22 ∷ 23 ∷ 27 ∷ 28 ∷ 29 ∷ 30 ∷ 31 ∷ 33 ∷ 35 ∷ 36 ∷ 37 ∷ 42 ∷ 43 ∷ 44 ∷ 45 ∷ 47 ∷ 48 ∷ 51 ∷ 52 ∷ 53 ∷ 54 ∷ 55 ∷ 75 ∷ []
 
 -- those that are asked for, each with its value, one behind the other
 abbrev pub attributes_told : State → ℕ → Object → Mask → Fattr
 attributes_told s n o asked = record {
-  attrmask = trimmed_words (common asked readable);
+  attrmask = trimmed_words (common asked (readable s.tree.profile));
   attr_vals = flat_map (λ k. if has asked k then value s n o k else []) numbers;
 }
 
@@ -190,3 +187,9 @@ TellsSo d = is_ok d.status ≡ true → IsTrueOf d.before.store d.context d.item
 -- In every run of a server.
 abbrev pub EachYesIsTrue : Type 0
 EachYesIsTrue = (start : Start) (records : List Arrival) (c : Arrival) (d : RanOp) → In d (ops_of (reached start records) c) → TellsSo d
+
+-- A LOOKUP makes the object of the name the current one, for the operation behind it.
+abbrev pub LookupLeads : Type 0
+LookupLeads = (start : Start) (records : List Arrival) (c : Arrival) (front back : List RanOp) (d e : RanOp) (name : List ℕ) (directory : ℕ)
+    → ops_of (reached start records) c ≡ front ++ d ∷ e ∷ back → d.item ≡ Operation (Op.Lookup name) → d.context.current ≡ Some directory
+    → e.context.current ≡ object_named d.before.store.tree directory name

@@ -4,9 +4,7 @@ use Rattle.std.specs.Prelude.{◌≡◌, ℕ, true, List, [], ◌∷◌, ◌++�
 use Rattle.nfs_xdr.specs.{Spelling.{number, hyper}, declared.status.Status.TheVariants.{Nfs4Ok, Denied, NoEnt}}
 use Rattle.nfs_compound.specs.{declared.file_args.StableHow.TheVariants.Unstable, declared.lock_args.LockType.TheVariants.Write, declared.name_args.CreateType.TheVariants.Symlink}
 use Rattle.nfs_compound.specs.declared.op.Op.{Op}
-use Rattle.nfs_compound.specs.declared.op.Op.TheVariants as Op
 use Rattle.nfs_results.specs.{declared.res.{Res.Res, Entry.Entry, ReadDirOk.ReadDirOk}, Results.spell_result}
-use Rattle.nfs_results.specs.declared.res.Res.TheVariants as Res
 use Rattle.nfs_exec.specs.Runs.Ops.{RanOp}
 use Rattle.nfs_promises.specs.{Runs.{Requests.{in_session, stateid, listing_from}, Points.ops_of}, Network.Endpoint.Arrival, Answers.YesIsTrue.TellsSo}
 use Rattle.nfs_promises.specs.{Locks.LockKeptWorked.{came, asked, gives_up, last_of, statuses}, Bytes.WrittenStaysWorked.{made, writes}, Names.FileStaysWorked.{with_status, missed, closes}}

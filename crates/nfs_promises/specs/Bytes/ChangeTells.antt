@@ -1,11 +1,11 @@
 -- The change attribute tells: while an object's change is the same, so is all that a client may keep of it (RFC 8881 sections 5.8.1.4 and 10.3.1).
-use Rattle.std.specs.Prelude.{◌≡◌, ◌⊎◌, ℕ, ◌≤◌, ◌==◌, true, List, [], ◌∷◌, ◌++◌, length, filter, Some}
+use Rattle.std.specs.Prelude.{◌≡◌, ◌⊎◌, ℕ, ◌≤◌, ◌==◌, true, false, List, [], ◌∷◌, ◌++◌, length, filter, Some}
 use Rattle.nfs_compound.specs.{declared.file_args.Read.Read, declared.op.Item.TheVariants.Operation}
 use Rattle.nfs_compound.specs.declared.op.Op.TheVariants as Op
 use Rattle.nfs_compound.specs.declared.op_num.OpNum.TheVariants as Num
 use Rattle.nfs_results.specs.Results.{done_head}
 use Rattle.nfs_xdr.specs.{Spelling.hyper, Tables.In}
-use Rattle.nfs_tree.specs.{declared.row.Row.Row, Files.{Files, stored_in, is_there, change_of, links_in}}
+use Rattle.nfs_tree.specs.{declared.profile.Profile.Profile, declared.profile.Profile.TheVariants.Exact, declared.row.Row.Row, Files.{Files, stored_in, is_there, change_of, links_in}}
 use Rattle.nfs_attrs.specs.Mask.{mask_of, has}
 use Rattle.nfs_names.specs.{declared.start.Start.Start, Outcome.is_ok}
 use Rattle.nfs_promises.specs.Runs.AttributesTold.{TellsValue}
@@ -69,17 +69,22 @@ pub record GetsOf (n : ℕ) (words : List ℕ) (d : RanOp) : Type 0 where
   pub at : d.context.current ≡ Some n
   pub ok : is_ok d.status ≡ true
 
--- And two GETATTRs of the same attributes are answered the same: all of them, also the number of names.
+-- nothing of how many more objects there may be, which each change of names anywhere changes and which `unix` alone tells
+abbrev pub AsksNoFree : Profile → List ℕ → Type 0
+AsksNoFree profile words = (profile ≡ Exact) ⊎ ((has (mask_of words) 21 ≡ false) × (has (mask_of words) 22 ≡ false))
+
+-- And two GETATTRs of the same attributes are answered the same: all of the object's, also the number of names.
 abbrev pub AttributesAreAlike : Type 0
 AttributesAreAlike = (start : Start) (earlier : List Arrival) (c : Arrival) (front : List RanOp) (d : RanOp) (back : List RanOp) (more : List Arrival) (e : RanOp)
     (n : ℕ) (words : List ℕ)
     → (let s = reached start earlier in
     ops_of s c ≡ front ++ d ∷ back → In e back ⊎ RunsIn (state_after s c) more e
-    → change_of e.before.store.tree n ≡ change_of d.before.store.tree n → GetsOf n words d → GetsOf n words e → e.result ≡ d.result)
+    → change_of e.before.store.tree n ≡ change_of d.before.store.tree n → AsksNoFree d.before.store.tree.profile words
+    → GetsOf n words d → GetsOf n words e → e.result ≡ d.result)
 
 -- The change is told: a GETATTR of attribute 3 that is answered NFS4_OK gives that of the object, whatever else it asks for. So who is told the same change twice has
 -- what the promises above say.
 abbrev pub ChangeIsTold : Type 0
 ChangeIsTold = (start : Start) (records : List Arrival) (c : Arrival) (d : RanOp) (words : List ℕ) (n : ℕ)
     → In d (ops_of (reached start records) c) → d.item ≡ Operation (Op.GetAttr words) → has (mask_of words) 3 ≡ true → is_ok d.status ≡ true
-    → d.context.current ≡ Some n → TellsValue 3 (hyper (change_of d.before.store.tree n)) (mask_of words) d.result
+    → d.context.current ≡ Some n → TellsValue d.before.store.tree.profile 3 (hyper (change_of d.before.store.tree n)) (mask_of words) d.result

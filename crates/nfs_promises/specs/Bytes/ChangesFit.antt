@@ -18,7 +18,7 @@ ChangesFit = (start : Start) (records : List Arrival) (c : Arrival) (d : RanOp) 
 abbrev pub ChangeIsRead : Type 0
 ChangeIsRead = (start : Start) (records : List Arrival) (c : Arrival) (d : RanOp) (n : ℕ) (words : List ℕ) (change : ℕ)
     → In d (ops_of (reached start records) c) → GetsOf n words d → has (mask_of words) 3 ≡ true
-    → change < 2 ^ 64 → TellsValue 3 (hyper change) (mask_of words) d.result → change ≡ change_of d.before.store.tree n
+    → change < 2 ^ 64 → TellsValue d.before.store.tree.profile 3 (hyper change) (mask_of words) d.result → change ≡ change_of d.before.store.tree n
 
 -- And what would change an object that has the last one is not answered NFS4_OK.
 abbrev pub LastStays : Type 0

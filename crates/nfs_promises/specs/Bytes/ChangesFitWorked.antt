@@ -22,8 +22,8 @@ write d = at_change (2 ^ 64 - 1) (last_of d (ops_of made writes))
 
 pub record ChangesAtLast : Type 0 where
   -- what is given are the low eight bytes of the change, as `change_is_told` has it; and they are another number
-  pub told : (d : RanOp) → GetsOf 2 asked_for (cut d) × TellsValue 3 (hyper (change_of (cut d).before.store.tree 2)) (mask_of asked_for) (cut d).result
-  pub read : (d : RanOp) → TellsValue 3 (hyper 1) (mask_of asked_for) (cut d).result × (1 ≡ change_of (cut d).before.store.tree 2 → ⊥)
+  pub told : (d : RanOp) → GetsOf 2 asked_for (cut d) × TellsValue (cut d).before.store.tree.profile 3 (hyper (change_of (cut d).before.store.tree 2)) (mask_of asked_for) (cut d).result
+  pub read : (d : RanOp) → TellsValue (cut d).before.store.tree.profile 3 (hyper 1) (mask_of asked_for) (cut d).result × (1 ≡ change_of (cut d).before.store.tree 2 → ⊥)
   pub large : (d : RanOp) → change_of (cut d).before.store.tree 2 < 2 ^ 64 → ⊥
   -- the WRITE changes the file
   pub last : (d : RanOp) → (change_of (write d).before.store.tree 2 ≡ 2 ^ 64 - 1) × Changes 2 (write d) × (is_ok (write d).status ≡ false → ⊥)

@@ -16,7 +16,7 @@ pub record TellsChange (n change : ℕ) (d : RanOp) : Type 0 where
   pub gets : GetsOf n words d
   pub asks : has (mask_of words) 3 ≡ true
   pub small : change < 2 ^ 64
-  pub told : TellsValue 3 (hyper change) (mask_of words) d.result
+  pub told : TellsValue d.before.store.tree.profile 3 (hyper change) (mask_of words) d.result
 
 -- What a client has kept, of the operations up to a point: a GETATTR gave the file's change, and behind it a READ of the byte's place was answered NFS4_OK.
 pub record Keeps (b : Byte) (change : ℕ) (until : List RanOp) : Type 0 where

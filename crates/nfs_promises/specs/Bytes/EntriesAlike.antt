@@ -6,7 +6,7 @@ use Rattle.nfs_results.specs.declared.res.Res.TheVariants as Res
 use Rattle.nfs_tree.specs.Files.{change_of, object_named}
 use Rattle.nfs_names.specs.{declared.start.Start.Start}
 use Rattle.nfs_exec.specs.Runs.Ops.{RanOp}
-use Rattle.nfs_promises.specs.{Bytes.ChangeTells.{RunsIn, GetsOf}, Network.Endpoint.Arrival, Names.ListsAll.{Page, IsPage}, Runs.Points.{state_after, reached}}
+use Rattle.nfs_promises.specs.{Bytes.ChangeTells.{RunsIn, GetsOf, AsksNoFree}, Network.Endpoint.Arrival, Names.ListsAll.{Page, IsPage}, Runs.Points.{state_after, reached}}
 use Rattle.nfs_promises.specs.Runs.Points.{ops_of}
 
 -- An operation told these attributes of an object: a GETATTR of it; or a READDIR, in an entry whose name leads to the object before it. They are given as a GETATTR
@@ -22,4 +22,5 @@ EntriesAreAlike = (start : Start) (earlier : List Arrival) (c : Arrival) (front 
     (n : ℕ) (words told also : List ℕ)
     → (let s = reached start earlier in
     ops_of s c ≡ front ++ d ∷ back → In e back ⊎ RunsIn (state_after s c) more e
-    → change_of e.before.store.tree n ≡ change_of d.before.store.tree n → TellsOf n words d told → TellsOf n words e also → also ≡ told)
+    → change_of e.before.store.tree n ≡ change_of d.before.store.tree n → AsksNoFree d.before.store.tree.profile words
+    → TellsOf n words d told → TellsOf n words e also → also ≡ told)

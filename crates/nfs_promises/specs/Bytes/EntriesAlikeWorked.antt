@@ -83,4 +83,4 @@ pub record AttributesAreRefused : Type 0 where
   pub mode : (d : RanOp) → GetsOf 2 asked_for (getting d (attributes 3 8 384 1)) × ((getting d (attributes 3 8 384 1)).result ≡ told → ⊥)
   -- it gives change 1
   pub constant : (d : RanOp) → (let e = getting d (attributes 1 8 420 1) in
-      GetsOf 2 asked_for e × (TellsValue 3 (hyper (change_of e.before.store.tree 2)) (mask_of asked_for) e.result → ⊥))
+      GetsOf 2 asked_for e × (TellsValue e.before.store.tree.profile 3 (hyper (change_of e.before.store.tree 2)) (mask_of asked_for) e.result → ⊥))

@@ -27,7 +27,7 @@ ReadsImage n img d =
 abbrev pub SizeIsTold : ℕ → Image → RanOp → Type 0
 SizeIsTold n img d =
     (words : List ℕ) → d.item ≡ Operation (Op.GetAttr words) → d.context.current ≡ Some n → is_ok d.status ≡ true → has (mask_of words) 4 ≡ true
-    → TellsValue 4 (hyper img.size) (mask_of words) d.result
+    → TellsValue d.before.store.tree.profile 4 (hyper img.size) (mask_of words) d.result
 
 abbrev pub TellsFile : ℕ → Image → RanOp → Type 0
 TellsFile n img d = ReadsImage n img d × SizeIsTold n img d

@@ -6,7 +6,7 @@ use Rattle.nfs_names.specs.Context.{anonymous}
 use Rattle.nfs_files.specs.FileImage.{Image, unwritten, bytes_read, read_answer}
 use Rattle.nfs_exec.specs.Runs.Ops.{RanOp}
 use Rattle.nfs_serve.specs.{Step.ServerState}
-use Rattle.nfs_promises.specs.{Runs.{Requests.{words, stateid, in_session}, Points.{state_after, ops_of}}, Network.Endpoint.Arrival, Locks.LockKeptWorked.came}
+use Rattle.nfs_promises.specs.{Runs.{Requests.{words, in_session}, Points.{state_after, ops_of}}, Network.Endpoint.Arrival, Locks.LockKeptWorked.came}
 use Rattle.nfs_promises.specs.{Locks.LockKeptWorked.{outset, last_of}, Bytes.WrittenStaysWorked.{makes, made, writes, written, goes_on, grown, closes, closed}}
 use Rattle.nfs_promises.specs.Bytes.{WrittenStaysWorked.{reads, answering}, FileRead.{image_after_all, ReadsImage, MakesFile}}
 use Rattle.nfs_promises.specs.Network.SeenWrite as seen

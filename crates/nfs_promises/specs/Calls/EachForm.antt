@@ -72,8 +72,8 @@ pub record EachFormRunsRecords : Type 0 where
       × Logs c0 c1 (map (λ e. Moment e.moment) pieces) × RunUpTo Plain old new pieces written
   -- `serve_ports`: of the rounds that the connections and the clock showed, the parts that were stepped, on whatever ports, and the closes. What
   -- each port's peer is written `NothingIsLostInARun` says.
-  pub serve : (old new : ServerState) (desks : List Desk) (count : ℕ) (l0 l1 : Option (List Deed)) (c0 c1 : Option (List Told))
-      → (served : ServesRounds old new desks count l0 l1 c0 c1) → (moves : List Move) × RunsRecords old new (script served.rounds) moves
+  pub serve : (most : ℕ) (old new : ServerState) (desks : List Desk) (count : ℕ) (l0 l1 : Option (List Deed)) (c0 c1 : Option (List Told))
+      → (served : ServesRounds most old new desks count l0 l1 c0 c1) → (moves : List Move) × RunsRecords old new (script served.rounds) moves
   -- A run behind a run is one: so what any of these leaves, one after the other, is what a list of records leaves of a new server.
   pub goes_on : (find : List ℕ → Option Answer) (start : Start) (before records : List Arrival) → (let s = server find start in
       ran s (ran s s.new before) records ≡ ran s s.new (before ++ records))

@@ -11,10 +11,10 @@ use Rattle.nfs_compound.specs.declared.op.Op.TheVariants as Op
 -- The lease is told: a GETATTR of attribute 10, lease_time, whatever else it asks for, that answers NFS4_OK gives the very number of seconds that leases last.
 abbrev pub LeaseIsTold : Type 0
 LeaseIsTold = (start : Start) (records : List Arrival) (c : Arrival) (d : RanOp) (words : List ℕ) → In d (ops_of (reached start records) c)
-    → d.item ≡ Operation (Op.GetAttr words) → has (mask_of words) 10 ≡ true → is_ok d.status ≡ true → TellsValue 10 (number start.lease) (mask_of words) d.result
+    → d.item ≡ Operation (Op.GetAttr words) → has (mask_of words) 10 ≡ true → is_ok d.status ≡ true → TellsValue d.before.store.tree.profile 10 (number start.lease) (mask_of words) d.result
 
 -- A READDIR of entries with attribute 10, lease_time, whatever else it asks for, that answers NFS4_OK gives with each entry the very number of seconds that leases last.
 abbrev pub LeaseIsListed : Type 0
 LeaseIsListed = (start : Start) (records : List Arrival) (c : Arrival) (d : RanOp) (a : ReadDir) → In d (ops_of (reached start records) c)
     → d.item ≡ Operation (Op.ReadDir a) → has (mask_of a.attr_request) 10 ≡ true → is_ok d.status ≡ true
-    → EntriesTell 10 (number start.lease) (mask_of a.attr_request) d.result
+    → EntriesTell d.before.store.tree.profile 10 (number start.lease) (mask_of a.attr_request) d.result

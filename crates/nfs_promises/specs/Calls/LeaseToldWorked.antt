@@ -6,6 +6,7 @@ use Rattle.nfs_results.specs.{declared.res.Fattr.Fattr, Results.done_head}
 use Rattle.nfs_attrs.specs.Mask.{mask_of, has}
 use Rattle.nfs_names.specs.Outcome.{is_ok}
 use Rattle.nfs_exec.specs.Runs.Ops.{RanOp}
+use Rattle.nfs_tree.specs.declared.profile.Profile.TheVariants.{Exact}
 use Rattle.nfs_promises.specs.{Runs.{Requests.{words, in_session, listing_from}, AttributesTold.HasValue, Points.ops_of}, Network.Endpoint.Arrival}
 use Rattle.nfs_promises.specs.Locks.LockKeptWorked.{came, locked}
 use Rattle.nfs_compound.specs.declared.op_num.OpNum.TheVariants as Num
@@ -27,5 +28,5 @@ pub record IsListed : Type 0 where
   pub ten : has (mask_of asked.attr_request) 10 ≡ true
   pub ok : is_ok read.status ≡ true
   pub answers : read.result ≡ done_head Num.ReadDir ++ words (0 ∷ 0 ∷ 1 ∷ 0 ∷ 3 ∷ 1 ∷ 0x6600_0000 ∷ 1 ∷ 0x400 ∷ 4 ∷ 90 ∷ 0 ∷ 1 ∷ [])
-  pub right : HasValue 10 (number 90) (mask_of asked.attr_request) (told 90)
-  pub wrong : HasValue 10 (number 90) (mask_of asked.attr_request) (told 91) → ⊥
+  pub right : HasValue Exact 10 (number 90) (mask_of asked.attr_request) (told 90)
+  pub wrong : HasValue Exact 10 (number 90) (mask_of asked.attr_request) (told 91) → ⊥

@@ -11,7 +11,7 @@ id = record { client = 7 * 2 ^ 32 + 1; counter = 1 }
 
 -- a server that keeps no session behind a record
 abbrev pub forgetful : ServerState
-forgetful = record locked { machine = record locked.machine { sessions = no_sessions } }
+forgetful = record locked { machine = record locked.machine { sessions = no_sessions 64 } }
 
 -- none of these ends the session
 abbrev pub NoneEnds : ServerState → List Arrival → Type 0

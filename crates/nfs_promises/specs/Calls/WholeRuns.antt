@@ -1,10 +1,10 @@
 -- Whole runs of many connections over one server: each is the run of a script, and nothing is lost on a connection that is served at its
 -- end (RFC 5531 section 11). This server's profile.
-use Rattle.std.specs.Prelude.{◌≡◌, ◌≢◌, ◌≤◌, ℕ, nat_eq, List, [], ◌∷◌, ◌++◌, All, flat_map, true, if◌then◌else◌}
+use Rattle.std.specs.Prelude.{◌≡◌, ◌≢◌, ◌≤◌, ◌<◌, ℕ, nat_eq, List, [], ◌∷◌, ◌++◌, length, All, flat_map, true, if◌then◌else◌}
 use Rattle.nfs_rpc.specs.Stream.{IsReading}
-use Rattle.nfs_serve.specs.{declared.form.Form.TheVariants.Plain, Script.{Entry, last_connection, Fits}, Step.ServerState}
+use Rattle.nfs_serve.specs.{declared.form.Form.TheVariants.Plain, Script.{Entry, last_moment, most_piece}, Step.ServerState}
 use Rattle.nfs_serve.specs.{Run.{Streams, all_closed, TakesAll, StreamEvent, Arrives, Overflows, Move, events, after, after_event, output_of}, Server.Stands}
-use Rattle.nfs_serve.specs.{Desk.{Act, Closed, Stepped, Goes}, Hub.{Desks, none_live, Round, Opens, Turns, OthersStay, Turning}}
+use Rattle.nfs_serve.specs.{Desk.{most_ports, Act, Closed, Stepped, Goes}, Hub.{Desks, none_live, Round, Opens, Turns, OthersStay, Turning}}
 use Rattle.nfs_promises.specs.Calls.{Streams.call_on, NothingIsLost.{came, taken, part_of}}
 
 -- an entry of no bytes closes its connection
@@ -25,12 +25,16 @@ entries_in (Turns port acts) = flat_map (entries_of port) acts
 abbrev pub script : List Round → List Entry
 script rounds = flat_map entries_in rounds
 
+-- what is told of an entry fits into a script, whose connections are here the ports
+abbrev pub IsEntry : Entry → Type 0
+IsEntry e = (e.moment ≤ last_moment) × (e.conn < most_ports) × (length e.piece ≤ most_piece)
+
 -- The rounds are the run of their script: for some choices, the state left is the run's, and what is held of each connection that is
 -- served stands for its stream.
 pub record RunsScript (old : ServerState) (rounds : List Round) (new : ServerState) (desks : Desks) : Type 0 where
   pub moves : List Move
   pub streams : Streams
-  pub fits : All Fits (script rounds)
+  pub fits : All IsEntry (script rounds)
   pub reads : TakesAll all_closed (script rounds) (events moves) streams
   pub state : new ≡ after old moves
   pub stands : (port : ℕ) → (desks port).live ≡ true → Stands (streams port) (desks port).stream
@@ -82,7 +86,7 @@ NothingIsLostInARun = (old new : ServerState) (rounds : List Round) (desks : Des
 
 -- rounds, and behind them some acts of a turn that has not ended yet
 abbrev pub TurningInto : ServerState → Desks → List Round → ℕ → List Act → ServerState → Desks → Type 0
-TurningInto s old rounds port acts t new = (u : ServerState) × (between : Desks) × Turning s old rounds u between × (port ≤ last_connection)
+TurningInto s old rounds port acts t new = (u : ServerState) × (between : Desks) × Turning s old rounds u between × (port < most_ports)
     × Goes port u (between port) acts t (new port) × OthersStay between new port
 
 -- and so it does behind each act of a turn: of each connection, up to its end

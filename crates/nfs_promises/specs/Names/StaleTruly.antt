@@ -7,7 +7,6 @@ use Rattle.nfs_attrs.specs.{declared.handle.Handle.Handle, Handle.handle_of}
 use Rattle.nfs_names.specs.{declared.{start.Start.Start, context.Saved.Saved}, State.is_used}
 use Rattle.nfs_exec.specs.Runs.Ops.{RanOp}
 use Rattle.nfs_promises.specs.{Runs.Points.{reached, ops_of}, Network.Endpoint.Arrival, Names.FileStays.{is_on_current, is_on_saved}}
-use Rattle.nfs_compound.specs.declared.op.Op.TheVariants as Op
 
 -- Which object is gone. The filehandle of a PUTFH may also have been given by another start of the server.
 pub data IsStaleFor (d : RanOp) : Type 0 where

@@ -1,11 +1,12 @@
 -- Permission: what an operation does to an object is what the object's mode, owner and group give to its user, and what is refused by NFS4ERR_ACCESS is what they do not
 -- give (RFC 8881 sections 5.9, 6.2.4, 18.4, 18.9, 18.13, 18.14, 18.16, 18.22, 18.23, 18.25 and 18.32).
-use Rattle.std.specs.{Prelude.{◌≡◌, ◌≢◌, ℕ, ◌/◌, ◌%◌, ◌||◌, Bool, true, false, List, [], ◌∷◌, Option, Some, None, Ok, option_map}, Int.bit_at}
+use Rattle.std.specs.{Prelude.{◌≡◌, ◌≢◌, ◌⊎◌, ℕ, ◌/◌, ◌%◌, ◌||◌, Bool, true, false, List, [], ◌∷◌, Option, Some, None, Ok, option_map}, Int.bit_at}
 use Rattle.nfs_xdr.specs.{Caller.Caller, Tables.In, declared.status.Status.TheVariants.Access}
 use Rattle.nfs_compound.specs.{declared.file_args.Read.Read, declared.file_args.Write.Write, declared.op.Item.Item, declared.op.Item.TheVariants.Operation}
 use Rattle.nfs_compound.specs.{declared.open_args.Open.Open, declared.open_args.OpenClaim.TheVariants.{Null, Fh}, declared.stateid.Stateid.Stateid}
 use Rattle.nfs_compound.specs.declared.op.Op.TheVariants as Op
 use Rattle.nfs_tree.specs.{declared.object.Object.Object, Files.{Files, stored_in, object_named}}
+use Rattle.nfs_tree.specs.{declared.profile.Profile.Profile, declared.profile.Profile.TheVariants.{Exact, Unix}}
 use Rattle.nfs_opens.specs.{declared.records.OpenState.OpenState, declared.share.Share.Share, declared.stateid.CurrentSeqid.TheVariants.Any}
 use Rattle.nfs_opens.specs.{declared.stateid.StateId.StateId, StateId.{is_anonymous, is_bypass}, Table.Table}
 use Rattle.nfs_names.specs.{declared.start.Start.Start, Outcome.is_ok}
@@ -40,6 +41,16 @@ pub data Grants (r : Rights) (who : Caller) (right : Right) : Type 0 where
   ToOwner : who.uid ≡ r.owner → bit_at (r.mode / 64 % 8) (place right) ≡ 1 → Grants r who right
   ToGroup : who.uid ≢ r.owner → IsIn r.group who → bit_at (r.mode / 8 % 8) (place right) ≡ 1 → Grants r who right
   ToOthers : who.uid ≢ r.owner → (IsIn r.group who → ⊥) → bit_at (r.mode % 8) (place right) ≡ 1 → Grants r who right
+
+-- What lets a user read the bytes of a file: r. In `unix` x does too, since no program runs that is not read (section 6.2.1.3.2).
+abbrev pub GrantsBytes : Profile → Rights → Caller → Type 0
+GrantsBytes Exact r who = Grants r who Reads
+GrantsBytes Unix r who = Grants r who Reads ⊎ Grants r who Executes
+
+-- .. and use them, in this way
+abbrev pub GrantsUse : Right → Profile → Rights → Caller → Type 0
+GrantsUse Reads p r who = GrantsBytes p r who
+GrantsUse right p r who = Grants r who right
 
 abbrev pub rights_of : Object → Rights
 rights_of o = record { mode = o.mode; owner = o.owner; group = o.group }
@@ -79,38 +90,38 @@ pub record IsAt (n : ℕ) (r : Rights) (d : RanOp) : Type 0 where
 abbrev pub is_special : StateId → Bool
 is_special id = is_anonymous id || is_bypass id
 
-pub record ByStateid (n : ℕ) (r : Rights) (d : RanOp) (given : Stateid) (right : Right) : Type 0 where
-  pub special : (id : StateId) → meant d.context Any given ≡ Ok id → is_special id ≡ true → Grants r d.context.who right
+pub record ByStateid (p : Profile) (n : ℕ) (r : Rights) (d : RanOp) (given : Stateid) (right : Right) : Type 0 where
+  pub special : (id : StateId) → meant d.context Any given ≡ Ok id → is_special id ≡ true → GrantsUse right p r d.context.who
   pub state : (id : StateId) → meant d.context Any given ≡ Ok id → is_special id ≡ false → HasOpen d.before.store.opens d.context.client n right
 
--- What was answered NFS4_OK was granted.
-pub record IsGranted (d : RanOp) : Type 0 where
+-- What was answered NFS4_OK was granted, by the server's profile.
+pub record IsGranted (p : Profile) (d : RanOp) : Type 0 where
   pub named : (n : ℕ) (r : Rights) → IsAt n r d → is_ok d.status ≡ true → (right : Right) → In right (wants d.item) → Grants r d.context.who right
-  pub read : (n : ℕ) (r : Rights) → IsAt n r d → is_ok d.status ≡ true → (a : Read) → d.item ≡ Operation (Op.Read a) → ByStateid n r d a.stateid Reads
-  pub written : (n : ℕ) (r : Rights) → IsAt n r d → is_ok d.status ≡ true → (a : Write) → d.item ≡ Operation (Op.Write a) → ByStateid n r d a.stateid Writes
+  pub read : (n : ℕ) (r : Rights) → IsAt n r d → is_ok d.status ≡ true → (a : Read) → d.item ≡ Operation (Op.Read a) → ByStateid p n r d a.stateid Reads
+  pub written : (n : ℕ) (r : Rights) → IsAt n r d → is_ok d.status ≡ true → (a : Write) → d.item ≡ Operation (Op.Write a) → ByStateid p n r d a.stateid Writes
   -- an OPEN by a name: the directory in which it is found, or is made
   pub entered : (n : ℕ) (r : Rights) → IsAt n r d → is_ok d.status ≡ true → (a : Open) (name : List ℕ) → d.item ≡ Operation (Op.Open a) → a.claim ≡ Null name
       → Grants r d.context.who Executes × (object_named d.before.store.tree n name ≡ None → Grants r d.context.who Writes)
   -- an OPEN of a file that is there: all that it asks for
   pub opened : (n : ℕ) (r : Rights) → rights_at d.before.store.tree n ≡ Some r → is_ok d.status ≡ true → (a : Open) → d.item ≡ Operation (Op.Open a)
-      → claimed d.before.store.tree d.context a.claim ≡ Some n → (right : Right) → has_right (access_of a) right ≡ true → Grants r d.context.who right
+      → claimed d.before.store.tree d.context a.claim ≡ Some n → (right : Right) → has_right (access_of a) right ≡ true → GrantsUse right p r d.context.who
 
 -- What was refused by NFS4ERR_ACCESS was not: not all that was wanted.
-pub record IsRefused (d : RanOp) : Type 0 where
+pub record IsRefused (p : Profile) (d : RanOp) : Type 0 where
   pub named : (n : ℕ) (r : Rights) → IsAt n r d → d.status ≡ Access → (first : Right) → In first (wants d.item)
       → ((right : Right) → In right (wants d.item) → Grants r d.context.who right) → ⊥
-  pub read : (n : ℕ) (r : Rights) → IsAt n r d → d.status ≡ Access → (a : Read) → d.item ≡ Operation (Op.Read a) → Grants r d.context.who Reads → ⊥
+  pub read : (n : ℕ) (r : Rights) → IsAt n r d → d.status ≡ Access → (a : Read) → d.item ≡ Operation (Op.Read a) → GrantsBytes p r d.context.who → ⊥
   pub written : (n : ℕ) (r : Rights) → IsAt n r d → d.status ≡ Access → (a : Write) → d.item ≡ Operation (Op.Write a) → Grants r d.context.who Writes → ⊥
   -- an OPEN by a name: not all of the directory, or not all that it asks for of a file that is there
   pub opened : (n : ℕ) (r : Rights) → IsAt n r d → d.status ≡ Access → (a : Open) (name : List ℕ) → d.item ≡ Operation (Op.Open a) → a.claim ≡ Null name
       → Grants r d.context.who Executes → (object_named d.before.store.tree n name ≡ None → Grants r d.context.who Writes)
       → ((m : ℕ) (q : Rights) → object_named d.before.store.tree n name ≡ Some m → rights_at d.before.store.tree m ≡ Some q → (right : Right)
-      → has_right (access_of a) right ≡ true → Grants q d.context.who right) → ⊥
+      → has_right (access_of a) right ≡ true → GrantsUse right p q d.context.who) → ⊥
   -- and by a filehandle
   pub opened_again : (n : ℕ) (r : Rights) → IsAt n r d → d.status ≡ Access → (a : Open) → d.item ≡ Operation (Op.Open a) → a.claim ≡ Fh
-      → ((right : Right) → has_right (access_of a) right ≡ true → Grants r d.context.who right) → ⊥
+      → ((right : Right) → has_right (access_of a) right ≡ true → GrantsUse right p r d.context.who) → ⊥
 
 -- In every run of a server, of each operation that runs.
 abbrev pub PermissionsHold : Type 0
 PermissionsHold = (start : Start) (records : List Arrival) (c : Arrival) (d : RanOp) → In d (ops_of (reached start records) c)
-    → IsGranted d × IsRefused d
+    → IsGranted start.profile d × IsRefused start.profile d

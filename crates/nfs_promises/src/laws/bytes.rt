@@ -8,6 +8,7 @@ ghost use Rattle.nfs_promises.specs.Bytes.{ChangesFit.LastStays, ChangesFitWorke
 ghost use Rattle.nfs_promises.specs.Bytes.{CloseToOpenWorked.StaleBytesRefused, EntriesAlike.EntriesAreAlike, EntriesAlikeWorked.IsToldAlike};
 ghost use Rattle.nfs_promises.specs.Bytes.{EntriesAlikeWorked.{EntriesAreRefused, AttributesAreRefused}, FileRead.ReadsAreWhole, FileReadWorked.IsReadWhole};
 ghost use Rattle.nfs_promises.specs.Bytes.{FileReadWorked.ReadsAreRefused, HandleBytes.BytesFollow, HandleBytesWorked.AreReadBack, WrittenStays.BytesStay};
+ghost use Rattle.nfs_promises.specs.Bytes.{TimesRise.{TimesRise, TimesAreTold}, TimesRiseWorked.{TimesAreTwo, TimesAreRefused}};
 ghost use Rattle.nfs_promises.specs.Bytes.WrittenStaysWorked.{StaysTo, BytesRefused};
 
 /// What was written to a filehandle is read from it, by whomever, until a WRITE, a SETATTR of a size or an OPEN that sets it 0 changes the byte, of what may be that file by
@@ -53,7 +54,8 @@ pub fn reads_are_alike()
     ensures { ReadsAreAlike }
 {}
 
-/// While an object's change is the same, two GETATTRs of the same attributes that are answered NFS4_OK are answered the same.
+/// While an object's change is the same, two GETATTRs of the same attributes that are answered NFS4_OK are answered the same: in `unix` if they ask for neither 21 nor 22,
+/// which are the file system's.
 pub fn attributes_are_alike()
     ensures { AttributesAreAlike }
 {}
@@ -120,12 +122,33 @@ pub fn changes_are_new()
     ensures { ChangesAreNew }
 {}
 
+/// In `unix` times tell too: of two changes that were answered NFS4_OK, of one object or of two, the later gives the later time, within a second as well, as long as the
+/// nanoseconds do not come to 10^9; and another one, as long as fewer than 10^9 operations ran between. A GETATTR of the times gives them.
+pub fn times_rise()
+    ensures rise { TimesRise }
+    ensures told { TimesAreTold }
+{}
+
 /// In every run the change of an object is below 2^64; so the number that a GETATTR gives for it is the change itself; and what would change an object that has the last
 /// one is not answered NFS4_OK.
 pub fn changes_fit()
     ensures fit { ChangesFit }
     ensures read { ChangeIsRead }
     ensures last { LastStays }
+{}
+
+/// The definitions compute: in `unix` a file is written twice within one second, and a GETATTR behind each tells two times, of which the later is that of the second. That run
+/// meets the premises of `times_rise`.
+#[tactic(auto, using(crate::proofs::Bytes::TimesRiseWorked::times_are_two))]
+pub fn a_time_is_later()
+    ensures { TimesAreTwo }
+{}
+
+/// The definitions compute: over that run `times_rise` refuses a second WRITE that leaves the times of the first, one that gives whole seconds, and one that leaves the time of
+/// the bytes alone.
+#[tactic(auto, using(crate::proofs::Bytes::TimesRiseWorked::times_are_refused))]
+pub fn wrong_times_are_refused()
+    ensures { TimesAreRefused }
 {}
 
 /// The definitions compute: `changes_fit` refuses a GETATTR that gives the low eight bytes of the change 2^64 + 1, which are 1, and a WRITE to a file that has the last

@@ -50,7 +50,7 @@ pub fn nothing_is_lost_in_a_run()
     ensures within { NothingIsLostInATurn }
 {}
 
-/// Between two turns of a connection on which something waits to be stepped no more than 240 records of others run: 16 for each other port.
+/// Between two turns of a connection on which something waits to be stepped no more than 16 records of each other port run.
 #[tactic(auto, using(crate::proofs::Calls::WaitsForFew::waits_for_few))]
 pub fn waits_for_few()
     ensures { WaitsForFew }

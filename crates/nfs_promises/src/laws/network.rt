@@ -130,7 +130,7 @@ pub fn a_reply_is_had_again()
 {}
 
 /// The definitions compute: `lost_replies_can_be_had` refuses a small server that refuses repeats from slot 2 on, one that makes
-/// their answer anew and one that runs them again; `fresh_requests_run` refuses one that refuses everything; and `each_call_is_answered` refuses a call that is not answered, an answer under another xid and an answer to what is no call.
+/// their answer anew and one that runs them again; `fresh_requests_run` refuses one that refuses everything, and `next_requests_run` one that runs the first compound of each slot alone; and `each_call_is_answered` refuses a call that is not answered, an answer under another xid and an answer to what is no call.
 #[tactic(auto, using(crate::proofs::Network::WrongAnswers::answers_are_refused))]
 pub fn wrong_answers_are_refused()
     ensures { AnswersAreRefused }

@@ -23,6 +23,7 @@ fn the_last_counter_is_given_once(rt: HostRuntime) -> Result<(), Fail> {
     let mut sessions = Sessions {
         sessions: Vec::new(rt.alloc()),
         last: u64::MAX - 1,
+        most: 64,
     };
     let id = sessions.create(rt.alloc(), 7, &wish)?;
     assert_eq!(rt; id.counter, u64::MAX);

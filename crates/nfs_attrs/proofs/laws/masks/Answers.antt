@@ -2,13 +2,21 @@ use Rattle.std.proofs.Common.{refl, rules}
 use Rattle.nfs_attrs.specs.Attributes.{attributes}
 use Rattle.nfs_attrs.proofs.laws.masks.Goals as goal
 
-pub returns-clause-supported : goal.returns-clause-supported
+pub returns-clause-exact : goal.returns-clause-exact
 unfolding attributes
-returns-clause-supported c = refl
+returns-clause-exact c = refl
 
-pub returns-clause-readable : goal.returns-clause-readable
+pub returns-clause-unix : goal.returns-clause-unix
 unfolding attributes
-returns-clause-readable c = refl
+returns-clause-unix c = refl
+
+pub returns-clause-readable_exact : goal.returns-clause-readable_exact
+unfolding attributes
+returns-clause-readable_exact c = refl
+
+pub returns-clause-readable_unix : goal.returns-clause-readable_unix
+unfolding attributes
+returns-clause-readable_unix c = refl
 
 pub returns-clause-settable : goal.returns-clause-settable
 unfolding attributes

@@ -3,19 +3,19 @@ use Rattle.std.specs.Prelude.{Result, Ok, Err}
 use Rattle.nfs_compound.specs.declared.op_num.OpNum.TheVariants as Num
 use Rattle.nfs_results.specs.declared.res.Res.TheVariants as Res
 use Rattle.nfs_results.specs.Results.{refusal}
-use Rattle.nfs_tree.specs.{Bytes.has_bytes, Files.Files, declared.fault.TreeFault.TreeFault, Calls.{DoesOrWants, write_fault}}
+use Rattle.nfs_tree.specs.{declared.sets.Sets.Sets, Bytes.has_bytes, Files.Files, declared.fault.TreeFault.TreeFault, Calls.{DoesOrWants, write_fault}}
 use Rattle.nfs_xdr.specs.declared.time.Time.{Time}
 use Rattle.nfs_tree.specs.Calls as tree
 use Rattle.nfs_names.specs.{State.{state_of, with_tree}, Checks.current}
 use Rattle.nfs_names.proofs.{NameLaws.current_refuses, Faulted.{told_done, told_fault, told_error}}
-use Rattle.nfs_files.specs.{Write.{write_ok, with_bytes, last_checks, write}, Parts.{writable, was_written}}
+use Rattle.nfs_files.specs.{Bytes.behind_sets, Write.{write_ok, with_bytes, last_checks, write}, Parts.{writable, was_written}}
 use Rattle.nfs_files.proofs.{Seats.writable_refuses, WriteRows.{write_goes, write_stops}}
 use Rattle.nfs_files.proofs.bytes.write_bytes.Goals as goal
 use Rattle.nfs_files.proofs.InSteps.{write_is}
 
 -- what the tree did of a WRITE of bytes
-abbrev wrote : (t left : Files) (n offset : ℕ) → Time → List ℕ → Result (Unit {0}) TreeFault → Type 0
-wrote t left n offset now bytes r = DoesOrWants t (has_bytes bytes) (tree.write t n offset bytes now) r left
+abbrev wrote : (t left : Files) (n offset : ℕ) → Sets → Time → List ℕ → Result (Unit {0}) TreeFault → Type 0
+wrote t left n offset sets now bytes r = DoesOrWants t (has_bytes bytes) (tree.write t n offset bytes sets now) r left
 
 pub returns-in-Ok-write : goal.returns-in-Ok-write
 returns-in-Ok-write c =
@@ -26,9 +26,10 @@ returns-in-Ok-write c =
     let g = has_bytes w.bytes in
     ap (λ k. record { result = Res.Write k; state = with_tree s c.write.new.self; context = x }) c.write_ok.ensures
     ∙ told_done g g s x Num.Write (write s x c.args.now w) (λ u. Res.Write (write_ok s w)) (λ u. x) (write_fault s.tree d.number w.offset w.bytes)
-    tt c.in-Ok-write.field-0 (with_bytes s.tree w d c.args.now) c.write.new.self
+    tt c.in-Ok-write.field-0 (with_bytes s.tree x w d c.args.now) c.write.new.self
     (write_goes s x c.args.now w d (sym c.to_write.ensures ∙ c.in-Ok.is))
-    (subst (λ (b : List ℕ). wrote s.tree c.write.new.self d.number w.offset c.args.now b (Ok c.in-Ok-write.field-0)) c.bytes.ensures c.in-Ok-write.ensures)
+    (subst (λ (b : List ℕ). wrote s.tree c.write.new.self d.number w.offset (behind_sets s.tree x d) c.args.now b (Ok c.in-Ok-write.field-0)) c.bytes.ensures
+    (subst (λ (k : Sets). wrote s.tree c.write.new.self d.number w.offset k c.args.now c.bytes.result.now (Ok c.in-Ok-write.field-0)) c.behind_sets-sets.ensures c.in-Ok-write.ensures))
 
 pub returns-in-Err-write : goal.returns-in-Err-write
 returns-in-Err-write c =
@@ -40,9 +41,10 @@ returns-in-Err-write c =
     let v : writable s x w.stateid (current s x) ≡ Ok d = sym c.to_write.ensures ∙ c.in-Ok.is in
     let g = has_bytes w.bytes in
     told_fault g g s x Num.Write (write s x c.args.now w) (was_written s x c.args.now w d) _ (write_fault s.tree d.number w.offset w.bytes)
-    tt (with_bytes s.tree w d c.args.now) c.write.new.self f refl (c.refuse.ensures ∙ ap (refusal 38) c.status_of.ensures)
+    tt (with_bytes s.tree x w d c.args.now) c.write.new.self f refl (c.refuse.ensures ∙ ap (refusal 38) c.status_of.ensures)
     (write_goes s x c.args.now w d v) (write_stops s x c.args.now w d f v) refl
-    (subst (λ (b : List ℕ). wrote s.tree c.write.new.self d.number w.offset c.args.now b (Err f)) c.bytes.ensures c.in-Err-write.ensures)
+    (subst (λ (b : List ℕ). wrote s.tree c.write.new.self d.number w.offset (behind_sets s.tree x d) c.args.now b (Err f)) c.bytes.ensures
+    (subst (λ (k : Sets). wrote s.tree c.write.new.self d.number w.offset k c.args.now c.bytes.result.now (Err f)) c.behind_sets-sets.ensures c.in-Err-write.ensures))
 
 pub returns-in-Err : goal.returns-in-Err
 returns-in-Err c =

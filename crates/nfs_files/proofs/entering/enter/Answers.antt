@@ -20,7 +20,7 @@ returns-in_err-created-in-Absent c =
     let r = err_from_is_err_and c.from_residual-in_err-created-in-Absent.result c.from_residual-in_err-created-in-Absent.ensures.1 in
     let name = c.name_of-name.result.now in
     let new = tree_create.new_of c.new_file-new.result in
-    let sets = c.sets_of-sets.result in
+    let sets = c.made_sets-sets.result in
     let did = refused_tree t true (create_fault t d name new)
     (record { number = t.last_object + 1; directory = raised t d }) (with_new t d name new sets now) left f
     (subst (λ k. DoesOrWants t true (tree_create.create t d name new sets now) k left) c.in_err-created-in-Absent.was c.create.ensures) in

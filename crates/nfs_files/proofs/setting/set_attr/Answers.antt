@@ -19,7 +19,7 @@ returns-in-Ok-change c =
     let m = c.in-Ok.setting in
     let told : List ℕ → Res = Res.SetAttr Nfs4Ok in
     let leaves : Res → Files → Outcome = λ r t. record { result = r; state = with_tree s t; context = x } in
-    let after = with_set s.tree m.node.number c.args.now m.wanted m.wanted.size in
+    let after = with_set s.tree x m.node c.args.now m.wanted m.wanted.size in
     let did = did_ok s.tree (tree_fault s.tree m.node.number m.wanted m.wanted.size) tt c.in-Ok-change.field-0 after c.change.new.tree
     c.in-Ok-change.ensures.answer c.in-Ok-change.ensures.after in
     ap (λ set. leaves (told set) c.change.new.tree) (c.attr_set.ensures ∙ ap trimmed_words c.mask_in-given.ensures)
@@ -34,7 +34,7 @@ returns-in-Err-change c =
     let m = c.in-Ok.setting in
     let f = c.in-Err-change.fault in
     let leaves : Res → Files → Outcome = λ r t. record { result = r; state = with_tree s t; context = x } in
-    let after = with_set s.tree m.node.number c.args.now m.wanted m.wanted.size in
+    let after = with_set s.tree x m.node c.args.now m.wanted m.wanted.size in
     let did = does_err s.tree (tree_fault s.tree m.node.number m.wanted m.wanted.size) tt after c.change.new.tree f
     c.in-Err-change.ensures.answer c.in-Err-change.ensures.after in
     ap (λ r. leaves r c.change.new.tree) (c.refuse.ensures ∙ ap (refusal 34) c.status_of.ensures)

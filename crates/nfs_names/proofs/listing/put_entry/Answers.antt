@@ -12,8 +12,8 @@ pub returns-then-not-fits : goal.returns-then-not-fits
 returns-then-not-fits c =
     let e = listed_of c.args.entry.now in
     let told = told_as_asked (state_of c.args.store.now) c.mask.result c.args.asked.now
-    (record { number = c.args.entry.now.number; object = c.args.object.now }) c.about-about.result c.mask.ensures c.about-about.ensures in
-    let size = entry_length (state_of c.args.store.now) c.args.asked.now e c.args.object.now c.about-about.result c.requires.there told in
+    (record { number = c.args.entry.now.number; object = c.args.object.now }) c.about-about.result c.mask.ensures c.about-about.ensures.values in
+    let size = entry_length (state_of c.args.store.now) c.args.asked.now e c.args.object.now c.about-about.result c.requires.there told c.about-about.ensures.profile in
     record { put = (omega (arith, size, leb-false _ _ (sym c.fits.ensures ∙ c.if-not-fits.true)), refl); same = refl }
 
 pub write_entry-requires : goal.write_entry-requires
@@ -42,13 +42,13 @@ returns c =
     let o = c.args.object.now in
     let a = c.about-about.result in
     let told = told_as_asked (state_of c.args.store.now) c.mask.result c.args.asked.now
-    (record { number = c.args.entry.now.number; object = c.args.object.now }) c.about-about.result c.mask.ensures c.about-about.ensures in
-    let size = entry_length s c.args.asked.now e o a c.requires.there told in
+    (record { number = c.args.entry.now.number; object = c.args.object.now }) c.about-about.result c.mask.ensures c.about-about.ensures.values in
+    let size = entry_length s c.args.asked.now e o a c.requires.there told c.about-about.ensures.profile in
     record {
       put = (
         omega (arith, size, leb-true _ _ (sym c.fits.ensures ∙ c.if-not-fits.false)),
         subst (λ (text : List ℕ). Puts c.args.out.now c.write_asked.new.sheet text)
-            (sym (entry_parts s c.args.asked.now e o a c.requires.there told)) (puts_then c.write_entry.ensures c.write_asked.ensures.put),
+            (sym (entry_parts s c.args.asked.now e o a c.requires.there told c.about-about.ensures.profile)) (puts_then c.write_entry.ensures c.write_asked.ensures.put),
       );
       same = c.write_asked.ensures.same;
     }

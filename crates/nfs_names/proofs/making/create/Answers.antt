@@ -8,7 +8,7 @@ use Rattle.nfs_tree.specs.declared.done.Created.{Created}
 use Rattle.nfs_tree.specs.Calls as tree_create
 use Rattle.nfs_attrs.specs.{declared.mask.Mask.Mask, Mask.{mask_of, trimmed_words}}
 use Rattle.nfs_names.specs.{declared.context.Context.Context, State.{state_of, with_tree}, Context.at_object, Outcome.Outcome}
-use Rattle.nfs_names.specs.{Create.{new_of, sets_of, change_info, create}, Fronts.creating}
+use Rattle.nfs_names.specs.{Create.{new_of, made_sets, change_info, create}, Fronts.creating}
 use Rattle.nfs_names.proofs.{NameLaws.created, Changing.{creating_refuses, create_asks, goes, stops, errs}, Faulted.{told_done, told_fault, told_stop}}
 use Rattle.nfs_names.proofs.making.create.Goals as goal
 use Rattle.nfs_names.proofs.making.create.Goals.{After-create}
@@ -18,15 +18,15 @@ abbrev does : (c : After-create) → List ℕ → New → Sets → Result Create
 does c name new sets r = DoesOrWants c.args.store.now.tree true
     (tree_create.create c.args.store.now.tree c.in-Ok.making.place.number name new sets c.args.now) r c.create.new.self
 
-as_asked : (c : After-create) (r : Result Created TreeFault) → does c c.bytes.result.now (tree_create.new_of c.new_of-new.result) c.sets_of-sets.result r
+as_asked : (c : After-create) (r : Result Created TreeFault) → does c c.bytes.result.now (tree_create.new_of c.new_of-new.result) c.made_sets-sets.result r
     → does c c.args.asked.now.objname (new_of c.args.asked.now.objtype)
-    (sets_of c.args.context.now c.args.now (new_of c.args.asked.now.objtype) c.in-Ok.making.wanted) r
+    (made_sets (state_of c.args.store.now) c.args.context.now c.args.now c.in-Ok.making.place (new_of c.args.asked.now.objtype) c.in-Ok.making.wanted) r
 as_asked c r did =
-    let sets : New → Sets = λ n. sets_of c.args.context.now c.args.now n c.in-Ok.making.wanted in
+    let sets : New → Sets = λ n. made_sets (state_of c.args.store.now) c.args.context.now c.args.now c.in-Ok.making.place n c.in-Ok.making.wanted in
     let name : List ℕ = c.args.asked.now.objname in
     subst (λ (n : New). does c name n (sets n) r) c.new_of-new.ensures
-    (subst (λ (k : Sets). does c name (tree_create.new_of c.new_of-new.result) k r) c.sets_of-sets.ensures
-    (subst (λ (b : List ℕ). does c b (tree_create.new_of c.new_of-new.result) c.sets_of-sets.result r) c.bytes.ensures did))
+    (subst (λ (k : Sets). does c name (tree_create.new_of c.new_of-new.result) k r) c.made_sets-sets.ensures
+    (subst (λ (b : List ℕ). does c b (tree_create.new_of c.new_of-new.result) c.made_sets-sets.result r) c.bytes.ensures did))
 
 pub returns-in-Ok-create : goal.returns-in-Ok-create
 returns-in-Ok-create c =
@@ -43,7 +43,7 @@ returns-in-Ok-create c =
     ap (λ r. outcome r c.go_to.new.self) (c.create_ok.ensures ∙ ap given c.mask_in-given.ensures) ∙ ap (outcome (told_ok made)) c.go_to.ensures
     ∙ told_done true true s x Num.Create (create s x c.args.now a) (λ k. Res.Create (told_ok k)) (λ (k : Created). at_object x k.number)
     (create_fault s.tree d a.objname new) (record { number = s.tree.last_object + 1; directory = raised s.tree d }) made
-    (with_new s.tree d a.objname new (sets_of x c.args.now new m.wanted) c.args.now) c.create.new.self
+    (with_new s.tree d a.objname new (made_sets s x c.args.now m.place new m.wanted) c.args.now) c.create.new.self
     (λ none. goes (create_asks s x c.args.now a) m (sym c.judge_making.ensures ∙ c.in-Ok.is) none)
     (as_asked (goal.at.returns-in-Ok-create c).After-create (Ok made) c.in-Ok-create.ensures)
 
@@ -58,7 +58,7 @@ returns-in-Err-create c =
     let f = c.in-Err-create.fault in
     let v : creating s x a ≡ Ok m = sym c.judge_making.ensures ∙ c.in-Ok.is in
     told_fault true true s x Num.Create (create s x c.args.now a) (created s x c.args.now a m.place m.wanted) _ (create_fault s.tree d a.objname new)
-    (record { number = s.tree.last_object + 1; directory = raised s.tree d }) (with_new s.tree d a.objname new (sets_of x c.args.now new m.wanted) c.args.now)
+    (record { number = s.tree.last_object + 1; directory = raised s.tree d }) (with_new s.tree d a.objname new (made_sets s x c.args.now m.place new m.wanted) c.args.now)
     c.create.new.self f refl (c.refuse.ensures ∙ ap (Res.Refused 6) c.status_of.ensures)
     (λ none. goes (create_asks s x c.args.now a) m v none)
     (λ some. stops (create_asks s x c.args.now a) m f v some) refl

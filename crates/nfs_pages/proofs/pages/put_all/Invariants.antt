@@ -1,12 +1,12 @@
 use Rattle.std.proofs.Common.{◌≡◌, ◌≤◌, ◌-◌, ℕ, length, take}
-use Rattle.nfs_pages.specs.Pages.{byte_in, page_of, chosen}
+use Rattle.nfs_pages.specs.{Bytes.written_byte, Pages.{byte_in, page_of}}
 use Rattle.nfs_pages.proofs.pages.put_all.Given as goal
 
 abbrev pub invariant-loop-done : goal.invariant-loop-done
 invariant-loop-done l = record {
   done : l.done ≤ length l.text;
   whole : (k : ℕ) → length (page_of l.pages k) ≡ length (page_of l.initial.pages k);
-  bytes : (p : ℕ) → byte_in (page_of l.pages) p ≡ chosen l.offset (take l.done l.text) (byte_in (page_of l.initial.pages)) p;
+  bytes : (p : ℕ) → byte_in (page_of l.pages) p ≡ written_byte (byte_in (page_of l.initial.pages)) l.offset (take l.done l.text) p;
 }
 
 abbrev pub decreases-loop-done : goal.decreases-loop-done

@@ -1,16 +1,28 @@
-use Rattle.std.proofs.Common.{◌≤◌, ◌<◌, length, length-set, rules}
-use Rattle.nfs_serve.specs.{Server.state_of, Hub.at, Lane.desks_of}
-use Rattle.nfs_serve.proofs.Sweeps.{sweep_start, visited}
+use Rattle.std.proofs.Common.{◌≡◌, ◌≤◌, length, arith, subst, refl, ◌∙◌, rules}
+use Rattle.nfs_serve.specs.{Server.state_of, Hub.at, Lane.desks_of, Sweep.SweepsBelow}
+use Rattle.nfs_serve.proofs.Sweeps.{sweep_start}
 use Rattle.nfs_serve.proofs.hub.sweep.Goals as goal
 
 pub loop-port-init : goal.loop-port-init
-loop-port-init g c = record { length = c.requires.ports; sweeps = sweep_start (state_of c.args.engine.now.kept) (at (desks_of c.args.lanes.now)) _ _ }
+loop-port-init g c = record {
+  kept = refl;
+  within = omega arith;
+  sweeps = sweep_start (state_of c.args.engine.now.kept) (at (desks_of c.args.lanes.now)) _ _;
+}
 
 pub loop-port-preserved : goal.loop-port-preserved
 loop-port-preserved g c =
-    let within : c.loop-port.port < length c.loop-port.lanes = search rules in
-    let le : c.loop-port.port ≤ 15 = search rules in record {
-      length = rw length-set c.loop-port.invariant.length;
-      sweeps = visited _ _ _ (at (desks_of c.args.lanes.now)) c.loop-port.lanes c.loop-port.port c.index-lanes-port.result c.visit.new.self _ _ _ _ _ _
-          c.loop-port.invariant.sweeps le within c.visit.ensures;
+    let before = c.loop-port.invariant in
+    let same = c.visit_next-port.ensures.length in record {
+      kept = same ∙ before.kept;
+      within = omega (arith, c.visit_next-port.ensures.order.1, same);
+      sweeps = c.visit_next-port.ensures.sweeps _ _ _ _ before.sweeps;
     }
+
+pub returns-clause-sweeps : goal.returns-clause-sweeps
+returns-clause-sweeps g c =
+    let before = c.loop-port.invariant in
+    let past : length c.loop-port.lanes ≤ c.loop-port.port = search rules in
+    let all : c.loop-port.port ≡ length c.args.lanes.now = omega (arith, before.within, before.kept, past) in
+    subst (λ n. SweepsBelow n (state_of c.args.engine.now.kept) (at (desks_of c.args.lanes.now)) (state_of c.loop-port.engine.kept) (at (desks_of c.loop-port.lanes))
+    (g.P.Ports.log c.args.ports.now) (g.P.Ports.log c.loop-port.ports) (g.C.Clock.told c.args.clock.now) (g.C.Clock.told c.loop-port.clock)) all before.sweeps

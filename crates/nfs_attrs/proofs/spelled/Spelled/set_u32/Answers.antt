@@ -21,4 +21,4 @@ returns c =
     let four : at + 4 - at ≡ 4 = omega arith in
     let here = written b (number c.args.value) len at within fits refl in
     let whole = here ∙ sym (append_assoc (take at (take len b)) (number c.args.value) (drop (at + 4) (take len b))) in
-    rw (← c.self.view_is, four, drop-drop 4 at b, c.copy_from_slice.ensures.after, c.to_be_bytes.ensures) (ap (λ (w : List ℕ). record { bytes = w; room = 376 }) whole)
+    rw (← c.self.view_is, four, drop-drop 4 at b, c.copy_from_slice.ensures.after, c.to_be_bytes.ensures) (ap (λ (w : List ℕ). record { bytes = w; room = 436 }) whole)

@@ -1,6 +1,7 @@
-use Rattle.std.proofs.Common.{sym, ◌∙◌}
-use Rattle.nfs_clients.specs.CreateSession.{keeps}
-use Rattle.nfs_clients.proofs.{Members.{mild_keeps, keeps_used, not_kept}, Changes.{changed_view, changed_roster, unchanged_view}}
+use Rattle.std.proofs.Common.{Some, refl, sym, ◌∙◌}
+use Rattle.nfs_xdr.specs.Numbers.{next_number}
+use Rattle.nfs_clients.specs.Roster.{ClientRecord, Roster}
+use Rattle.nfs_clients.proofs.{Members.{IsMild, not_kept, roster_changed}, IndexLemmas.mild_index}
 use Rattle.nfs_clients.proofs.clients.Clients.keep_created.Goals as goal
 
 pub returns-then-not-uses_up : goal.returns-then-not-uses_up
@@ -8,14 +9,7 @@ returns-then-not-uses_up c = not_kept c.args.self.now c.args.client c.args.creat
 
 pub invariant_of-self : goal.invariant_of-self
 invariant_of-self c =
-    changed_roster (keeps c.args.created) _ _ c.args.client _ _ _
-    (mild_keeps c.args.created) c.self.view_is c.self.invariant c.in-Some.ensures c.index_mut.ensures.value
-    (c.keep.ensures ∙ keeps_used c.args.created _ (sym c.uses_up.ensures ∙ c.if-not-uses_up.false))
-
-pub returns-in-Some : goal.returns-in-Some
-returns-in-Some c =
-    changed_view (keeps c.args.created) _ _ c.args.client _ _ _ c.self.view_is c.self.invariant c.in-Some.ensures c.index_mut.ensures.value
-    (c.keep.ensures ∙ keeps_used c.args.created _ (sym c.uses_up.ensures ∙ c.if-not-uses_up.false))
-
-pub returns-in_default : goal.returns-in_default
-returns-in_default c = unchanged_view (keeps c.args.created) _ c.args.client c.in_default.ensures
+    let f : ClientRecord → ClientRecord = λ x. record x { number = next_number x.number; kept = Some c.args.created } in
+    let mild : IsMild f = record { id = λ x. refl; owner = λ x. refl; mark = λ x. refl } in
+    let t : Roster = record { records = c.self.inside.records; last = c.self.inside.last; most = c.self.inside.most } in
+    rw c.keep.ensures (roster_changed f t c.args.client mild c.self.invariant.0, mild_index f mild c.args.client c.self.inside.records _ c.self.invariant.1)

@@ -7,7 +7,7 @@ use Rattle.nfs_clients.proofs.clients.Clients.next_id.Goals as goal
 pub returns-clause-fresh : goal.returns-clause-fresh
 returns-clause-fresh c =
     let t : Roster = c.args.self.now in
-    let is : IsRoster t = subst IsRoster c.self.view_is c.self.invariant in
+    let is : IsRoster t = subst IsRoster c.self.view_is c.self.invariant.0 in
     let last = ap (λ (t : Roster). t.last) c.self.view_is in
     let low = is.instance in
     elim (cases_lt (next_id t) 18446744073709551616) [

@@ -1,4 +1,4 @@
-use Rattle.std.proofs.{Common.{◌≡◌, ◌<◌, rules, arith, ap, sym, ◌∙◌, [], ◌∷◌, ◌++◌, length, inl, inr}, lemmas.List.nil_from_length}
+use Rattle.std.proofs.{Common.{◌≡◌, ◌<◌, rules, arith, ap, sym, ◌∙◌, [], ◌∷◌, ◌++◌, length, inl}, lemmas.List.nil_from_length}
 use Rattle.nfs_serve.specs.{Desk.{Came, ReadBlocked, Ended, Failed, IsHungry}, Lane.desk_of}
 use Rattle.nfs_serve.proofs.Advancing.{goes_on, read_blocked, read_came, read_ended, read_failed, reads_blocked, reads_none, reads_last, reads_between}
 use Rattle.nfs_serve.proofs.Spending.{spends_on, spends_came, spends_blocked, spends_ended, spends_failed}
@@ -11,7 +11,7 @@ hungry : (g : given.Over) (c : After-receive g) → IsHungry (desk_of c.settle.n
 hungry g c =
     let (xs, first, (live, stream, enough, owed), none, spent) = c.in-Clear.ensures in
     let empty : length c.rest.result.now ≡ 0 = search rules in
-    record { live = live; short = stream; unread = sym c.rest.ensures ∙ nil_from_length _ empty; owed = owed; few = search rules }
+    record { live = live; short = stream; unread = sym c.rest.ensures ∙ nil_from_length _ empty; owed = owed }
 
 pub returns-in-Stuck : goal.returns-in-Stuck
 returns-in-Stuck g c = let (xs, first, stuck, none, spent) = c.in-Stuck.ensures in (xs, first, ends_stuck _ (reads_none xs none) spent stuck)
@@ -24,13 +24,6 @@ returns-then-not-is_empty g c =
     let (xs, first, (live, stream, enough, owed), none, spent) = c.in-Clear.ensures in
     let some : 0 < length c.settle.new.self.unread = search rules in
     (xs, first, ends_full _ (reads_none xs none) spent live enough some owed)
-
-pub returns-then-self-ge-MAX_READS : goal.returns-then-self-ge-MAX_READS
-returns-then-self-ge-MAX_READS g c =
-    let (xs, first, (live, stream, enough, owed), none, spent) = c.in-Clear.ensures in
-    let empty : length c.rest.result.now ≡ 0 = search rules in
-    let unread = sym c.rest.ensures ∙ nil_from_length _ empty in
-    (xs, first, (reads_none xs none, (_, spent), inr (live, owed, inr (unread, search rules))))
 
 pub returns-in-Bytes : goal.returns-in-Bytes
 returns-in-Bytes g c =

@@ -5,7 +5,7 @@ use Rattle.nfs_serve.proofs.lane.Lane.flush.Goals as goal
 
 pub loop-ports-preserved : goal.loop-ports-preserved
 loop-ports-preserved g c =
-    let ((acts, so_far, spent), live, gone, heard, long, reads, unread) = c.loop-ports.invariant in
+    let ((acts, so_far, spent), live, gone, heard, long, unread) = c.loop-ports.invariant in
     let n = c.in-Bytes.n in
     let owed = c.loop-ports.self.owed.bytes in
     let some : 0 < length (take n c.rest-in-loop-ports.result.now) = search rules in
@@ -24,13 +24,12 @@ loop-ports-preserved g c =
       gone,
       heard,
       long,
-      reads,
       unread,
     )
 
 pub returns-in-Blocked : goal.returns-in-Blocked
 returns-in-Blocked g c =
-    let ((acts, so_far, spent), live, gone, heard, long, reads, unread) = c.loop-ports.invariant in
+    let ((acts, so_far, spent), live, gone, heard, long, unread) = c.loop-ports.invariant in
     let owed : 0 < length c.loop-ports.self.owed.bytes = search rules in (
       acts ++ WriteBlocked ∷ [],
       quiet_on _ acts (WriteBlocked ∷ []) _ _ _ _ _ _ so_far
@@ -41,7 +40,7 @@ returns-in-Blocked g c =
 
 pub returns-in-Failed : goal.returns-in-Failed
 returns-in-Failed g c =
-    let ((acts, so_far, spent), live, gone, heard, long, reads, unread) = c.loop-ports.invariant in (
+    let ((acts, so_far, spent), live, gone, heard, long, unread) = c.loop-ports.invariant in (
       acts ++ Failed ∷ [],
       rw c.leave.ensures (quiet_on _ acts (Failed ∷ []) _ _ leaving _ _ _ so_far
           (quiet_act _ Failed _ _ _ _ refl refl refl (λ s. (refl, live, refl)) c.in-Failed.ensures.logs)),

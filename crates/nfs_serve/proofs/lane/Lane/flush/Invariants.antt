@@ -6,7 +6,7 @@ use Rattle.nfs_serve.proofs.lane.Lane.flush.Given as goal
 abbrev pub invariant-loop-ports : goal.invariant-loop-ports
 invariant-loop-ports g l =
     ((acts : List Act) × Quiet l.port acts (desk_of l.fn.self) (desk_of l.self) (g.P.Ports.log l.fn.ports) (g.P.Ports.log l.ports) × Spends acts l.fn.left l.left)
-    × (l.self.live ≡ true) × (l.self.gone ≡ l.fn.self.gone) × (l.self.heard ≡ l.fn.self.heard) × (l.self.connection ≡ l.fn.self.connection) × (l.self.reads ≡ l.fn.self.reads) × (l.self.unread ≡ l.fn.self.unread)
+    × (l.self.live ≡ true) × (l.self.gone ≡ l.fn.self.gone) × (l.self.heard ≡ l.fn.self.heard) × (l.self.connection ≡ l.fn.self.connection) × (l.self.unread ≡ l.fn.self.unread)
 
 abbrev pub decreases-loop-ports : goal.decreases-loop-ports
 decreases-loop-ports g l = length l.self.owed.bytes

@@ -33,7 +33,7 @@ returns-then-is_too_long g c =
     let long = sym c.is_too_long.ensures ∙ c.if-is_too_long.true in (
       acts ++ ys,
       goes_on so_far ys _ _ _ _ (quiet_advances _ ys _ _ _ _ _ _ quiet),
-      inr (still, ap (λ d. d.owed) clear, inl long),
+      inr (still, ap (λ d. d.owed) clear, long),
       none_read acts ys none_yet quiet.no_reads,
       spends_on acts ys _ _ _ spent flushed,
     )

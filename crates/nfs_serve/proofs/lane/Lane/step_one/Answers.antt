@@ -51,7 +51,6 @@ returns g c =
       heard = c.either-self.ensures ∙ ap (λ b. lane.heard || b) told ∙ heard_or lane.heard (answers_sequence out);
       live = refl;
       gone = refl;
-      reads = refl;
       shorter = shorter;
       one = omega (arith, c.requires.left);
       bytes = refl;

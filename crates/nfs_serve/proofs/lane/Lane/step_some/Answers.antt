@@ -13,7 +13,7 @@ loop-self-init g c =
       acts = acts;
       advances = subst (λ o. Advances c.args.port acts (record {
         state = state_of c.args.engine.now.kept;
-        desk = record { live = lane.live; gone = lane.gone; heard = lane.heard; stream = lane.connection; reads = lane.reads; unread = lane.unread; owed = o };
+        desk = record { live = lane.live; gone = lane.gone; heard = lane.heard; stream = lane.connection; unread = lane.unread; owed = o };
         log = g.P.Ports.log c.args.ports.now;
         told = g.C.Clock.told c.args.clock.now;
       }) (stand c.step_one.new.engine.kept c.step_one.new.self (g.P.Ports.log c.step_one.new.ports) (g.C.Clock.told c.step_one.new.clock)))

@@ -20,7 +20,7 @@ invariant_of-self c =
     let change : List SlotState → List SlotState =
     λ was. slots.keep was c.args.slot c.args.number c.args.uid c.args.args.now c.args.reply.now in
     let at = ap (λ (t : SessionTable). place_in t c.args.id.now) c.self.view_is ∙ sym c.in-Some.ensures.at in
-    let after = table_written t c.args.id.now c.self.inside.sessions.items c.self.inside.last c.in-Some.place c.index_mut-session.result.now
+    let after = table_written t c.args.id.now c.self.inside.sessions.items c.self.inside.last c.self.inside.most c.in-Some.place c.index_mut-session.result.now
     c.keep.new.self change is c.self.view_is at c.index_mut-session.ensures.value c.keep.ensures in
     subst IsSessions (sym after) (slots_changed t c.args.id.now change is)
 
@@ -31,7 +31,7 @@ returns-in-Some c =
     let change : List SlotState → List SlotState =
     λ was. slots.keep was c.args.slot c.args.number c.args.uid c.args.args.now c.args.reply.now in
     let at = ap (λ (t : SessionTable). place_in t c.args.id.now) c.self.view_is ∙ sym c.in-Some.ensures.at in
-    table_written t c.args.id.now c.self.inside.sessions.items c.self.inside.last c.in-Some.place c.index_mut-session.result.now
+    table_written t c.args.id.now c.self.inside.sessions.items c.self.inside.last c.self.inside.most c.in-Some.place c.index_mut-session.result.now
     c.keep.new.self change is c.self.view_is at c.index_mut-session.ensures.value c.keep.ensures
 
 pub returns-in_default : goal.returns-in_default

@@ -1,6 +1,6 @@
 use Rattle.std.proofs.{Common.{◌∙◌, ap, sym}, lemmas.Result.{on_ok_weaker, on_err_weaker}}
 use Rattle.nfs_xdr.proofs.Tables.{with_none}
-use Rattle.nfs_tree.specs.{declared.stored.Stored.Stored, Object.no_sets, Bytes.{with_bytes, written}, Files.stored_in, Indexed.numbered}
+use Rattle.nfs_tree.specs.{declared.stored.Stored.Stored, Bytes.{with_bytes, written}, Files.stored_in, Indexed.numbered}
 use Rattle.nfs_tree.proofs.IndexedLemmas.{can_of, written_as, written_same}
 use Rattle.nfs_tree.proofs.stored.Objects.write_in.Goals as goal
 
@@ -10,7 +10,7 @@ write-requires-clause-change c = can_of c.args.self.now c.args.number (numbered 
 
 pub returns-in-Some-clause-ok : goal.returns-in-Some-clause-ok
 returns-in-Some-clause-ok c = rw (← c.self.view_is) (on_ok_weaker c.write.result
-    (λ e. written_as (λ (s : Stored). with_bytes c.args.now no_sets (written s.bytes c.args.offset c.args.text.now) s) c.self.inside.shelf.items c.args.number
+    (λ e. written_as (λ (s : Stored). with_bytes c.args.now c.args.sets.now (written s.bytes c.args.offset c.args.text.now) s) c.self.inside.shelf.items c.args.number
     c.in-Some.stored.now c.write.new.self c.in-Some.ensures.one (e c.args.number))
     c.write.ensures.ok)
 
@@ -21,4 +21,4 @@ returns-in-Some-clause-err c = rw (← c.self.view_is) (on_err_weaker c.write.re
 
 pub returns-clause-ok : goal.returns-clause-ok
 returns-clause-ok c = rw (← c.self.view_is) (sym (with_none (λ (s : Stored). s.number)
-    (λ (s : Stored). with_bytes c.args.now no_sets (written s.bytes c.args.offset c.args.text.now) s) c.args.number c.self.inside.shelf.items (sym c.in_default.ensures.value)))
+    (λ (s : Stored). with_bytes c.args.now c.args.sets.now (written s.bytes c.args.offset c.args.text.now) s) c.args.number c.self.inside.shelf.items (sym c.in_default.ensures.value)))

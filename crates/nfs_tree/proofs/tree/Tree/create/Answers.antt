@@ -23,5 +23,5 @@ returns c =
     let made : Created = record { number = t.last_object + 1; directory = raised t d } in
     let after = with_new t d c.args.name.now new c.args.sets.now c.args.now in (
       ap Ok c.made-made.ensures ∙ sym (ap (λ o. (does_unless t o made after).answer) granted),
-      c.in_ok-insert.ensures.ok ∙ sym (ap (λ o. (does_unless t o made after).after) granted),
+      c.in_ok-insert.ensures.ok ∙ ap (λ s. with_new s d c.args.name.now new c.args.sets.now c.args.now) c.bytes_of.ensures.same ∙ sym (ap (λ o. (does_unless t o made after).after) granted),
     )

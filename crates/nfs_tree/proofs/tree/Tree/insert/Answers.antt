@@ -32,5 +32,5 @@ invariant_of-self-2 c =
     let new = new_of c.args.making.now.what.now in
     let is : IsTree t = subst IsTree c.self.view_is c.self.invariant in
     tree_of (with_new t c.args.making.now.directory c.args.making.now.name.now new c.args.making.now.sets.now c.args.making.now.time)
-    (tree_created t c.args.making.now.directory c.args.making.now.name.now new c.args.making.now.sets.now c.args.making.now.time is c.requires.granted c.requires.reached) _ _ _ _ _
-    (grind (arith, common_steps)) (grind (arith, common_steps)) (grind (arith, common_steps)) (grind (arith, common_steps)) (grind (arith, common_steps))
+    (tree_created t c.args.making.now.directory c.args.making.now.name.now new c.args.making.now.sets.now c.args.making.now.time is c.requires.granted c.requires.reached) _ _ _ _ _ _ _
+    (grind (arith, common_steps)) (grind (arith, common_steps)) (grind (arith, common_steps)) (grind (arith, common_steps)) (grind (arith, common_steps)) (grind (arith, common_steps))

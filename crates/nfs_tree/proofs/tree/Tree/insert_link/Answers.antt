@@ -36,5 +36,5 @@ invariant_of-self-2 c =
     let t = c.args.self.now in
     let is : IsTree t = subst IsTree c.self.view_is c.self.invariant in
     tree_of (with_link t c.args.number c.args.directory c.args.name.now c.args.now)
-    (tree_linked t c.args.number c.args.directory c.args.name.now c.args.now is c.requires.granted c.requires.reached) _ _ _ _ _
-    (grind (arith, common_steps)) (grind (arith, common_steps)) (grind (arith, common_steps)) (grind (arith, common_steps)) (grind (arith, common_steps))
+    (tree_linked t c.args.number c.args.directory c.args.name.now c.args.now is c.requires.granted c.requires.reached) _ _ _ _ _ _ _
+    (grind (arith, common_steps)) (grind (arith, common_steps)) (grind (arith, common_steps)) (grind (arith, common_steps)) (grind (arith, common_steps)) (grind (arith, common_steps))

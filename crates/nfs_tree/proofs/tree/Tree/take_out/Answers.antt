@@ -28,5 +28,5 @@ invariant_of-self c =
     let t = c.args.self.now in
     let is : IsTree t = subst IsTree c.self.view_is c.self.invariant in
     tree_of (without_name t c.args.directory c.args.name.now c.args.now)
-    (tree_removed t c.args.directory c.args.name.now c.args.now is c.requires.granted) _ _ _ _ _
-    (grind (arith, common_steps)) (grind (arith, common_steps)) (grind (arith, common_steps)) (grind (arith, common_steps)) (grind (arith, common_steps))
+    (tree_removed t c.args.directory c.args.name.now c.args.now is c.requires.granted) _ _ _ _ _ _ _
+    (grind (arith, common_steps)) (grind (arith, common_steps)) (grind (arith, common_steps)) (grind (arith, common_steps)) (grind (arith, common_steps)) (grind (arith, common_steps))

@@ -17,5 +17,5 @@ invariant_of-self c =
     let t = c.args.self.now in
     let is : IsTree t = subst IsTree c.self.view_is c.self.invariant in
     tree_of (record t { objects = with_changed c.args.number c.args.now c.args.sets.now t.objects })
-    (tree_changed t c.args.number c.args.now c.args.sets.now is) _ _ _ _ _
-    (grind (arith, common_steps)) (grind (arith, common_steps)) (grind (arith, common_steps)) (grind (arith, common_steps)) (grind (arith, common_steps))
+    (tree_changed t c.args.number c.args.now c.args.sets.now is) _ _ _ _ _ _ _
+    (grind (arith, common_steps)) (grind (arith, common_steps)) (grind (arith, common_steps)) (grind (arith, common_steps)) (grind (arith, common_steps)) (grind (arith, common_steps))

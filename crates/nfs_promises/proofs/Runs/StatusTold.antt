@@ -1,0 +1,64 @@
+-- The status that an operation was answered stands in its result, behind its number.
+use Rattle.std.proofs.Common.{◌≡◌, true, false, List, ◌++◌, take, append_assoc, cond, sym, ◌∙◌, ap, subst}
+use Rattle.std.proofs.lemmas.{List.{take_at, drop_at}, Option.same_Some}
+use Rattle.std.specs.{Prelude.{Result, Ok, Err, ℕ}, Int.{w32, from_be_bytes}}
+use Rattle.nfs_xdr.specs.{Spelling.number, Status.status_number, StatusCodec.status_of, declared.status.Status.Status}
+use Rattle.nfs_xdr.specs.declared.status.Status.TheVariants.{RepTooBig, CompleteAlready}
+use Rattle.nfs_xdr.proofs.{Putting.length_number, StatusLaws.is_status_listing}
+use Rattle.nfs_compound.specs.{declared.op.Item.Item, declared.op.Item.TheVariants.Operation, Request.item_number, OpNum.op_number}
+use Rattle.nfs_compound.specs.declared.op.Op.TheVariants as Op
+use Rattle.nfs_compound.specs.declared.op_num.OpNum.TheVariants as Num
+use Rattle.nfs_results.specs.{declared.res.Res.Res, Parts.parts, Results.{operation_of, refusal, spell_result, status_of_result}}
+use Rattle.nfs_clients.specs.Marks.{has_reclaimed, with_reclaimed}
+use Rattle.nfs_names.specs.{declared.context.Context.Context, declared.node.Node.Node, Checks.current, State.time_at}
+use Rattle.nfs_names.proofs.Faulted.{status_of_refusal}
+use Rattle.nfs_files.proofs.{Outcomes.comes_to, WrittenOps.number_back}
+use Rattle.nfs_exec.specs.{Runs.Ops.RanOp, Step.Behind.otherwise, Step.Machine.{Machine, with_refusal, with_result}, Step.Place.status_behind}
+use Rattle.nfs_exec.proofs.{Runs.OneRun.{IsRun, by_run}, Step.Terms.{of_one, of_all}}
+use Rattle.nfs_promises.specs.Calls.NeverExpired.{says}
+
+abbrev pub Says : Status → List ℕ → Type 0
+Says f text = says text ≡ number (status_number f)
+
+pub spelled_says : (r : Res) → Says (status_of_result r) (spell_result r)
+spelled_says r =
+    let n = number (operation_of r) in
+    let s = number (status_number (status_of_result r)) in
+    ap says (append_assoc n s (parts r).behind)
+    ∙ (ap (take 4) (drop_at n (s ++ (parts r).behind) 4 (length_number (operation_of r))) ∙ take_at s (parts r).behind 4 (length_number (status_number (status_of_result r))))
+
+-- RECLAIM_COMPLETE, and what nothing carries out
+
+one_says : (m : Machine) (v : Result Node Status) → (let o = of_one m v in Says o.status o.result)
+one_says m (Ok d) = spelled_says Res.ReclaimComplete
+one_says m (Err f) = spelled_says (refusal (op_number Num.ReclaimComplete) f)
+
+all_says : (m : Machine) (x : Context) → (let o = of_all m x in Says o.status o.result)
+all_says m x = elim (has_reclaimed m.clients x.client) as (λ b. let o = cond b (with_refusal m (op_number Num.ReclaimComplete) CompleteAlready)
+    (with_result (record m { clients = with_reclaimed m.clients x.client }) Res.ReclaimComplete) in Says o.status o.result) [
+      | true ↦ spelled_says (refusal (op_number Num.ReclaimComplete) CompleteAlready)
+      | false ↦ spelled_says Res.ReclaimComplete
+    ]
+
+other_says : (m : Machine) (x : Context) (i : Item) → (let o = (otherwise m x i).outcome in Says o.status o.result)
+other_says m x (Operation (Op.ReclaimComplete true)) = one_says m (current m.store x)
+other_says m x (Operation (Op.ReclaimComplete false)) = all_says m x
+other_says m x i = spelled_says (refusal (item_number i) (status_behind i))
+
+pub status_told : (d : RanOp) → IsRun d → Says d.status d.result
+status_told d r =
+    by_run (λ status text s. Says status text) d r (spelled_says (refusal (item_number d.item) RepTooBig)) (λ o e. spelled_says o.result)
+    (spelled_says (comes_to r.refused d.before.store d.context (time_at d.before.store r.now) d.item).result) (λ off. other_says d.before d.context d.item)
+
+-- What tells a status was answered it.
+
+one_status : (f g : Status) → number (status_number f) ≡ number (status_number g) → f ≡ g
+one_status f g e =
+    let back = λ (f : Status). number_back (status_number f) (is_status_listing.small f) in
+    let same : status_number f ≡ status_number g = sym (back f) ∙ (ap (from_be_bytes w32) e ∙ back g) in
+    same_Some f g (sym (is_status_listing.found f) ∙ (ap status_of same ∙ is_status_listing.found g))
+
+pub is_told : (d : RanOp) → IsRun d → (n : ℕ) (f : Status) → d.result ≡ spell_result (refusal n f) → d.status ≡ f
+is_told d r n f told =
+    let says_it : Says f (spell_result (refusal n f)) = subst (λ g. Says g (spell_result (refusal n f))) (status_of_refusal n f) (spelled_says (refusal n f)) in
+    one_status d.status f (sym (status_told d r) ∙ (ap says told ∙ says_it))
