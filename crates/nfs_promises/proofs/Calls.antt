@@ -22,3 +22,4 @@ pub mod NeverExpired
 pub mod NoBadSessionKept
 pub mod LeaseTold
 pub mod LeaseToldWorked
+pub mod HubWorked

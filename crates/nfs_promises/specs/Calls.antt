@@ -16,3 +16,4 @@ pub mod SessionsDeniedWorked
 pub mod NeverExpired
 pub mod LeaseTold
 pub mod LeaseToldWorked
+pub mod HubWorked

@@ -2,7 +2,7 @@
 use Rattle.std.proofs.Common.{◌≡◌, ◌≢◌, ◌⊎◌, ℕ, ◌<◌, ◌≤◌, true, false, not, List, [], ◌∷◌, length, Option, Some, None, get_or, refl, sym, ◌∙◌, ap, subst, arith, inl, inr}
 use Rattle.std.proofs.lemmas.{Bool.{eq-eqb, false≢true, ltb-false, leb-false}, Option.{same_Some}}
 use Rattle.std.specs.{Prelude.{◌==◌, ◌&&◌, ◌+◌, ◌*◌, ◌^◌, IsSome, nat_le, nat_lt, option_map, replicate, if◌then◌else◌}, List.list_any}
-use Rattle.nfs_xdr.specs.{Spelling.number, Tables.In}
+use Rattle.nfs_xdr.specs.{Limits.most_transfer, Spelling.number, Tables.In}
 use Rattle.nfs_xdr.specs.declared.status.Status.TheVariants as S
 use Rattle.nfs_xdr.proofs.Lists.{find_in, none_any}
 use Rattle.nfs_compound.specs.declared.name_args.{CreateType.TheVariants.Other, ReadDir.ReadDir}
@@ -13,6 +13,7 @@ use Rattle.nfs_compound.specs.{declared.session_args.Sequence.Sequence, declared
 use Rattle.nfs_compound.specs.declared.lock_args.{Lock.Lock, Locker.TheVariants.OpenOwner}
 use Rattle.nfs_compound.specs.declared.lock_args.LockType.TheVariants as LockTypes
 use Rattle.nfs_compound.specs.declared.op.Op.TheVariants as Op
+use Rattle.nfs_results.specs.{declared.res.Entry.Entry, Straight.entry_text}
 use Rattle.nfs_results.specs.Items as results
 use Rattle.nfs_results.specs.Listing as listing
 use Rattle.nfs_ranges.specs.{declared.Kind.{Kind, TheVariants.{Write as ToWrite}}, Facts.HoldsAny, Holders.is_within}
@@ -22,7 +23,7 @@ use Rattle.nfs_attrs.specs.{declared.handle.Handle.Handle, Attributes.{Settings,
 use Rattle.nfs_opens.specs.{declared.judging.Sort.TheVariants.{Either, OpenOnly}, declared.records.{LockState.LockState, OpenState.OpenState}, declared.share.Share.Share}
 use Rattle.nfs_opens.specs.{declared.stateid.CurrentSeqid.TheVariants.Any, declared.stateid.StateId.StateId, Share.{meets, neither}, StateId.last_number}
 use Rattle.nfs_names.specs.{declared.context.{Context.Context, Saved.Saved}, Attributes.about, Checks.both, Context.anonymous, Create.create, Link.link, NVerify.nverify, ReadLink.read_link, Remove.remove}
-use Rattle.nfs_names.specs.{ReadDir.{entry_of, fitting, read_dir}, SaveFh.save_fh, State.{State, is_used}, Verify.verify}
+use Rattle.nfs_names.specs.{ReadDir.{entry_of, fitting, left, read_dir}, SaveFh.save_fh, State.{State, is_used}, Verify.verify}
 use Rattle.nfs_files.specs.{Open.{access_of, deny_of}, SetAttr.set_attr, StateIds.state_id}
 use Rattle.nfs_promises.specs.{Names.FileStays.is_on_saved, Runs.{Points.ops_of, Requests.{current_stateid, handle, stateid, words}}}
 use Rattle.nfs_promises.specs.Permission.Permitted.{Right, Reads, Writes, Executes, Rights, rights_at, has_right, Grants, ToOthers, IsIn, First, Further}
@@ -31,10 +32,10 @@ use Rattle.nfs_promises.specs.Answers.Asked.{LooksAt, AtCurrent, AtSaved, NoLink
 use Rattle.nfs_exec.specs.Runs.Ops.{RanOp}
 use Rattle.nfs_promises.specs.{Names.FileStaysWorked.{first_of, with_status}, Answers.Granted.{IsAsTold, IsNotRefused}}
 use Rattle.nfs_promises.specs.Answers.Asked.{IsSpecial, AllZeros, AllOnes, IsNone, Zeros, Ones, IsCurrent, StandsFor, Itself, TheCurrent, StateGiven, by_state, used, Range, locked, InRange, reclaims, is_delegated}
-use Rattle.nfs_promises.specs.Answers.Invalid.{given_in, compared, values_in, NamesNobody, AreValues, IsNoShare, ToOpen as AskOpen, ToNarrow, Widens, IsSpent, Change, Objects, Cookies, States}
+use Rattle.nfs_promises.specs.Answers.Invalid.{given_in, compared, values_in, NamesNobody, AreValues, IsNoShare, ToOpen as AskOpen, ToNarrow, Widens, IsSpent, Change, Objects, Cookies, States, shortest}
 use Rattle.nfs_promises.specs.Answers.Invalid.{NoName, NoText, NoRange, NoShare, ByHandle, Sized, Below, Fixed, NoValue, Unreadable, Uncompared}
 use Rattle.nfs_promises.specs.Answers.Reasons.{IsDenied, MayDo, IsHeld, IsInUse, IsLockedOut, LacksMode, access_under, IsShareDenied, BySize, Made, Written, is_type, stands_alone, AnswersSo, StateTold, state_of, IsOwn, Reason}
-use Rattle.nfs_promises.specs.Answers.{ReasonsWorked.{Refused, opens, creates, removes}, YesIsTrueWorked.{lists, reads_link}, RowsWorked.{AreGranted, RowsRefused, GrantsRefused, finds, puts, links, locks, completes, verifies, differs, free, frees}}
+use Rattle.nfs_promises.specs.Answers.{ReasonsWorked.{Refused, opens, creates, removes}, YesIsTrueWorked.{entry, lists, reads_link}, RowsWorked.{AreGranted, RowsRefused, GrantsRefused, finds, puts, links, locks, completes, verifies, differs, lists_one, free, frees}}
 use Rattle.nfs_promises.proofs.{Answers.ReasonsWorked.{asking, no_less, lock_given, lock_told, not_special, stands_itself}, Permission.PermittedNames.one_of, Runs.Computing.computing}
 
 -- What has no reason, whatever the server.
@@ -278,6 +279,39 @@ module _ (s : State) (x : Context) where
         let one : a ≡ other = cc in
         differs (ap (λ (a : ReadDir). a.cookieverf) (sym one) ∙ zeros)
 
+    has_room : (n : ℕ) (o : Object) (first : Entry) (more : List Entry) → x.current ≡ Some n → object_at s.tree n ≡ Some o → left s a (record { number = n; object = o }) ≡ first ∷ more
+        → length (entry_text first) + shortest ≤ a.maxcount → length (entry_text first) + shortest ≤ most_transfer → Reason s x (Operation (Op.ReadDir a)) S.TooSmall → ⊥
+    has_room n o first more at there are fits few (inl (other, is, short)) =
+        let same : Operation (Op.ReadDir a) ≡ Operation (Op.ReadDir other) = is in
+        let one : a ≡ other = cc in
+        let less : a.maxcount < 16 = subst (λ (a : ReadDir). a.maxcount < 16) (sym one) short in
+        absurd (omega (arith, fits, less))
+    has_room n o first more at there are fits few (inr why) = by why.long
+      where
+        it : a ≡ why.asked
+        it = let same : Operation (Op.ReadDir a) ≡ Operation (Op.ReadDir why.asked) = why.is in cc
+
+        number : n ≡ why.node.number
+        number = same_Some n why.node.number (sym at ∙ why.at)
+
+        object : o ≡ why.node.object
+        object = same_Some o why.node.object (sym there ∙ (ap (object_at s.tree) number ∙ why.there))
+
+        its_entry : first ≡ why.first
+        its_entry =
+            let same : left s a (record { number = n; object = o }) ≡ left s why.asked why.node = λ i. left s (it i) (record { number = number i; object = object i }) in
+            let lists : first ∷ more ≡ why.first ∷ why.more = sym are ∙ (same ∙ why.are) in
+            cc
+
+        by : (why.asked.maxcount < length (entry_text why.first) + shortest) ⊎ (most_transfer < length (entry_text why.first) + shortest) → ⊥
+        by (inl long) =
+            let less : a.maxcount < length (entry_text first) + shortest = subst (λ (e : Entry). a.maxcount < length (entry_text e) + shortest) (sym its_entry)
+            (subst (λ (b : ReadDir). b.maxcount < length (entry_text why.first) + shortest) (sym it) long) in
+            absurd (omega (arith, fits, less))
+        by (inr long) =
+            let less : most_transfer < length (entry_text first) + shortest = subst (λ (e : Entry). most_transfer < length (entry_text e) + shortest) (sym its_entry) long in
+            absurd (omega (arith, few, less))
+
   -- attributes that can be set
   module _ (i : Item) (a : Attributes) (given : given_in i ≡ Some a) where
     known : within (mask_of a.attrmask) (supported Exact) ≡ true → compared i ≡ None → Reason s x i S.AttrNotSupp → ⊥
@@ -353,6 +387,10 @@ locked_now : statuses (ops_of made locks) ≡ S.Nfs4Ok ∷ S.Nfs4Ok ∷ S.Nfs4Ok
 unfolding computing
 locked_now = refl
 
+listed : statuses (ops_of made lists_one) ≡ S.Nfs4Ok ∷ S.Nfs4Ok ∷ []
+unfolding computing read_dir_args values entry_of fitting read_dir results.entry results.fattr listing.read_dir
+listed = refl
+
 pub are_granted : AreGranted
 are_granted = record {
   found = found;
@@ -361,6 +399,7 @@ are_granted = record {
   complete = complete;
   verified = verified;
   differed = differed;
+  listed = listed;
   locked = locked_now;
 }
 
@@ -555,6 +594,14 @@ other_listing : Refused made lists S.NotSame
 unfolding computing read_dir_args values entry_of fitting read_dir results.entry results.fattr listing.read_dir
 other_listing d is = let e = last_of d (ops_of made lists) in same_listing e.before.store e.context first_page refl ((is.answered refl).refused refl)
 
+abbrev one_entry : ReadDir
+one_entry = record { cookie = 0; cookieverf = replicate 8 0; dircount = 56; maxcount = 56; attr_request = 0x10_0000 ∷ [] }
+
+small : Refused made lists_one S.TooSmall
+unfolding computing read_dir_args values entry_of fitting read_dir results.entry results.fattr listing.read_dir
+small d is = let e = last_of d (ops_of made lists_one) in
+    has_room e.before.store e.context one_entry 1 _ (entry 2) [] refl refl refl (omega arith) (omega arith) ((is.answered refl).refused refl)
+
 -- 040, as four bytes
 abbrev its_mode_set : Attributes
 its_mode_set = record { attrmask = 0 ∷ 2 ∷ []; attr_vals = words (32 ∷ []) }
@@ -618,6 +665,7 @@ rows_refused = record {
   completed = completed;
   cookie = cookie;
   other_listing = other_listing;
+  small = small;
   unknown = unknown;
   nobody = nobody;
   cut = cut;

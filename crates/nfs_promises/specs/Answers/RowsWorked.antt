@@ -7,7 +7,7 @@ use Rattle.nfs_compound.specs.declared.open_args.OpenHow.TheVariants.{NoCreate}
 use Rattle.nfs_compound.specs.declared.op.Op.TheVariants as Op
 use Rattle.nfs_exec.specs.Runs.Ops.{RanOp}
 use Rattle.nfs_serve.specs.Step.{ServerState}
-use Rattle.nfs_promises.specs.{Runs.{Requests.{handle, stateid, in_session}, Points.{state_after, ops_of}}, Network.Endpoint.Arrival}
+use Rattle.nfs_promises.specs.{Runs.{Requests.{handle, stateid, in_session, listing_from}, Points.{state_after, ops_of}}, Network.Endpoint.Arrival}
 use Rattle.nfs_promises.specs.Locks.LockKeptWorked.{came, asked, opens_and_locks, gives_up, last_of, statuses}
 use Rattle.nfs_promises.specs.{Bytes.WrittenStaysWorked.{made, writes}, Permission.PermittedWorked.to_group}
 use Rattle.nfs_promises.specs.{Names.FileStaysWorked.{first_of, with_status}, Answers.{Granted.IsNotRefused, Reasons.AnswersSo}}
@@ -33,6 +33,10 @@ verifies = of_file (Op.Verify (record { attrmask = 0 ∷ 2 ∷ []; attr_vals = n
 abbrev pub differs : Arrival
 differs = of_file (Op.NVerify (record { attrmask = 0 ∷ 2 ∷ []; attr_vals = number 384 }))
 
+-- the root is listed with as many bytes as its one entry takes, and the verifier and the flags
+abbrev pub lists_one : Arrival
+lists_one = asks (Op.PutRootFh ∷ listing_from 0 56 (0x10_0000 ∷ []) ∷ [])
+
 -- by another OPEN its first byte is locked, which nobody has locked
 abbrev pub locks : Arrival
 locks = came 103 4 (in_session 1 2 (opens_and_locks 0))
@@ -52,6 +56,7 @@ pub record AreGranted : Type 0 where
   pub complete : statuses (ops_of made completes) ≡ Nfs4Ok ∷ []
   pub verified : statuses (ops_of made verifies) ≡ Nfs4Ok ∷ Nfs4Ok ∷ Nfs4Ok ∷ []
   pub differed : statuses (ops_of made differs) ≡ Nfs4Ok ∷ Nfs4Ok ∷ Nfs4Ok ∷ []
+  pub listed : statuses (ops_of made lists_one) ≡ Nfs4Ok ∷ Nfs4Ok ∷ []
   pub locked : statuses (ops_of made locks) ≡ Nfs4Ok ∷ Nfs4Ok ∷ Nfs4Ok ∷ []
 
 -- The promise refuses these.
@@ -92,6 +97,7 @@ pub record RowsRefused : Type 0 where
   -- a READDIR from the beginning
   pub cookie : Refused made lists S.BadCookie
   pub other_listing : Refused made lists S.NotSame
+  pub small : Refused made lists_one S.TooSmall
   -- a SETATTR of the mode, a VERIFY of the mode that is, and an NVERIFY of another one
   pub unknown : Refused made to_group S.AttrNotSupp
   pub nobody : Refused made to_group S.BadOwner

@@ -15,9 +15,12 @@ pub record RunsTo (script written : List ℕ) : Type 0 where
   pub granted : All (λ m. m.choice ≡ None) moves
   pub output : written ≡ output Tagged (new_state usual) moves
 
--- xid 1, CALL, RPC version 2, program, version, procedure NULL, and twice AUTH_NONE with no bytes
+-- xid, CALL, RPC version 2, program, version, procedure NULL, and twice AUTH_NONE with no bytes
+abbrev pub null_by : (xid : ℕ) → List ℕ
+null_by xid = words (xid ∷ 0 ∷ 2 ∷ 100003 ∷ 4 ∷ 0 ∷ 0 ∷ 0 ∷ 0 ∷ 0 ∷ [])
+
 abbrev pub null_call : List ℕ
-null_call = words (1 ∷ 0 ∷ 2 ∷ 100003 ∷ 4 ∷ 0 ∷ 0 ∷ 0 ∷ 0 ∷ 0 ∷ [])
+null_call = null_by 1
 
 -- at moment 100, on connection 0, a fragment of 40 bytes, the last
 abbrev pub null_script : List ℕ

@@ -6,7 +6,7 @@ ghost use Rattle.nfs_promises.specs.Calls.{Streams.{BringsOnce, ConnectionsAreSt
 ghost use Rattle.nfs_promises.specs.Calls.{LeaseToldWorked.IsListed, SessionsOnce.{EachMakesOne, EachWasMade, RepeatsMakeNone, NextMakesOne}};
 ghost use Rattle.nfs_promises.specs.Calls.{SessionsOnceWorked.IsGivenOnce, NeverExpired.NoneIsExpired, SessionsDenied.BadSessionIsTrue};
 ghost use Rattle.nfs_promises.specs.Calls.{SessionsDeniedWorked.{IsLeft, EndsAreRefused}, SessionStays.SessionsStay, SessionStaysWorked.StaysToLast};
-ghost use Rattle.nfs_promises.specs.Calls.{OwnIds.IdsAreOnes, OwnIdsWorked.AreOwn};
+ghost use Rattle.nfs_promises.specs.Calls.{OwnIds.IdsAreOnes, OwnIdsWorked.AreOwn, HubWorked.{TurnIsSoon, ReplyIsWhole, TurnsAreEntries}};
 ghost use Rattle.nfs_promises.specs.Calls.WholeRuns.{HubRunsScript, NothingIsLostInARun, NothingIsLostInATurn};
 
 /// Which fault a script has, if any, and its whole entries before it are decided by its bytes.
@@ -54,6 +54,27 @@ pub fn nothing_is_lost_in_a_run()
 #[tactic(auto, using(crate::proofs::Calls::WaitsForFew::waits_for_few))]
 pub fn waits_for_few()
     ensures { WaitsForFew }
+{}
+
+/// The definitions compute: two sweeps over two ports, in which a call is stepped in two parts. They meet the premises of `waits_for_few`, which refuses a hub that
+/// passes over the port in the second sweep, and one that steps 17 parts of the other port in between.
+#[tactic(auto, using(crate::proofs::Calls::HubWorked::turn_is_soon))]
+pub fn a_turn_is_soon()
+    ensures { TurnIsSoon }
+{}
+
+/// The definitions compute: a turn in which the rest of that call is stepped, and its peer takes eight bytes of the reply. It meets the premises of `nothing_is_lost`,
+/// which refuses a hub that doubles the reply, drops the rest of it, or swaps its bytes, and one that loses bytes that came.
+#[tactic(auto, using(crate::proofs::Calls::HubWorked::reply_is_whole))]
+pub fn a_reply_is_whole()
+    ensures { ReplyIsWhole }
+{}
+
+/// The definitions compute: those two sweeps are the run of five entries, which bring two records. They meet the premises of `a_hub_runs_a_script`, which refuses the
+/// script of the same turns in another order, a hub that does not step the call that it answers, and one that keeps what began of it.
+#[tactic(auto, using(crate::proofs::Calls::HubWorked::turns_are_entries))]
+pub fn turns_are_entries()
+    ensures { TurnsAreEntries }
 {}
 
 /// What `Server::record`, `Server::feed`, `Server::replay`, `Server::talk` and `Server::serve_ports` do is a run of the records that arrive, in
