@@ -1,5 +1,8 @@
 """What the tests that make their own calls share: calls and replies of this program as bytes, by tools/nfs4.py, and by tools/program.py the built
 program."""
+import os
+import shutil
+import subprocess
 import sys
 from pathlib import Path
 
@@ -24,6 +27,14 @@ ANONYMOUS = bytes(16)
 CURRENT = u32(1, 0, 0, 0)
 
 PUT_ROOT, SAVE, GET_HANDLE = op("PUTROOTFH"), op("SAVEFH"), op("GETFH")
+
+
+def preloaded(source, folder):
+    """The library of a file in C, to be preloaded into the program; none where no compiler makes it."""
+    library = Path(folder) / f"{source.stem}.so"
+    compiler = next(filter(shutil.which, filter(None, (os.environ.get("CC"), "cc", "gcc", "clang"))), None)
+    made = compiler and subprocess.run([compiler, "-shared", "-fPIC", "-O1", "-o", library, source], check=False)
+    return library if made and not made.returncode else None
 
 
 # Two names whose bytes, taken as a number to the base of the golden ratio's 64 bits, are equal modulo 2^64; and so are any two that are made of

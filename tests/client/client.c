@@ -798,6 +798,7 @@ static void play(const char *part, int first, char *options) {
     if (!strcmp(part, "expired")) lease_runs_out();
     if (!strcmp(part, "unix") || !strcmp(part, "exact")) by_profile(!strcmp(part, "unix"));
     if (!strcmp(part, "random")) random_calls(88);
+    if (!strcmp(part, "fsx")) fsx();
     if (!strcmp(part, "restart")) server_restarts(options);
     unmounted();
 }

@@ -34,6 +34,9 @@ void two_mounts(char *options);
 /* client_servers.c */
 void two_servers(const char *options);
 
+/* client_fsx.c */
+void fsx(void);
+
 /* client_killed.c */
 void killed(void);
 

@@ -18,7 +18,7 @@ static int host_is_here(void) {
     char text[65536];
     mkdir(HOST, 0755);
     if (mount("host", HOST, "9p", MS_RDONLY, "trans=virtio,version=9p2000.L,msize=262144,cache=loose")) return 0;
-    if (mount("tmpfs", HOST P_tmpdir, "tmpfs", 0, "") || mount("proc", HOST "/proc", "proc", 0, "")) return 0;
+    if (mount("tmpfs", HOST P_tmpdir, "tmpfs", 0, "nr_inodes=400000") || mount("proc", HOST "/proc", "proc", 0, "")) return 0;
     if (mount("devtmpfs", HOST "/dev", "devtmpfs", 0, "") || mount("/mnt", HOST "/mnt", NULL, MS_BIND, NULL)) return 0;
     mkdir(HOST "/dev/shm", 01777);
     if (mount("tmpfs", HOST "/dev/shm", "tmpfs", 0, "")) return 0;
