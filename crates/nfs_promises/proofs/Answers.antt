@@ -15,6 +15,7 @@ pub mod Reasons
 pub mod ReasonsWorked
 pub mod RowsWorked
 pub mod TruthOfAnswers
+pub mod StatesTold
 pub mod WhatIsDone
 pub mod YesIsTrue
 pub mod YesIsTrueWorked

@@ -28,8 +28,9 @@ use Rattle.nfs_promises.specs.Answers.Invalid.{ranged, NoRange}
 use Rattle.nfs_promises.specs.Answers.Asked.{Range, is_of_file, used, StandsFor, AFile, TheFile, Used, StateGiven, by_state, IsSpecial, Needs, ToRead, ToWrite}
 use Rattle.nfs_promises.specs.Answers.Reasons.{IsDenied, MayDo, Written, Reason}
 use Rattle.nfs_promises.proofs.Answers.Blaming.{Blames, AllBlame, then_blames, there_blames, then_checks, ends_then, ends_checks, answers_blame}
-use Rattle.nfs_promises.proofs.Answers.{Placed.{Answers, of_refusal, refused_so, done_so, found_now, current_blames, has_kind, denied_by, one_or}, HeldReasons.{held_so, owned_so}, InvalidReasons.{no_range, beyond_last, spent_there}, StateReasons.{IsSeated, access_there, seated, stands_for, meant_blames, state_blames}}
+use Rattle.nfs_promises.proofs.Answers.{Placed.{Answers, of_refusal, refused_so, done_so, found_now, current_blames, has_kind, denied_by, one_or}, HeldReasons.held_so, InvalidReasons.{no_range, beyond_last, spent_there}, StateReasons.{IsSeated, access_there, seated, stands_for, meant_blames, state_blames}}
 pub use Rattle.nfs_promises.proofs.Answers.HeldReasons.{the_file_is, wished_is}
+use Rattle.nfs_promises.proofs.Locks.OneStateEach.{HasOneEach, found_one}
 use Rattle.nfs_promises.proofs.Permission.{Granting.{may_read_bytes, may_write_bytes}, PermittedBytes.is_state}
 
 -- The current file.
@@ -204,19 +205,19 @@ module _ (s : State) (whole : IsWhole s) (x : Context) where
       (current_blames s whole x i refl) (λ d e. ends_checks (Reason s x i) (Answers s x i) (file_checks d) _ (file_all s whole x i refl refl d e) (λ u. done_so s x i tt)))
 
   -- LOCKT
-  tested_so : (a : LockT) (w : Wish) (o : Option Held) → wished s x a.locktype a.offset a.length ≡ Ok w → test_lock s.opens a.owner.owner w ≡ o
+  tested_so : HasOneEach s.opens → (a : LockT) (w : Wish) (o : Option Held) → wished s x a.locktype a.offset a.length ≡ Ok w → test_lock s.opens a.owner.owner w ≡ o
       → Answers s x (Operation (Op.LockT a)) (done s x (option_map_or (λ h. Res.LockTDenied (lock_denied s.opens h)) o Res.LockT))
-  tested_so a w None e none = done_so s x (Operation (Op.LockT a)) tt
-  tested_so a w (Some h) e some = of_refusal s x (Operation (Op.LockT a)) S.Denied (held_so s whole x (Operation (Op.LockT a)) (record { type = a.locktype; offset = a.offset; size = a.length }) refl w e
+  tested_so each a w None e none = done_so s x (Operation (Op.LockT a)) tt
+  tested_so each a w (Some h) e some = of_refusal s x (Operation (Op.LockT a)) S.Denied (held_so s whole x (Operation (Op.LockT a)) (record { type = a.locktype; offset = a.offset; size = a.length }) refl w e
       (option_map_or (λ (l : LockState). l.number) (lock_state_of s.opens w.client a.owner.owner w.file) 0)
-      (owned_so s x a.owner.owner w (wished_is s x a.locktype a.offset a.length w e).0) h some)
+      (λ l there file mine. found_one s.opens each w.client a.owner.owner w.file l there (mine.0 ∙ sym (wished_is s x a.locktype a.offset a.length w e).0) mine.1 file) h some)
 
-  pub test_blames : (a : LockT) → Answers s x (Operation (Op.LockT a)) (lock_t s x a)
+  pub test_blames : HasOneEach s.opens → (a : LockT) → Answers s x (Operation (Op.LockT a)) (lock_t s x a)
   unfolding lock_t
-  test_blames a =
+  test_blames each a =
       let i : Item = Operation (Op.LockT a) in
       answers_blame (Reason s x i) (Answers s x i) s x Num.LockT _ (refused_so s x i Num.LockT) (ends_then (Reason s x i) (Answers s x i) (wished s x a.locktype a.offset a.length) _
-      (wished_blames s whole x i refl refl a.locktype a.offset a.length refl) (λ w e. tested_so a w (test_lock s.opens a.owner.owner w) e refl))
+      (wished_blames s whole x i refl refl a.locktype a.offset a.length refl) (λ w e. tested_so each a w (test_lock s.opens a.owner.owner w) e refl))
 
   -- LOCKU
   pub unlock_blames : (a : LockU) → Answers s x (Operation (Op.LockU a)) (lock_u s x a)

@@ -20,8 +20,8 @@ use Rattle.nfs_promises.specs.Answers.Asked.{StateGiven, by_state, of_locker, of
 use Rattle.nfs_promises.specs.Answers.Invalid.{IsNoShare, ToOpen, ToNarrow, Widens, IsInvalid, NoName, NoText, NoRange, NoShare, ByHandle, Sized, Below, Fixed, NoValue, Unreadable, Uncompared}
 use Rattle.nfs_promises.specs.Answers.Reasons.{StateTold, access_under, IsOld, IsBad, NoCurrent, Special, NoState, state_of, IsOwn, BySize, Made, Written, stands_alone, Reason, SaysSo, IsSaid, is_cut, LacksRoom, HasKind}
 use Rattle.nfs_promises.specs.Answers.Granted.{EachIsGranted, HasNoReason, IsAsTold, MayLock}
-use Rattle.nfs_promises.proofs.Answers.{Reasons.answered, ReasonOf.reason_of, WhatIsDone.stands_one}
-use Rattle.nfs_promises.proofs.Runs.LaterRecords.{ran_in}
+use Rattle.nfs_promises.proofs.Answers.{Reasons.answered, ReasonOf.reason_of, StateReasons.stands_one}
+use Rattle.nfs_promises.proofs.{Locks.OneStateEach.{HasOneEach, each_in}, Runs.LaterRecords.ran_in}
 
 cut_so : (f : Status) → is_cut f ≡ true → (f ≡ S.RepTooBig) ⊎ (f ≡ S.Delay)
 cut_so S.RepTooBig on = inl refl
@@ -29,8 +29,8 @@ cut_so S.Delay on = inr refl
 cut_so f on = absurd (false≢true on)
 
 -- no row holds
-granted : (d : RanOp) → IsRun d → (op : Op) → d.item ≡ Operation op → HasNoReason d op → is_ok d.status ≡ true
-granted d r op is none = elim (cases_Bool (is_ok d.status)) [
+granted : (d : RanOp) → IsRun d → HasOneEach d.before.store.opens → (op : Op) → d.item ≡ Operation op → HasNoReason d op → is_ok d.status ≡ true
+granted d r each op is none = elim (cases_Bool (is_ok d.status)) [
   | inl ok ↦ ok
   | inr fails ↦ absurd (elim (cases_Bool (is_cut d.status)) [
     | inl cut ↦ elim (cut_so d.status cut) [
@@ -42,7 +42,7 @@ granted d r op is none = elim (cases_Bool (is_ok d.status)) [
 ]
   where
     said : IsSaid d op
-    said = subst (SaysSo d) is (answered d r)
+    said = subst (SaysSo d) is (answered d r each)
 
 -- A stateid as it was told.
 
@@ -80,14 +80,14 @@ module _ (s : State) (x : Context) (i : Item) (k : StateGiven) (id : StateId) (m
       late same (inl zero) = omega (arith, same, zero)
       late same (inr its) = omega (arith, same, its)
 
-taken : (d : RanOp) → IsRun d → (k : StateGiven) (id : StateId) (m : StateTold) → by_state d.item ≡ Some k → IsAsTold d.before.store d.context k id m
+taken : (d : RanOp) → IsRun d → HasOneEach d.before.store.opens → (k : StateGiven) (id : StateId) (m : StateTold) → by_state d.item ≡ Some k → IsAsTold d.before.store d.context k id m
     → (d.status ≢ S.OldStateId) × (d.status ≢ S.BadStateId)
-taken d r k id m is told = by d.item refl is
+taken d r each k id m is told = by d.item refl is
   where
     by : (i : Item) → d.item ≡ i → by_state i ≡ Some k → (d.status ≢ S.OldStateId) × (d.status ≢ S.BadStateId)
     by (Operation op) same given = (
-      λ old. not_old d.before.store d.context (Operation op) k id m given told (reason_of d r op same S.OldStateId old refl refl),
-      λ bad. not_bad d.before.store d.context (Operation op) k id m given told (reason_of d r op same S.BadStateId bad refl refl),
+      λ old. not_old d.before.store d.context (Operation op) k id m given told (reason_of d r each op same S.OldStateId old refl refl),
+      λ bad. not_bad d.before.store d.context (Operation op) k id m given told (reason_of d r each op same S.BadStateId bad refl refl),
     )
     by (Fault n f) same given = absurd (let bad : None ≡ Some k = given in cc)
 
@@ -218,9 +218,9 @@ module _ (s : State) (x : Context) (a : Lock) (may : MayLock s x a) where
   none S.ShareDenied fails why = (let bad : Operation (Ops.Lock a) ≡ Operation (Ops.Open why.asked) = why.is in cc)
   none S.Denied fails why =
       let range : record { type = a.locktype; offset = a.offset; size = a.length } ≡ why.range = same_Some _ why.range why.is in
-      why.clash (subst (λ n. LiesBeside (kind_of why.range.type) (s.opens.held n why.holder why.byte)) (its why.file why.at)
-      (subst (λ (r : Range). LiesBeside (kind_of r.type) (s.opens.held may.file why.holder why.byte)) range
-      (may.free why.holder why.byte (subst (λ (r : Range). InRange r.offset r.size why.byte) (sym range) why.within))))
+      why.clash (subst (λ n. LiesBeside (kind_of why.range.type) (s.opens.held n why.holder.number why.byte)) (its why.holder.file why.at)
+      (subst (λ (r : Range). LiesBeside (kind_of r.type) (s.opens.held may.file why.holder.number why.byte)) range
+      (may.free why.holder why.byte why.there why.other (subst (λ (r : Range). InRange r.offset r.size why.byte) (sym range) why.within))))
   none S.FBig fails (BySize b size is gives long) = (let bad : Operation (Ops.Lock a) ≡ Operation (Ops.SetAttr b) = is in cc)
   none S.FBig fails (Made b size is gives long) = (let bad : Operation (Ops.Lock a) ≡ Operation (Ops.Open b) = is in cc)
   none S.FBig fails (Written b is long) = (let bad : Operation (Ops.Lock a) ≡ Operation (Ops.Write b) = is in cc)
@@ -251,10 +251,11 @@ module _ (s : State) (x : Context) (a : Lock) (may : MayLock s x a) where
   none S.TooSmall fails (inr why) = (let bad : Operation (Ops.Lock a) ≡ Operation (Ops.ReadDir why.asked) = why.is in cc)
   none f fails reason = reason
 
-locked : (d : RanOp) → IsRun d → (a : Lock) → d.item ≡ Operation (Ops.Lock a) → MayLock d.before.store d.context a → (LacksRoom d → ⊥) → d.refused ≡ false → is_ok d.status ≡ true
-locked d r a is may room memory = granted d r (Ops.Lock a) is (record { none = none d.before.store d.context a may; room = room; memory = memory })
+locked : (d : RanOp) → IsRun d → HasOneEach d.before.store.opens → (a : Lock) → d.item ≡ Operation (Ops.Lock a) → MayLock d.before.store d.context a → (LacksRoom d → ⊥) → d.refused ≡ false → is_ok d.status ≡ true
+locked d r each a is may room memory = granted d r each (Ops.Lock a) is (record { none = none d.before.store d.context a may; room = room; memory = memory })
 
 pub each_is_granted : EachIsGranted
 each_is_granted start records c d there =
     let r = ran_in start records c d there in
-    record { granted = granted d r; taken = taken d r; locked = locked d r }
+    let each = each_in start records c d there in
+    record { granted = granted d r each; taken = taken d r each; locked = locked d r each }

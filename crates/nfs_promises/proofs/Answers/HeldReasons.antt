@@ -1,14 +1,14 @@
 -- A lock that is denied is denied by one that is held.
 use Rattle.std.proofs.Common.{◌≡◌, ◌⊎◌, ℕ, suc, ◌+◌, ◌<◌, ◌≤◌, Bool, true, false, cond, not, List, [], ◌∷◌, Option, Some, None, refl, sym, ◌∙◌, ap, subst, arith, inl, inr}
 use Rattle.std.proofs.lemmas.Bool.{and_parts, cases_Bool, eq-eqb, eqb-true, false≢true, ltb-true, ltb-false, not-true}
-use Rattle.std.specs.{Prelude.{◌==◌, ◌&&◌, ◌-◌, nat_lt, is_some, Result, Ok}, Option.option_map_or}
+use Rattle.std.specs.Prelude.{◌==◌, ◌&&◌, ◌-◌, nat_lt, is_some, Result, Ok}
 use Rattle.nfs_xdr.specs.{Tables.In, declared.status.Status.Status}
 use Rattle.nfs_xdr.specs.declared.status.Status.TheVariants as S
-use Rattle.nfs_xdr.proofs.{Checks.all_passed, Lists.find_in}
+use Rattle.nfs_xdr.proofs.Checks.{all_passed}
 use Rattle.nfs_compound.specs.{declared.lock_args.LockType.LockType, declared.op.Item.Item}
 use Rattle.nfs_ranges.specs.{declared.Held.Held, declared.Kind.{Kind, TheVariants.{Read, Write}}, Told.{clashes, meets, told, told_at}, Facts.Tells, Holders.{Holders, least}}
 use Rattle.nfs_ranges.proofs.ToldLemmas.{told_is_unique}
-use Rattle.nfs_opens.specs.{declared.locking.Wish.Wish, declared.records.LockState.LockState, Locking.{clash, is_locker, state_of}, Steps.in_order}
+use Rattle.nfs_opens.specs.{declared.locking.Wish.Wish, declared.records.LockState.LockState, Locking.clash, Steps.in_order}
 use Rattle.nfs_names.specs.{declared.context.Context.Context, declared.node.Node.Node, State.State}
 use Rattle.nfs_names.proofs.Found.{came, ok_is}
 use Rattle.nfs_files.specs.{Ranges.{all_ones, kind_of, range, wished}, Target.the_file}
@@ -17,7 +17,7 @@ use Rattle.nfs_files.proofs.InSteps as in_steps
 use Rattle.nfs_names.proofs.Found.{checked_ok}
 use Rattle.nfs_files.specs.Bytes.{file_checks}
 use Rattle.nfs_names.specs.Checks.{current}
-use Rattle.nfs_promises.specs.Answers.{Asked.{InRange, LiesBeside, Range, locked}, Reasons.Reason}
+use Rattle.nfs_promises.specs.Answers.{Asked.{InRange, IsAskers, LiesBeside, Range, locked}, Reasons.Reason}
 use Rattle.nfs_promises.proofs.Answers.Blaming.{passed_all}
 
 -- The current file, and what is wished of it.
@@ -63,20 +63,6 @@ in_range offset size last b e low high most =
       | inr none ↦ absurd (some off (ltb-false 0 size none))
     ])
 
--- the number of the owner's own lock state, or 0
-pub owned_so : (s : State) (x : Context) (owner : List ℕ) (w : Wish) → w.client ≡ x.client
-    → (let own = option_map_or (λ (l : LockState). l.number) (state_of s.opens w.client owner w.file) 0 in
-    (own ≡ 0) ⊎ ((l : LockState) × In l s.opens.locks × (l.number ≡ own) × (l.client ≡ x.client)))
-owned_so s x owner w mine = by (state_of s.opens w.client owner w.file) refl
-  where
-    by : (o : Option LockState) → state_of s.opens w.client owner w.file ≡ o
-        → (let own = option_map_or (λ (l : LockState). l.number) o 0 in (own ≡ 0) ⊎ ((l : LockState) × In l s.opens.locks × (l.number ≡ own) × (l.client ≡ x.client)))
-    by None found = inl refl
-    by (Some l) found =
-        let it = find_in (is_locker w.client owner w.file) s.opens.locks l found in
-        let p = and_parts _ _ (and_parts (l.file == w.file) _ it.1).1 in
-        inr (l, it.0, refl, eqb-true l.client w.client p.0 ∙ mine)
-
 -- behind its last byte a range has none
 none_beyond : (f : Holders) (bound s : ℕ) (kind : Kind) (first last : ℕ) (h : Held) → last < first → told f bound s kind first last ≡ Some h → ⊥
 unfolding told
@@ -85,10 +71,10 @@ none_beyond f bound s kind first last h past e =
     let bad : None ≡ Some h = sym (ap (λ n. told_at f bound s kind (least (λ b. is_some (least (clashes f s kind b) 0 bound)) first n)) zero) ∙ e in
     cc
 
+-- a clash with another number than the asker's lock states on the file have
 pub held_so : (s : State) → IsWhole s → (x : Context) (i : Item) (a : Range) → locked i ≡ Some a → (w : Wish) → wished s x a.type a.offset a.size ≡ Ok w
-    → (own : ℕ) → (own ≡ 0) ⊎ ((l : LockState) × In l s.opens.locks × (l.number ≡ own) × (l.client ≡ x.client))
-    → (h : Held) → clash s.opens own w ≡ Some h → Reason s x i S.Denied
-held_so s whole x i a is w e own owned h denied =
+    → (own : ℕ) → ((l : LockState) → In l s.opens.locks → l.file ≡ w.file → IsAskers x i l → l.number ≡ own) → (h : Held) → clash s.opens own w ≡ Some h → Reason s x i S.Denied
+held_so s whole x i a is w e own askers h denied =
     let its = wish_is s x a.type a.offset a.size w e in
     let wish = wished_is s x a.type a.offset a.size w e in
     elim (wish_range s x a.type a.offset a.size w e) [
@@ -97,18 +83,20 @@ held_so s whole x i a is w e own owned h denied =
           (told_is_unique (s.opens.held w.file) (suc s.opens.last) own w.kind w.first w.last (Some h) between.0 between.1 (whole.table.below w.file)).1 denied in
           let parts = and_parts (not (h.owner == own)) (meets w.kind (s.opens.held w.file h.owner tells.0)) tells.1.clash in
           let low : a.offset ≤ tells.0 = subst (λ first. first ≤ tells.0) its.first tells.1.within.0 in
+          let lies : LiesBeside (kind_of a.type) (s.opens.held w.file h.owner tells.0) → ⊥ =
+          subst (λ kind. LiesBeside kind (s.opens.held w.file h.owner tells.0) → ⊥) wish.2 (not_beside w.kind (s.opens.held w.file h.owner tells.0) parts.1) in
+          let l = whole.table.holders w.file h.owner tells.0 (λ none. lies (inl none)) in
           record {
             range = a;
             is = is;
-            file = w.file;
-            at = wish.1;
-            own = own;
-            owned = owned;
-            holder = h.owner;
-            other = λ same. false≢true (sym (not-true _ parts.0) ∙ eq-eqb h.owner own same);
+            holder = l.0;
+            there = l.1.stands;
+            at = wish.1 ∙ ap Some (sym l.1.file);
+            other = λ mine. false≢true (sym (not-true _ parts.0) ∙ eq-eqb h.owner own (sym l.1.number ∙ askers l.0 l.1.stands l.1.file mine));
             byte = tells.0;
             within = in_range a.offset a.size w.last tells.0 its.last low tells.1.within.1 (let small = between.1 in omega arith);
-            clash = subst (λ kind. LiesBeside kind (s.opens.held w.file h.owner tells.0) → ⊥) wish.2 (not_beside w.kind (s.opens.held w.file h.owner tells.0) parts.1);
+            clash = subst (λ f. LiesBeside (kind_of a.type) (s.opens.held f l.0.number tells.0) → ⊥) (sym l.1.file)
+                (subst (λ n. LiesBeside (kind_of a.type) (s.opens.held w.file n tells.0) → ⊥) (sym l.1.number) lies);
           })
       | inr past ↦ absurd (none_beyond (s.opens.held w.file) (suc s.opens.last) own w.kind w.first w.last h past.0 denied)
     ]

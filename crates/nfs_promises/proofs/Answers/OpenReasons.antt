@@ -163,7 +163,7 @@ module _ (s : State) (whole : IsWhole s) (x : Context) (o : Open) where
         (subst (λ a. Blames B (attributes_in a)) (same_attributes o.openhow) (given_blames s x opening (attributes_of o.openhow) refl)) (λ w read.
         found_blames w (ap attributes_in (same_attributes o.openhow) ∙ read) (object_named s.tree d.number name) refl))
 
-  claim_blames : (c : OpenClaim) → o.claim ≡ c → (d : Node) → current s x ≡ Ok d → Blames B (by_claim s x o c d)
+  pub claim_blames : (c : OpenClaim) → o.claim ≡ c → (d : Node) → current s x ≡ Ok d → Blames B (by_claim s x o c d)
   claim_blames (Null name) is d e = by_name_blames name is d e
   claim_blames Fh is d e = (let found = found_now s x d e in
       then_blames B (require (not (makes o.openhow).creates) S.Inval) _ (held_blames B (not (makes o.openhow).creates) S.Inval (λ some. ByHandle o refl is (creates_so o.openhow some))) (λ u e.
@@ -235,7 +235,7 @@ module _ (s : State) (whole : IsWhole s) (x : Context) (o : Open) where
       by None is long = absurd (let less : s.tree.limits.bytes < 0 = ltb-true s.tree.limits.bytes 0 long in omega arith)
       by (Some size) is long = Made o size refl (ap (λ a. size_in (attributes_in a)) (same_attributes o.openhow) ∙ (ap size_in gives ∙ is)) (ltb-true s.tree.limits.bytes size long)
 
-  last_all : (d : Node) (f : _) → current s x ≡ Ok d → by_claim s x o o.claim d ≡ Ok f → AllBlame B (open_last s x o f)
+  pub last_all : (d : Node) (f : _) → current s x ≡ Ok d → by_claim s x o o.claim d ≡ Ok f → AllBlame B (open_last s x o f)
   last_all d f e came_by = (
     share_denied (file_of s.tree f) (claim_file o.claim d f e came_by),
     λ u. counted_parts (AllBlame B) (λ (g : Node). object_at s.tree g.number ≡ Some g.object) s x o o.claim d f _ (found_now s x d e).1

@@ -16,7 +16,7 @@ use Rattle.nfs_exec.specs.Runs.Ops.{RanOp}
 use Rattle.nfs_exec.proofs.Runs.OneRun.{IsRun}
 use Rattle.nfs_promises.specs.Answers.Reasons.{EachNoHasItsReason, AnswersSo, IsAnswered, IsSaid, Reason, SaysSo}
 use Rattle.nfs_promises.proofs.Answers.Placed.{IsBlamed, in_room_or, of_refusal, or_delayed, ran_blames}
-use Rattle.nfs_promises.proofs.Runs.LaterRecords.{ran_in}
+use Rattle.nfs_promises.proofs.{Locks.OneStateEach.{HasOneEach, each_in}, Runs.LaterRecords.ran_in}
 use Rattle.nfs_promises.proofs.Answers.AttrReasons as attrs
 use Rattle.nfs_promises.proofs.Answers.FreeReasons as frees
 use Rattle.nfs_promises.proofs.Answers.HoldReasons as holds
@@ -29,7 +29,7 @@ use Rattle.nfs_promises.proofs.Answers.OpenReasons as opens
 same : (n : ℕ) → nat_le n n ≡ true
 same n = le-leb n n (omega arith)
 
-module _ (d : RanOp) (r : IsRun d) where
+module _ (d : RanOp) (r : IsRun d) (each : HasOneEach d.before.store.opens) where
   abbrev s : State
   s = d.before.store
 
@@ -53,8 +53,8 @@ module _ (d : RanOp) (r : IsRun d) where
   by_op (Op.GetAttr words) is = ran_blames d r (Op.GetAttr words) is refl (inr (names.get_attr_blames s r.whole x words))
   by_op Op.GetFh is = ran_blames d r Op.GetFh is refl (inr (names.get_fh_blames s r.whole x))
   by_op (Op.Link name) is = ran_blames d r (Op.Link name) is refl (or_delayed s x (Operation (Op.Link name)) Num.Link true r.refused (link s x (time_at s r.now) name) (makes.link_blames s r.whole x (time_at d.before.store r.now) name))
-  by_op (Op.Lock a) is = ran_blames d r (Op.Lock a) is refl (or_delayed s x (Operation (Op.Lock a)) Num.Lock true r.refused (lock s x a) (holds.lock_blames s r.whole x a))
-  by_op (Op.LockT a) is = ran_blames d r (Op.LockT a) is refl (inr (files.test_blames s r.whole x a))
+  by_op (Op.Lock a) is = ran_blames d r (Op.Lock a) is refl (or_delayed s x (Operation (Op.Lock a)) Num.Lock true r.refused (lock s x a) (holds.lock_blames s r.whole x each a))
+  by_op (Op.LockT a) is = ran_blames d r (Op.LockT a) is refl (inr (files.test_blames s r.whole x each a))
   by_op (Op.LockU a) is = ran_blames d r (Op.LockU a) is refl (or_delayed s x (Operation (Op.LockU a)) Num.LockU (wants_memory a) r.refused (lock_u s x a) (files.unlock_blames s r.whole x a))
   by_op (Op.Lookup name) is = ran_blames d r (Op.Lookup name) is refl (inr (names.lookup_blames s r.whole x name))
   by_op Op.LookupP is = ran_blames d r Op.LookupP is refl (inr (walks.lookup_p_blames s r.whole x))
@@ -96,8 +96,8 @@ module _ (d : RanOp) (r : IsRun d) where
   said : (op : Op) → d.item ≡ Operation op → IsSaid d op
   said op is = (let b = by_op op is in record { room = b.room; memory = b.memory; reclaimed = reclaimed op is; answered = b.answered })
 
-pub answered : (d : RanOp) → IsRun d → AnswersSo d
-answered d r = by_item d r d.item refl (said d r)
+pub answered : (d : RanOp) → IsRun d → HasOneEach d.before.store.opens → AnswersSo d
+answered d r each = by_item d r each d.item refl (said d r each)
 
 pub each_no_has_its_reason : EachNoHasItsReason
-each_no_has_its_reason start records c d there = answered d (ran_in start records c d there)
+each_no_has_its_reason start records c d there = answered d (ran_in start records c d there) (each_in start records c d there)

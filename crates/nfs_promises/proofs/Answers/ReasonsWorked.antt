@@ -12,15 +12,15 @@ use Rattle.nfs_compound.specs.declared.open_args.{OpenHow.OpenHow, OpenHow.TheVa
 use Rattle.nfs_compound.specs.ArgCodecs.{rename_args, create_args, create_type, set_attr_args}
 use Rattle.nfs_compound.specs.declared.op.Op.TheVariants as Op
 use Rattle.nfs_tree.specs.{declared.object.Object.Object, declared.profile.Profile.TheVariants.Unix, Files.{object_at, object_named}, Object.is_directory}
-use Rattle.nfs_opens.specs.{declared.stateid.StateId.StateId, declared.stateid.CurrentSeqid.TheVariants.{Any, Own}, declared.judging.Sort.TheVariants.{OpenOnly, LockOnly}}
+use Rattle.nfs_opens.specs.{declared.records.LockState.LockState, declared.stateid.StateId.StateId, declared.stateid.CurrentSeqid.TheVariants.{Any, Own}, declared.judging.Sort.TheVariants.{OpenOnly, LockOnly}}
 use Rattle.nfs_names.specs.{Context.anonymous, declared.context.Context.Context, declared.context.Saved.Saved, State.State, Remove.remove, Rename.rename, SaveFh.save_fh, GetFh.get_fh, Create.{attributes_in, create}, Checks.both}
 use Rattle.nfs_files.specs.{OpenTold.claimed, SetAttr.set_attr, StateIds.state_id}
 use Rattle.nfs_promises.specs.{Runs.Points.ops_of, Runs.Requests.{unchecked, stateid, words}, Locks.LockKeptWorked.{asked, gives_up, last_of, statuses}, Bytes.WrittenStaysWorked.made}
 use Rattle.nfs_promises.specs.Permission.Permitted.{Right, Reads, Writes, Executes, Rights, rights_at, Grants, GrantsBytes, ToRoot, ToOwner, ToGroup, ToOthers}
-use Rattle.nfs_promises.specs.Answers.Asked.{StateGiven, by_state, IsCurrent, IsSpecial, AllZeros, AllOnes, StandsFor, Itself, TheCurrent, sought, InCurrent, InSaved, makes_by}
+use Rattle.nfs_promises.specs.Answers.Asked.{StateGiven, by_state, IsAskers, IsCurrent, IsSpecial, AllZeros, AllOnes, StandsFor, Itself, TheCurrent, sought, InCurrent, InSaved, makes_by}
 use Rattle.nfs_promises.specs.Answers.Asked.{DirectoryOf, Target, Source, NoDirectoryOf, AFile, Linked, Used, Opened, NamedOf, Left, Kept, leaves, Needs, ToFind, ToAdd, ToRead, ToPut, Owns, MaySet, Sets, ToSet}
-use Rattle.nfs_promises.specs.Answers.Reasons.{StateTold, state_of, IsOwn, IsOld, IsBad, NoCurrent, Special, NoState, IsNameless, IsForbidden, IsDenied, MayDo, Reason}
-use Rattle.nfs_promises.specs.Answers.ReasonsWorked.{AreAnsweredSo, AnswersRefused, CutsRefused, Refused, opens, guarded, removes, creates, opens_up, shut, moves}
+use Rattle.nfs_promises.specs.Answers.Reasons.{StateTold, state_of, IsOwn, IsOld, IsBad, NoCurrent, Special, NoState, IsNameless, IsForbidden, IsDenied, IsHeld, MayDo, Reason}
+use Rattle.nfs_promises.specs.Answers.ReasonsWorked.{AreAnsweredSo, AnswersRefused, CutsRefused, Refused, opens, guarded, removes, creates, opens_up, shut, moves, locks_again}
 use Rattle.nfs_promises.specs.{Names.FileStaysWorked.{missed, closes}, Permission.PermittedWorked.{to_group, runs, asks}}
 use Rattle.nfs_promises.proofs.{Permission.PermittedNames.one_of, Runs.Computing.computing}
 
@@ -212,8 +212,12 @@ denied : statuses (ops_of shut (moves 3 1)) ≡ S.Nfs4Ok ∷ S.Nfs4Ok ∷ S.Acce
 unfolding computing save_fh both rename rename_args
 denied = refl
 
+relocked : statuses (ops_of asked locks_again) ≡ S.Nfs4Ok ∷ S.Nfs4Ok ∷ []
+unfolding computing
+relocked = refl
+
 pub are_answered_so : AreAnsweredSo
-are_answered_so = record { unlocked = unlocked; opened = opened; made_before = made_before; closed = closed; made_now = made_now; set = set; forbidden = forbidden; denied = denied }
+are_answered_so = record { locked_again = relocked; unlocked = unlocked; opened = opened; made_before = made_before; closed = closed; made_now = made_now; set = set; forbidden = forbidden; denied = denied }
 
 -- The wrong answers.
 
@@ -352,6 +356,18 @@ unfolding computing set_attr_args set_attr
 unread d is = let e = last_of d (ops_of runs asks) in
     not_withheld e.before.store e.context reading 2 (record { mode = 64; owner = 5; group = 6 }) refl refl refl (ToOwner refl refl) ((is.answered refl).refused refl)
 
+-- the only lock state is the asker's
+own_alone : (s : State) (x : Context) (i : Item) (l : LockState) → s.opens.locks ≡ l ∷ [] → IsAskers x i l → IsHeld s x i → ⊥
+own_alone s x i l one mine why = by (subst (In why.holder) one why.there)
+  where
+    by : In why.holder (l ∷ []) → ⊥
+    by (inl same) = why.other (subst (IsAskers x i) (sym same) mine)
+    by (inr none) = none
+
+own : Refused asked locks_again S.Denied
+unfolding computing
+own d is = let e = last_of d (ops_of asked locks_again) in own_alone e.before.store e.context e.item _ refl (refl, refl) ((is.answered refl).refused refl)
+
 pub answers_refused : AnswersRefused
 answers_refused = record {
   old = old;
@@ -371,6 +387,7 @@ answers_refused = record {
   found = found;
   moved = moved;
   unread = unread;
+  own = own;
 }
 
 pub no_less : (a b : ℕ) → nat_lt a b ≡ false → a < b → ⊥
@@ -380,9 +397,17 @@ big : Refused made removes S.RepTooBig
 unfolding computing remove
 big d is = no_less _ _ refl (is.room refl)
 
+big_unlock : Refused asked gives_up S.RepTooBig
+unfolding computing
+big_unlock d is = no_less _ _ refl (is.room refl)
+
+big_read : Refused runs asks S.RepTooBig
+unfolding computing set_attr_args set_attr
+big_read d is = no_less _ _ refl (is.room refl)
+
 delayed : Refused made removes S.Delay
 unfolding computing remove
 delayed d is = false≢true (is.memory refl)
 
 pub cuts_refused : CutsRefused
-cuts_refused = record { big = big; delayed = delayed }
+cuts_refused = record { big = big; big_unlock = big_unlock; big_read = big_read; delayed = delayed }

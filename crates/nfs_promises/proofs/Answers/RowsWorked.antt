@@ -240,9 +240,9 @@ module _ (s : State) (x : Context) where
       → IsHeld s x i → ⊥
   nothing_held i r n is at free why =
       let one : r ≡ why.range = same_Some r why.range (sym is ∙ why.is) in
-      let file : n ≡ why.file = same_Some n why.file (sym at ∙ why.at) in
-      why.clash (inl (subst (λ n. s.opens.held n why.holder why.byte ≡ None) file
-      (free why.holder why.byte (subst (λ (r : Range). InRange r.offset r.size why.byte) (sym one) why.within))))
+      let file : n ≡ why.holder.file = same_Some n why.holder.file (sym at ∙ why.at) in
+      why.clash (inl (subst (λ n. s.opens.held n why.holder.number why.byte ≡ None) file
+      (free why.holder.number why.byte (subst (λ (r : Range). InRange r.offset r.size why.byte) (sym one) why.within))))
 
   not_in_use : (given : Stateid) → (IsCurrent (state_id given) → ⊥) → ((o : OpenState) → In o s.opens.opens → o.number ≢ (state_id given).number)
       → ((l : LockState) (b : ℕ) → In l s.opens.locks → s.opens.held l.file l.number b ≡ None) → IsInUse s x (Operation (Op.FreeStateid given)) → ⊥
@@ -731,7 +731,7 @@ refused_clash d is = let e = last_of d (ops_of made locks) in false≢true (is.l
   access = record { reads = true; writes = true };
   has = refl;
   may = refl;
-  free = λ holder b within. inl refl;
+  free = λ holder b there other within. inl refl;
   counted = counted e.before.store e.context (λ k there. none_any (λ (k : Stored). nat_le last_count k.object.change) e.before.store.tree.objects k refl there) refl refl refl;
 }) (λ lacks. no_less _ _ refl lacks) refl)
 

@@ -15,7 +15,7 @@ use Rattle.nfs_opens.proofs.Terms.{judge_named}
 use Rattle.nfs_names.proofs.Found.{came, ok_is}
 use Rattle.nfs_names.specs.{declared.context.Context.Context, State.State}
 use Rattle.nfs_files.specs.StateIds.{state_id, meant}
-use Rattle.nfs_promises.specs.Answers.Asked.{StateGiven, by_state, IsCurrent, IsNone, Zeros, Ones, IsSpecial, AllZeros, AllOnes, as_given, StandsFor, Itself, TheCurrent}
+use Rattle.nfs_promises.specs.Answers.Asked.{StateGiven, by_state, IsCurrent, IsNone, Zeros, Ones, IsSpecial, AllZeros, AllOnes, as_given, StandsFor, Itself, TheCurrent, IsGiven}
 use Rattle.nfs_promises.specs.Answers.Reasons.{access_under, access_with, StateTold, one_of, state_of, fits, IsOwn, IsBad, NoCurrent, Special, NoState, Reason}
 use Rattle.nfs_promises.proofs.{Answers.Blaming.{Blames, AllBlame, bool_blames, then_checks}, Permission.PermittedBytes.is_state}
 
@@ -82,6 +82,19 @@ stands_for x k id e = by (is_current (state_id k.given)) (has_zeros (state_id x.
     by true true is off e = absurd cc
     by true false is off e = (let same : with_seqid k.form (state_id x.stateid) ≡ id = cc in TheCurrent (current_so (state_id k.given) is) (none_not (state_id x.stateid) off) (sym same ∙ with_as k.form (state_id x.stateid)))
     by false none is off e = (let same : state_id k.given ≡ id = cc in Itself (current_not (state_id k.given) is) (sym same))
+
+-- what stands for a stateid is one
+pub stands_one : (x : Context) (k : StateGiven) (a b : StateId) → StandsFor x k a → StandsFor x k b → a ≡ b
+stands_one x k a b (Itself other is) (Itself still so) = is ∙ sym so
+stands_one x k a b (Itself other is) (TheCurrent at some so) = absurd (other at)
+stands_one x k a b (TheCurrent at some is) (Itself other so) = absurd (other at)
+stands_one x k a b (TheCurrent at some is) (TheCurrent there else so) = is ∙ sym so
+
+-- and what is given has one number
+pub given_one : (x : Context) (i : Item) (k : StateGiven) (id : StateId) → by_state i ≡ Some k → StandsFor x k id → (n : ℕ) → IsGiven x i n → n ≡ id.number
+given_one x i k id is means n given =
+    let one : given.given ≡ k = same_Some given.given k (sym given.is ∙ is) in
+    sym given.names ∙ ap (λ (i : StateId). i.number) (stands_one x k given.id id (subst (λ k. StandsFor x k given.id) one given.means) means)
 
 pub meant_blames : (s : State) (x : Context) (i : Item) (k : StateGiven) → by_state i ≡ Some k → Blames (Reason s x i) (meant x k.form k.given)
 meant_blames s x i k is =

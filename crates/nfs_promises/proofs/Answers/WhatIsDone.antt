@@ -9,31 +9,22 @@ use Rattle.nfs_compound.specs.{declared.file_args.Write.Write, declared.lock_arg
 use Rattle.nfs_compound.specs.declared.op.{Item.{Item, TheVariants.Operation}}
 use Rattle.nfs_compound.specs.declared.op.Op.TheVariants as Op
 use Rattle.nfs_compound.specs.declared.op_num.OpNum.TheVariants as Num
-use Rattle.nfs_opens.specs.{declared.judging.Sort.TheVariants.{Either, OpenOnly, LockOnly}, declared.records.OpenState.OpenState, declared.stateid.StateId.StateId}
-use Rattle.nfs_opens.specs.{declared.stateid.CurrentSeqid.TheVariants.{Any, Own}, Judging.judge, Locking.unlock, Table.{Table, lock_at}}
+use Rattle.nfs_results.specs.Results.{spell_result}
+use Rattle.nfs_results.specs.declared.res.Res.TheVariants as Res
+use Rattle.nfs_opens.specs.{declared.judging.Sort.TheVariants.{Either, OpenOnly, LockOnly}, declared.locking.Wish.Wish, declared.records.OpenState.OpenState, declared.stateid.StateId.StateId}
+use Rattle.nfs_opens.specs.{declared.stateid.CurrentSeqid.TheVariants.{Any, Own}, Judging.judge, Locking.{raised, unlock}, Table.{Table, lock_at}}
 use Rattle.nfs_opens.specs.Closing as closing
 use Rattle.nfs_names.specs.{declared.context.Context.Context, declared.node.Node.Node, Checks.current, State.{State, without_unused}, Ending.with_opens}
+use Rattle.nfs_opens.proofs.CallLaws.{unlocked_is}
 use Rattle.nfs_names.proofs.{Found.{came, ok_is}, Untouched.unused_opens}
-use Rattle.nfs_files.specs.{Bytes.{writing, file_checks, may_use}, Close.close, Commit.commit, LockU.lock_u, Ranges.wished, StateIds.meant, Target.the_file, Write.{write, last_checks as write_lasts}}
+use Rattle.nfs_files.specs.{Bytes.{writing, file_checks, may_use}, Close.close, Commit.commit, LockU.lock_u, Ranges.{kind_of, wished}, StateIds.{meant, wire_id}, Target.the_file, Write.{write, last_checks as write_lasts}}
 use Rattle.nfs_files.proofs.{TreeFiles.IsWhole, Wishes.wish_is, WrittenOps.current_number}
 use Rattle.nfs_promises.specs.Permission.Permitted.{Writes}
-use Rattle.nfs_promises.specs.Answers.{Asked.{StateGiven, StandsFor, Itself, TheCurrent, ToWrite}, Reasons.Reason, YesIsTrue.{IsTrueOf, HoldsNone, IsClosed}}
+use Rattle.nfs_promises.specs.Answers.{Asked.{StateGiven, StandsFor, ToWrite}, YesIsTrue.{IsTrueOf, HoldsNone, IsClosed, UnlocksTruly}}
 use Rattle.nfs_promises.proofs.Answers.Blaming.{Blames, then_blames, there_blames, ends_then, ends_checks, answers_blame}
 use Rattle.nfs_promises.proofs.Answers.FileReasons.{file_blames, the_file_is, wished_blames, wished_is, may_use_blames}
-use Rattle.nfs_promises.proofs.Answers.{Placed.no_reason, StateReasons.{stands_for, meant_blames, state_blames}, TruthOfAnswers.{Off, Yes, refused_off, current_off, all_off, up_to}}
+use Rattle.nfs_promises.proofs.Answers.{StateReasons.{stands_for, stands_one, meant_blames, state_blames}, StatesTold.{off_of, told_id, raised_in, lock_rises}, TruthOfAnswers.{Off, Yes, refused_off, current_off, all_off, up_to}}
 use Rattle.nfs_promises.proofs.Permission.Granting.{may_write_bytes}
-
--- a refusal that has a reason is none of NFS4_OK
-off_of : (s : State) (x : Context) (i : Item) {A : Type 0} (v : Result A Status) → Blames (Reason s x i) v → Blames Off v
-off_of s x i (Err f) why = no_reason s x i f why
-off_of s x i (Ok a) why = tt
-
--- what stands for a stateid is one
-pub stands_one : (x : Context) (k : StateGiven) (a b : StateId) → StandsFor x k a → StandsFor x k b → a ≡ b
-stands_one x k a b (Itself other is) (Itself still so) = is ∙ sym so
-stands_one x k a b (Itself other is) (TheCurrent at some so) = absurd (other at)
-stands_one x k a b (TheCurrent at some is) (Itself other so) = absurd (other at)
-stands_one x k a b (TheCurrent at some is) (TheCurrent there else so) = is ∙ sym so
 
 -- CLOSE
 
@@ -53,7 +44,7 @@ module _ (s : State) (whole : IsWhole s) (x : Context) where
       ends_then Off (Yes P) (closing.close s.opens id x.client d.number) _
       (then_blames Off (judge s.opens id x.client (Some d.number) OpenOnly) _ (off_of s x i (judge s.opens id x.client (Some d.number) OpenOnly)
       (state_blames s x i k refl id (stands_for x k id means) x.client (Some d.number) refl (refl, at))) (λ n e. tt))
-      (λ did e2 ok. is_closed a id d did (stands_for x k id means) e2)))))
+      (λ did e2 ok. (is_closed a id d did (stands_for x k id means) e2, refl))))))
     where
       is_closed : (a : Close) (id : StateId) (d : Node) (did : _) → StandsFor x (record { given = a.open_stateid; sort = OpenOnly; form = Own; here = true }) id
           → closing.close s.opens id x.client d.number ≡ Ok did → IsClosed x a (without_unused (with_opens s did.1) d.number)
@@ -81,7 +72,7 @@ module _ (s : State) (whole : IsWhole s) (x : Context) where
       (then_blames Off (judge s.opens id w.client (Some w.file) LockOnly) _ (off_of s x i (judge s.opens id w.client (Some w.file) LockOnly)
       (state_blames s x i k refl id (stands_for x k id means) w.client (Some w.file) at.0 (refl, at.1))) (λ n e.
       then_blames Off (ok_or (lock_at s.opens id.number) S.BadStateId) _ (there_blames Off (lock_at s.opens id.number) S.BadStateId (λ none. refl)) (λ l e. tt)))
-      (λ did e2 ok. holds_none a id w did e at.1 (stands_for x k id means) e2)))))
+      (λ did e2 ok. unlocks a id w did e at (stands_for x k id means) e2)))))
     where
       holds_none : (a : LockU) (id : StateId) (w : _) (did : _) → wished s x a.locktype a.offset a.length ≡ Ok w → x.current ≡ Some w.file
           → StandsFor x (record { given = a.lock_stateid; sort = LockOnly; form = Any; here = true }) id → unlock s.opens id w.client w.file w.first w.last ≡ Ok did
@@ -98,6 +89,25 @@ module _ (s : State) (whole : IsWhole s) (x : Context) where
           ap (λ (p : StateId × Table). p.1.held w.file id.number b) (sym (ok_is refl l.then)) ∙ (rw (eq-eqb w.file w.file refl, eq-eqb id.number id.number refl, low, high) refl) in
           let there : w.file ≡ file = same_Some w.file file (sym at ∙ here) in
           subst (λ file. did.1.held file other.number b ≡ None) there (subst (λ (i : StateId). did.1.held w.file i.number b ≡ None) one gone)
+
+      unlocks : (a : LockU) (id : StateId) (w : Wish) (did : StateId × Table) → wished s x a.locktype a.offset a.length ≡ Ok w
+          → (w.client ≡ x.client) × (x.current ≡ Some w.file) × (w.kind ≡ kind_of a.locktype)
+          → StandsFor x (record { given = a.lock_stateid; sort = LockOnly; form = Any; here = true }) id → unlock s.opens id w.client w.file w.first w.last ≡ Ok did
+          → UnlocksTruly s x a (spell_result (Res.LockU (wire_id did.0))) (with_opens s did.1)
+      unlocks a id w did e at means e2 =
+          let u = unlocked_is s.opens id w.client w.file w.first w.last did e2 in
+          let n = raised_in s.opens id.number u.state u.found in
+          record {
+            state = raised u.state;
+            there = subst (λ (t : Table). In (raised u.state) t.locks) (sym u.left) n.0;
+            client = u.mine ∙ at.0;
+            file = at.1 ∙ ap Some (sym u.there);
+            given = record { given = _; is = refl; id = id; means = means; names = sym n.1 };
+            free = holds_none a id w did e at.1 means e2;
+            seqid = lock_rises s.opens id.number u.state u.found n.1;
+            told = ap (λ i. spell_result (Res.LockU i)) (told_id did.0 (raised u.state).seqid s.opens.instance id.number u.answer (with_opens s did.1)
+                (ap (λ (t : Table). t.instance) u.left) u.state.number n.1);
+          }
 
   -- WRITE and COMMIT
   pub write_true : (now : Time) (a : Write) → Yes (IsTrueOf s x (Operation (Op.Write a))) (write s x now a)

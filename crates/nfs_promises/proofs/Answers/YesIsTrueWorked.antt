@@ -1,10 +1,10 @@
 -- Answers that are true and answers that are not, computed.
 use Rattle.std.proofs.Common.{◌≡◌, ◌≢◌, ℕ, true, false, List, [], ◌∷◌, Option, Some, None, get_or, refl, sym, ◌∙◌, ap, subst, arith, inl, inr}
-use Rattle.std.proofs.lemmas.{Bool.{cases_Bool}, Option.same_Some}
+use Rattle.std.proofs.lemmas.{Bool.{cases_Bool, false≢true}, Option.same_Some}
 use Rattle.std.specs.{Prelude.{◌+◌, ◌*◌, ◌^◌, ◌++◌, replicate, bit_and, take, option_map}}
 use Rattle.nfs_xdr.specs.{Caller.Caller, Tables.In, Spelling.{number, hyper}}
 use Rattle.nfs_xdr.specs.declared.status.Status.TheVariants as S
-use Rattle.nfs_compound.specs.{ArgCodecs.{read_dir_args, lock_t_args, create_args, create_type, commit_args}, declared.file_args.StableHow.TheVariants.Unstable, declared.stateid.Stateid.Stateid, declared.lock_args.LockT.LockT}
+use Rattle.nfs_compound.specs.{ArgCodecs.{read_dir_args, lock_t_args, create_args, create_type, commit_args}, declared.file_args.StableHow.TheVariants.Unstable, declared.stateid.Stateid.Stateid, declared.lock_args.{Lock.Lock, LockT.LockT, LockU.LockU, Locker.TheVariants.OpenOwner}, declared.open_args.{Open.Open, OpenDowngrade.OpenDowngrade, OpenHow.TheVariants.NoCreate}}
 use Rattle.nfs_compound.specs.declared.lock_args.LockType.TheVariants as LockTypes
 use Rattle.nfs_compound.specs.Stateid as wire_ids
 use Rattle.nfs_results.specs.Items as results
@@ -18,16 +18,17 @@ use Rattle.nfs_results.specs.Results.{spell_result}
 use Rattle.nfs_ranges.specs.declared.Kind.{Kind, TheVariants.Write}
 use Rattle.nfs_tree.specs.{declared.object.Object.Object, declared.object.FileType.TheVariants.Regular, Files.{most_text, data_at, object_at, object_named}}
 use Rattle.nfs_attrs.specs.{Mask.{common, mask_of, trimmed_words}, Attributes.{readable, values}}
-use Rattle.nfs_opens.specs.{declared.records.LockState.LockState, declared.judging.Sort.TheVariants.{OpenOnly, LockOnly}, declared.stateid.CurrentSeqid.TheVariants.{Any, Own}}
+use Rattle.nfs_opens.specs.{declared.records.{LockState.LockState, OpenState.OpenState}, declared.share.Share.Share, Share.share_of, declared.judging.Sort.TheVariants.{OpenOnly, LockOnly}, declared.stateid.CurrentSeqid.TheVariants.{Any, Own}}
 use Rattle.nfs_names.specs.{declared.context.Context.Context, State.State, Access.access, Create.create, GetAttr.get_attr, GetFh.get_fh, ReadLink.read_link, Remove.remove}
 use Rattle.nfs_files.specs.{Commit.commit, Ranges.kind_of, LockT.lock_t, TestStateid.{code, test_stateid}}
 use Rattle.nfs_exec.specs.Runs.Ops.{RanOp}
-use Rattle.nfs_promises.specs.{Runs.{Requests.stateid, Points.ops_of}, Locks.LockKeptWorked.{asked, gives_up, last_of, statuses}, Bytes.WrittenStaysWorked.{made, writes}, Names.FileStaysWorked.{with_status, missed, closes}}
+use Rattle.nfs_promises.specs.{Runs.{Requests.{current_stateid, stateid}, Points.ops_of}, Locks.{LockKeptWorked.{asked, gives_up, last_of, locks, outset, statuses}, OpenKeptWorked.opened}, Bytes.WrittenStaysWorked.{made, writes}, Names.FileStaysWorked.{with_status, missed, closes}}
 use Rattle.nfs_promises.specs.Permission.Permitted.{Reads, Writes, Executes, Rights, rights_of, Grants, ToRoot, ToOwner, ToGroup, ToOthers}
 use Rattle.nfs_promises.specs.Answers.Asked.{InRange, LiesBeside}
-use Rattle.nfs_promises.specs.Answers.YesIsTrue.{TellsSo, IsFree, AreTold, IsEntry, IsText, IsJudged, bits, Stands, AreTested}
-use Rattle.nfs_promises.specs.Answers.{Asked.{StateGiven, Itself, IsCurrent}, YesIsTrueWorked.{AreAsked, YesesRefused, unchanging, telling, commits, lists, page, entry, tests, fileid, mode, may_read, reads_link, tests_stateid, misses}}
-use Rattle.nfs_promises.proofs.{Answers.ReasonsWorked.no_special, Runs.Computing.computing}
+use Rattle.nfs_promises.specs.Answers.YesIsTrue.{TellsSo, IsFree, AreTold, IsEntry, IsText, IsJudged, bits, Stands, AreTested, stateid_of, OpensTruly, NarrowsTruly, LocksTruly, UnlocksTruly}
+use Rattle.nfs_promises.specs.Answers.{Asked.{StateGiven, Itself, IsCurrent}, YesIsTrueWorked.{AreAsked, YesesRefused, unchanging, telling, opens_as, shifted, narrows, commits, lists, page, entry, tests, fileid, mode, may_read, reads_link, tests_stateid, misses}}
+use Rattle.nfs_promises.specs.Answers.ReasonsWorked.{opens}
+use Rattle.nfs_promises.proofs.{Answers.ReasonsWorked.{asking, no_special}, Runs.Computing.computing}
 
 denied : statuses (ops_of asked tests) ≡ S.Nfs4Ok ∷ S.Nfs4Ok ∷ S.Denied ∷ []
 unfolding computing lock_t lock_t_args
@@ -244,6 +245,135 @@ bad d is = let e = last_of d (ops_of made tests_stateid) in let w = is refl in c
   seqid = inr refl;
 }) w.1 w.2
 
+-- OPEN and OPEN_DOWNGRADE
+
+other_name : ◌≡◌ {A = List ℕ} (0x6f ∷ []) (0x70 ∷ []) → ⊥
+other_name e = (let bad : ◌≡◌ {A = ℕ} 111 112 = ap (λ (t : List ℕ). get_or t 0 0) e in absurd (omega arith))
+
+-- the one open is another owner's
+opened_not : (s : State) (x : Context) (a : Open) (result : List ℕ) (t : State) (o : OpenState) → t.opens.opens ≡ o ∷ [] → o.owner ≡ 0x6f ∷ [] → a.owner.owner ≡ 0x70 ∷ []
+    → OpensTruly s x a result t → ⊥
+opened_not s x a result t o one has asks why = by (subst (In why.state) one why.there)
+  where
+    by : In why.state (o ∷ []) → ⊥
+    by (inl same) = other_name (sym has ∙ (ap (λ (o : OpenState). o.owner) (sym same) ∙ (why.owner ∙ asks)))
+    by (inr none) = none
+
+unopened : (d : RanOp) → TellsSo (unchanging (last_of d (ops_of made (opens NoCreate)))) → ⊥
+unfolding computing
+unopened d is = let e = last_of d (ops_of made (opens NoCreate)) in opened_not e.before.store e.context (asking NoCreate) e.result e.before.store _ refl refl refl (is refl)
+
+-- of two opens the second is the owner's, and has number 2
+told_not : (s : State) (x : Context) (a : Open) (t : State) (o p : OpenState) → t.opens.opens ≡ o ∷ p ∷ [] → o.owner ≡ 0x6f ∷ [] → p.number ≡ 2 → a.owner.owner ≡ 0x70 ∷ []
+    → OpensTruly s x a (spell_result (opens_as (stateid 1 1))) t → ⊥
+unfolding number hyper results.open_ok wire_ids.stateid
+told_not s x a t o p two has second asks why = by (subst (In why.state) two why.there)
+  where
+    tells : why.state.number ≡ 2 → ⊥
+    tells is =
+        let lie = spell_result (opens_as (stateid 1 1)) in
+        let first = subst (λ id. lie ≡ spell_result (Res.Open (record why.answer { stateid = id }))) why.stateid why.told in
+        let told = subst (λ n. lie ≡ spell_result (Res.Open (record why.answer { stateid = stateid_of t why.state.seqid n }))) is first in
+        let bad : ◌≡◌ {A = ℕ} 1 2 = ap (λ (t : List ℕ). get_or t 23 0) told in
+        absurd (omega arith)
+
+    by : In why.state (o ∷ p ∷ []) → ⊥
+    by (inl same) = other_name (sym has ∙ (ap (λ (o : OpenState). o.owner) (sym same) ∙ (why.owner ∙ asks)))
+    by (inr (inl same)) = tells (ap (λ (o : OpenState). o.number) same ∙ second)
+    by (inr (inr none)) = none
+
+other_open : (d : RanOp) → TellsSo (telling (opens_as (stateid 1 1)) (last_of d (ops_of made (opens NoCreate)))) → ⊥
+unfolding computing
+other_open d is = let e = last_of d (ops_of made (opens NoCreate)) in told_not e.before.store e.context (asking NoCreate) e.behind.store _ _ refl refl refl refl (is refl)
+
+-- the one open may still write
+narrowed_not : (s : State) (x : Context) (a : OpenDowngrade) (result : List ℕ) (t : State) (o : OpenState) → t.opens.opens ≡ o ∷ [] → o.access.writes ≡ true → a.share_access ≡ 1
+    → NarrowsTruly s x a result t → ⊥
+narrowed_not s x a result t o one writes asks why = by (subst (In why.state) one why.there)
+  where
+    narrow : why.state.access.writes ≡ false
+    narrow = sym (ap (λ (k : Share). k.writes) (same_Some (record { reads = true; writes = false }) why.state.access (sym (ap share_of asks) ∙ why.access)))
+
+    by : In why.state (o ∷ []) → ⊥
+    by (inl same) = false≢true (sym narrow ∙ (ap (λ (o : OpenState). o.access.writes) same ∙ writes))
+    by (inr none) = none
+
+abbrev narrowing : OpenDowngrade
+narrowing = record { open_stateid = stateid 1 1; seqid = 0; share_access = 1; share_deny = 0 }
+
+unnarrowed : (d : RanOp) → TellsSo (unchanging (last_of d (ops_of opened narrows))) → ⊥
+unfolding computing
+unnarrowed d is = let e = last_of d (ops_of opened narrows) in narrowed_not e.before.store e.context narrowing e.result e.before.store _ refl refl refl (is refl)
+
+narrowed_now : statuses (ops_of opened narrows) ≡ S.Nfs4Ok ∷ S.Nfs4Ok ∷ []
+unfolding computing
+narrowed_now = refl
+
+-- LOCK
+
+abbrev locked_byte : Lock
+locked_byte = record {
+  locktype = LockTypes.Write;
+  reclaim = false;
+  offset = 0;
+  length = 1;
+  locker = OpenOwner (record { open_seqid = 0; open_stateid = current_stateid; lock_seqid = 0; lock_owner = record { clientid = 0; owner = 0x6c ∷ [] } });
+}
+
+free_still : (d : RanOp) → TellsSo (unchanging (last_of d (ops_of outset locks))) → ⊥
+unfolding computing
+free_still d is = (is refl).there
+
+-- the one lock state does not hold the byte
+held_not : (s : State) (x : Context) (a : Lock) (result : List ℕ) (t : State) (l : LockState) → t.opens.locks ≡ l ∷ [] → InRange a.offset a.length 0 → kind_of a.locktype ≡ Write
+    → t.opens.held l.file l.number 0 ≡ None → LocksTruly s x a result t → ⊥
+held_not s x a result t l one within kind free why = by (subst (In why.state) one why.there)
+  where
+    by : In why.state (l ∷ []) → ⊥
+    by (inl same) =
+        (let held : t.opens.held l.file l.number 0 ≡ Some Write = subst (λ (l : LockState). t.opens.held l.file l.number 0 ≡ Some Write) same (why.holds 0 within ∙ ap Some kind) in
+        let bad : None ≡ Some Write = sym free ∙ held in
+        cc)
+    by (inr none) = none
+
+beside : (d : RanOp) → TellsSo (shifted (last_of d (ops_of outset locks))) → ⊥
+unfolding computing
+beside d is = let e = shifted (last_of d (ops_of outset locks)) in
+    held_not e.before.store e.context locked_byte e.result e.behind.store _ refl (omega arith, omega arith, inr (omega arith)) refl refl (is refl)
+
+-- the one lock state has another seqid
+seqid_not : (t : State) (l k : LockState) (n told : ℕ) → t.opens.locks ≡ l ∷ [] → In k t.opens.locks → l.seqid ≡ n → (k.seqid ≡ n → told ≡ n) → told ≢ n → ⊥
+seqid_not t l k n told one there has says other = by (subst (In k) one there)
+  where
+    by : In k (l ∷ []) → ⊥
+    by (inl same) = other (says (ap (λ (l : LockState). l.seqid) same ∙ has))
+    by (inr none) = none
+
+early_not : (s : State) (x : Context) (a : Lock) (t : State) (l : LockState) → t.opens.locks ≡ l ∷ [] → l.seqid ≡ 1 → LocksTruly s x a (spell_result (Res.Lock (stateid 2 2))) t → ⊥
+unfolding number hyper wire_ids.stateid
+early_not s x a t l one first why = seqid_not t l why.state 1 2 one why.there first (λ is.
+    ap (λ (t : List ℕ). get_or t 11 0) (subst (λ q. spell_result (Res.Lock (stateid 2 2)) ≡ spell_result (Res.Lock (stateid_of t q why.state.number))) is why.told)) (λ e. absurd (omega arith))
+
+early : (d : RanOp) → TellsSo (telling (Res.Lock (stateid 2 2)) (last_of d (ops_of outset locks))) → ⊥
+unfolding computing
+early d is = let e = last_of d (ops_of outset locks) in early_not e.before.store e.context locked_byte e.behind.store _ refl refl (is refl)
+
+late_not : (s : State) (x : Context) (a : LockU) (t : State) (l : LockState) → t.opens.locks ≡ l ∷ [] → l.seqid ≡ 2 → UnlocksTruly s x a (spell_result (Res.LockU (stateid 1 2))) t → ⊥
+unfolding number hyper wire_ids.stateid
+late_not s x a t l one second why = seqid_not t l why.state 2 1 one why.there second (λ is.
+    ap (λ (t : List ℕ). get_or t 11 0) (subst (λ q. spell_result (Res.LockU (stateid 1 2)) ≡ spell_result (Res.LockU (stateid_of t q why.state.number))) is why.told)) (λ e. absurd (omega arith))
+
+abbrev unlocked_byte : LockU
+unlocked_byte = record { locktype = LockTypes.Write; seqid = 0; lock_stateid = stateid 1 2; offset = 0; length = 1 }
+
+late : (d : RanOp) → TellsSo (telling (Res.LockU (stateid 1 2)) (last_of d (ops_of asked gives_up))) → ⊥
+unfolding computing
+late d is = let e = last_of d (ops_of asked gives_up) in late_not e.before.store e.context unlocked_byte e.behind.store _ refl refl (is refl)
+
+again : (d : RanOp) → TellsSo (telling (Res.Close (stateid 1 1)) (last_of d (ops_of missed closes))) → ⊥
+unfolding computing get_fh remove
+again d is = (let bad : ◌≡◌ {A = ℕ} 1 255 = ap (λ (t : List ℕ). get_or t 11 0) (is refl).1 in absurd (omega arith))
+
 -- LOCKU, CLOSE, WRITE and COMMIT
 
 abbrev lock_given : StateGiven
@@ -255,11 +385,11 @@ open_given = record { given = stateid 1 1; sort = OpenOnly; form = Own; here = t
 still_locked : (d : RanOp) → TellsSo (unchanging (last_of d (ops_of asked gives_up))) → ⊥
 unfolding computing
 still_locked d is = (let held : ◌≡◌ {A = Option Kind} (Some Write) None =
-    is refl lock_given (record { seqid = 1; instance = 7; number = 2 }) 2 0 refl (Itself (λ c. seven c.1) refl) refl (omega arith, omega arith, inr (omega arith)) in cc)
+    (is refl).free lock_given (record { seqid = 1; instance = 7; number = 2 }) 2 0 refl (Itself (λ c. seven c.1) refl) refl (omega arith, omega arith, inr (omega arith)) in cc)
 
 still_open : (d : RanOp) → TellsSo (unchanging (last_of d (ops_of missed closes))) → ⊥
 unfolding computing get_fh remove
-still_open d is = is refl open_given (record { seqid = 1; instance = 7; number = 1 }) refl (Itself (λ c. seven c.1) refl) _ (inl refl) refl
+still_open d is = (is refl).0 open_given (record { seqid = 1; instance = 7; number = 1 }) refl (Itself (λ c. seven c.1) refl) _ (inl refl) refl
 
 unstable : (d : RanOp) → TellsSo (telling (Res.Write (record { count = 4; committed = Unstable; writeverf = number 7 ++ replicate 4 0 })) (last_of d (ops_of made writes))) → ⊥
 unfolding computing
@@ -282,7 +412,7 @@ unfolding computing
 found d is = let e = last_of d (ops_of made misses) in name_not e.before.store e.context (0x67 ∷ []) 1 refl refl (is refl)
 
 pub yeses_refused : YesesRefused
-yeses_refused = record { free = free; another = another; unset = unset; other_entry = other_entry; nothing = nothing; empty = empty; bad = bad; still_locked = still_locked; still_open = still_open; unstable = unstable; restarted = restarted; found = found }
+yeses_refused = record { free = free; another = another; unset = unset; other_entry = other_entry; nothing = nothing; empty = empty; bad = bad; unopened = unopened; other_open = other_open; unnarrowed = unnarrowed; free_still = free_still; beside = beside; early = early; late = late; again = again; still_locked = still_locked; still_open = still_open; unstable = unstable; restarted = restarted; found = found }
 
 pub are_asked : AreAsked
-are_asked = record { denied = denied; told = told; judged = judged; read = read; tested = tested; committed = committed; listed = listed; missed = missed_it }
+are_asked = record { denied = denied; told = told; judged = judged; read = read; tested = tested; committed = committed; listed = listed; missed = missed_it; narrowed = narrowed_now }

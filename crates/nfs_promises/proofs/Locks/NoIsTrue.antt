@@ -1,9 +1,9 @@
 -- A no is true: what a LOCK or a LOCKT that is denied reports was granted before, and has not ended.
-use Rattle.std.proofs.Common.{◌≡◌, not, Bool, ◌≢◌, ℕ, suc, ◌-◌, ◌<◌, ◌≤◌, true, false, List, [], ◌∷◌, ◌++◌, take, Option, Some, None, refl, sym, ◌∙◌, ap, subst, arith, inl, inr}
-use Rattle.std.proofs.{Common.{append_assoc, append-nil}, lemmas.Bool.{and_parts, false≢true, eq-eqb, eqb-true}, lemmas.Slice.Eq.bytes_eq-Decides}
+use Rattle.std.proofs.Common.{◌≡◌, not, Bool, ◌≢◌, ℕ, suc, ◌-◌, ◌<◌, ◌≤◌, true, false, List, [], ◌∷◌, ◌++◌, take, Some, None, refl, sym, ◌∙◌, ap, subst, arith, inl, inr}
+use Rattle.std.proofs.{Common.{append_assoc, append-nil}, lemmas.Bool.{and_parts, false≢true, eq-eqb}}
 use Rattle.std.specs.Prelude.{◌^◌, Ok}
 use Rattle.nfs_xdr.specs.{Limits.opaque_limit, Tables.In, declared.status.Status.TheVariants.{Denied, RepTooBig}}
-use Rattle.nfs_xdr.proofs.{Lists.{find_in, none_in}, Tables.in_once}
+use Rattle.nfs_xdr.proofs.Tables.{in_once}
 use Rattle.nfs_compound.specs.declared.lock_args.Lock as lock_args
 use Rattle.nfs_compound.specs.declared.lock_args.LockT as test_args
 use Rattle.nfs_compound.specs.{declared.lock_args.Locker.TheVariants.{LockOwner, OpenOwner}, declared.op.Item.Item, declared.op.Item.TheVariants.Operation}
@@ -12,10 +12,9 @@ use Rattle.nfs_compound.specs.declared.op.Op.TheVariants as Op
 use Rattle.nfs_results.specs.declared.res.Denied as result
 use Rattle.nfs_results.specs.{declared.res.Res.Res, Results.spell_result}
 use Rattle.nfs_ranges.specs.{declared.Held.Held, Told.{meets, told}}
-use Rattle.nfs_opens.specs.{declared.locking.Wish.Wish, declared.records.LockState.LockState, Locking.{clash, state_of, is_locker}}
+use Rattle.nfs_opens.specs.{declared.locking.Wish.Wish, declared.records.LockState.LockState, Locking.clash}
 use Rattle.nfs_opens.specs.{declared.stateid.CurrentSeqid.TheVariants.Any, declared.stateid.StateId.StateId, Table.{Table, lock_at}}
 use Rattle.nfs_opens.proofs.LockLemmas.{clash_tells}
-use Rattle.nfs_opens.proofs.Terms.{number_of}
 use Rattle.nfs_names.specs.State as of_store
 use Rattle.nfs_names.specs.{declared.start.Start.Start, State.time_at, declared.context.Context.Context}
 use Rattle.nfs_files.specs.{Denied.{lock_denied, type_of, size_of}, Lock.stateid_in, LockTold.LockTold, StateIds.meant}
@@ -29,9 +28,9 @@ use Rattle.nfs_promises.specs.{Locks.NoneOutlives.last_renewal, Runs.Points.{rea
 use Rattle.nfs_promises.specs.Runs.Points.{asked_by, ops_of}
 use Rattle.nfs_promises.proofs.Locks.{DenialsCaused.{WasDenied, IsLocker, IsTester, asker, is_denied, lock_was_denied, test_denied}, LockBeforeStep.Holds}
 use Rattle.nfs_promises.proofs.Locks.{LockBeforeStep.found_at, ReplacedByRepeat.{lock_had, is_alone_by}, Traced.{Stood, Given, asked_traced, asked_until}}
-use Rattle.nfs_promises.proofs.Locks.{LockTraced.{held_staying, lock_trace, lock_traced}, OneStateEach.{HasOneEach, locker_is, each_kept}, StatesBegun.same_lock}
+use Rattle.nfs_promises.proofs.Locks.{LockTraced.{held_staying, lock_trace, lock_traced}, OneStateEach.{HasOneEach, found_one, each_in}, StatesBegun.same_lock}
 use Rattle.nfs_promises.proofs.Locks.{StatesBegun.begun_by, NoneOutlives.none_outlives}
-use Rattle.nfs_promises.proofs.Runs.{LaterRecords.{runs_keep, runs_last, reached_more, whole_at, op_done, first_there}, Points.{left, next_is, IsSound, sound_all}}
+use Rattle.nfs_promises.proofs.Runs.{LaterRecords.{reached_more, whole_at, op_done, first_there}, Points.{left, next_is, IsSound, sound_all}}
 use Rattle.nfs_promises.proofs.Runs.Points.{sound_new}
 
 -- Records.
@@ -143,19 +142,6 @@ report_of t h l found = rw found refl
 
 -- The lock that is reported is not of whoever asks.
 
-its_number : (t : Table) (client : ℕ) (owner : List ℕ) (file : ℕ) (l : LockState) → HasOneEach t → In l t.locks → l.client ≡ client → l.owner ≡ owner → l.file ≡ file
-    → number_of (state_of t client owner file) ≡ l.number
-its_number t client owner file l each there mine its on = go (state_of t client owner file) refl
-  where
-    go : (o : Option LockState) → state_of t client owner file ≡ o → number_of o ≡ l.number
-    go None none = absurd (false≢true (sym (none_in (is_locker client owner file) t.locks l none there) ∙ locker_is client owner file l mine its on))
-    go (Some k) found =
-        (let at = find_in (is_locker client owner file) t.locks k found in
-        let tests = and_parts _ _ at.1 in
-        let more = and_parts _ _ tests.1 in
-        ap (λ (l : LockState). l.number)
-        (each k l at.0 there (eqb-true k.client client more.0 ∙ sym mine) ((bytes_eq-Decides k.owner owner).0 more.1 ∙ sym its) (eqb-true k.file file tests.0 ∙ sym on)))
-
 abbrev is_locking : Item → Bool
 is_locking (Operation (Op.Lock a)) = true
 is_locking item = false
@@ -187,7 +173,7 @@ lock_others d a w n is asks whose each l there on other = record {
       other (sym same ∙ (ap (λ (i : StateId). i.number) (sym one) ∙ sym (whose.2 ∙ ap (λ k. asker d.before.store.opens k whose.0 w) at))));
   new = λ b o item locker mine its.
       (let at : a.locker ≡ OpenOwner o = ap (λ (a : lock_args.Lock). a.locker) (same_lock d.item a b is item) ∙ locker in
-      other (sym (its_number d.before.store.opens w.client o.lock_owner.owner w.file l each there (mine ∙ sym asks) its on)
+      other (found_one d.before.store.opens each w.client o.lock_owner.owner w.file l there (mine ∙ sym asks) its on
       ∙ sym (whose.2 ∙ ap (λ k. asker d.before.store.opens k whose.0 w) at)));
   tested = λ b item mine its. let bad : true ≡ false = ap is_locking (sym is ∙ item) in absurd cc;
 }
@@ -203,7 +189,7 @@ test_others d a w n is asks whose each l there on other = record {
   new = λ b o item locker mine its. let bad : true ≡ false = ap is_locking (sym item ∙ is) in absurd cc;
   tested = λ b item mine its.
       (let name : l.owner ≡ a.owner.owner = its ∙ ap (λ (a : test_args.LockT). a.owner.owner) (same_test d.item b a item is) in
-      other (sym (its_number d.before.store.opens w.client a.owner.owner w.file l each there (mine ∙ sym asks) name on) ∙ sym whose));
+      other (found_one d.before.store.opens each w.client a.owner.owner w.file l there (mine ∙ sym asks) name on ∙ sym whose));
 }
 
 record Reported (s : of_store.State) (x : Context) (how : LockType) (offset size : ℕ) (text : List ℕ) (reports : result.Denied → Res) (IsAsker : Wish → ℕ → Type 0)
@@ -256,8 +242,7 @@ no_is_true start records c until d behind small same asks status =
     let r = (op_done s c sound d (first_there s c until d behind same)).run in
     let f = found_by d r d.item refl asks status in
     let t = d.before.store.opens in
-    let each : HasOneEach t = runs_keep (λ s. HasOneEach s.opens) each_kept (new_state start) (records ++ c ∷ []) (sound_new start)
-    (λ k l here. absurd here) d (runs_last (new_state start) records c d (first_there s c until d behind same)) in
+    let each : HasOneEach t = each_in start records c d (first_there s c until d behind same) in
     let w = f.wish in
     let h = f.held in
     let (b, told) = clash_tells t w.file f.number w.kind w.first w.last (Some h) r.whole.table f.range.0 f.range.1 f.met in

@@ -1,9 +1,9 @@
 -- A lock owner has one lock state on a file.
-use Rattle.std.proofs.Common.{◌≡◌, ◌⊎◌, ℕ, ◌+◌, Bool, true, false, cond, not, List, map, Option, Some, None, refl, sym, ◌∙◌, ap, subst, inl, inr}
-use Rattle.std.proofs.{lemmas.Bool.{eq-eqb, false≢true}, lemmas.Slice.Eq.bytes_eq-Decides}
-use Rattle.std.specs.Prelude.{◌==◌, if◌then◌else◌, Ok, filter, ok_or}
+use Rattle.std.proofs.Common.{◌≡◌, ◌⊎◌, ℕ, ◌+◌, Bool, true, false, cond, not, List, [], ◌∷◌, ◌++◌, map, Option, Some, None, refl, sym, ◌∙◌, ap, subst, inl, inr}
+use Rattle.std.proofs.{lemmas.Bool.{and_parts, eq-eqb, eqb-true, false≢true}, lemmas.Slice.Eq.bytes_eq-Decides}
+use Rattle.std.specs.{Prelude.{◌==◌, if◌then◌else◌, Ok, filter, ok_or}, Option.option_map_or}
 use Rattle.nfs_xdr.specs.{Tables.In, declared.time.Time.Time, declared.status.Status.TheVariants.{BadStateId, ServerFault}}
-use Rattle.nfs_xdr.proofs.Lists.{in_filter, in_map, in_push, none_in}
+use Rattle.nfs_xdr.proofs.Lists.{find_in, in_filter, in_map, in_push, none_in}
 use Rattle.nfs_compound.specs.{declared.lock_args.Locker.Locker, declared.lock_args.Locker.TheVariants.{LockOwner, OpenOwner}, declared.op.Item.Item}
 use Rattle.nfs_compound.specs.{declared.op.Item.TheVariants.Operation, declared.op.Op.Op}
 use Rattle.nfs_results.specs.{declared.res.Res.Res, Results.status_of_result}
@@ -14,14 +14,16 @@ use Rattle.nfs_opens.specs.{Locking.{is_locker, state_of, raised, access_in, loc
 use Rattle.nfs_opens.specs.{Steps.{map_err, require}, Table.{Table, Asked, lock_at}}
 use Rattle.nfs_opens.specs.Opening as opening
 use Rattle.nfs_opens.proofs.CallLaws.{first_state, came, ok_is}
-use Rattle.nfs_names.specs.{declared.context.Context.Context, Ending.table_staying, Outcome.is_ok, State.{State, time_at}}
+use Rattle.nfs_names.specs.{declared.{context.Context.Context, start.Start.Start}, Ending.table_staying, Outcome.is_ok, State.{State, time_at}}
 use Rattle.nfs_names.proofs.Untouched.{leaves_each}
 use Rattle.nfs_files.specs.Lock.{locks_as}
 use Rattle.nfs_files.proofs.{Effects.{Effect, Opens, Closes, Locks, Begins, Unlocks, Frees, Caused, table_behind}, Effected.caused_opens, Outcomes.comes_to}
 use Rattle.nfs_files.proofs.ToldLocks.{left_by}
 use Rattle.nfs_exec.specs.Runs.Ops.{RanOp}
 use Rattle.nfs_exec.proofs.{Runs.OneRun.{IsRun, by_ok, by_run}, Runs.OneWalk.IsKept}
-use Rattle.nfs_promises.proofs.Locks.LockBeforeStep.{IsGranting, Granting}
+use Rattle.nfs_serve.specs.Step.{new_state}
+use Rattle.nfs_promises.specs.{Network.Endpoint.Arrival, Runs.Points.{reached, ops_of}}
+use Rattle.nfs_promises.proofs.{Locks.LockBeforeStep.{IsGranting, Granting}, Runs.{LaterRecords.{runs_keep, runs_last}, Points.sound_new}}
 use Rattle.nfs_opens.proofs.Terms.{lock_by_owner, not_under}
 
 -- Tables.
@@ -151,3 +153,21 @@ each_run d r is = elim (by_run (λ status text s. Granting d.before.store d.cont
 
 pub each_kept : IsKept (λ s. HasOneEach s.opens)
 each_kept = record { run = each_run; end = λ stays s is. each_fewer s.opens (table_staying stays s.opens) (λ (l : LockState). stays l.client) refl is }
+
+-- before each operation of a run
+pub each_in : (start : Start) (records : List Arrival) (c : Arrival) (d : RanOp) → In d (ops_of (reached start records) c) → HasOneEach d.before.store.opens
+each_in start records c d there = runs_keep (λ s. HasOneEach s.opens) each_kept (new_state start) (records ++ c ∷ []) (sound_new start) (λ k l here. absurd here) d
+    (runs_last (new_state start) records c d there)
+
+-- The lock state that is found of an owner is the only one.
+pub found_one : (t : Table) → HasOneEach t → (client : ℕ) (owner : List ℕ) (file : ℕ) (l : LockState) → In l t.locks → l.client ≡ client → l.owner ≡ owner → l.file ≡ file
+    → l.number ≡ option_map_or (λ (k : LockState). k.number) (state_of t client owner file) 0
+found_one t each client owner file l there mine its here = by (state_of t client owner file) refl
+  where
+    by : (o : Option LockState) → state_of t client owner file ≡ o → l.number ≡ option_map_or (λ (k : LockState). k.number) o 0
+    by None found = absurd (false≢true (sym (none_in (is_locker client owner file) t.locks l found there) ∙ locker_is client owner file l mine its here))
+    by (Some k) found =
+        let of = find_in (is_locker client owner file) t.locks k found in
+        let p = and_parts _ _ of.1 in
+        let q = and_parts _ _ p.1 in
+        ap (λ (l : LockState). l.number) (each l k there of.0 (mine ∙ sym (eqb-true k.client client q.0)) (its ∙ sym ((bytes_eq-Decides k.owner owner).0 q.1)) (here ∙ sym (eqb-true k.file file p.0)))

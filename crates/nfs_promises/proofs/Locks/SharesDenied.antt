@@ -18,7 +18,7 @@ use Rattle.nfs_promises.specs.Answers.Reasons.{IsLockedOut}
 use Rattle.nfs_promises.specs.Permission.Permitted.{Right, Reads, Writes, has_right, is_special}
 use Rattle.nfs_promises.specs.Locks.SharesDenied.{ShareDenialsAreTrue, by_stateid, LockedIsTrue}
 use Rattle.nfs_promises.proofs.Answers.{ReasonOf.reason_of, StateReasons.{current_so, current_not, none_so, special_not, with_as}}
-use Rattle.nfs_promises.proofs.{Locks.OpenGranted.open_granted, Runs.LaterRecords.{ran_in, first_there}}
+use Rattle.nfs_promises.proofs.{Locks.{OneStateEach.each_in, OpenGranted.open_granted}, Runs.LaterRecords.{ran_in, first_there}}
 
 -- an open as it was told, and its bits
 abbrev told_of : OpenState → OpenTold
@@ -51,8 +51,8 @@ same_open a b e = cc
 
 pub share_denials_are_true : ShareDenialsAreTrue
 share_denials_are_true start records c until d behind a small same item status =
-    let r = ran_in start records c d (first_there (reached start records) c until d behind same) in
-    let denied = reason_of d r (Op.Open a) item S.ShareDenied status refl refl in
+    let there = first_there (reached start records) c until d behind same in
+    let denied = reason_of d (ran_in start records c d there) (each_in start records c d there) (Op.Open a) item S.ShareDenied status refl refl in
     let o = denied.state in
     let one = same_open a denied.asked denied.is in
     record {
@@ -196,9 +196,9 @@ bytes_op i k e = absurd cc
 
 pub locked_is_true : LockedIsTrue
 locked_is_true start records c until d behind given wanted small same asks status =
-    let r = ran_in start records c d (first_there (reached start records) c until d behind same) in
+    let there = first_there (reached start records) c until d behind same in
     let op = bytes_op d.item (given, wanted) asks in
-    let out = reason_of d r op.0 op.1 S.Locked status refl refl in
+    let out = reason_of d (ran_in start records c d there) (each_in start records c d there) op.0 op.1 S.Locked status refl refl in
     let u = uses_of d.before.store d.context op.0 given wanted (ap by_stateid (sym op.1) ∙ asks) out in
     let its = denied_by d.before.store d.context (Operation op.0) given u.right u.by u.uses out in
     let o = its.state in

@@ -16,7 +16,7 @@ use Rattle.nfs_promises.proofs.Runs.{ToldOtherwise.from_other, Handles.{handle_i
 use Rattle.nfs_exec.proofs.Runs.{OneRun.IsRun, WrittenRun.used_there}
 use Rattle.nfs_promises.specs.Names.FileStays.{is_on_current, is_on_saved, IsThere, FilesStay}
 use Rattle.nfs_promises.proofs.Names.{Handles.given_at, StaleTruly.{stale_for, put_found, at_current, at_saved}}
-use Rattle.nfs_promises.proofs.Locks.OpenKept.{open_kept}
+use Rattle.nfs_promises.proofs.Locks.{OneStateEach.{HasOneEach, each_kept}, OpenKept.open_kept}
 
 -- The file of an open is there.
 
@@ -46,22 +46,25 @@ op_of (Operation op) on = (op, refl)
 op_of i (inl on) = absurd (false≢true on)
 op_of i (inr on) = absurd (false≢true on)
 
-there_before : (k : OpenTold) (b : Bits) (h : List ℕ) (instance : ℕ) (d : RanOp) → IsOfHandle instance k.file h → IsRun d → d.before.store.opens.instance ≡ instance
+there_before : (k : OpenTold) (b : Bits) (h : List ℕ) (instance : ℕ) (d : RanOp) → IsOfHandle instance k.file h → IsRun d → HasOneEach d.before.store.opens → d.before.store.opens.instance ≡ instance
     → IsOpenWith k b d.before.store.opens → IsThere k.file h d
-there_before k b h instance d of r own stands =
+there_before k b h instance d of r each own stands =
     let used = open_used k b d.before.store stands in
     record {
       there = used_there d.before.store k.file r.whole used;
-      found = λ is stale. put_found d k.file used h (handle_here instance k.file h of d.before.store.opens.instance own) is (stale_for d r (Op.PutFh h) is stale);
-      at_current = λ on off at stale. (let op = op_of d.item (inl on) in at_current d k.file used on off at (stale_for d r op.0 op.1 stale));
+      found = λ is stale. put_found d k.file used h (handle_here instance k.file h of d.before.store.opens.instance own) is (stale_for d r each (Op.PutFh h) is stale);
+      at_current = λ on off at stale. (let op = op_of d.item (inl on) in at_current d k.file used on off at (stale_for d r each op.0 op.1 stale));
       at_saved = λ on saved at same others stale. (let op = op_of d.item (inr on) in
-          at_saved d k.file used on saved at same (λ on n at. r.whole.store.used n (others on n at)) (stale_for d r op.0 op.1 stale));
+          at_saved d k.file used on saved at same (λ on n at. r.whole.store.used n (others on n at)) (stale_for d r each op.0 op.1 stale));
     }
 
 pub files_stay : FilesStay
 files_stay start earlier c k b h front told back small handle same tells =
     let given = given_at start handle.records handle.record_of handle.get k.file h handle.ran handle.gives in
     let of : IsOfHandle start.instance k.file h = (small, given.0, given.1) in
-    from_other (the_open k) (λ b d. IsThere k.file h d) (λ s. s.opens.instance ≡ start.instance) (instance_kept start.instance)
-    (λ b d run own is. there_before k b h start.instance d of run own is.stands) start earlier c front told back k.client start.lease b same refl
+    from_other (the_open k) (λ b d. IsThere k.file h d) (λ s. (s.opens.instance ≡ start.instance) × HasOneEach s.opens) (record {
+      run = λ d r is. ((instance_kept start.instance).run d r is.0, each_kept.run d r is.1);
+      end = λ stays s is. ((instance_kept start.instance).end stays s is.0, each_kept.end stays s is.1);
+    })
+    (λ b d run own is. there_before k b h start.instance d of run own.1 own.0 is.stands) start earlier c front told back k.client start.lease b same (refl, λ k l here. absurd here)
     (open_kept start earlier c k b front told back same tells)

@@ -9,19 +9,18 @@ use Rattle.nfs_exec.specs.Runs.Ops.{RanOp}
 use Rattle.nfs_exec.proofs.Runs.OneRun.{IsRun}
 use Rattle.nfs_promises.specs.Names.{FileStays.{is_on_current, is_on_saved}, StaleTruly.{IsStaleFor, OfCurrent, OfSaved, OfGiven, StaleIsTrue}}
 use Rattle.nfs_promises.specs.Answers.{Asked.{AtCurrent, AtSaved}, Reasons.Reason}
-use Rattle.nfs_promises.proofs.Answers.ReasonOf.{reason_of}
-use Rattle.nfs_promises.proofs.Runs.LaterRecords.{ran_in}
+use Rattle.nfs_promises.proofs.{Answers.ReasonOf.reason_of, Locks.OneStateEach.{HasOneEach, each_in}, Runs.LaterRecords.ran_in}
 
 by_reason : (d : RanOp) → Reason d.before.store d.context d.item S.Stale → IsStaleFor d
 by_reason d (inl (n, AtCurrent on at, gone)) = OfCurrent n on at gone
 by_reason d (inl (n, AtSaved saved on at same, gone)) = OfSaved saved on at (ap (is_used d.before.store) same ∙ gone)
 by_reason d (inr put) = OfGiven put.given put.handle put.is put.says put.stale
 
-pub stale_for : (d : RanOp) → IsRun d → (op : Op) → d.item ≡ Operation op → d.status ≡ S.Stale → IsStaleFor d
-stale_for d r op is stale = by_reason d (subst (λ i. Reason d.before.store d.context i S.Stale) (sym is) (reason_of d r op is S.Stale stale refl refl))
+pub stale_for : (d : RanOp) → IsRun d → HasOneEach d.before.store.opens → (op : Op) → d.item ≡ Operation op → d.status ≡ S.Stale → IsStaleFor d
+stale_for d r each op is stale = by_reason d (subst (λ i. Reason d.before.store d.context i S.Stale) (sym is) (reason_of d r each op is S.Stale stale refl refl))
 
 pub stale_is_true : StaleIsTrue
-stale_is_true start records c d there = stale_for d (ran_in start records c d there)
+stale_is_true start records c d there = stale_for d (ran_in start records c d there) (each_in start records c d there)
 
 -- An object that is used is not gone.
 module _ (d : RanOp) (n : ℕ) (used : is_used d.before.store n ≡ true) where

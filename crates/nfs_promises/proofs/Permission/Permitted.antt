@@ -13,7 +13,7 @@ use Rattle.nfs_promises.specs.Permission.Permitted.{Right, Reads, Writes, Execut
 use Rattle.nfs_promises.specs.{Answers.Reasons.MayDo, Permission.Permitted.PermissionsHold}
 use Rattle.nfs_promises.specs.Answers.Asked.{named, made, named_by, shared, Needs, ToFind, ToList, ToLeave, ToTouch, ToSize, ToAdd, ToRemove, ToTake, ToPut, ToMake, ToOpen}
 use Rattle.nfs_promises.specs.Answers.Asked.{ToRead, ToWrite}
-use Rattle.nfs_promises.proofs.{Answers.ReasonOf.reason_of, Runs.LaterRecords.ran_in, Permission.PermittedBytes.{read_granted, write_granted}}
+use Rattle.nfs_promises.proofs.{Answers.ReasonOf.reason_of, Locks.OneStateEach.{HasOneEach, each_in}, Runs.LaterRecords.ran_in, Permission.PermittedBytes.{read_granted, write_granted}}
 use Rattle.nfs_promises.proofs.Permission.{PermittedNames.{named_granted, one_of, two_of}, PermittedOpens.{open_granted, enter_granted}, RightsTold.profile_here}
 
 asks_it : (access : Share) (right : Right) → In right (shared access.reads access.writes) → has_right access right ≡ true
@@ -96,32 +96,32 @@ module _ (s : State) (x : Context) (n : ℕ) (r : Rights) where
         one_of right Writes (λ right. MayDo right (Operation (Op.Write a)) s.tree.profile q x.who) asks (here m q Writes asked.at has all)
 
 -- Who is granted all that is needed is not refused so.
-not_refused : (d : RanOp) → IsRun d → (n : ℕ) (r : Rights) → IsAt n r d → d.status ≡ Access → (op : Op) → d.item ≡ Operation op
+not_refused : (d : RanOp) → IsRun d → HasOneEach d.before.store.opens → (n : ℕ) (r : Rights) → IsAt n r d → d.status ≡ Access → (op : Op) → d.item ≡ Operation op
     → AllGranted d.before.store d.context n r (Operation op) → ⊥
-not_refused d run n r at refused op is all =
-    let denied = reason_of d run op is Access refused refl refl in
+not_refused d run each n r at refused op is all =
+    let denied = reason_of d run each op is Access refused refl refl in
     denied.denies (λ right asks q has.
     all_needs d.before.store d.context n r at.at at.is (Operation op) all denied.number denied.rights denied.needs right asks q has)
 
-named_refused : (d : RanOp) → IsRun d → (n : ℕ) (r : Rights) → IsAt n r d → d.status ≡ Access → (i : Item) → d.item ≡ i → (first : Right) → In first (wants i)
+named_refused : (d : RanOp) → IsRun d → HasOneEach d.before.store.opens → (n : ℕ) (r : Rights) → IsAt n r d → d.status ≡ Access → (i : Item) → d.item ≡ i → (first : Right) → In first (wants i)
     → ((right : Right) → In right (wants i) → Grants r d.context.who right) → ⊥
-named_refused d run n r at refused (Operation (Op.Lookup name)) is first there all = not_refused d run n r at refused (Op.Lookup name) is ((first, there), all)
-named_refused d run n r at refused (Operation Op.LookupP) is first there all = not_refused d run n r at refused Op.LookupP is ((first, there), all)
-named_refused d run n r at refused (Operation (Op.ReadDir a)) is first there all = not_refused d run n r at refused (Op.ReadDir a) is ((first, there), all)
-named_refused d run n r at refused (Operation (Op.Create c)) is first there all = not_refused d run n r at refused (Op.Create c) is ((first, there), all)
-named_refused d run n r at refused (Operation (Op.Link name)) is first there all = not_refused d run n r at refused (Op.Link name) is ((first, there), all)
-named_refused d run n r at refused (Operation (Op.Remove name)) is first there all = not_refused d run n r at refused (Op.Remove name) is ((first, there), all)
-named_refused d run n r at refused i is first there all = absurd there
+named_refused d run each n r at refused (Operation (Op.Lookup name)) is first there all = not_refused d run each n r at refused (Op.Lookup name) is ((first, there), all)
+named_refused d run each n r at refused (Operation Op.LookupP) is first there all = not_refused d run each n r at refused Op.LookupP is ((first, there), all)
+named_refused d run each n r at refused (Operation (Op.ReadDir a)) is first there all = not_refused d run each n r at refused (Op.ReadDir a) is ((first, there), all)
+named_refused d run each n r at refused (Operation (Op.Create c)) is first there all = not_refused d run each n r at refused (Op.Create c) is ((first, there), all)
+named_refused d run each n r at refused (Operation (Op.Link name)) is first there all = not_refused d run each n r at refused (Op.Link name) is ((first, there), all)
+named_refused d run each n r at refused (Operation (Op.Remove name)) is first there all = not_refused d run each n r at refused (Op.Remove name) is ((first, there), all)
+named_refused d run each n r at refused i is first there all = absurd there
 
-refused : (d : RanOp) → IsRun d → IsRefused d.before.store.tree.profile d
-refused d run = record {
-  named = λ n r at is. named_refused d run n r at is d.item refl;
-  read = λ n r at is a same grants. not_refused d run n r at is (Op.Read a) same grants;
-  written = λ n r at is a same grants. not_refused d run n r at is (Op.Write a) same grants;
+refused : (d : RanOp) → IsRun d → HasOneEach d.before.store.opens → IsRefused d.before.store.tree.profile d
+refused d run each = record {
+  named = λ n r at is. named_refused d run each n r at is d.item refl;
+  read = λ n r at is a same grants. not_refused d run each n r at is (Op.Read a) same grants;
+  written = λ n r at is a same grants. not_refused d run each n r at is (Op.Write a) same grants;
   opened = λ n r at is a name same claim enter make find.
       (let leads : claimed d.before.store.tree d.context a.claim ≡ object_named d.before.store.tree n name =
       ap (claimed d.before.store.tree d.context) claim ∙ ap (named_in d.before.store.tree name) at.at in
-      not_refused d run n r at is (Op.Open a) same (record {
+      not_refused d run each n r at is (Op.Open a) same (record {
         enter = λ own named. enter;
         make = λ own named none. make (sym leads ∙ none);
         find = λ m q found has. find m q (sym leads ∙ found) has;
@@ -129,7 +129,7 @@ refused d run = record {
   opened_again = λ n r at is a same claim all.
       (let s = d.before.store in
       let leads : claimed s.tree d.context a.claim ≡ d.context.current = ap (claimed s.tree d.context) claim in
-      not_refused d run n r at is (Op.Open a) same (record {
+      not_refused d run each n r at is (Op.Open a) same (record {
         enter = λ own named. absurd (let none : None ≡ Some own = ap named_by (sym claim) ∙ named in cc);
         make = λ own named none. absurd (let other : Null own ≡ Fh = sym named ∙ claim in cc);
         find = λ m q found has right asks. subst (λ q. GrantsUse right s.tree.profile q d.context.who) (same_rights s d.context n r at.at at.is m q (sym leads ∙ found) has) (all right asks);
@@ -147,5 +147,5 @@ permissions_hold start records c d there =
         entered = enter_granted d run;
         opened = open_granted d run;
       },
-      refused d run,
+      refused d run (each_in start records c d there),
     )

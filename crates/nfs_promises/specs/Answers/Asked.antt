@@ -14,7 +14,7 @@ use Rattle.nfs_ranges.specs.declared.Kind.{Kind}
 use Rattle.nfs_ranges.specs.declared.Kind.TheVariants as Kinds
 use Rattle.nfs_tree.specs.Files.{object_named}
 use Rattle.nfs_attrs.specs.{declared.set_time.SetTime.TheVariants.{Now, Given}, declared.wanted.Wanted.Wanted}
-use Rattle.nfs_opens.specs.{declared.judging.Sort.Sort, declared.judging.Sort.TheVariants.{Either, OpenOnly, LockOnly}, declared.stateid.StateId.StateId}
+use Rattle.nfs_opens.specs.{declared.judging.Sort.Sort, declared.judging.Sort.TheVariants.{Either, OpenOnly, LockOnly}, declared.records.LockState.LockState, declared.stateid.StateId.StateId}
 use Rattle.nfs_opens.specs.{declared.stateid.CurrentSeqid.CurrentSeqid, declared.stateid.CurrentSeqid.TheVariants.{Any, Own}}
 use Rattle.nfs_names.specs.{declared.context.Context.Context, declared.context.Saved.Saved, Create.attributes_in, State.State}
 use Rattle.nfs_files.specs.{Open.access_of, OpenTold.claimed, StateIds.state_id}
@@ -225,7 +225,26 @@ pub data StandsFor (x : Context) (k : StateGiven) (id : StateId) : Type 0 where
   Itself : (IsCurrent (state_id k.given) → ⊥) → id ≡ state_id k.given → StandsFor x k id
   TheCurrent : IsCurrent (state_id k.given) → (IsNone (state_id x.stateid) → ⊥) → id ≡ as_given k.form (state_id x.stateid) → StandsFor x k id
 
+-- the state of this number is the one whose stateid is given
+pub record IsGiven (x : Context) (i : Item) (n : ℕ) : Type 0 where
+  pub given : StateGiven
+  pub is : by_state i ≡ Some given
+  pub id : StateId
+  pub means : StandsFor x given id
+  pub names : id.number ≡ n
+
 -- Locks.
+
+-- whose lock state it is: of a new lock owner that is given, or the one whose stateid is
+abbrev pub IsOf : Context → Item → Locker → LockState → Type 0
+IsOf x i (OpenOwner o) l = l.owner ≡ o.lock_owner.owner
+IsOf x i (LockOwner o) l = IsGiven x i l.number
+
+-- .. the asker's own
+abbrev pub IsAskers : Context → Item → LockState → Type 0
+IsAskers x (Operation (Op.Lock a)) l = (l.client ≡ x.client) × IsOf x (Operation (Op.Lock a)) a.locker l
+IsAskers x (Operation (Op.LockT a)) l = (l.client ≡ x.client) × (l.owner ≡ a.owner.owner)
+IsAskers x item l = ⊥
 
 -- the bytes that are to be locked or asked for
 pub record Range : Type 0 where

@@ -21,7 +21,7 @@ use Rattle.nfs_exec.specs.Runs.Ops.{RanOp}
 use Rattle.nfs_promises.specs.{Network.Endpoint.Arrival, Runs.Points.{reached, ops_of}, Names.FileStays.{is_on_current, is_on_saved}}
 use Rattle.nfs_promises.specs.Permission.Permitted.{Right, Reads, Writes, Grants, GrantsBytes, Rights, has_right, rights_at}
 use Rattle.nfs_promises.specs.Answers.Asked.{LooksAt, DirectoryOf, NoDirectoryOf, NoLinkOf, NamedOf, Seeks, Gives, made, makes_by, reclaims, is_delegated, Needs}
-use Rattle.nfs_promises.specs.Answers.Asked.{Owns, MaySet, Sets, Touches, adds, attributes_of, size_in, used, Range, locked, InRange, LiesBeside}
+use Rattle.nfs_promises.specs.Answers.Asked.{Owns, MaySet, Sets, Touches, adds, attributes_of, size_in, used, Range, locked, InRange, LiesBeside, IsAskers}
 use Rattle.nfs_promises.specs.Answers.Asked.{StateGiven, by_state, IsCurrent, IsNone, IsSpecial, StandsFor}
 use Rattle.nfs_promises.specs.Answers.Invalid.{given_in, values_in, NamesNobody, IsUnknown, AreValues, IsInvalid, shortest, LeavesNoEntry, IsSpent}
 
@@ -225,19 +225,17 @@ pub record LacksMode (s : State) (x : Context) (i : Item) : Type 0 where
   pub has : access_under s.opens id.number ≡ Some access
   pub lacks : has_right access right ≡ false
 
--- a byte of the range is held by a lock state, which is not the one of this number, so that the two clash
+-- a byte of the range is held by a lock state on the file, not the asker's own, so that the two clash
 pub record IsHeld (s : State) (x : Context) (i : Item) : Type 0 where
   pub range : Range
   pub is : locked i ≡ Some range
-  pub file : ℕ
-  pub at : x.current ≡ Some file
-  pub own : ℕ
-  pub owned : (own ≡ 0) ⊎ ((l : LockState) × In l s.opens.locks × (l.number ≡ own) × (l.client ≡ x.client))
-  pub holder : ℕ
-  pub other : holder ≢ own
+  pub holder : LockState
+  pub there : In holder s.opens.locks
+  pub at : x.current ≡ Some holder.file
+  pub other : IsAskers x i holder → ⊥
   pub byte : ℕ
   pub within : InRange range.offset range.size byte
-  pub clash : LiesBeside (kind_of range.type) (s.opens.held file holder byte) → ⊥
+  pub clash : LiesBeside (kind_of range.type) (s.opens.held holder.file holder.number byte) → ⊥
 
 -- an open of the file by another owner denies what is asked for, or has what is to be denied
 pub record IsShareDenied (s : State) (x : Context) (i : Item) : Type 0 where

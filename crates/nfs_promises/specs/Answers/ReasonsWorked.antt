@@ -3,14 +3,14 @@
 -- SETATTR of its mode by another user.
 use Rattle.std.specs.Prelude.{◌≡◌, ℕ, ◌+◌, [], ◌∷◌}
 use Rattle.nfs_xdr.specs.declared.status.Status.{Status}
-use Rattle.nfs_xdr.specs.declared.status.Status.TheVariants.{Nfs4Ok, Perm, OldStateId, BadStateId, Exist, NoEnt, IsDir, Access, NotDir, RepTooBig, Delay}
+use Rattle.nfs_xdr.specs.declared.status.Status.TheVariants.{Nfs4Ok, Perm, OldStateId, BadStateId, Exist, NoEnt, IsDir, Access, NotDir, Denied, RepTooBig, Delay}
 use Rattle.nfs_compound.specs.declared.open_args.{OpenHow.OpenHow, OpenHow.TheVariants.{NoCreate, Create}, CreateHow.TheVariants.Guarded}
 use Rattle.nfs_compound.specs.declared.op.Op.TheVariants as Op
 use Rattle.nfs_compound.specs.declared.name_args.CreateType.TheVariants.{Other}
 use Rattle.nfs_names.specs.Context.{anonymous}
 use Rattle.nfs_exec.specs.Runs.Ops.{RanOp}
 use Rattle.nfs_serve.specs.Step.{ServerState}
-use Rattle.nfs_promises.specs.{Runs.{Requests.{words, in_session, opening_by, unchecked}, Started.usual, Points.{reached, ops_of}}, Network.Endpoint.Arrival, Answers.Reasons.AnswersSo}
+use Rattle.nfs_promises.specs.{Runs.{Requests.{words, handle, stateid, in_session, opening_by, locking, unchecked}, Started.usual, Points.{reached, ops_of}}, Network.Endpoint.Arrival, Answers.Reasons.AnswersSo}
 use Rattle.nfs_promises.specs.Locks.LockKeptWorked.{came, earlier, asked, gives_up, last_of, statuses}
 use Rattle.nfs_promises.specs.{Bytes.WrittenStaysWorked.made, Names.FileStaysWorked.{with_status, missed, closes}, Permission.PermittedWorked.{to_group, runs, asks}}
 
@@ -40,6 +40,10 @@ shut = reached (record usual { mode = 365 }) earlier
 abbrev pub moves : (now number : ℕ) → Arrival
 moves now number = came (100 + now) now (in_session 1 number (Op.PutRootFh ∷ Op.SaveFh ∷ Op.Rename (record { oldname = 0x66 ∷ []; newname = 0x67 ∷ [] }) ∷ []))
 
+-- `A` asks once more for the byte that it has locked
+abbrev pub locks_again : Arrival
+locks_again = came 372 9 (in_session 1 4 (Op.PutFh (handle 2) ∷ locking (0x6c ∷ []) (stateid 1 1) 0 1 ∷ []))
+
 -- The runs compute to what the promise says.
 pub record AreAnsweredSo : Type 0 where
   pub unlocked : statuses (ops_of asked gives_up) ≡ Nfs4Ok ∷ Nfs4Ok ∷ []
@@ -50,6 +54,7 @@ pub record AreAnsweredSo : Type 0 where
   pub set : statuses (ops_of made to_group) ≡ Nfs4Ok ∷ Nfs4Ok ∷ Nfs4Ok ∷ []
   pub forbidden : statuses (ops_of made opens_up) ≡ Nfs4Ok ∷ Perm ∷ []
   pub denied : statuses (ops_of shut (moves 3 1)) ≡ Nfs4Ok ∷ Nfs4Ok ∷ Access ∷ []
+  pub locked_again : statuses (ops_of asked locks_again) ≡ Nfs4Ok ∷ Nfs4Ok ∷ []
 
 -- with another status the last operation of a compound does not answer so
 abbrev pub Refused : ServerState → Arrival → Status → Type 0
@@ -83,10 +88,14 @@ pub record AnswersRefused : Type 0 where
   pub moved : Refused shut (moves 3 1) Nfs4Ok
   -- in `unix`, a READ of a program by who may execute it
   pub unread : Refused runs asks Access
+  -- a LOCK of what its owner has locked
+  pub own : Refused asked locks_again Denied
 
--- The promise refuses these refusals of a REMOVE, too, in a session whose replies have 4,100 bytes.
+-- The promise refuses these, too, in a session whose replies have 4,100 bytes: of a REMOVE, a LOCKU and a READ.
 pub record CutsRefused : Type 0 where
   -- the reply has no room
   pub big : Refused made removes RepTooBig
+  pub big_unlock : Refused asked gives_up RepTooBig
+  pub big_read : Refused runs asks RepTooBig
   -- there is no memory, where none was refused
   pub delayed : Refused made removes Delay

@@ -1,23 +1,23 @@
--- Each yes is true: what an operation that is answered NFS4_OK answers is so, by what the server has (RFC 8881 sections 5, 6.2.4, 18.1, 18.7, 18.8, 18.11, 18.13, 18.24 and
--- 18.48). A table with a row for each kind of answer.
-use Rattle.std.specs.Prelude.{◌≡◌, ◌≢◌, ◌⊎◌, ℕ, ◌+◌, ◌-◌, ◌==◌, ◌&&◌, ◌||◌, Bool, true, bit_and, List, [], ◌∷◌, ◌++◌, length, take, replicate, Some, None, if◌then◌else◌}
+-- Each yes is true: what an operation that is answered NFS4_OK answers is so, by what the server has (RFC 8881 sections 5, 6.2.4, 8.2, 18.1, 18.2, 18.7, 18.8, 18.10 to 18.13,
+-- 18.16, 18.18, 18.24 and 18.48). A table with a row for each kind of answer.
+use Rattle.std.specs.Prelude.{◌≡◌, ◌≢◌, ◌⊎◌, ℕ, ◌+◌, ◌-◌, ◌==◌, ◌&&◌, ◌||◌, Bool, true, bit_and, List, [], ◌∷◌, ◌++◌, length, take, replicate, Option, Some, None, option_map, if◌then◌else◌}
 use Rattle.std.specs.{List.flat_map, Fmt.decimal}
-use Rattle.nfs_xdr.specs.{Limits.fhsize, Tables.In, Spelling.number, Text.{uint32, uint64, opaque, most}, Wire.nfstime4}
+use Rattle.nfs_xdr.specs.{Limits.fhsize, Tables.In, Spelling.{number, hyper}, Text.{uint32, uint64, opaque, most}, Wire.nfstime4}
 use Rattle.nfs_compound.specs.{declared.lock_args.LockT.LockT, declared.stateid.Stateid.Stateid, declared.op.Item.Item, declared.op.Item.TheVariants.Operation}
 use Rattle.nfs_compound.specs.declared.op.Op.TheVariants as Op
-use Rattle.nfs_compound.specs.{declared.file_args.{StableHow.TheVariants.FileSync}, declared.lock_args.LockU.LockU, declared.open_args.Close.Close}
+use Rattle.nfs_compound.specs.{declared.file_args.{StableHow.TheVariants.FileSync}, declared.lock_args.{Lock.Lock, LockU.LockU}, declared.open_args.{Close.Close, Open.Open, OpenDowngrade.OpenDowngrade}}
 use Rattle.nfs_compound.specs.declared.name_args.ReadDir.{ReadDir}
-use Rattle.nfs_results.specs.{declared.res.Entry.Entry, declared.res.Fattr.Fattr, declared.res.ReadDirOk.ReadDirOk, ResultCodec.FitsResult, Results.spell_result}
+use Rattle.nfs_results.specs.{declared.res.Entry.Entry, declared.res.Fattr.Fattr, declared.res.OpenOk.OpenOk, declared.res.ReadDirOk.ReadDirOk, ResultCodec.FitsResult, Results.spell_result}
 use Rattle.nfs_results.specs.declared.res.Res.TheVariants as Res
 use Rattle.nfs_tree.specs.{declared.object.FileType.FileType, declared.object.FileType.TheVariants.{Directory}, declared.object.Object.Object, declared.row.Row.Row}
 use Rattle.nfs_tree.specs.{Profile.is_unix, Object.{is_directory, is_link}, Files.{most_text, data_at, links_in, object_at, object_named}}
 use Rattle.nfs_attrs.specs.{declared.mask.Mask.Mask, Mask.{has, mask_of, trimmed_words, common}, Attributes.{readable, attributes, value_at, type_number}, Wire.nfs_fh4}
-use Rattle.nfs_opens.specs.{declared.records.{LockState.LockState, OpenState.OpenState}, declared.stateid.StateId.StateId}
+use Rattle.nfs_opens.specs.{declared.records.{LockState.LockState, OpenState.OpenState}, declared.stateid.StateId.StateId, Share.{joined, share_of}, StateId.next_seqid, Table.{open_at, lock_at}}
 use Rattle.nfs_names.specs.{declared.{start.Start.Start, context.Context.Context}, Attributes.{about, taken_by}, Outcome.is_ok, State.State}
-use Rattle.nfs_files.specs.{Ranges.kind_of, StateIds.state_id}
+use Rattle.nfs_files.specs.{Open.{access_of, deny_of}, OpenTold.claimed, Ranges.kind_of, StateIds.state_id}
 use Rattle.nfs_exec.specs.Runs.Ops.{RanOp}
 use Rattle.nfs_promises.specs.{Network.Endpoint.Arrival, Runs.Points.{reached, ops_of}, Permission.Permitted.{Reads, Writes, Executes, Grants, rights_of}}
-use Rattle.nfs_promises.specs.Answers.{Asked.{InRange, LiesBeside, StateGiven, by_state, StandsFor, IsCurrent, IsSpecial}, Reasons.{StateTold, state_of}}
+use Rattle.nfs_promises.specs.Answers.{Asked.{InRange, LiesBeside, StateGiven, by_state, StandsFor, IsGiven, IsAskers, IsCurrent, IsSpecial}, Reasons.{StateTold, state_of}}
 
 -- Locks.
 
@@ -25,7 +25,7 @@ use Rattle.nfs_promises.specs.Answers.{Asked.{InRange, LiesBeside, StateGiven, b
 pub record IsFree (s : State) (x : Context) (a : LockT) : Type 0 where
   pub file : ℕ
   pub at : x.current ≡ Some file
-  pub free : (l : LockState) (b : ℕ) → In l s.opens.locks → ((l.client ≡ x.client) × (l.owner ≡ a.owner.owner) → ⊥) → InRange a.offset a.length b
+  pub free : (l : LockState) (b : ℕ) → In l s.opens.locks → (IsAskers x (Operation (Op.LockT a)) l → ⊥) → InRange a.offset a.length b
       → LiesBeside (kind_of a.locktype) (s.opens.held file l.number b)
 
 -- Objects.
@@ -149,16 +149,84 @@ AreTested s x [] [] = Unit {0}
 AreTested s x (given ∷ more) (code ∷ codes) = (code ≡ 0 → Stands s x given) × (Stands s x given → code ≡ 0) × AreTested s x more codes
 AreTested s x given codes = ⊥
 
--- What was done, in the state behind the operation.
+-- What was done, in the state behind the operation, and the stateid that tells it.
+
+-- the stateid of a state: its seqid, the start of the server and the state's number
+abbrev pub stateid_of : State → (seqid n : ℕ) → Stateid
+stateid_of t seqid n = record { seqid = seqid; other = number t.opens.instance ++ hyper n }
+
+-- the seqid that a change gives a state: the one behind what it had, or 1
+abbrev pub risen : Option ℕ → ℕ
+risen None = 1
+risen (Some seqid) = next_seqid seqid
+
+abbrev pub open_risen : State → ℕ → ℕ
+open_risen s n = risen (option_map (λ (o : OpenState). o.seqid) (open_at s.opens n))
+
+abbrev pub lock_risen : State → ℕ → ℕ
+lock_risen s n = risen (option_map (λ (l : LockState). l.seqid) (lock_at s.opens n))
+
+-- what is asked for is joined to what the owner had of the file, under the same number
+pub data HasJoined (s : State) (a : Open) (o : OpenState) : Type 0 where
+  First : ((p : OpenState) → In p s.opens.opens → p.client ≡ o.client → p.owner ≡ o.owner → p.file ≡ o.file → ⊥) → o.access ≡ access_of a → o.deny ≡ deny_of a → HasJoined s a o
+  More : (p : OpenState) → In p s.opens.opens → p.number ≡ o.number → o.access ≡ joined p.access (access_of a) → o.deny ≡ joined p.deny (deny_of a) → HasJoined s a o
+
+-- OPEN: an open of the client and the owner, of the file that the claim then leads to
+pub record OpensTruly (s : State) (x : Context) (a : Open) (result : List ℕ) (t : State) : Type 0 where
+  pub state : OpenState
+  pub there : In state t.opens.opens
+  pub client : state.client ≡ x.client
+  pub owner : state.owner ≡ a.owner.owner
+  pub file : claimed t.tree x a.claim ≡ Some state.file
+  pub bits : HasJoined s a state
+  pub seqid : state.seqid ≡ open_risen s state.number
+  pub answer : OpenOk
+  pub told : result ≡ spell_result (Res.Open answer)
+  pub stateid : answer.stateid ≡ stateid_of t state.seqid state.number
+
+-- OPEN_DOWNGRADE: the open that is given has what is asked for, and no more
+pub record NarrowsTruly (s : State) (x : Context) (a : OpenDowngrade) (result : List ℕ) (t : State) : Type 0 where
+  pub state : OpenState
+  pub there : In state t.opens.opens
+  pub client : state.client ≡ x.client
+  pub file : x.current ≡ Some state.file
+  pub given : IsGiven x (Operation (Op.OpenDowngrade a)) state.number
+  pub access : share_of a.share_access ≡ Some state.access
+  pub deny : share_of a.share_deny ≡ Some state.deny
+  pub seqid : state.seqid ≡ open_risen s state.number
+  pub told : result ≡ spell_result (Res.OpenDowngrade (stateid_of t state.seqid state.number))
+
+-- CLOSE: the open that is given does not stand, and what is told names none
+abbrev pub IsClosed : Context → Close → State → Type 0
+IsClosed x a t = (k : StateGiven) (id : StateId) → by_state (Operation (Op.Close a)) ≡ Some k → StandsFor x k id → (o : OpenState) → In o t.opens.opens → o.number ≢ id.number
+
+abbrev pub ClosesTruly : Context → Close → List ℕ → State → Type 0
+ClosesTruly x a result t = IsClosed x a t × (result ≡ spell_result (Res.Close (record { seqid = 0xffff_ffff; other = replicate 12 0 })))
+
+-- LOCK: the asker's lock state on the current file holds each byte of the range in the way that is asked for
+pub record LocksTruly (s : State) (x : Context) (a : Lock) (result : List ℕ) (t : State) : Type 0 where
+  pub state : LockState
+  pub there : In state t.opens.locks
+  pub own : IsAskers x (Operation (Op.Lock a)) state
+  pub file : x.current ≡ Some state.file
+  pub holds : (b : ℕ) → InRange a.offset a.length b → t.opens.held state.file state.number b ≡ Some (kind_of a.locktype)
+  pub seqid : state.seqid ≡ lock_risen s state.number
+  pub told : result ≡ spell_result (Res.Lock (stateid_of t state.seqid state.number))
 
 -- LOCKU: the lock state that is given holds no byte of the range
 abbrev pub HoldsNone : Context → LockU → State → Type 0
 HoldsNone x a t = (k : StateGiven) (id : StateId) (file b : ℕ) → by_state (Operation (Op.LockU a)) ≡ Some k → StandsFor x k id → x.current ≡ Some file → InRange a.offset a.length b
     → t.opens.held file id.number b ≡ None
 
--- CLOSE: the open that is given does not stand
-abbrev pub IsClosed : Context → Close → State → Type 0
-IsClosed x a t = (k : StateGiven) (id : StateId) → by_state (Operation (Op.Close a)) ≡ Some k → StandsFor x k id → (o : OpenState) → In o t.opens.opens → o.number ≢ id.number
+pub record UnlocksTruly (s : State) (x : Context) (a : LockU) (result : List ℕ) (t : State) : Type 0 where
+  pub state : LockState
+  pub there : In state t.opens.locks
+  pub client : state.client ≡ x.client
+  pub file : x.current ≡ Some state.file
+  pub given : IsGiven x (Operation (Op.LockU a)) state.number
+  pub free : HoldsNone x a t
+  pub seqid : state.seqid ≡ lock_risen s state.number
+  pub told : result ≡ spell_result (Res.LockU (stateid_of t state.seqid state.number))
 
 -- what marks a start of the server off from others, in WRITE and in COMMIT
 abbrev pub verifier : State → List ℕ
@@ -167,13 +235,16 @@ verifier s = number s.opens.instance ++ replicate 4 0
 -- The table of answers: by the state before the operation and the one behind it.
 abbrev pub IsTrueOf : State → Context → Item → List ℕ → State → Type 0
 IsTrueOf s x (Operation (Op.Access asked)) result t = IsJudged s x asked result
-IsTrueOf s x (Operation (Op.Close a)) result t = IsClosed x a t
+IsTrueOf s x (Operation (Op.Close a)) result t = ClosesTruly x a result t
 IsTrueOf s x (Operation (Op.Commit a)) result t = result ≡ spell_result (Res.Commit (verifier s))
 IsTrueOf s x (Operation (Op.GetAttr words)) result t = AreTold s x (mask_of words) result
 IsTrueOf s x (Operation Op.GetFh) result t = (n : ℕ) × (x.current ≡ Some n) × (result ≡ spell_result (Res.GetFh (handle_text s n)))
+IsTrueOf s x (Operation (Op.Lock a)) result t = LocksTruly s x a result t
 IsTrueOf s x (Operation (Op.LockT a)) result t = IsFree s x a
-IsTrueOf s x (Operation (Op.LockU a)) result t = HoldsNone x a t
+IsTrueOf s x (Operation (Op.LockU a)) result t = UnlocksTruly s x a result t
 IsTrueOf s x (Operation (Op.Lookup name)) result t = (directory : ℕ) × (n : ℕ) × (x.current ≡ Some directory) × (object_named s.tree directory name ≡ Some n)
+IsTrueOf s x (Operation (Op.Open a)) result t = OpensTruly s x a result t
+IsTrueOf s x (Operation (Op.OpenDowngrade a)) result t = NarrowsTruly s x a result t
 IsTrueOf s x (Operation (Op.ReadDir a)) result t = ListsTruly s x a result
 IsTrueOf s x (Operation Op.ReadLink) result t = IsText s x result
 IsTrueOf s x (Operation (Op.TestStateid given)) result t = (codes : List ℕ) × AreTested s x given codes × (result ≡ spell_result (Res.TestStateid codes))

@@ -1,13 +1,14 @@
 -- Answers that are true and answers that are not, worked by hand over the runs of `LockKeptWorked`, `FileStaysWorked` and `WrittenStaysWorked` (RFC 8881 sections 5, 18.1 to
 -- 18.3, 18.7, 18.11 to 18.13, 18.24, 18.32 and 18.48).
-use Rattle.std.specs.Prelude.{◌≡◌, ℕ, true, List, [], ◌∷◌, ◌++◌, replicate}
+use Rattle.std.specs.Prelude.{◌≡◌, ℕ, ◌+◌, true, List, [], ◌∷◌, ◌++◌, replicate}
 use Rattle.nfs_xdr.specs.{Spelling.{number, hyper}, declared.status.Status.TheVariants.{Nfs4Ok, Denied, NoEnt}}
-use Rattle.nfs_compound.specs.{declared.file_args.StableHow.TheVariants.Unstable, declared.lock_args.LockType.TheVariants.Write, declared.name_args.CreateType.TheVariants.Symlink}
+use Rattle.nfs_compound.specs.{declared.file_args.StableHow.TheVariants.Unstable, declared.lock_args.LockType.TheVariants.Write, declared.name_args.CreateType.TheVariants.Symlink, declared.open_args.OpenHow.TheVariants.NoCreate, declared.stateid.Stateid.Stateid}
 use Rattle.nfs_compound.specs.declared.op.Op.{Op}
 use Rattle.nfs_results.specs.{declared.res.{Res.Res, Entry.Entry, ReadDirOk.ReadDirOk}, Results.spell_result}
+use Rattle.nfs_opens.specs.Holding.{FileHolders}
 use Rattle.nfs_exec.specs.Runs.Ops.{RanOp}
-use Rattle.nfs_promises.specs.{Runs.{Requests.{in_session, stateid, listing_from}, Points.ops_of}, Network.Endpoint.Arrival, Answers.YesIsTrue.TellsSo}
-use Rattle.nfs_promises.specs.{Locks.LockKeptWorked.{came, asked, gives_up, last_of, statuses}, Bytes.WrittenStaysWorked.{made, writes}, Names.FileStaysWorked.{with_status, missed, closes}}
+use Rattle.nfs_promises.specs.{Runs.{Requests.{handle, in_session, stateid, listing_from}, Points.ops_of}, Network.Endpoint.Arrival, Answers.{ReasonsWorked.opens, YesIsTrue.TellsSo}}
+use Rattle.nfs_promises.specs.{Locks.{LockKeptWorked.{came, asked, gives_up, last_of, locks, outset, statuses}, OpenKeptWorked.opened}, Bytes.WrittenStaysWorked.{made, writes}, Names.FileStaysWorked.{with_status, missed, closes}}
 
 -- `B` asks who holds the first byte of `f`, which `A` has locked
 abbrev pub tests : Arrival
@@ -57,6 +58,10 @@ entry n = record { cookie = 3; name = 0x66 ∷ []; attrs = record { attrmask = 0
 abbrev pub page : (fileid : ℕ) → ReadDirOk
 page n = record { cookieverf = replicate 8 0; entries = entry n ∷ []; eof = true }
 
+-- `A` has `f` open for reading and writing, and denies others to write: it downgrades that to reading
+abbrev pub narrows : Arrival
+narrows = came 103 4 (in_session 1 2 (Op.PutFh (handle 2) ∷ Op.OpenDowngrade (record { open_stateid = stateid 1 1; seqid = 0; share_access = 1; share_deny = 0 }) ∷ []))
+
 -- The runs.
 pub record AreAsked : Type 0 where
   pub denied : statuses (ops_of asked tests) ≡ Nfs4Ok ∷ Nfs4Ok ∷ Denied ∷ []
@@ -67,6 +72,7 @@ pub record AreAsked : Type 0 where
   pub committed : statuses (ops_of made commits) ≡ Nfs4Ok ∷ Nfs4Ok ∷ Nfs4Ok ∷ []
   pub listed : (d : RanOp) → (last_of d (ops_of made lists)).result ≡ spell_result (Res.ReadDir (page 2))
   pub missed : statuses (ops_of made misses) ≡ Nfs4Ok ∷ NoEnt ∷ []
+  pub narrowed : statuses (ops_of opened narrows) ≡ Nfs4Ok ∷ Nfs4Ok ∷ []
 
 -- an operation that changes nothing
 abbrev pub unchanging : RanOp → RanOp
@@ -75,6 +81,18 @@ unchanging d = record d { behind = d.before }
 -- an operation that answers NFS4_OK and this
 abbrev pub telling : Res → RanOp → RanOp
 telling r d = record d { status = Nfs4Ok; result = spell_result r }
+
+-- an OPEN that answers this stateid
+abbrev pub opens_as : Stateid → Res
+opens_as id = Res.Open (record { stateid = id; cinfo = record { atomic = true; before = 0; after = 0 }; rflags = 12; attrset = [] })
+
+-- an operation that leaves other bytes locked
+abbrev pub with_held : FileHolders → RanOp → RanOp
+with_held held d = record d { behind = record d.behind { store = record d.behind.store { opens = record d.behind.store.opens { held = held } } } }
+
+-- .. each the byte behind
+abbrev pub shifted : RanOp → RanOp
+shifted d = with_held (λ f s b. d.behind.store.opens.held f s (b + 1)) d
 
 -- The promise refuses these.
 pub record YesesRefused : Type 0 where
@@ -91,6 +109,18 @@ pub record YesesRefused : Type 0 where
   pub empty : (d : RanOp) → TellsSo (telling (Res.ReadLink []) (last_of d (ops_of made reads_link))) → ⊥
   -- TEST_STATEID calls an open's stateid bad
   pub bad : (d : RanOp) → TellsSo (telling (Res.TestStateid (10025 ∷ [])) (last_of d (ops_of made tests_stateid))) → ⊥
+  -- OPEN by another owner opens nothing, or tells the first owner's stateid
+  pub unopened : (d : RanOp) → TellsSo (unchanging (last_of d (ops_of made (opens NoCreate)))) → ⊥
+  pub other_open : (d : RanOp) → TellsSo (telling (opens_as (stateid 1 1)) (last_of d (ops_of made (opens NoCreate)))) → ⊥
+  -- OPEN_DOWNGRADE leaves the access
+  pub unnarrowed : (d : RanOp) → TellsSo (unchanging (last_of d (ops_of opened narrows))) → ⊥
+  -- LOCK locks nothing, or the byte behind, or tells the seqid after the lock state's
+  pub free_still : (d : RanOp) → TellsSo (unchanging (last_of d (ops_of outset locks))) → ⊥
+  pub beside : (d : RanOp) → TellsSo (shifted (last_of d (ops_of outset locks))) → ⊥
+  pub early : (d : RanOp) → TellsSo (telling (Res.Lock (stateid 2 2)) (last_of d (ops_of outset locks))) → ⊥
+  -- LOCKU tells the seqid that it was given, and CLOSE the stateid
+  pub late : (d : RanOp) → TellsSo (telling (Res.LockU (stateid 1 2)) (last_of d (ops_of asked gives_up))) → ⊥
+  pub again : (d : RanOp) → TellsSo (telling (Res.Close (stateid 1 1)) (last_of d (ops_of missed closes))) → ⊥
   -- LOCKU unlocks nothing, and CLOSE closes nothing
   pub still_locked : (d : RanOp) → TellsSo (unchanging (last_of d (ops_of asked gives_up))) → ⊥
   pub still_open : (d : RanOp) → TellsSo (unchanging (last_of d (ops_of missed closes))) → ⊥

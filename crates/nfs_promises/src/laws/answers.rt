@@ -16,7 +16,7 @@ pub fn each_is_granted()
     ensures { EachIsGranted }
 {}
 
-/// The definitions compute: stateids that LOCK and OPEN answered are taken by LOCKU and CLOSE, a file that is there is opened, a directory is made under a free name and an
+/// The definitions compute: stateids that LOCK and OPEN answered are taken by LOCKU and CLOSE, an owner locks its byte once more, a file that is there is opened, a directory is made under a free name and an
 /// owner sets a file's mode; a guarded create of a name that is there is refused by NFS4ERR_EXIST, a RENAME in a root that its owner alone may change by NFS4ERR_ACCESS, and
 /// a SETATTR of the root's mode by another user by NFS4ERR_PERM.
 #[tactic(auto, using(crate::proofs::Answers::ReasonsWorked::are_answered_so))]
@@ -28,13 +28,14 @@ pub fn refusals_have_reasons()
 /// answered, an OPEN of a file that is there that is answered NFS4ERR_EXIST, NFS4ERR_NOENT or NFS4ERR_ISDIR, a CREATE of a free name that is answered NFS4ERR_EXIST, a REMOVE
 /// and a RENAME of a name that is there that are answered NFS4ERR_NOENT, a RENAME between directories that is answered NFS4ERR_NOTDIR, a SETATTR by the owner that is answered
 /// NFS4ERR_PERM and one by another user that is answered NFS4_OK, a guarded create that opens what is there, a RENAME that asks nobody's permission, and in the profile `unix` a READ that is
-/// answered NFS4ERR_ACCESS though the caller may execute the file.
+/// answered NFS4ERR_ACCESS though the caller may execute the file; and a LOCK that is answered NFS4ERR_DENIED for the owner's own lock.
 #[tactic(auto, using(crate::proofs::Answers::ReasonsWorked::answers_refused))]
 pub fn wrong_reasons_are_refused()
     ensures { AnswersRefused }
 {}
 
-/// The definitions compute: `each_no_has_its_reason` refuses a REMOVE that is answered NFS4ERR_REP_TOO_BIG where the reply has room, or NFS4ERR_DELAY where there is memory.
+/// The definitions compute: `each_no_has_its_reason` refuses a REMOVE, a LOCKU and a READ that are answered NFS4ERR_REP_TOO_BIG where the reply has room, and a REMOVE that is answered NFS4ERR_DELAY where there
+/// is memory.
 #[tactic(auto, using(crate::proofs::Answers::ReasonsWorked::cuts_refused))]
 pub fn wrong_cuts_are_refused()
     ensures { CutsRefused }
@@ -56,7 +57,8 @@ pub fn wrong_rows_are_refused()
 {}
 
 /// In every run what an operation answers with NFS4_OK is so: ACCESS of the user's rights, GETATTR and READDIR of each attribute of an object, GETFH of its filehandle, LOCKT of the locks
-/// of others, LOOKUP of the name, READLINK of the link's text, TEST_STATEID of the client's states, WRITE and COMMIT of the verifier; and LOCKU unlocked, and CLOSE closed.
+/// of others, LOOKUP of the name, READLINK of the link's text, TEST_STATEID of the client's states, WRITE and COMMIT of the verifier. OPEN opened, OPEN_DOWNGRADE downgraded, LOCK
+/// locked and LOCKU unlocked, each what was asked, and tells the stateid of that open or lock state with its seqid; and CLOSE closed.
 #[tactic(auto, using(crate::proofs::Answers::YesIsTrue::each_yes_is_true))]
 pub fn each_yes_is_true()
     ensures { EachYesIsTrue }
@@ -88,8 +90,9 @@ pub fn questions_are_answered()
 {}
 
 /// The definitions compute: `each_yes_is_true` refuses a LOCKT that finds no lock where another client has locked the byte, a GETATTR that answers the root's fileid or
-/// another mode, a READDIR that answers it with an entry, an ACCESS that grants the owner nothing, a READLINK that answers no text, a TEST_STATEID that calls an open's stateid bad, a LOCKU and a CLOSE that change
-/// nothing, a WRITE that answers UNSTABLE4, a COMMIT that answers another verifier, and a LOOKUP of a name that is not there that is answered NFS4_OK.
+/// another mode, a READDIR that answers it with an entry, an ACCESS that grants the owner nothing, a READLINK that answers no text, a TEST_STATEID that calls an open's stateid bad, an OPEN, an
+/// OPEN_DOWNGRADE, a LOCK, a LOCKU and a CLOSE that change nothing, a LOCK that locks the byte behind, an OPEN, a LOCK, a LOCKU and a CLOSE that tell another stateid or another seqid, a WRITE that
+/// answers UNSTABLE4, a COMMIT that answers another verifier, and a LOOKUP of a name that is not there that is answered NFS4_OK.
 #[tactic(auto, using(crate::proofs::Answers::YesIsTrueWorked::yeses_refused))]
 pub fn wrong_yeses_are_refused()
     ensures { YesesRefused }
