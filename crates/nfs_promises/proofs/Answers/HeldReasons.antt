@@ -1,5 +1,5 @@
 -- A lock that is denied is denied by one that is held.
-use Rattle.std.proofs.Common.{◌≡◌, ◌⊎◌, ℕ, suc, ◌+◌, ◌<◌, ◌≤◌, Bool, true, false, cond, not, List, [], ◌∷◌, Option, Some, None, refl, sym, ◌∙◌, ap, subst, arith, inl, inr}
+use Rattle.std.proofs.Common.{◌≡◌, ◌⊎◌, ℕ, suc, ◌+◌, ◌<◌, ◌≤◌, Bool, true, false, cond, not, [], ◌∷◌, Option, Some, None, refl, sym, ◌∙◌, ap, subst, arith, inl, inr}
 use Rattle.std.proofs.lemmas.Bool.{and_parts, cases_Bool, eq-eqb, eqb-true, false≢true, ltb-true, ltb-false, not-true}
 use Rattle.std.specs.Prelude.{◌==◌, ◌&&◌, ◌-◌, nat_lt, is_some, Result, Ok}
 use Rattle.nfs_xdr.specs.{Tables.In, declared.status.Status.Status}

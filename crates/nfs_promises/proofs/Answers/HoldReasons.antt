@@ -1,7 +1,7 @@
 -- CLOSE, OPEN_DOWNGRADE and LOCK: what they are refused with has its reason.
-use Rattle.std.proofs.Common.{◌≡◌, ◌⊎◌, ℕ, Bool, true, false, cond, not, List, [], ◌∷◌, Option, Some, None, refl, sym, ◌∙◌, ap, subst, inl, inr}
+use Rattle.std.proofs.Common.{◌≡◌, ℕ, Bool, true, false, cond, not, List, [], ◌∷◌, Option, Some, None, refl, sym, ◌∙◌, ap, subst, inl, inr}
 use Rattle.std.proofs.lemmas.Bool.{false≢true, eq-eqb, eqb-true}
-use Rattle.std.specs.{Prelude.{◌==◌, bytes_eq, is_none, Result, Ok, Err, ok_or, option_map}, Option.option_map_or}
+use Rattle.std.specs.{Prelude.{◌==◌, is_none, Result, Ok, Err, ok_or, option_map}, Option.option_map_or}
 use Rattle.nfs_xdr.specs.{Checks.judged, Tables.In, declared.status.Status.Status}
 use Rattle.nfs_xdr.specs.declared.status.Status.TheVariants as S
 use Rattle.nfs_xdr.proofs.Lists.{find_in, any_in, none_found}

@@ -1,5 +1,5 @@
 -- OPEN, OPEN_DOWNGRADE and LOCK did what they answer, and tell the stateid of the state that they leave.
-use Rattle.std.proofs.Common.{◌≡◌, ℕ, ◌≤◌, suc, ◌+◌, Bool, true, false, not, List, [], ◌∷◌, map, Option, Some, None, refl, sym, ◌∙◌, ap, subst, arith, inl, inr}
+use Rattle.std.proofs.Common.{◌≡◌, ℕ, ◌≤◌, suc, ◌+◌, true, false, not, List, [], ◌∷◌, map, Option, Some, None, refl, sym, ◌∙◌, ap, subst, arith, inl, inr}
 use Rattle.std.proofs.lemmas.{Bool.{and_parts, false≢true, eq-eqb, eqb-true}, Slice.Eq.bytes_eq-Decides}
 use Rattle.std.specs.Prelude.{◌==◌, ◌%◌, is_none, option_map, unwrap_or, Result, Ok, Err, ok_or, if◌then◌else◌}
 use Rattle.nfs_xdr.specs.{Tables.In, declared.status.Status.Status, declared.time.Time.Time}
@@ -14,18 +14,18 @@ use Rattle.nfs_results.specs.declared.res.Res.TheVariants as Res
 use Rattle.nfs_opens.specs.{declared.judging.Sort.TheVariants.{OpenOnly, LockOnly}, declared.locking.{OpenFault.{OpenFault, TheVariants.{Refused, Denied, Memory}}, Wish.Wish}}
 use Rattle.nfs_opens.specs.{declared.records.{LockState.LockState, OpenState.OpenState}, declared.share.Share.Share, declared.stateid.{CurrentSeqid.TheVariants.{Any, Own}, StateId.StateId}}
 use Rattle.nfs_opens.specs.{Judging.judge, Locking.{raised, access_in, lock_judged, lock_known}, Share.{neither, share_of}, Steps.{in_order, map_err, require}, TableInvariants.IsTable}
-use Rattle.nfs_opens.specs.Table.{Table, Asked, is_own, lock_at, open_at, with_lock, with_open}
+use Rattle.nfs_opens.specs.Table.{Table, is_own, lock_at, open_at, with_lock, with_open}
 use Rattle.nfs_opens.specs.Opening as opening
 use Rattle.nfs_opens.proofs.CallLaws.{IsLocked, came, ok_is, first_state, narrowed_is}
 use Rattle.nfs_names.specs.{declared.context.Context.Context, Checks.current, Ending.with_opens, Outcome.Outcome, State.State}
 use Rattle.nfs_names.proofs.Found.{checked_ok}
-use Rattle.nfs_files.specs.{LockTold.LockTold, Lock.{lock, locked, locks_as, stateid_in}, OpenDowngrade.{bits, open_downgrade}, OpenTold.claimed, Ranges.{kind_of, wished}}
+use Rattle.nfs_files.specs.{Lock.{lock, locked, locks_as, stateid_in}, OpenDowngrade.{bits, open_downgrade}, OpenTold.claimed, Ranges.{kind_of, wished}}
 use Rattle.nfs_files.specs.{Open.{asking, by_claim, file_of, open_file, opened}, StateIds.{meant, wire_id}, Target.the_file}
 use Rattle.nfs_files.specs.Open as of_open
 use Rattle.nfs_files.specs.OpenParts as open_parts
 use Rattle.nfs_files.proofs.{LockOwners.under_owner, OpensMoved.{answered, lock_is}, ToldLocks.granted_held, ToldOpens.asked_leads, TreeFiles.IsWhole, Wishes.wish_is, WrittenOps.current_number}
 use Rattle.nfs_files.proofs.InSteps as in_steps
-use Rattle.nfs_promises.specs.Answers.Asked.{StateGiven, StandsFor, IsOf, of_locker, InRange}
+use Rattle.nfs_promises.specs.Answers.Asked.{StateGiven, StandsFor, IsOf, of_locker}
 use Rattle.nfs_promises.specs.Answers.{Reasons.Reason, YesIsTrue.{IsTrueOf, stateid_of, risen, HasJoined, First, More, OpensTruly, NarrowsTruly, LocksTruly}}
 use Rattle.nfs_promises.proofs.Answers.Blaming.{Blames, checks_blame, held_blames, ends_then, ends_checks, answers_blame, passed_all}
 use Rattle.nfs_promises.proofs.Answers.{FileReasons.{file_blames, the_file_is, wished_blames, wished_is}, HoldReasons.{Faults, lock_faults, meant_so, narrow_blames}, OpenReasons.{claim_blames, last_all}}

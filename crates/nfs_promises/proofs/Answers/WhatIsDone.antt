@@ -1,8 +1,8 @@
 -- CLOSE, LOCKU, WRITE and COMMIT did what they answer.
 use Rattle.std.proofs.Common.{◌≡◌, ◌≢◌, ℕ, ◌≤◌, true, not, List, Some, None, refl, sym, ◌∙◌, ap, subst}
 use Rattle.std.proofs.lemmas.{Bool.{false≢true, eq-eqb, not-true, le-leb}, Option.same_Some}
-use Rattle.std.specs.Prelude.{◌==◌, nat_le, Result, Ok, Err, ok_or}
-use Rattle.nfs_xdr.specs.{Tables.In, declared.status.Status.Status, declared.time.Time.Time}
+use Rattle.std.specs.Prelude.{◌==◌, nat_le, Ok, ok_or}
+use Rattle.nfs_xdr.specs.{Tables.In, declared.time.Time.Time}
 use Rattle.nfs_xdr.specs.declared.status.Status.TheVariants as S
 use Rattle.nfs_xdr.proofs.Lists.{in_filter}
 use Rattle.nfs_compound.specs.{declared.file_args.Write.Write, declared.lock_args.LockU.LockU, declared.open_args.Close.Close}
@@ -21,7 +21,7 @@ use Rattle.nfs_files.specs.{Bytes.{writing, file_checks, may_use}, Close.close, 
 use Rattle.nfs_files.proofs.{TreeFiles.IsWhole, Wishes.wish_is, WrittenOps.current_number}
 use Rattle.nfs_promises.specs.Permission.Permitted.{Writes}
 use Rattle.nfs_promises.specs.Answers.{Asked.{StateGiven, StandsFor, ToWrite}, YesIsTrue.{IsTrueOf, HoldsNone, IsClosed, UnlocksTruly}}
-use Rattle.nfs_promises.proofs.Answers.Blaming.{Blames, then_blames, there_blames, ends_then, ends_checks, answers_blame}
+use Rattle.nfs_promises.proofs.Answers.Blaming.{then_blames, there_blames, ends_then, ends_checks, answers_blame}
 use Rattle.nfs_promises.proofs.Answers.FileReasons.{file_blames, the_file_is, wished_blames, wished_is, may_use_blames}
 use Rattle.nfs_promises.proofs.Answers.{StateReasons.{stands_for, stands_one, meant_blames, state_blames}, StatesTold.{off_of, told_id, raised_in, lock_rises}, TruthOfAnswers.{Off, Yes, refused_off, current_off, all_off, up_to}}
 use Rattle.nfs_promises.proofs.Permission.Granting.{may_write_bytes}
