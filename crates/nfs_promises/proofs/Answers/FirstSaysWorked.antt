@@ -2,7 +2,7 @@
 use Rattle.std.proofs.Common.{◌≡◌, ◌≢◌, ℕ, ◌<◌, ◌≤◌, Bool, true, false, cond, List, [], ◌∷◌, ◌++◌, length, Some, None, get_or, refl, sym, ◌∙◌, ap, subst, arith, inl, inr}
 use Rattle.std.proofs.lemmas.{Bool.{false≢true, leb-false, ltb-true}, Option.same_Some}
 use Rattle.std.specs.Prelude.{◌==◌, ◌+◌, ◌-◌, ◌*◌, ◌^◌, nat_le, nat_lt, slice_get}
-use Rattle.nfs_xdr.specs.{Numbers.next_number, Spelling.{number, hyper}, Status.Tables.In, declared.status.Status.Status}
+use Rattle.nfs_xdr.specs.{Numbers.next_number, Spelling.{number, hyper}, Tables.In, declared.status.Status.Status}
 use Rattle.nfs_xdr.specs.declared.status.Status.TheVariants as S
 use Rattle.nfs_compound.specs.{OpNum.op_number, Request.Request, declared.channel_attrs.ChannelAttrs.ChannelAttrs, declared.op.{Item.TheVariants.{Operation, Fault}}}
 use Rattle.nfs_compound.specs.declared.session_args.{CreateSession.CreateSession, ExchangeId.ExchangeId, Sequence.Sequence}
