@@ -3,9 +3,9 @@ use Rattle.std.proofs.Common.{◌≡◌, ◌≢◌, ◌⊎◌, ℕ, ◌+◌, ◌
 use Rattle.std.proofs.lemmas.{Bool.{and_parts, ne_eqb, eq-eqb, eqb-true, false≢true, leb-true, ltb-true, ltb-false, not-true, not-false, or_parts}, List.{length-replicate, Sums.count_by-le-length}, Option.same_Some}
 use Rattle.std.proofs.lemmas.Slice.Eq.{bytes_eq-Decides}
 use Rattle.std.specs.{Prelude.{◌==◌, ◌||◌, ◌&&◌, ◌%◌, ◌^◌, bit_and, bytes_eq, nat_le, nat_lt, filter, count_by, is_some, option_map, option_and_then, find, slice_get, ◌-◌, Ok, ok_or}, List.list_any, Option.option_map_or}
-use Rattle.nfs_xdr.specs.{Caller.Caller, Numbers.next_number, Tables.In, declared.status.Status.Status}
+use Rattle.nfs_xdr.specs.{Caller.Caller, Numbers.next_number, Spelling.number, Status.status_number, StatusCodec.status, Tables.In, declared.status.Status.Status}
 use Rattle.nfs_xdr.specs.declared.status.Status.TheVariants as S
-use Rattle.nfs_xdr.proofs.Lists.{find_in, in_any, in_filter, last_in, none_found, none_any, stays_in}
+use Rattle.nfs_xdr.proofs.{Lists.{find_in, in_any, in_filter, last_in, none_found, none_any, stays_in}, StatusLaws.is_status}
 use Rattle.nfs_compound.specs.{Request.{Request, item_number}, OpNum.op_number, declared.channel_attrs.ChannelAttrs.ChannelAttrs}
 use Rattle.nfs_compound.specs.{declared.op.{Op.Op, Item.Item, Item.TheVariants.{Operation, Fault}}, declared.session_args.{CreateSession.CreateSession, ExchangeId.ExchangeId, Sequence.Sequence}}
 use Rattle.nfs_compound.specs.declared.op_num.OpNum.TheVariants as Num
@@ -31,7 +31,7 @@ use Rattle.nfs_promises.specs.{Runs.Points.{state_after, reached, before}, Calls
 use Rattle.nfs_promises.specs.Answers.FirstSays.{HasId, InSession, Updates, IsOwners, ByClient, IsSmall, FirstReason, IsKept, BySlot, ByRecord, ByRefusal, FirstSays, No, Unread, Again, Yes, EachFirstSaysSo}
 use Rattle.nfs_promises.proofs.{Answers.Blaming.{ends_checks, ends_so, ends_then, ends_with, Ends, held_blames, there_blames}, Runs.Points.{left, next_is}}
 
-has_id : (s : Session) (id : List ℕ) → is_session (id_of id) s ≡ true → HasId s id
+pub has_id : (s : Session) (id : List ℕ) → is_session (id_of id) s ≡ true → HasId s id
 has_id s id is = (let p = and_parts (s.counter == (id_of id).counter) (s.client == (id_of id).client) is in record { client = eqb-true _ _ p.1; counter = eqb-true _ _ p.0 })
 
 is_id : (s : Session) (id : List ℕ) → HasId s id → is_session (id_of id) s ≡ true
@@ -39,6 +39,10 @@ is_id s id has = rw (eq-eqb s.counter (id_of id).counter has.counter, eq-eqb s.c
 
 none_of : {X : Type 0} (p : X → Bool) (xs : List X) (x : X) → list_any p xs ≡ false → In x xs → p x ≡ true → ⊥
 none_of p xs x none there is = false≢true (sym (none_any p xs x none there) ∙ is)
+
+-- one status is told by a text
+pub one_status : (f g : Status) (a b : List ℕ) → number (status_number f) ++ a ≡ number (status_number g) ++ b → f ≡ g
+one_status f g a b same = ap (λ (p : Status × List ℕ). p.0) (same_Some (f, a) (g, b) (sym (is_status.again f a tt) ∙ (ap status.read same ∙ is_status.again g b tt)))
 
 module _ (m : Machine) (r : Request) (who : Caller) (size now : ℕ) (choice : Option ℕ) where
   abbrev refused : Bool
@@ -433,7 +437,7 @@ module _ (m : Machine) (r : Request) (who : Caller) (size now : ℕ) (choice : O
       by true many = no (Operation op) S.NotOnlyOp (op, refl, alone, ltb-true 1 r.declared many)
       by false one = says
 
-  first_says : (i : Item) (more : List Item) (t : Machine) → (t ≡ (by_first m r who size now choice (i ∷ more)).machine)
+  pub first_says : (i : Item) (more : List Item) (t : Machine) → (t ≡ (by_first m r who size now choice (i ∷ more)).machine)
       → FirstSays m r who size refused i (by_first m r who size now choice (i ∷ more)).text t
   first_says (Operation (Op.Sequence a)) more t same = sequence_says a more (sequenced m r who size a) t (sequenced_so a)
   first_says (Operation (Op.ExchangeId e)) more t same =

@@ -1,10 +1,9 @@
 -- What stands first in a compound, answered wrongly, computed.
 use Rattle.std.proofs.Common.{◌≡◌, ◌≢◌, ℕ, ◌<◌, ◌≤◌, Bool, true, false, cond, List, [], ◌∷◌, ◌++◌, length, Some, None, get_or, refl, sym, ◌∙◌, ap, subst, arith, inl, inr}
 use Rattle.std.proofs.lemmas.{Bool.{false≢true, leb-false, ltb-true}, Option.same_Some}
-use Rattle.std.specs.Prelude.{◌==◌, ◌+◌, ◌*◌, ◌^◌, nat_le, nat_lt, slice_get}
-use Rattle.nfs_xdr.specs.{Numbers.next_number, Spelling.{number, hyper}, Status.status_number, StatusCodec.status, Tables.In, declared.status.Status.Status}
+use Rattle.std.specs.Prelude.{◌==◌, ◌+◌, ◌-◌, ◌*◌, ◌^◌, nat_le, nat_lt, slice_get}
+use Rattle.nfs_xdr.specs.{Numbers.next_number, Spelling.{number, hyper}, Tables.In, declared.status.Status.Status}
 use Rattle.nfs_xdr.specs.declared.status.Status.TheVariants as S
-use Rattle.nfs_xdr.proofs.StatusLaws.{is_status}
 use Rattle.nfs_compound.specs.{OpNum.op_number, Request.Request, declared.channel_attrs.ChannelAttrs.ChannelAttrs, declared.op.{Item.TheVariants.{Operation, Fault}}}
 use Rattle.nfs_compound.specs.declared.session_args.{CreateSession.CreateSession, ExchangeId.ExchangeId, Sequence.Sequence}
 use Rattle.nfs_compound.specs.declared.op.Op.TheVariants as Op
@@ -17,9 +16,9 @@ use Rattle.nfs_slots.specs.Slot.{SlotState}
 use Rattle.nfs_sessions.specs.Sessions.{Session}
 use Rattle.nfs_exec.specs.Step.Machine.{Machine}
 use Rattle.nfs_promises.specs.{Calls.OwnIds.answered, Locks.LockKeptWorked.outset, Runs.Requests.{session, words}}
-use Rattle.nfs_promises.specs.Answers.FirstSays.{InSession, ByClient, FirstReason, FirstSays, No, Unread, Again, Yes, IsKept, BySlot, ByRecord, ByRefusal}
+use Rattle.nfs_promises.specs.Answers.FirstSays.{InSession, ByClient, FirstReason, FirstSays, No, Unread, Again, Yes, IsKept, IsSequenced, BySlot, ByRecord, ByRefusal}
 use Rattle.nfs_promises.specs.Answers.FirstSaysWorked.{FirstsRefused, Lies, begun, begins, comes, renews, with_bytes}
-use Rattle.nfs_promises.proofs.{Answers.RowsWorked.only, Runs.Computing.computing}
+use Rattle.nfs_promises.proofs.{Answers.{FirstSays.one_status, RowsWorked.only}, Runs.Computing.computing}
 
 -- a refusal has 20 bytes, where the compound has no tag
 refusal_length : (n : ℕ) (f : Status) (text : List ℕ) → (n == op_number Num.SetAttr) ≡ false → text ≡ spell_compound_head f [] 1 ++ spell_result (refusal n f) → length text ≡ 20
@@ -63,24 +62,50 @@ flags_told told f count rest text none id flags is =
 eight : ◌≢◌ {A = ℕ} 8 0
 eight e = absurd (omega arith)
 
+-- .. and that of the highest slot
+highest_told : (told : SequenceOk) (f : Status) (count : ℕ) (rest text : List ℕ) → told.sessionid ≡ session 1 → told.highest_slotid ≡ 3
+    → text ≡ spell_compound_head f [] count ++ (spell_result (Res.Sequence told) ++ rest) → get_or text 47 0 ≡ 3
+unfolding computing
+highest_told told f count rest text id highest is =
+    ap (λ (t : List ℕ). get_or t 47 0) is
+    ∙ (ap (λ id. get_or (spell_compound_head f [] count ++ (spell_result (Res.Sequence (record told { sessionid = id })) ++ rest)) 47 0) id
+    ∙ ap (λ n. get_or (spell_compound_head f [] count ++ (spell_result (Res.Sequence (record told { sessionid = session 1; highest_slotid = n })) ++ rest)) 47 0) highest)
+
+three : ◌≢◌ {A = ℕ} 63 3
+three e = absurd (omega arith)
+
+-- a first SEQUENCE on its slot, in the only session, is answered by its result
+sequence_lies : (m : Machine) (r : Request) (who : _) (size : ℕ) (refused : Bool) (a : Sequence) (text : List ℕ) (t : Machine) (s : Session) (x : SlotState)
+    → m.sessions.sessions ≡ s ∷ [] → slice_get s.slots a.slotid ≡ Some x → x.used ≡ false → r.tag ≡ [] → nat_lt 20 (length text) ≡ true
+    → (IsSequenced m r (Operation (Op.Sequence a)) text → ⊥) → FirstSays m r who size refused (Operation (Op.Sequence a)) text t → ⊥
+sequence_lies m r who size refused a text t s x one at fresh tag long lies (No f is why) =
+    no_refusal (op_number Num.Sequence) f text refl long (is ∙ ap (λ tag. spell_compound_head f tag 1 ++ spell_result (refusal (op_number Num.Sequence) f)) tag)
+sequence_lies m r who size refused a text t s x one at fresh tag long lies (Unread n f is so) = (let bad : Operation (Op.Sequence a) ≡ Fault n f = is in cc)
+sequence_lies m r who size refused a text t s x one at fresh tag long lies (Again kept) = not_kept m r a s x one at fresh text kept
+sequence_lies m r who size refused a text t s x one at fresh tag long lies (Yes is) = lies is
+
 flag_lies : (m : Machine) (r : Request) (who : _) (size : ℕ) (refused : Bool) (a : Sequence) (text : List ℕ) (t : Machine) (s : Session) (x : SlotState)
     → m.sessions.sessions ≡ s ∷ [] → slice_get s.slots a.slotid ≡ Some x → x.used ≡ false → r.tag ≡ [] → a.sessionid ≡ session 1 → nat_lt 20 (length text) ≡ true
     → get_or text 55 0 ≡ 8 → FirstSays m r who size refused (Operation (Op.Sequence a)) text t → ⊥
-flag_lies m r who size refused a text t s x one at fresh tag id long flag (No f is why) =
-    no_refusal (op_number Num.Sequence) f text refl long (is ∙ ap (λ tag. spell_compound_head f tag 1 ++ spell_result (refusal (op_number Num.Sequence) f)) tag)
-flag_lies m r who size refused a text t s x one at fresh tag id long flag (Unread n f is so) = (let bad : Operation (Op.Sequence a) ≡ Fault n f = is in cc)
-flag_lies m r who size refused a text t s x one at fresh tag id long flag (Again kept) = not_kept m r a s x one at fresh text kept
-flag_lies m r who size refused a text t s x one at fresh tag id long flag (Yes is) =
+flag_lies m r who size refused a text t s x one at fresh tag id long flag = sequence_lies m r who size refused a text t s x one at fresh tag long (λ is.
     eight (sym flag ∙ flags_told is.told is.status is.count is.rest text 0 (is.session ∙ (ap (λ (a : Sequence). a.sessionid) (sym (asked_is m r a s x one at fresh is.of)) ∙ id)) is.flags
-    (is.says ∙ ap (λ tag. spell_compound_head is.status tag is.count ++ (spell_result (Res.Sequence is.told) ++ is.rest)) tag))
+    (is.says ∙ ap (λ tag. spell_compound_head is.status tag is.count ++ (spell_result (Res.Sequence is.told) ++ is.rest)) tag)))
+
+highest_lies : (m : Machine) (r : Request) (who : _) (size : ℕ) (refused : Bool) (a : Sequence) (text : List ℕ) (t : Machine) (s : Session) (x : SlotState)
+    → m.sessions.sessions ≡ s ∷ [] → slice_get s.slots a.slotid ≡ Some x → x.used ≡ false → r.tag ≡ [] → a.sessionid ≡ session 1 → nat_lt 20 (length text) ≡ true
+    → s.channel.maxrequests ≡ 4 → get_or text 47 0 ≡ 63 → FirstSays m r who size refused (Operation (Op.Sequence a)) text t → ⊥
+highest_lies m r who size refused a text t s x one at fresh tag id long four told = sequence_lies m r who size refused a text t s x one at fresh tag long (λ is.
+    (let slots : is.of.session.channel.maxrequests ≡ 4 = ap (λ (s : Session). s.channel.maxrequests) (session_is m r a s x one at fresh is.of) ∙ four in
+    three (sym told ∙ highest_told is.told is.status is.count is.rest text (is.session ∙ (ap (λ (a : Sequence). a.sessionid) (sym (asked_is m r a s x one at fresh is.of)) ∙ id))
+    (is.highest ∙ ap (λ n. n - 1) slots) (is.says ∙ ap (λ tag. spell_compound_head is.status tag is.count ++ (spell_result (Res.Sequence is.told) ++ is.rest)) tag))))
 
 flagged : Lies outset renews (with_bytes 52 (words (8 ∷ [])) (answered outset renews))
 unfolding computing
 flagged lie = flag_lies _ _ _ _ _ _ _ _ _ _ refl refl refl refl refl refl refl (lie _ _ _ _ _ _ _ refl refl refl)
 
--- one status is told by a text
-one_status : (f g : Status) (a b : List ℕ) → number (status_number f) ++ a ≡ number (status_number g) ++ b → f ≡ g
-one_status f g a b same = ap (λ (p : Status × List ℕ). p.0) (same_Some (f, a) (g, b) (sym (is_status.again f a tt) ∙ (ap status.read same ∙ is_status.again g b tt)))
+far : Lies outset renews (with_bytes 44 (words (63 ∷ [])) (answered outset renews))
+unfolding computing
+far lie = highest_lies _ _ _ _ _ _ _ _ _ _ refl refl refl refl refl refl refl refl (lie _ _ _ _ _ _ _ refl refl refl)
 
 -- a refusal has no byte there
 none_there : get_or (spell_compound_head S.BadSlot [] 1 ++ spell_result (refusal (op_number Num.Sequence) S.BadSlot)) 55 8 ≡ 8
@@ -205,4 +230,4 @@ unfolding computing
 another lie = id_lies _ _ _ _ _ _ _ _ _ _ refl refl refl refl refl refl refl (lie _ _ _ _ _ _ _ refl refl refl)
 
 pub firsts_refused : FirstsRefused
-firsts_refused = record { flagged = flagged; no_slot = no_slot; slots = slots; another = another }
+firsts_refused = record { flagged = flagged; far = far; no_slot = no_slot; slots = slots; another = another }

@@ -34,10 +34,6 @@ none_good : IsGood []
 unfolding number
 none_good e = absurd cc
 
-pub nothing_said : (n : ℕ) → [] ≡ number 44 ++ number n → ⊥
-unfolding number
-nothing_said n e = absurd cc
-
 pub good_other : number 53 ++ number 0 ≡ bad_sequence → ⊥
 unfolding number
 good_other e = absurd cc

@@ -1,5 +1,5 @@
--- What stands first in a compound, answered wrongly, worked by hand over the run of `LockKeptWorked`: a SEQUENCE says that state was revoked, and another is refused as if
--- the session had no such slot; a CREATE_SESSION tells more slots than are kept; an EXCHANGE_ID tells a newcomer another client's id (RFC 8881 sections 2.10.6.1, 18.35,
+-- What stands first in a compound, answered wrongly, worked by hand over the run of `LockKeptWorked`: a SEQUENCE says that state was revoked, another that the session has 64
+-- slots, and one is refused as if the session had no such slot; a CREATE_SESSION tells more slots than are kept; an EXCHANGE_ID tells a newcomer another client's id (RFC 8881 sections 2.10.6.1, 18.35,
 -- 18.36 and 18.46).
 use Rattle.std.specs.Prelude.{ℕ, ◌+◌, List, [], ◌∷◌, ◌++◌, drop, length, take}
 use Rattle.nfs_xdr.specs.declared.status.Status.TheVariants.{BadSlot}
@@ -34,6 +34,8 @@ Lies s c text = SaysFirst s c text (state_after s c) → ⊥
 pub record FirstsRefused : Type 0 where
   -- SEQ4_STATUS_EXPIRED_ALL_STATE_REVOKED, in the flags, which stand last
   pub flagged : Lies outset renews (with_bytes 52 (words (8 ∷ [])) (answered outset renews))
+  -- 64 slots, of which the session has four
+  pub far : Lies outset renews (with_bytes 44 (words (63 ∷ [])) (answered outset renews))
   pub no_slot : Lies outset renews (spell_compound_head BadSlot [] 1 ++ spell_result (refusal (op_number Sequence) BadSlot))
   -- 64 slots
   pub slots : Lies begun begins (with_bytes 64 (words (64 ∷ [])) (answered begun begins))
