@@ -76,8 +76,8 @@ pub fn each_first_says_so()
     ensures { EachFirstSaysSo }
 {}
 
-/// The definitions compute: `each_first_says_so` refuses a SEQUENCE that says that all state was revoked, one that is refused by NFS4ERR_BADSLOT on a slot of its session, a
-/// CREATE_SESSION that tells more slots than the session has, and an EXCHANGE_ID that tells a newcomer another client's id.
+/// The definitions compute: `each_first_says_so` refuses a SEQUENCE that says that all state was revoked, one that says that the session has more slots, one that is
+/// refused by NFS4ERR_BADSLOT on a slot of its session, a CREATE_SESSION that tells more slots than the session has, and an EXCHANGE_ID that tells a newcomer another client's id.
 #[tactic(auto, using(crate::proofs::Answers::FirstSaysWorked::firsts_refused))]
 pub fn wrong_firsts_are_refused()
     ensures { FirstsRefused }
