@@ -292,12 +292,21 @@ static void removed(const char *at, const char *name) {
 }
 
 /* The kinds of what differs that docs/OPERATING.md has: the operation, and what it came to there and here, or what was different behind it. */
-static const char *const KNOWN[] = {NULL};
+static const char *const KNOWN[] = {"chown as it is 0 for 1", "chgrp as it is 0 for 1", NULL};
 
 static int is_known(const char *kind) {
     for (int i = 0; KNOWN[i]; i++)
         if (!strcmp(KNOWN[i], kind)) return 1;
     return 0;
+}
+
+/* Whether a call gives what is there the owner or the group that it has. */
+static int keeps(const struct call *c, const char *at) {
+    char path[96];
+    struct stat a;
+    snprintf(path, sizeof path, "%s/%s", at, c->path);
+    if (stat(path, &a)) return 0;
+    return c->op == CHOWN ? a.st_uid == USERS[c->number % OF(USERS)].uid : c->op == CHGRP && a.st_gid == GROUPS[c->number % OF(GROUPS)];
 }
 
 static char kinds[KINDS][64];
@@ -328,7 +337,7 @@ void random_calls(unsigned seed) {
         shown(here, c.path, two, sizeof two);
         if (far == near && !strcmp(one, two)) continue;
         differ++;
-        if (far != near) snprintf(kind, sizeof kind, "%s %d for %d", OPS[c.op], far, near);
+        if (far != near) snprintf(kind, sizeof kind, "%s%s %d for %d", OPS[c.op], keeps(&c, here) ? " as it is" : "", far, near);
         else snprintf(kind, sizeof kind, "%s behind", OPS[c.op]);
         counted(kind);
         if (!is_known(kind)) {

@@ -32,7 +32,7 @@ patient() {
     while ! read -rt 60 -u "$never"; do echo "note: it goes on: $1"; done &
     well "$@"
     kill $!
-    wait $! 2> /dev/null
+    wait $! 2> /dev/null || :
 }
 
 forget() { echo 3 > /proc/sys/vm/drop_caches; }

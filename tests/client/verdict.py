@@ -12,6 +12,8 @@ EVER = read_known((TOP / "tools/judging/linux.known").read_text(encoding="utf-8"
 KNOWN = {
     # its lease is made to run out
     "expired": ("lease",),
+    "unix": ("lease",),
+    "exact": ("lease",),
     # processes are killed while their calls wait. Rarely the number of such a call is not taken for used, and the next compound of the slot has it too;
     # where the capture has a reply to the first, that is other-bytes. What it is answered, tests/client/linux judges
     "killed": ("two-waiting", "given-up", "asked-instead", "other-bytes"),
