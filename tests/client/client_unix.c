@@ -291,24 +291,7 @@ static void removed(const char *at, const char *name) {
     nftw(path, drops, 8, FTW_DEPTH | FTW_PHYS);
 }
 
-/* The kinds of what differs that docs/OPERATING.md has: the operation, and what it came to there and here, or what was different behind it. */
-static const char *const KNOWN[] = {"chown as it is 0 for 1", "chgrp as it is 0 for 1", NULL};
-
-static int is_known(const char *kind) {
-    for (int i = 0; KNOWN[i]; i++)
-        if (!strcmp(KNOWN[i], kind)) return 1;
-    return 0;
-}
-
-/* Whether a call gives what is there the owner or the group that it has. */
-static int keeps(const struct call *c, const char *at) {
-    char path[96];
-    struct stat a;
-    snprintf(path, sizeof path, "%s/%s", at, c->path);
-    if (stat(path, &a)) return 0;
-    return c->op == CHOWN ? a.st_uid == USERS[c->number % OF(USERS)].uid : c->op == CHGRP && a.st_gid == GROUPS[c->number % OF(GROUPS)];
-}
-
+/* The kinds of what differs: the operation, and what it came to there and here, or that something was different behind it. */
 static char kinds[KINDS][64];
 static int counts[KINDS], many;
 
@@ -322,7 +305,7 @@ static void counted(const char *kind) {
 
 void random_calls(unsigned seed) {
     const char *const there = AT "random", *const here = "/beside";
-    int differ = 0, unknown = 0;
+    int differ = 0;
     char one[96], two[96], kind[64];
     srandom(seed);
     mkdir(here, 0777);
@@ -337,17 +320,14 @@ void random_calls(unsigned seed) {
         shown(here, c.path, two, sizeof two);
         if (far == near && !strcmp(one, two)) continue;
         differ++;
-        if (far != near) snprintf(kind, sizeof kind, "%s%s %d for %d", OPS[c.op], keeps(&c, here) ? " as it is" : "", far, near);
+        if (far != near) snprintf(kind, sizeof kind, "%s %d for %d", OPS[c.op], far, near);
         else snprintf(kind, sizeof kind, "%s behind", OPS[c.op]);
         counted(kind);
-        if (!is_known(kind)) {
-            unknown++;
-            printf("note: call %d: %s of %s (%s, %o, %ld) by %d: %d for %d; '%s' for '%s'\n", i, OPS[c.op], c.path, c.other, c.mode, c.number,
-                   c.who->uid, far, near, one, two);
-        }
+        printf("note: call %d: %s of %s (%s, %o, %ld) by %d: %d for %d; '%s' for '%s'\n", i, OPS[c.op], c.path, c.other, c.mode, c.number,
+               c.who->uid, far, near, one, two);
         removed(there, c.path), removed(here, c.path), removed(there, c.other), removed(here, c.other);
     }
     for (int i = 0; i < many; i++) printf("note: %s: %d\n", kinds[i], counts[i]);
     umask(022);
-    step("calls differ from a local file system's in known ways alone", !unknown, "%d of %d, %d differ", unknown, CALLS, differ);
+    step("calls come to what they come to in a local file system", !differ, "%d of %d differ", differ, CALLS);
 }

@@ -18,7 +18,7 @@ mode_behind Unix mode who = if who.uid == 0 then None else Some (cleared mode)
 abbrev pub mode_given : ℕ → Caller → ℕ → ℕ
 mode_given group who mode = if who.uid == 0 || in_group group who then mode else bit_and mode 0xffff_fbff
 
--- whether what is set clears the bits of a file: an owner or a group by anybody, a size by another than user 0
+-- whether what is set clears the bits of a file: an owner or a group, or by another than user 0 a size
 abbrev pub clears : Wanted → Caller → Bool
 clears w who = is_some w.owner || is_some w.group || is_some w.size && not (who.uid == 0)
 

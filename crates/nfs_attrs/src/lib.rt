@@ -9,7 +9,7 @@
 //! write_attrs(object, &about, asked, &mut sheet);       // GETATTR
 //! write_asked(object, &about, &mut asked_once, &mut sheet); // READDIR
 //! let wanted = read_attrs(given, values)?;              // SETATTR, CREATE, OPEN
-//! may_set(object, &wanted, &who)?;
+//! may_set(profile, object, &wanted, &who)?;
 //! ```
 //!
 //! RFC 8881 sections 4 (filehandles), 5 (attributes), 6.2.4 (modes) and 18.1 (ACCESS).

@@ -7,7 +7,7 @@ ghost use Rattle.nfs_attrs.specs.Setting as setting;
 use crate::permission::{Want, in_group, may};
 use crate::set_time::SetTime;
 use crate::wanted::Wanted;
-use nfs_tree::Object;
+use nfs_tree::{Object, Profile};
 use nfs_xdr::{Status, Who};
 
 /// Whether the caller is the owner or the user 0.
@@ -37,6 +37,13 @@ fn takes_group(wanted: Option<u32>, owner: u32, group: u32, who: &Who<'_>) -> bo
     }
 }
 
+/// Whether it sets an owner or a group, as they are or not, which in `unix` is for the owner alone: it clears set-user-ID and set-group-ID.
+fn gives_away(profile: Profile, wanted: &Wanted) -> bool
+    ensures { result ≡ setting.gives_away profile wanted.now }
+{
+    profile.is_unix() && (wanted.owner.is_some() || wanted.group.is_some())
+}
+
 fn is_given(time: Option<SetTime>) -> bool
     ensures { result ≡ setting.is_given time }
 {
@@ -60,12 +67,20 @@ fn is_now(time: Option<SetTime>) -> bool
 /// Whether the caller may set these attributes of an object, as SETATTR asks. The user 0 may set them all.
 ///
 /// [`Status::Perm`] where it takes another owner, or another group of which the caller is not the owning member, or where
-/// somebody else than the owner sets the mode or gives a time; else [`Status::Access`] where the server's own time is
-/// set by one who is not the owner and may not write.
-pub fn may_set(object: &Object, wanted: &Wanted, who: &Who<'_>) -> Result<(), Status>
-    ensures { result ≡ setting.may_set object.now wanted.now (caller who.now) }
+/// somebody else than the owner sets the mode, gives a time or, in the profile `unix`, sets the owner or the group as they
+/// are; else [`Status::Access`] where the server's own time is set by one who is not the owner and may not write.
+pub fn may_set(
+    profile: Profile,
+    object: &Object,
+    wanted: &Wanted,
+    who: &Who<'_>,
+) -> Result<(), Status>
+    ensures { result ≡ setting.may_set profile object.now wanted.now (caller who.now) }
 {
     let owns = owns(object.owner, who);
+    if gives_away(profile, wanted) && !owns {
+        return Err(Status::Perm);
+    }
     if takes_owner(wanted.owner, object.owner, who) {
         return Err(Status::Perm);
     }

@@ -488,9 +488,27 @@ fn sets_by_leave(rt: HostRuntime) {
     ];
     let file = object(FileType::Regular, 0o640, 5, 50);
     for (wanted, owner, member, root) in cases {
-        assert_eq!(rt; may_set(&file, &wanted, &caller(5, 9, EIGHT)), owner);
-        assert_eq!(rt; may_set(&file, &wanted, &caller(6, 50, FIFTY)), member);
-        assert_eq!(rt; may_set(&file, &wanted, &caller(0, 9, EIGHT)), root);
+        let exact = Profile::Exact;
+        assert_eq!(rt; may_set(exact, &file, &wanted, &caller(5, 9, EIGHT)), owner);
+        assert_eq!(rt; may_set(exact, &file, &wanted, &caller(6, 50, FIFTY)), member);
+        assert_eq!(rt; may_set(exact, &file, &wanted, &caller(0, 9, EIGHT)), root);
+    }
+    // As they are: in `unix` that is for the owner too.
+    let as_it_is = [
+        Wanted {
+            owner: Some(5),
+            ..none
+        },
+        Wanted {
+            group: Some(50),
+            ..none
+        },
+    ];
+    for wanted in as_it_is {
+        let unix = Profile::Unix;
+        assert_eq!(rt; may_set(unix, &file, &wanted, &caller(5, 9, EIGHT)), Ok(()));
+        assert_eq!(rt; may_set(unix, &file, &wanted, &caller(6, 50, FIFTY)), Err(Status::Perm));
+        assert_eq!(rt; may_set(unix, &file, &wanted, &caller(0, 9, EIGHT)), Ok(()));
     }
     assert_eq!(rt;
         may_make(

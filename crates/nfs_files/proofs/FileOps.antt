@@ -107,7 +107,7 @@ setting_is s x a m e =
     let d = came (current s x) _ m p.0 in
     let w = came (attributes_in a.obj_attributes) _ m d.then in
     let k : Setting = record { node = d.found; wanted = w.found } in
-    let same : k ≡ m = ok_is refl (checked_ok (Ok k) (set_parts.owner_checks x) m w.then).0 in
+    let same : k ≡ m = ok_is refl (checked_ok (Ok k) (set_parts.owner_checks s x) m w.then).0 in
     record {
       at = current_number s x d.found d.is ∙ ap (λ (m : Setting). Some m.node.number) same;
       reads = w.is ∙ ap (λ (m : Setting). Ok m.wanted) same;

@@ -281,17 +281,17 @@ set_attr_is s x now a = by_node (current s x)
     by_owner d wanted (Some status) = refl
 
     by_wanted : (d : Node) (v : Result Wanted Status)
-        → or_refusal s x Num.SetAttr (v >>= λ wanted. in_order (set_parts.owner_checks x (pair d wanted)) >> (may_resize s x a.stateid d wanted.size >> rest d wanted))
-        ≡ answers s x Num.SetAttr (checked (if_passed (v >>= λ wanted. checked (Ok (pair d wanted)) (set_parts.owner_checks x))
+        → or_refusal s x Num.SetAttr (v >>= λ wanted. in_order (set_parts.owner_checks s x (pair d wanted)) >> (may_resize s x a.stateid d wanted.size >> rest d wanted))
+        ≡ answers s x Num.SetAttr (checked (if_passed (v >>= λ wanted. checked (Ok (pair d wanted)) (set_parts.owner_checks s x))
         (set_parts.sized s x a.stateid)) (set_parts.last_checks s)) (set_parts.was_set s x now a)
     by_wanted d (Err status) = refl
-    by_wanted d (Ok wanted) = by_owner d wanted (first_fault (set_parts.owner_checks x (pair d wanted)))
+    by_wanted d (Ok wanted) = by_owner d wanted (first_fault (set_parts.owner_checks s x (pair d wanted)))
 
     by_node : (v : Result Node Status)
         → or_refusal s x Num.SetAttr (v >>= λ d. attributes_in a.obj_attributes
-        >>= λ wanted. in_order (set_parts.owner_checks x (pair d wanted)) >> (may_resize s x a.stateid d wanted.size >> rest d wanted))
+        >>= λ wanted. in_order (set_parts.owner_checks s x (pair d wanted)) >> (may_resize s x a.stateid d wanted.size >> rest d wanted))
         ≡ answers s x Num.SetAttr (checked (if_passed (v >>= λ d. attributes_in a.obj_attributes
-        >>= λ wanted. checked (Ok (pair d wanted)) (set_parts.owner_checks x)) (set_parts.sized s x a.stateid)) (set_parts.last_checks s)) (set_parts.was_set s x now a)
+        >>= λ wanted. checked (Ok (pair d wanted)) (set_parts.owner_checks s x)) (set_parts.sized s x a.stateid)) (set_parts.last_checks s)) (set_parts.was_set s x now a)
     by_node (Err status) = refl
     by_node (Ok d) = by_wanted d (attributes_in a.obj_attributes)
 

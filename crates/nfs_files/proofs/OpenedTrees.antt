@@ -38,5 +38,5 @@ set_held s x a m e =
     let d = came (current s x) _ m set in
     let w = came (attributes_in a.obj_attributes) _ m d.then in
     let k : Setting = record { node = d.found; wanted = w.found } in
-    let same : k ≡ m = ok_is refl (checked_ok (Ok k) (set_parts.owner_checks x) m w.then).0 in
+    let same : k ≡ m = ok_is refl (checked_ok (Ok k) (set_parts.owner_checks s x) m w.then).0 in
     subst (λ (m : Setting). IsHeld s.tree m.node) same (current_is s x d.found d.is)

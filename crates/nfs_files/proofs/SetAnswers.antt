@@ -23,7 +23,7 @@ asked_refuses s x a =
     if_passed_refuses (setting s x a) (sized s x a.stateid)
     (refuses_then (current s x) _ (current_refuses s x) (λ d.
     refuses_then (attributes_in a.obj_attributes) _ (wanted_refuses a.obj_attributes) (λ w.
-    (let m : Setting = record { node = d; wanted = w } in refuses_checked (Ok m) (owner_checks x) (ok_refuses m) (λ m. refl)))))
+    (let m : Setting = record { node = d; wanted = w } in refuses_checked (Ok m) (owner_checks s x) (ok_refuses m) (λ m. refl)))))
     (λ m. sized_refuses s x a.stateid m.node m.wanted.size)
 
 pub may_set_attr : (s : State) (x : Context) (now : Time) (a : SetAttr) → IsAnswer (Operation (Op.SetAttr a)) (set_attr s x now a).result

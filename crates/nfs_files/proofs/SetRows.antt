@@ -91,11 +91,11 @@ setting_is s x a m e =
     let d = came (current s x) _ m e in
     let w = came (attributes_in a.obj_attributes) _ m d.then in
     let k : Setting = record { node = d.found; wanted = w.found } in
-    let same = ok_is refl (checked_ok (Ok k) (owner_checks x) m w.then).0 in
+    let same = ok_is refl (checked_ok (Ok k) (owner_checks s x) m w.then).0 in
     subst (IsSet s x a) same (record { held = d.is; read = w.is })
 
 pub set_by : (s : State) (x : Context) (a : SetAttr) (d : Node) (w : Wanted) → current s x ≡ Ok d → attributes_in a.obj_attributes ≡ Ok w
-    → setting s x a ≡ checked (Ok (record { node = d; wanted = w })) (owner_checks x)
+    → setting s x a ≡ checked (Ok (record { node = d; wanted = w })) (owner_checks s x)
 set_by s x a d w held read = rw (held, read) refl
 
 pub set_found : (s : State) (x : Context) (a : SetAttr) (m : Setting) → asked_for s x a ≡ Ok m

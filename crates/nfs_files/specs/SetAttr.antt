@@ -37,7 +37,7 @@ unfoldable pub set_attr : State → Context → Time → SetAttr → Outcome
 set_attr s x now a = or_refusal s x Num.SetAttr (do
   d ← current s x
   wanted ← attributes_in a.obj_attributes
-  in_order (set_checks d.object wanted x.who)
+  in_order (set_checks s.tree.profile d.object wanted x.who)
   may_resize s x a.stateid d wanted.size
   in_order ((option_map_or (nat_lt s.tree.limits.bytes) wanted.size false, FBig) ∷ (gives_some wanted && not (can_change s.tree d.number), ServerFault) ∷ [])
   Ok (record {

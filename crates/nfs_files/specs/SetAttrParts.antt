@@ -10,14 +10,14 @@ use Rattle.nfs_names.specs.{declared.context.Context.Context, declared.node.Node
 use Rattle.nfs_names.specs.{Checks.current, Create.attributes_in}
 use Rattle.nfs_files.specs.{declared.setting.Setting.Setting, Parts.{if_passed, writable}, SetAttr.{gives_some, with_set}}
 
-abbrev pub owner_checks : Context → Setting → List (Bool × Status)
-owner_checks x m = set_checks m.node.object m.wanted x.who
+abbrev pub owner_checks : State → Context → Setting → List (Bool × Status)
+owner_checks s x m = set_checks s.tree.profile m.node.object m.wanted x.who
 
 abbrev pub setting : State → Context → SetAttr → Result Setting Status
 setting s x a = do
   d ← current s x
   wanted ← attributes_in a.obj_attributes
-  checked (Ok (record { node = d; wanted = wanted })) (owner_checks x)
+  checked (Ok (record { node = d; wanted = wanted })) (owner_checks s x)
 
 abbrev pub sized_by : State → Context → Stateid → Node → Option ℕ → Result Node Status
 sized_by s x given d None = Ok d

@@ -8,9 +8,9 @@ use Rattle.nfs_xdr.proofs.Checks.{all_passed}
 use Rattle.nfs_compound.specs.{declared.file_args.SetAttr.SetAttr, declared.op.Item.Item, declared.op.Item.TheVariants.Operation}
 use Rattle.nfs_compound.specs.declared.op.Op.TheVariants as Op
 use Rattle.nfs_compound.specs.declared.op_num.OpNum.TheVariants as Num
-use Rattle.nfs_tree.specs.Files.{can_change}
+use Rattle.nfs_tree.specs.{Files.{can_change}, declared.profile.Profile.Profile, declared.profile.Profile.TheVariants.{Exact, Unix}}
 use Rattle.nfs_attrs.specs.{declared.set_time.SetTime.SetTime, declared.set_time.SetTime.TheVariants.{Now, Given}, declared.wanted.Wanted.Wanted, Permissions.{in_group, may, write as to_write}}
-use Rattle.nfs_attrs.specs.Setting.{owns, takes_owner, takes_group, is_given, is_now, set_checks, make_checks}
+use Rattle.nfs_attrs.specs.Setting.{owns, gives_away, takes_owner, takes_group, is_given, is_now, set_checks, make_checks}
 use Rattle.nfs_opens.specs.{declared.judging.Sort.TheVariants.Either, declared.stateid.CurrentSeqid.TheVariants.Any}
 use Rattle.nfs_names.specs.{declared.context.Context.Context, declared.node.Node.Node, State.State, Outcome.Outcome, Checks.{current, permits}, Create.attributes_in}
 use Rattle.nfs_files.specs.{Bytes.{file_checks, writing, may_use}, SetAttr.{may_resize, gives_some, set_attr}}
@@ -44,8 +44,18 @@ owns_so owner who r same is = elim (one_or (who.uid == 0) (who.uid == owner) is)
   | inr own ↦ inr (eqb-true _ _ own ∙ sym same)
 ]
 
-module _ (who : Caller) (r : Rights) (w : Wanted) where
-  owner_forbidden : takes_owner w.owner r.owner who ≡ true → MaySet who r w → ⊥
+module _ (profile : Profile) (who : Caller) (r : Rights) (w : Wanted) where
+  gift_forbidden : gives_away profile w && not (owns r.owner who) ≡ true → MaySet profile who r w → ⊥
+  gift_forbidden takes set =
+      let p = and_parts (gives_away profile w) (not (owns r.owner who)) takes in
+      let is = in_unix profile p.0 in
+      not_owns r.owner who r refl p.1 (set.as_it_is is.0 is.1)
+    where
+      in_unix : (q : Profile) → gives_away q w ≡ true → (q ≡ Unix) × (is_some w.owner || is_some w.group ≡ true)
+      in_unix Exact gives = absurd (false≢true gives)
+      in_unix Unix gives = (refl, gives)
+
+  owner_forbidden : takes_owner w.owner r.owner who ≡ true → MaySet profile who r w → ⊥
   owner_forbidden takes set = by w.owner refl takes
     where
       by : (o : Option ℕ) → w.owner ≡ o → takes_owner o r.owner who ≡ true → ⊥
@@ -55,7 +65,7 @@ module _ (who : Caller) (r : Rights) (w : Wanted) where
         | inr same ↦ false≢true (sym (not-true _ p.0) ∙ eq-eqb new r.owner same)
       ]
 
-  group_forbidden : takes_group w.group r.owner r.group who ≡ true → MaySet who r w → ⊥
+  group_forbidden : takes_group w.group r.owner r.group who ≡ true → MaySet profile who r w → ⊥
   group_forbidden takes set = by w.group refl takes
     where
       by : (o : Option ℕ) → w.group ≡ o → takes_group o r.owner r.group who ≡ true → ⊥
@@ -69,14 +79,14 @@ module _ (who : Caller) (r : Rights) (w : Wanted) where
             | inr (inr (own, within)) ↦ both_false (who.uid == r.owner) (in_group new who) (eq-eqb who.uid r.owner own) (in_is new who within) q.1
           ]
 
-  mode_forbidden : is_some w.mode && not (owns r.owner who) ≡ true → MaySet who r w → ⊥
+  mode_forbidden : is_some w.mode && not (owns r.owner who) ≡ true → MaySet profile who r w → ⊥
   mode_forbidden takes set = by w.mode refl (and_parts (is_some w.mode) (not (owns r.owner who)) takes)
     where
       by : (o : Option ℕ) → w.mode ≡ o → (is_some o ≡ true) × (not (owns r.owner who) ≡ true) → ⊥
       by None is p = false≢true p.0
       by (Some new) is p = not_owns r.owner who r refl p.1 (set.mode new is)
 
-  times_forbidden : (is_given w.access || is_given w.modify) && not (owns r.owner who) ≡ true → MaySet who r w → ⊥
+  times_forbidden : (is_given w.access || is_given w.modify) && not (owns r.owner who) ≡ true → MaySet profile who r w → ⊥
   times_forbidden takes set =
       let p = and_parts (is_given w.access || is_given w.modify) (not (owns r.owner who)) takes in
       elim (one_or (is_given w.access) (is_given w.modify) p.0) [
@@ -90,9 +100,10 @@ module _ (who : Caller) (r : Rights) (w : Wanted) where
       by (Some (Given t)) is why = why t refl
 
   -- and what passed is
-  may_set : takes_owner w.owner r.owner who ≡ false → takes_group w.group r.owner r.group who ≡ false → is_some w.mode && not (owns r.owner who) ≡ false
-      → (is_given w.access || is_given w.modify) && not (owns r.owner who) ≡ false → MaySet who r w
-  may_set owner group mode times = record {
+  may_set : gives_away profile w && not (owns r.owner who) ≡ false → takes_owner w.owner r.owner who ≡ false → takes_group w.group r.owner r.group who ≡ false
+      → is_some w.mode && not (owns r.owner who) ≡ false → (is_given w.access || is_given w.modify) && not (owns r.owner who) ≡ false → MaySet profile who r w
+  may_set gift owner group mode times = record {
+    as_it_is = λ unix some. owned (gives_away profile w) (ap (λ q. gives_away q w) unix ∙ some) gift;
     owner = λ new is. by_owner new (subst (λ o. takes_owner o r.owner who ≡ false) is owner);
     group = λ new is. by_group new (subst (λ o. takes_group o r.owner r.group who ≡ false) is group);
     mode = λ new is. owned (is_some w.mode) (ap is_some is) mode;
@@ -135,8 +146,8 @@ module _ (who : Caller) (r : Rights) (w : Wanted) where
 -- a new object's owner and group
 pub make_blames : (s : State) (x : Context) (i : Item) (w : Wanted) → Sets s x i (own x.who) w → AllBlame (Reason s x i) (make_checks w x.who)
 make_blames s x i w sets = (
-  λ takes. record { rights = own x.who; wanted = w; sets = sets; forbids = owner_forbidden x.who (own x.who) w takes },
-  λ u. (λ takes. record { rights = own x.who; wanted = w; sets = sets; forbids = group_forbidden x.who (own x.who) w takes }, λ u. tt),
+  λ takes. record { rights = own x.who; wanted = w; sets = sets; forbids = owner_forbidden s.tree.profile x.who (own x.who) w takes },
+  λ u. (λ takes. record { rights = own x.who; wanted = w; sets = sets; forbids = group_forbidden s.tree.profile x.who (own x.who) w takes }, λ u. tt),
 )
 
 -- a size beyond the limit
@@ -182,22 +193,25 @@ module _ (s : State) (whole : IsWhole s) (x : Context) (a : SetAttr) where
     sets : Sets s x i r w
     sets = ToSet d.number a r w (current_number s x d e) here gives
 
-    set_all : AllBlame B (set_checks d.object w x.who)
+    set_all : AllBlame B (set_checks s.tree.profile d.object w x.who)
     unfolding permits
     set_all = (
-      λ takes. record { rights = r; wanted = w; sets = sets; forbids = owner_forbidden x.who r w takes },
+      λ takes. forbidden (gift_forbidden s.tree.profile x.who r w takes),
       λ u. (
-        λ takes. record { rights = r; wanted = w; sets = sets; forbids = group_forbidden x.who r w takes },
+        λ takes. forbidden (owner_forbidden s.tree.profile x.who r w takes),
         λ u. (
-          λ takes. record { rights = r; wanted = w; sets = sets; forbids = mode_forbidden x.who r w takes },
+          λ takes. forbidden (group_forbidden s.tree.profile x.who r w takes),
           λ u. (
-            λ takes. record { rights = r; wanted = w; sets = sets; forbids = times_forbidden x.who r w takes },
-            λ u. (lacks, λ u. tt),
+            λ takes. forbidden (mode_forbidden s.tree.profile x.who r w takes),
+            λ u. (λ takes. forbidden (times_forbidden s.tree.profile x.who r w takes), λ u. (lacks, λ u. tt)),
           ),
         ),
       ),
     )
       where
+        forbidden : (MaySet s.tree.profile x.who r w → ⊥) → B S.Perm
+        forbidden not_his = record { rights = r; wanted = w; sets = sets; forbids = not_his }
+
         lacks : (is_now w.access || is_now w.modify) && not (owns d.object.owner x.who || may d.object x.who to_write) ≡ true → B S.Access
         lacks takes =
             let p = and_parts (is_now w.access || is_now w.modify) (not (owns d.object.owner x.who || may d.object x.who to_write)) takes in
@@ -206,16 +220,16 @@ module _ (s : State) (whole : IsWhole s) (x : Context) (a : SetAttr) where
             (ToTouch d.number a r w (current_number s x d e) here gives (touched w p.0) (not_owns d.object.owner x.who r refl (ap not q.0)))
             (λ all. false≢true (sym q.1 ∙ may_write x d (all Writes (inl refl))))
 
-    was_set : first_fault (set_checks d.object w x.who) ≡ None → IsSet s x a
+    was_set : first_fault (set_checks s.tree.profile d.object w x.who) ≡ None → IsSet s x a
     unfolding permits
     was_set none n q v at is given =
-        let c = all_passed (set_checks d.object w x.who) none in
+        let c = all_passed (set_checks s.tree.profile d.object w x.who) none in
         let same : r ≡ q = rights_here s n q d is (current_at s x n d at e) in
         let one : w ≡ v = (let two : ◌≡◌ {A = Result Wanted Status} (Ok w) (Ok v) = sym gives ∙ given in cc) in
-        subst (λ q. MaySet x.who q v × (Touches v → Owns x.who q ⊎ Grants q x.who Writes)) same
-        (subst (λ v. MaySet x.who r v × (Touches v → Owns x.who r ⊎ Grants r x.who Writes)) one (
-          may_set x.who r w c.0 c.1.0 c.1.1.0 c.1.1.1.0,
-          λ touches. by (touches_so w touches) c.1.1.1.1.0,
+        subst (λ q. MaySet s.tree.profile x.who q v × (Touches v → Owns x.who q ⊎ Grants q x.who Writes)) same
+        (subst (λ v. MaySet s.tree.profile x.who r v × (Touches v → Owns x.who r ⊎ Grants r x.who Writes)) one (
+          may_set s.tree.profile x.who r w c.0 c.1.0 c.1.1.0 c.1.1.1.0 c.1.1.1.1.0,
+          λ touches. by (touches_so w touches) c.1.1.1.1.1.0,
         ))
       where
         by : is_now w.access || is_now w.modify ≡ true → (is_now w.access || is_now w.modify) && not (owns d.object.owner x.who || may d.object x.who to_write) ≡ false
@@ -242,7 +256,7 @@ module _ (s : State) (whole : IsWhole s) (x : Context) (a : SetAttr) where
   unfolding set_attr
   set_attr_blames now = answers_blame B Y s x Num.SetAttr _ (refused_so s x i Num.SetAttr) (ends_then B Y (current s x) _ (current_blames s whole x i refl) (λ d e.
       ends_then B Y (attributes_in a.obj_attributes) _ (given_blames s x i a.obj_attributes refl) (λ w gives.
-      ends_checks B Y (set_checks d.object w x.who) _ (set_all d e w gives) (λ set.
+      ends_checks B Y (set_checks s.tree.profile d.object w x.who) _ (set_all d e w gives) (λ set.
       ends_then B Y (may_resize s x a.stateid d w.size) _ (size_blames d e w gives w.size refl) (λ u e2.
       ends_checks B Y ((option_map_or (nat_lt s.tree.limits.bytes) w.size false, S.FBig) ∷ (gives_some w && not (can_change s.tree d.number), S.ServerFault) ∷ []) _ (
         λ long. too_long s.tree.limits.bytes w.size long (λ size is less. BySize a size refl (ap size_in gives ∙ is) less),
@@ -250,4 +264,4 @@ module _ (s : State) (whole : IsWhole s) (x : Context) (a : SetAttr) where
           λ spent. spent_there s d (found_now s x d e).1 (not-true _ (and_parts (gives_some w) (not (can_change s.tree d.number)) spent).1),
           λ u. tt,
         ),
-      ) (λ u. done_so s x i (was_set d e w gives (passed_all (set_checks d.object w x.who) set))))))))
+      ) (λ u. done_so s x i (was_set d e w gives (passed_all (set_checks s.tree.profile d.object w x.who) set))))))))

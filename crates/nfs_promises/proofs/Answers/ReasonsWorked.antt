@@ -11,7 +11,7 @@ use Rattle.nfs_compound.specs.{declared.file_args.{Read.Read, SetAttr.SetAttr}, 
 use Rattle.nfs_compound.specs.declared.open_args.{OpenHow.OpenHow, OpenHow.TheVariants.NoCreate, OpenClaim.TheVariants.Null}
 use Rattle.nfs_compound.specs.ArgCodecs.{rename_args, create_args, create_type, set_attr_args}
 use Rattle.nfs_compound.specs.declared.op.Op.TheVariants as Op
-use Rattle.nfs_tree.specs.{declared.object.Object.Object, declared.profile.Profile.TheVariants.Unix, Files.{object_at, object_named}, Object.is_directory}
+use Rattle.nfs_tree.specs.{declared.object.Object.Object, declared.profile.Profile.TheVariants.{Exact, Unix}, Files.{object_at, object_named}, Object.is_directory}
 use Rattle.nfs_opens.specs.{declared.records.LockState.LockState, declared.stateid.StateId.StateId, declared.stateid.CurrentSeqid.TheVariants.{Any, Own}, declared.judging.Sort.TheVariants.{OpenOnly, LockOnly}}
 use Rattle.nfs_names.specs.{Context.anonymous, declared.context.Context.Context, declared.context.Saved.Saved, State.State, Remove.remove, Rename.rename, SaveFh.save_fh, GetFh.get_fh, Create.{attributes_in, create}, Checks.both}
 use Rattle.nfs_files.specs.{OpenTold.claimed, SetAttr.set_attr, StateIds.state_id}
@@ -125,16 +125,16 @@ module _ (s : State) (x : Context) where
       by (Source b other so here same) = sym both ∙ (ap (λ (q : Saved). q.object) (same_Some saved other (sym from ∙ here)) ∙ same)
 
   -- a SETATTR of what is the caller's to set
-  not_forbidden : (a : SetAttr) (n : ℕ) (r : Rights) (w : Wanted) → x.current ≡ Some n → rights_at s.tree n ≡ Some r → attributes_in a.obj_attributes ≡ Ok w → MaySet x.who r w
+  not_forbidden : (a : SetAttr) (n : ℕ) (r : Rights) (w : Wanted) → x.current ≡ Some n → rights_at s.tree n ≡ Some r → attributes_in a.obj_attributes ≡ Ok w → MaySet s.tree.profile x.who r w
       → IsForbidden s x (Operation (Op.SetAttr a)) → ⊥
   not_forbidden a n r w at is gives may why = by why.rights why.wanted why.sets why.forbids
     where
-      by : (q : Rights) (v : Wanted) → Sets s x (Operation (Op.SetAttr a)) q v → (MaySet x.who q v → ⊥) → ⊥
+      by : (q : Rights) (v : Wanted) → Sets s x (Operation (Op.SetAttr a)) q v → (MaySet s.tree.profile x.who q v → ⊥) → ⊥
       by q v (ToSet m b k u here has given) forbids =
           let rights : r ≡ q = same_Some r q (sym is ∙ (ap (rights_at s.tree) (same_Some n m (sym at ∙ here)) ∙ has)) in
           let two : ◌≡◌ {A = Result Wanted Status} (Ok w) (Ok v) = sym gives ∙ given in
           let one : w ≡ v = cc in
-          forbids (subst (λ q. MaySet x.who q v) rights (subst (λ v. MaySet x.who r v) one may))
+          forbids (subst (λ q. MaySet s.tree.profile x.who q v) rights (subst (λ v. MaySet s.tree.profile x.who r v) one may))
 
   -- a CREATE of a name that is free
   not_occupied : (c : args.Create) (n : ℕ) → x.current ≡ Some n → object_named s.tree n c.objname ≡ None → Reason s x (Operation (Op.Create c)) S.Exist → ⊥
@@ -284,8 +284,9 @@ setting = record { stateid = anonymous; obj_attributes = record { attrmask = 0 �
 abbrev creating : args.Create
 creating = record { objtype = Other 2; objname = 0x64 ∷ []; createattrs = record { attrmask = []; attr_vals = [] } }
 
-its_own : MaySet (record { uid = 5; gid = 6; gids = [] }) (record { mode = 420; owner = 5; group = 6 }) mode_set
+its_own : MaySet Exact (record { uid = 5; gid = 6; gids = [] }) (record { mode = 420; owner = 5; group = 6 }) mode_set
 its_own = record {
+  as_it_is = λ unix some. absurd cc;
   owner = λ new e. cc;
   group = λ new e. cc;
   mode = λ new e. inr refl;

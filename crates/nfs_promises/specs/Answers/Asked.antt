@@ -1,5 +1,5 @@
 -- What a request looks at, which names and which stateid it gives, and which rights it needs: a line for each operation (RFC 8881 sections 18.3 to 18.32).
-use Rattle.std.specs.Prelude.{◌≡◌, ◌⊎◌, ℕ, ◌+◌, ◌<◌, ◌≤◌, Bool, true, false, List, [], ◌∷◌, Option, Some, None, is_some, Result, Ok, Err, if◌then◌else◌}
+use Rattle.std.specs.Prelude.{◌≡◌, ◌⊎◌, ℕ, ◌+◌, ◌<◌, ◌≤◌, ◌||◌, Bool, true, false, List, [], ◌∷◌, Option, Some, None, is_some, Result, Ok, Err, if◌then◌else◌}
 use Rattle.nfs_xdr.specs.{Caller.Caller, declared.time.Time.Time, declared.status.Status.Status}
 use Rattle.nfs_compound.specs.{declared.attributes.Attributes.Attributes, declared.lock_args.{LockType.LockType, Locker.{Locker, TheVariants.{OpenOwner, LockOwner}}}}
 use Rattle.nfs_compound.specs.declared.lock_args.LockType.TheVariants as LockTypes
@@ -12,7 +12,7 @@ use Rattle.nfs_compound.specs.{declared.stateid.Stateid.Stateid, declared.op.Ite
 use Rattle.nfs_compound.specs.declared.op.Op.TheVariants as Op
 use Rattle.nfs_ranges.specs.declared.Kind.{Kind}
 use Rattle.nfs_ranges.specs.declared.Kind.TheVariants as Kinds
-use Rattle.nfs_tree.specs.Files.{object_named}
+use Rattle.nfs_tree.specs.{declared.profile.Profile.{Profile, TheVariants.Unix}, Files.{object_named}}
 use Rattle.nfs_attrs.specs.{declared.set_time.SetTime.TheVariants.{Now, Given}, declared.wanted.Wanted.Wanted}
 use Rattle.nfs_opens.specs.{declared.judging.Sort.Sort, declared.judging.Sort.TheVariants.{Either, OpenOnly, LockOnly}, declared.records.LockState.LockState, declared.stateid.StateId.StateId}
 use Rattle.nfs_opens.specs.{declared.stateid.CurrentSeqid.CurrentSeqid, declared.stateid.CurrentSeqid.TheVariants.{Any, Own}}
@@ -282,12 +282,13 @@ pub record IsAsked (x : Context) (i : Item) (n : ℕ) : Type 0 where
   pub special : IsSpecial id
   pub at : x.current ≡ Some n
 
--- Whose objects they are: that is for the owner to set, and another owner for user 0 alone (sections 6.2.4 and 18.30.3).
+-- Whose objects they are: that is for the owner to set, and another owner for user 0 alone (sections 6.2.4 and 18.30.3); in `unix` also as it is.
 
 abbrev pub Owns : Caller → Rights → Type 0
 Owns who r = (who.uid ≡ 0) ⊎ (who.uid ≡ r.owner)
 
-pub record MaySet (who : Caller) (r : Rights) (w : Wanted) : Type 0 where
+pub record MaySet (p : Profile) (who : Caller) (r : Rights) (w : Wanted) : Type 0 where
+  pub as_it_is : p ≡ Unix → is_some w.owner || is_some w.group ≡ true → Owns who r
   pub owner : (new : ℕ) → w.owner ≡ Some new → (who.uid ≡ 0) ⊎ (new ≡ r.owner)
   pub group : (new : ℕ) → w.group ≡ Some new → (who.uid ≡ 0) ⊎ ((new ≡ r.group) ⊎ ((who.uid ≡ r.owner) × IsIn new who))
   pub mode : (new : ℕ) → w.mode ≡ Some new → Owns who r

@@ -116,7 +116,7 @@ pub record IsForbidden (s : State) (x : Context) (i : Item) : Type 0 where
   pub rights : Rights
   pub wanted : Wanted
   pub sets : Sets s x i rights wanted
-  pub forbids : MaySet x.who rights wanted → ⊥
+  pub forbids : MaySet s.tree.profile x.who rights wanted → ⊥
 
 -- a filehandle that is put is of another start of the server, or its object is gone
 pub record IsStalePut (s : State) (i : Item) : Type 0 where
@@ -316,7 +316,7 @@ IsGranted s x i = (n : ℕ) (rights : List Right) → Needs s x i n rights → (
 -- what is set is the caller's to set, and for the server's own time the caller may write or owns
 abbrev pub IsSet : State → Context → SetAttr → Type 0
 IsSet s x a = (n : ℕ) (r : Rights) (w : Wanted) → x.current ≡ Some n → rights_at s.tree n ≡ Some r → attributes_in a.obj_attributes ≡ Ok w
-    → MaySet x.who r w × (Touches w → Owns x.who r ⊎ Grants r x.who Writes)
+    → MaySet s.tree.profile x.who r w × (Touches w → Owns x.who r ⊎ Grants r x.who Writes)
 
 -- a guarded create found the name free
 abbrev pub WasFree : State → Context → Open → Type 0

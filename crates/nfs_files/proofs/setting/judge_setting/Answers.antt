@@ -18,11 +18,11 @@ returns-in_err-may_set c =
     let m : Setting = record { node = d; wanted = w } in
     let f = c.in_err-may_set.field-0.0 in
     let r = err_from_is_err_and c.from_residual-in_err-may_set.result c.from_residual-in_err-may_set.ensures.1 in
-    let is : setting s x a ≡ checked (Ok m) (owner_checks x) =
+    let is : setting s x a ≡ checked (Ok m) (owner_checks s x) =
     set_by s x a d w (sym c.current.ensures ∙ c.in_ok-node.was) (sym c.wanted_of.ensures ∙ c.in_ok-wanted.was) in
-    let barred : first_fault (owner_checks x m) ≡ Some f =
-    judged_err _ _ (sym (c.may_set.ensures ∙ ap (may_set d.object w) c.who.ensures) ∙ c.in_err-may_set.was) in
-    r.1 ∙ ap Err r.2 ∙ sym (is ∙ stopped (Ok m) (owner_checks x) m f refl barred)
+    let barred : first_fault (owner_checks s x m) ≡ Some f =
+    judged_err _ _ (sym (c.may_set.ensures ∙ ap (λ profile. may_set profile d.object w _) c.profile.ensures ∙ ap (may_set s.tree.profile d.object w) c.who.ensures) ∙ c.in_err-may_set.was) in
+    r.1 ∙ ap Err r.2 ∙ sym (is ∙ stopped (Ok m) (owner_checks s x) m f refl barred)
 
 pub returns : goal.returns
 returns c =
@@ -32,7 +32,7 @@ returns c =
     let d = c.in_ok-node.node in
     let w = c.in_ok-wanted.wanted in
     let m : Setting = record { node = d; wanted = w } in
-    let is : setting s x a ≡ checked (Ok m) (owner_checks x) =
+    let is : setting s x a ≡ checked (Ok m) (owner_checks s x) =
     set_by s x a d w (sym c.current.ensures ∙ c.in_ok-node.was) (sym c.wanted_of.ensures ∙ c.in_ok-wanted.was) in
-    let free : first_fault (owner_checks x m) ≡ None = judged_ok _ _ (sym (c.may_set.ensures ∙ ap (may_set d.object w) c.who.ensures) ∙ c.in_ok-may_set.was) in
+    let free : first_fault (owner_checks s x m) ≡ None = judged_ok _ _ (sym (c.may_set.ensures ∙ ap (λ profile. may_set profile d.object w _) c.profile.ensures ∙ ap (may_set s.tree.profile d.object w) c.who.ensures) ∙ c.in_ok-may_set.was) in
     sym (is ∙ ap (passed m) free)
