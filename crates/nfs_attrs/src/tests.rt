@@ -490,7 +490,10 @@ fn sets_by_leave(rt: HostRuntime) {
     for (wanted, owner, member, root) in cases {
         let exact = Profile::Exact;
         assert_eq!(rt; may_set(exact, &file, &wanted, &caller(5, 9, EIGHT)), owner);
-        assert_eq!(rt; may_set(exact, &file, &wanted, &caller(6, 50, FIFTY)), member);
+        assert_eq!(rt;
+            may_set(exact, &file, &wanted, &caller(6, 50, FIFTY)),
+            member
+        );
         assert_eq!(rt; may_set(exact, &file, &wanted, &caller(0, 9, EIGHT)), root);
     }
     // As they are: in `unix` that is for the owner too.
@@ -507,7 +510,10 @@ fn sets_by_leave(rt: HostRuntime) {
     for wanted in as_it_is {
         let unix = Profile::Unix;
         assert_eq!(rt; may_set(unix, &file, &wanted, &caller(5, 9, EIGHT)), Ok(()));
-        assert_eq!(rt; may_set(unix, &file, &wanted, &caller(6, 50, FIFTY)), Err(Status::Perm));
+        assert_eq!(rt;
+            may_set(unix, &file, &wanted, &caller(6, 50, FIFTY)),
+            Err(Status::Perm)
+        );
         assert_eq!(rt; may_set(unix, &file, &wanted, &caller(0, 9, EIGHT)), Ok(()));
     }
     assert_eq!(rt;

@@ -34,7 +34,12 @@ fn judge_setting(
 {
     let node = current(store, context)?;
     let wanted = wanted_of(&asked.obj_attributes)?;
-    may_set(store.tree.profile(), &node.object, &wanted, context.who.who())?;
+    may_set(
+        store.tree.profile(),
+        &node.object,
+        &wanted,
+        context.who.who(),
+    )?;
     Ok(Setting { node, wanted })
 }
 
