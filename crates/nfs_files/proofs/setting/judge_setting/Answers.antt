@@ -1,6 +1,6 @@
 use Rattle.std.proofs.{Common.{◌≡◌, Some, None, refl, sym, ap, ◌∙◌}, lemmas.Result.err_from_is_err_and}
 use Rattle.std.specs.Prelude.{Ok, Err}
-use Rattle.nfs_xdr.specs.Checks.{first_fault}
+use Rattle.nfs_xdr.specs.{Caller.caller, Checks.first_fault}
 use Rattle.nfs_attrs.specs.Setting.{may_set}
 use Rattle.nfs_names.specs.{State.state_of, Outcome.{passed, checked}}
 use Rattle.nfs_names.proofs.Found.{judged_err, judged_ok, stopped}
@@ -20,8 +20,8 @@ returns-in_err-may_set c =
     let r = err_from_is_err_and c.from_residual-in_err-may_set.result c.from_residual-in_err-may_set.ensures.1 in
     let is : setting s x a ≡ checked (Ok m) (owner_checks s x) =
     set_by s x a d w (sym c.current.ensures ∙ c.in_ok-node.was) (sym c.wanted_of.ensures ∙ c.in_ok-wanted.was) in
-    let barred : first_fault (owner_checks s x m) ≡ Some f =
-    judged_err _ _ (sym (c.may_set.ensures ∙ ap (λ profile. may_set profile d.object w _) c.profile.ensures ∙ ap (may_set s.tree.profile d.object w) c.who.ensures) ∙ c.in_err-may_set.was) in
+    let may = c.may_set.ensures ∙ ap (λ p. may_set p d.object w (caller c.who.result.now)) c.profile.ensures ∙ ap (may_set s.tree.profile d.object w) c.who.ensures in
+    let barred : first_fault (owner_checks s x m) ≡ Some f = judged_err _ _ (sym may ∙ c.in_err-may_set.was) in
     r.1 ∙ ap Err r.2 ∙ sym (is ∙ stopped (Ok m) (owner_checks s x) m f refl barred)
 
 pub returns : goal.returns
@@ -34,5 +34,6 @@ returns c =
     let m : Setting = record { node = d; wanted = w } in
     let is : setting s x a ≡ checked (Ok m) (owner_checks s x) =
     set_by s x a d w (sym c.current.ensures ∙ c.in_ok-node.was) (sym c.wanted_of.ensures ∙ c.in_ok-wanted.was) in
-    let free : first_fault (owner_checks s x m) ≡ None = judged_ok _ _ (sym (c.may_set.ensures ∙ ap (λ profile. may_set profile d.object w _) c.profile.ensures ∙ ap (may_set s.tree.profile d.object w) c.who.ensures) ∙ c.in_ok-may_set.was) in
+    let may = c.may_set.ensures ∙ ap (λ p. may_set p d.object w (caller c.who.result.now)) c.profile.ensures ∙ ap (may_set s.tree.profile d.object w) c.who.ensures in
+    let free : first_fault (owner_checks s x m) ≡ None = judged_ok _ _ (sym may ∙ c.in_ok-may_set.was) in
     sym (is ∙ ap (passed m) free)
