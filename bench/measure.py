@@ -61,14 +61,23 @@ def took(command, given, target=subprocess.DEVNULL):
     return usage
 
 
-def least(program, script, times=3):
+@contextlib.contextmanager
+def words_of(settings):
+    """The words by which the program takes these settings, which are lines of a file."""
+    with tempfile.NamedTemporaryFile("w", suffix=".toml") as file:
+        file.write(settings)
+        file.flush()
+        yield ("--settings", file.name) if settings else ()
+
+
+def least(program, script, settings="", times=3):
     """The least user seconds of some runs of the program over a script, whose pieces are given."""
     found = []
-    with tempfile.TemporaryFile() as given:
+    with tempfile.TemporaryFile() as given, words_of(settings) as words:
         given.writelines(script)
         for _ in range(times):
             given.seek(0)
-            found.append(took([program, "replay"], given).ru_utime)
+            found.append(took([program, "replay", *words], given).ru_utime)
     return min(found)
 
 
@@ -79,11 +88,11 @@ def wants(*tools):
             sys.exit(f"{name()}: it wants {tool}, which is not here")
 
 
-def counted(program, script):
+def counted(program, script, settings=""):
     """How many instructions a run of the program takes up to the end of a script, which valgrind counts: the same number each time. What it would
     give back when it ends is not in it."""
-    words = ["valgrind", "--tool=callgrind", "--callgrind-out-file=/dev/null"]
-    with tempfile.TemporaryFile() as told, Replay(program=program, under=words, stderr=told) as run_:
+    under = ["valgrind", "--tool=callgrind", "--callgrind-out-file=/dev/null"]
+    with tempfile.TemporaryFile() as told, words_of(settings) as words, Replay(program=program, under=under, words=words, stderr=told) as run_:
         with contextlib.suppress(BrokenPipeError):
             run_.takes([script])
         run_.process.terminate()

@@ -2,7 +2,7 @@
 import typing
 
 import scripts
-from scripts import CLOSE, ROOT, SAVEFH, calls, close_of, create, getattr_, lock, lookup, open_file, putfh, read, readdir, remove, rename
+from scripts import CLOSE, ROOT, SAVEFH, calls, close_of, create, getattr_, lock, lookup, open_file, putfh, read, readdir, remove, rename, write
 
 
 def name(n):
@@ -32,11 +32,12 @@ def to_the_bottom(moved, count):
 
 class Row(typing.NamedTuple):
     """An operation that is measured: its script among so many things with so many turns, how many turns are timed (none: it comes once, and to each of
-    the things), and how many operations a turn has."""
+    the things), how many operations a turn has, and the lines of settings."""
     title: str
     script: typing.Callable
     turns: int = 20_000
     operations: int = 1
+    settings: str = ""
 
 
 def of_tree(title, turns, compound, operations=1, made=in_root):
@@ -138,9 +139,28 @@ def end(files, times):
     if times:
         yield scripts.create_session(2)
 
+# Every 256 KiB of a file the first 32 KiB are written: the program keeps pages that lie so near together as one thing.
+NEAR, PIECE = 262_144, 32_768
+
+
+def of_file(title, operation):
+    """A row of operations at places that are far apart, on a file of so many times 256 KiB."""
+    def script(count, times):
+        held = count, lambda n: [ROOT, lookup(b"f"), write(n * NEAR, bytes(PIECE))]
+        return calls((1, lambda _: [ROOT, open_file(b"f")]), held, (times, lambda n: [ROOT, lookup(b"f"), operation(spread(n, count) * NEAR)]))
+    return Row(title, script, settings=f"file_bytes = {2 ** 40}\n")
+
+
+FILES = (
+    of_file("READ of 4 KiB of a large file", lambda at: read(4_096, at)),
+    of_file("READ of 32 KiB of a large file", lambda at: read(PIECE, at)),
+    of_file("WRITE of 4 KiB of a large file", lambda at: write(at, bytes(4_096))),
+    of_file("WRITE of 32 KiB of a large file", lambda at: write(at, bytes(PIECE))),
+)
 
 ROWS = (
     *TREE,
+    *FILES,
     Row("READ by the anonymous stateid", read_each),
     Row("OPEN and CLOSE of a new file, REMOVE", open_new),
     Row("OPEN and CLOSE of a file that is open", open_again),

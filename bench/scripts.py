@@ -63,8 +63,8 @@ def close_of(counter):
     return wire.close(stateid(counter))
 
 
-def read(size):
-    return wire.read(wire.ANONYMOUS, 0, size)
+def read(size, offset=0):
+    return wire.read(wire.ANONYMOUS, offset, size)
 
 
 def write(offset, data):

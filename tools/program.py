@@ -66,10 +66,11 @@ def connected(host, port, timeout=SECONDS, source=None):
 
 
 class Replay:
-    """A run of `nfs41d replay` over a script that comes in parts. `under` is the words of a tool that runs it, and `how` what its process has further."""
+    """A run of `nfs41d replay` over a script that comes in parts. `under` is the words of a tool that runs it, `words` are further ones of the program, and
+    `how` is what its process has further."""
 
-    def __init__(self, out=subprocess.DEVNULL, *, program=PROGRAM, under=(), **how):
-        self.process = subprocess.Popen([*under, program, "replay"], stdin=subprocess.PIPE, stdout=out, **how)
+    def __init__(self, out=subprocess.DEVNULL, *, program=PROGRAM, under=(), words=(), **how):
+        self.process = subprocess.Popen([*under, program, "replay", *words], stdin=subprocess.PIPE, stdout=out, **how)
 
     def takes(self, pieces, looks=4):
         """Gives it the pieces of a script, and waits until it has run them and waits for more, at so many looks one after the other."""

@@ -1,17 +1,21 @@
 -- The run of a file whose mode gives its owner nothing, and the wrong answers, computed.
-use Rattle.std.proofs.Common.{◌≢◌, ℕ, [], take, refl, ap, arith, inl, inr}
+use Rattle.std.proofs.Common.{◌≡◌, ◌≢◌, ℕ, [], take, Some, refl, sym, ◌∙◌, ap, arith, inl, inr}
+use Rattle.std.proofs.lemmas.Option.{same_Some}
+use Rattle.nfs_xdr.specs.Caller.{Caller}
+use Rattle.nfs_rpc.specs.{CallHead.caller_of, Laws.Names}
+use Rattle.nfs_rpc.proofs.HeadLaws.{text_named}
 use Rattle.nfs_compound.specs.{ArgCodecs.set_attr_args, declared.file_args.Read.Read}
 use Rattle.nfs_tree.specs.declared.profile.Profile.TheVariants.{Unix}
 use Rattle.nfs_names.specs.Context.{anonymous}
 use Rattle.nfs_files.specs.SetAttr as of_set
 use Rattle.nfs_promises.specs.{Locks.LockKeptWorked.outset, Permission.Permitted.{Rights, Reads}}
-use Rattle.nfs_promises.specs.Permission.{Permitted.{Grants, GrantsBytes, ToRoot, ToOwner, ToGroup, ToOthers}, PermittedWorked.with_mode}
+use Rattle.nfs_promises.specs.Permission.{Permitted.{Grants, GrantsBytes, ToRoot, ToOwner, ToGroup, ToOthers}, PermittedWorked.{with_mode, credential}}
 use Rattle.nfs_promises.specs.Permission.{PermittedWorked.{IsAskedOfTheOwner, GrantsAreRefused}, RightsTold.ByOpen}
 use Rattle.nfs_promises.specs.{Runs.Points.ops_of, Bytes.WrittenStaysWorked.makes}
 use Rattle.nfs_promises.proofs.{Bytes.FileReadWorked.{opening, make_ops}, Runs.Computing.computing}
 
 pub is_asked_of_the_owner : IsAskedOfTheOwner
-unfolding computing set_attr_args of_set.set_attr
+unfolding computing set_attr_args of_set.set_attr caller_of
 is_asked_of_the_owner = record {
   front = take 1 (ops_of outset makes);
   opening = opening;
@@ -28,6 +32,7 @@ is_asked_of_the_owner = record {
   at_w = λ d. record { at = refl; is = refl };
   denied_by_w = refl;
   denied_exactly = refl;
+  named = refl;
 }
 
 -- The wrong answers.
@@ -68,6 +73,19 @@ not_by_x (ToOthers other out bit) = other refl
 other_mode : ◌≢◌ {A = ℕ} 420 32
 other_mode e = absurd (omega arith)
 
+no_root : ◌≢◌ {A = ℕ} 4242 0
+no_root e = absurd (omega arith)
+
+-- whom the credential names is one, and that is user 4242
+not_root : Names credential (record { uid = 0; gid = 6; gids = [] }) → ⊥
+unfolding computing caller_of
+not_root (s, fits, is, user) =
+    let t = text_named s fits in
+    let who : Caller = record { uid = 4242; gid = 6; gids = [] } in
+    let named : caller_of credential ≡ Some who = refl in
+    let same : who ≡ t.0 = same_Some who t.0 (sym named ∙ (ap caller_of is ∙ t.1)) in
+    no_root (ap (λ (w : Caller). w.uid) same ∙ (t.2.0 ∙ sym user.0))
+
 pub grants_are_refused : GrantsAreRefused
 unfolding computing set_attr_args of_set.set_attr
 grants_are_refused = record {
@@ -76,5 +94,6 @@ grants_are_refused = record {
   unread_program = λ d is. is.read 2 (with_mode 64) (record { at = refl; is = refl }) refl asked refl (inr (ToOwner refl refl));
   read_by_w = λ d is. not_by_w ((is.read 2 (with_mode 128) (record { at = refl; is = refl }) refl asked refl).special _ refl refl);
   read_by_x = λ d is. not_by_x ((is.read 2 (with_mode 64) (record { at = refl; is = refl }) refl asked refl).special _ refl refl);
+  as_root = not_root;
   unset = λ d is. other_mode (ap (λ (r : Rights). r.mode) (is (with_mode 420) refl));
 }

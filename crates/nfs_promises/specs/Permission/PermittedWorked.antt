@@ -2,8 +2,9 @@
 -- user 5, whose group is 6, makes the file `f`, and sets its mode to `r` for its group alone. The user's READ under the anonymous stateid is refused by NFS4ERR_ACCESS: the
 -- owner's digit alone decides. Then the mode is `r` for the owner alone, and the READ is answered. In `unix` the READ is answered where the owner may execute the file, and
 -- refused where the owner may write it alone.
-use Rattle.std.specs.Prelude.{◌≡◌, ℕ, ◌+◌, true, List, [], ◌∷◌, ◌++◌}
+use Rattle.std.specs.Prelude.{◌≡◌, ℕ, ◌+◌, true, List, [], ◌∷◌, ◌++◌, Some}
 use Rattle.nfs_xdr.specs.declared.status.Status.TheVariants.{Nfs4Ok, Access}
+use Rattle.nfs_rpc.specs.{CallHead.caller_of, Laws.Names}
 use Rattle.nfs_compound.specs.declared.op.Op.{Op}
 use Rattle.nfs_tree.specs.declared.profile.Profile.TheVariants.{Exact, Unix}
 use Rattle.nfs_names.specs.Context.{anonymous}
@@ -75,6 +76,10 @@ it = record { number = 2; regular = true; profile = Exact }
 abbrev pub with_mode : ℕ → Rights
 with_mode mode = record { mode = mode; owner = 5; group = 6 }
 
+-- a credential of AUTH_SYS: stamp 1, machine `m`, user 4242, group 6 and no further one (RFC 5531, appendix A)
+abbrev pub credential : List ℕ
+credential = words (1 ∷ 1 ∷ 0x6d00_0000 ∷ 4242 ∷ 6 ∷ 0 ∷ [])
+
 -- The run meets the premises of the promises, and computes to what they say.
 pub record IsAskedOfTheOwner : Type 0 where
   -- OPEN is the last operation of its compound, and made the file with rw-r--r--
@@ -96,6 +101,8 @@ pub record IsAskedOfTheOwner : Type 0 where
   pub at_w : (d : RanOp) → IsAt 2 (with_mode 128) (last_of d (ops_of only_written asks_again))
   pub denied_by_w : statuses (ops_of only_written asks_again) ≡ Nfs4Ok ∷ Nfs4Ok ∷ Access ∷ []
   pub denied_exactly : statuses (ops_of unread asks) ≡ Nfs4Ok ∷ Nfs4Ok ∷ Access ∷ []
+  -- the user is the credential's
+  pub named : caller_of credential ≡ Some (record { uid = 4242; gid = 6; gids = [] })
 
 -- The promises refuse these.
 pub record GrantsAreRefused : Type 0 where
@@ -108,5 +115,7 @@ pub record GrantsAreRefused : Type 0 where
   pub read_by_w : (d : RanOp) → IsGranted Unix (with_status Nfs4Ok (last_of d (ops_of only_written asks_again))) → ⊥
   -- and in `exact` it is answered for x
   pub read_by_x : (d : RanOp) → IsGranted Exact (with_status Nfs4Ok (last_of d (ops_of unread asks))) → ⊥
+  -- the user 4242 is taken for user 0, which may do all
+  pub as_root : Names credential (record { uid = 0; gid = 6; gids = [] }) → ⊥
   -- the SETATTR set nothing
   pub unset : (d : RanOp) → HasRights 2 (with_mode 32) (last_of d (ops_of made asks_early)) → ⊥

@@ -24,16 +24,17 @@ pub fn written_programs_run_as_their_users()
     ensures { NoneRunsAsOwner }
 {}
 
-/// The definitions compute: a user makes a file and lets its group alone read it; the user's READ is refused; then the owner alone may read it, and the READ is answered. In
-/// the profile `unix` it is answered where the owner may execute the file alone, and refused where the owner may write it alone; in `exact` it is refused in both.
-/// That run meets the premises of `permissions_hold` and `rights_are_told`.
+/// The definitions compute: the user is the credential's; a user makes a file and lets its group alone read it; the user's READ is refused; then the owner alone may read
+/// it, and the READ is answered. In the profile `unix` it is answered where the owner may execute the file alone, and refused where the owner may write it alone; in `exact`
+/// it is refused in both. That run meets the premises of `permissions_hold` and `rights_are_told`.
 #[tactic(auto, using(crate::proofs::Permission::PermittedWorked::is_asked_of_the_owner))]
 pub fn a_mode_is_asked()
     ensures { IsAskedOfTheOwner }
 {}
 
 /// The definitions compute: over that run `permissions_hold` refuses a READ that is granted by the group's digit of the mode, and a READ that is refused though the owner
-/// may read; in the profile `unix` a READ of a program that is refused for want of r, and one that is granted with neither r nor x, and in `exact` one that is granted for x; and `rights_are_told` refuses a SETATTR that sets nothing.
+/// may read; in the profile `unix` a READ of a program that is refused for want of r, and one that is granted with neither r nor x, and in `exact` one that is granted for x;
+/// `rights_are_told` refuses a SETATTR that sets nothing, and `nfs_rpc::laws::auth_sys_bodies` a credential of user 4242 that is taken for user 0.
 #[tactic(auto, using(crate::proofs::Permission::PermittedWorked::grants_are_refused))]
 pub fn wrong_grants_are_refused()
     ensures { GrantsAreRefused }
