@@ -1,5 +1,5 @@
 -- The run of a change that is seen, and the wrong reports, computed.
-use Rattle.std.proofs.{Common.{◌≡◌, ℕ, true, [], ◌∷◌, ◌++◌, take, refl, arith}, lemmas.Bool.{false≢true, ltb-true}}
+use Rattle.std.proofs.{Common.{◌≡◌, ℕ, true, [], ◌∷◌, take, refl, arith}, lemmas.Bool.{false≢true, ltb-true}}
 use Rattle.nfs_compound.specs.declared.file_args.StableHow.TheVariants.{Unstable}
 use Rattle.nfs_names.specs.Context.{anonymous}
 use Rattle.nfs_results.specs.declared.res.OpenOk.{OpenOk}
@@ -10,10 +10,6 @@ use Rattle.nfs_promises.proofs.{Runs.{LastOperation.{nothing, three}, Computing.
 
 abbrev write : RanOp
 write = last_of nothing (ops_of made writes)
-
-write_ops : ops_of made writes ≡ take 2 (ops_of made writes) ++ write ∷ []
-unfolding computing
-write_ops = three nothing (ops_of made writes) refl
 
 -- the open stateid of open 1, seqid 1; the root's change from 1 to 2
 abbrev ok : OpenOk
@@ -37,7 +33,7 @@ is_seen = record {
   after = refl;
   until = take 2 (ops_of made writes);
   write = write;
-  last = write_ops;
+  last = three nothing (ops_of made writes) refl;
   there = refl;
   changes = Writes (record { stateid = anonymous; offset = 0; stable = Unstable; bytes = words (0x7365_656e ∷ []) }) refl refl (ltb-true 0 _ refl);
   raised = omega arith;

@@ -2,10 +2,9 @@
 use Rattle.std.proofs.Common.{◌≡◌, ◌≢◌, inl, inr, ℕ, ◌+◌, ◌^◌, ◌<◌, ◌≤◌, Bool, true, false, cond, not, List, [], ◌∷◌, ◌++◌, map, length, take, drop}
 use Rattle.std.proofs.Common.{append_assoc, Option, Some, None, refl, sym, ◌∙◌, ap, subst, arith}
 use Rattle.std.proofs.{lemmas.Bool.{cases_Bool, cases_eq, eq-eqb, ne_eqb, eqb-true, not-false, false≢true}, lemmas.List.{take_at, drop_at}}
-use Rattle.std.proofs.lemmas.Nat.{from_be_bytes-to_be_bytes_8}
 use Rattle.std.specs.{Prelude.{◌==◌, ◌&&◌, filter, option_map, replicate, if◌then◌else◌}, Int.{w64, from_be_bytes}, Option.{ForSome, option_map_or}}
 use Rattle.nfs_xdr.specs.{declared.time.Time.Time, Spelling.{number, hyper, padding}, Tables.In, declared.status.Status.TheVariants.Nfs4Ok}
-use Rattle.nfs_xdr.proofs.{Checks.all_passed, Lists.{find_in, find_past, find_out, find_push_some, find_push_none, find_push_other}, Putting.length_number}
+use Rattle.nfs_xdr.proofs.{Checks.all_passed, Lists.{find_in, find_push_some, find_push_none, find_push_other}, Putting.length_number}
 use Rattle.nfs_xdr.proofs.Putting.{length_hyper}
 use Rattle.nfs_compound.specs.{declared.op.Item.Item, declared.op.Item.TheVariants.Operation, declared.op.Op.Op, OpNum.op_number}
 use Rattle.nfs_compound.specs.declared.op_num.OpNum.TheVariants as Num
@@ -42,13 +41,13 @@ use Rattle.nfs_files.proofs.Outcomes as files
 use Rattle.nfs_files.proofs.WrittenOps.{guarded}
 use Rattle.nfs_promises.specs.Runs.AttributesTold.{TellsValue}
 use Rattle.nfs_exec.specs.{Runs.Ops.RanOp}
-use Rattle.nfs_promises.proofs.Runs.AttributesTold.{change_in}
+use Rattle.nfs_promises.proofs.{Names.PageText.hyper_back, Runs.AttributesTold.change_in}
 use Rattle.nfs_exec.proofs.{Runs.OneRun.{IsRun, by_run}, Runs.OneWalk.IsKept}
-use Rattle.nfs_serve.specs.{Step.{ServerState, new_state}}
-use Rattle.nfs_promises.specs.{Bytes.ChangesFit.{ChangesFit, ChangeIsRead, LastStays}, Network.Endpoint.Arrival, Runs.Points.{state_after, state_after_all}}
-use Rattle.nfs_promises.specs.Runs.Points.{reached, before, asked_by, ops_of}
-use Rattle.nfs_promises.proofs.{Bytes.ChangeSeen.changes_raise, Runs.{LaterRecords.{op_done, before_keeps, next_keeps, asked_keeps}, Points.IsSound}}
-use Rattle.nfs_promises.proofs.Runs.Points.{whole_before, sound_next, sound_all, sound_new}
+use Rattle.nfs_serve.specs.Step.{new_state}
+use Rattle.nfs_promises.specs.{Bytes.ChangesFit.{ChangesFit, ChangeIsRead, LastStays}, Network.Endpoint.Arrival}
+use Rattle.nfs_promises.specs.Runs.Points.{reached, ops_of}
+use Rattle.nfs_promises.proofs.{Bytes.ChangeSeen.changes_raise, Bytes.Dated.each_rest, Runs.{LaterRecords.{op_done, op_keeps, all_keeps}, Points.IsSound}}
+use Rattle.nfs_promises.proofs.Runs.Points.{sound_all, sound_new}
 
 -- Each object that is found has a change that can be counted.
 
@@ -94,11 +93,7 @@ low_push xs x small low n s e = go (stored_in xs n) refl
     ]
 
 low_rest : (p : ℕ → Bool) (xs : List Stored) → Low xs → Low (filter (λ (s : Stored). p s.number) xs)
-low_rest p xs low n s e = elim (cases_Bool (p n)) [
-  | inl stays ↦ low n s (sym (find_past (λ (s : Stored). s.number == n) (λ s. p s.number) xs (λ s e. ap p (eqb-true s.number n e) ∙ stays)) ∙ e)
-  | inr goes ↦ absurd (let none : None ≡ Some s =
-      sym (find_out (λ (s : Stored). s.number == n) (λ s. p s.number) xs (λ s e. ap p (eqb-true s.number n e) ∙ goes)) ∙ e in cc)
-]
+low_rest p xs low n = each_rest n (λ o. o.change ≤ last_count) p xs (low n)
 
 -- Trees.
 
@@ -229,19 +224,14 @@ run_low d r low =
 low_kept : IsKept (λ s. Low s.tree.objects)
 low_kept = record { run = run_low; end = λ stays s low. low_rest (is_used (with_opens s (table_staying stays s.opens))) s.tree.objects low }
 
-low_all : (s : ServerState) (records : List Arrival) → IsSound s → Low s.machine.store.tree.objects → Low (state_after_all s records).machine.store.tree.objects
-low_all s [] sound low = low
-low_all s (c ∷ more) sound low = low_all (state_after s c) more (sound_next s c sound) (next_keeps (λ s. Low s.tree.objects) low_kept s c sound low)
-
 low_new : (start : Start) → Low (new_state start).machine.store.tree.objects
 low_new start = low_push [] _ (omega arith) (λ n s e. absurd (let bad : None ≡ Some s = e in cc))
 
 low_before : (start : Start) (records : List Arrival) (c : Arrival) (d : RanOp) → In d (ops_of (reached start records) c) → Low d.before.store.tree.objects
 low_before start records c d there =
-    let s = reached start records in
-    let sound : IsSound s = sound_all (new_state start) records (sound_new start) in
-    asked_keeps (λ s. Low s.tree.objects) low_kept (before s c) (asked_by s c) (whole_before s c sound.whole)
-    (before_keeps (λ s. Low s.tree.objects) low_kept s c (low_all (new_state start) records (sound_new start) (low_new start))) d there
+    let Small : store.State → Type 0 = λ s. Low s.tree.objects in
+    let sound = sound_new start in
+    op_keeps Small low_kept (reached start records) c (sound_all (new_state start) records sound) (all_keeps Small low_kept (new_state start) records sound (low_new start)) d there
 
 below : (t : Files) (n : ℕ) → Low t.objects → change_of t n < 2 ^ 64
 below t n low = go (stored_in t.objects n) refl
@@ -275,10 +265,6 @@ rest_same n a b x y first second e = sym (drop_at a x n first) ∙ (ap (drop n) 
 
 front_same : (n : ℕ) (a b x y : List ℕ) → length a ≡ n → length b ≡ n → a ++ x ≡ b ++ y → a ≡ b
 front_same n a b x y first second e = sym (take_at a x n first) ∙ (ap (take n) e ∙ take_at b y n second)
-
-hyper_back : (n : ℕ) → n < 2 ^ 64 → from_be_bytes w64 (hyper n) ≡ n
-unfolding hyper
-hyper_back n small = from_be_bytes-to_be_bytes_8 n small
 
 values_same : (mask vals also : List ℕ)
     → spell_result (Res.GetAttr (record { attrmask = mask; attr_vals = vals })) ≡ spell_result (Res.GetAttr (record { attrmask = mask; attr_vals = also }))

@@ -26,7 +26,7 @@ use Rattle.nfs_promises.specs.{Bytes.WrittenStays.StaysWritten, Network.Endpoint
 use Rattle.nfs_promises.specs.Runs.Points.{reached, ops_of}
 use Rattle.nfs_promises.proofs.Bytes.{ChangeAttributes.{gets_run, stored_there}, ChangeSeen.changes_are_new, ChangesFit.change_is_read, ChangeTells.Follows}
 use Rattle.nfs_promises.proofs.Bytes.{ChangeTells.{follows_itself, run_follows, follows_kept, low_there, told}, WrittenStays.bytes_stay}
-use Rattle.nfs_promises.proofs.{Names.{ListsAll.in_all, PageLists.{in_both, first_in, second_in}}, Runs.LaterRecords.{IsDone, op_done, first_there}}
+use Rattle.nfs_promises.proofs.{Names.{ListsAll.{HoldsFor, in_all}, PageLists.{in_both, first_in, second_in}}, Runs.LaterRecords.{IsDone, op_done, first_there}}
 use Rattle.nfs_promises.proofs.Runs.{LaterRecords.later_keeps, Points.{IsSound, sound_all, sound_new}}
 
 -- An operation in a list is in its front or in its back.
@@ -117,10 +117,6 @@ got_there : (n : ℕ) (words : List ℕ) (d : RanOp) → IsRun d → GetsOf n wo
 got_there n words d run gets = let is = gets_run n words d run gets in stored_there d.before.store.tree n is.kept is.there
 
 -- What stays through a list of operations that spare it.
-
-abbrev HoldsFor : (P Spares : RanOp → Type 0) → List RanOp → Type 0
-HoldsFor P Spares [] = Unit {0}
-HoldsFor P Spares (d ∷ more) = P d × (Spares d → HoldsFor P Spares more)
 
 holds_at : (P Spares : RanOp → Type 0) (u : List RanOp) (d : RanOp) (v : List RanOp) → HoldsFor P Spares (u ++ d ∷ v) → ((e : RanOp) → In e u → Spares e) → P d
 holds_at P Spares [] d v holds all = holds.0

@@ -1,5 +1,5 @@
 -- The run of close-to-open, and the server that it refuses, computed.
-use Rattle.std.proofs.{Common.{◌≡◌, ℕ, ◌^◌, ◌<◌, List, [], ◌∷◌, ◌++◌, take, append_assoc, refl, sym, ◌∙◌, ap, subst, arith}, lemmas.Bool.ltb-true}
+use Rattle.std.proofs.Common.{◌≡◌, ℕ, ◌^◌, ◌<◌, List, [], ◌∷◌, ◌++◌, take, append_assoc, refl, sym, ◌∙◌, ap, subst, arith}
 use Rattle.nfs_tree.specs.declared.profile.Profile.TheVariants.{Exact}
 use Rattle.nfs_attrs.specs.{Attributes.values, Mask.mask_of}
 use Rattle.nfs_names.specs.GetAttr.{get_attr}
@@ -15,7 +15,7 @@ use Rattle.nfs_promises.specs.Bytes.{CloseToOpen.{TellsChange, Keeps, IsWritten}
 use Rattle.nfs_promises.specs.Bytes.CloseToOpenWorked.{closes, first_open, reads, second_open, records, there, ready, looked, read_early, written, closed}
 use Rattle.nfs_promises.specs.Bytes.{CloseToOpenWorked.{opened, read_again, IsKept, telling, StaleBytesRefused}, WrittenStaysWorked.{makes, made, byte}}
 use Rattle.nfs_promises.specs.{Locks.LockKeptWorked.{came, outset, last_of}, Names.ListsAll.all_ops}
-use Rattle.nfs_promises.proofs.{Runs.{Computing.computing, LastOperation.{nothing, three}}, Bytes.WrittenStaysWorked.{all_spared, wrote, reads_it}}
+use Rattle.nfs_promises.proofs.{Runs.{Computing.computing, LastOperation.{nothing, three}}, Bytes.WrittenStaysWorked.{all_spared, writes_it, reads_it}}
 
 -- Lists of operations, one behind the other.
 
@@ -80,22 +80,9 @@ ends : EndsThree look_ops × EndsThree early_ops × EndsThree write_ops × EndsT
 unfolding computing get_attr values results.fattr
 ends = (three nothing look_ops refl, three nothing early_ops refl, three nothing write_ops refl, three nothing first_ops refl, three nothing read_ops refl, three nothing second_ops refl)
 
-writes_it : WritesIt byte (last_of nothing write_ops)
+write_told : WritesIt byte (last_of nothing write_ops)
 unfolding computing get_attr values results.fattr
-writes_it = record {
-  over = record {
-    asked = wrote;
-    is = refl;
-    at = refl;
-    count = words (4 ∷ []);
-    more = words (2 ∷ 7 ∷ 0 ∷ []);
-    answers = refl;
-    long = refl;
-    from = omega arith;
-    below = ltb-true 1 _ refl;
-  };
-  value = refl;
-}
+write_told = writes_it (last_of nothing write_ops) refl refl refl
 
 spared_at_last : AreSpared byte (close_ops ++ (first_ops ++ (read_ops ++ take 2 second_ops)))
 unfolding computing get_attr values results.fattr
@@ -174,7 +161,7 @@ is_kept = record {
     write = last_of nothing write_ops;
     since = close_ops ++ (first_ops ++ (read_ops ++ take 2 second_ops));
     order = in_last before_write write_ops (take 2 write_ops) (last_of nothing write_ops) (close_ops ++ (first_ops ++ (read_ops ++ take 2 second_ops))) ends.2;
-    writes = writes_it;
+    writes = write_told;
     spared = spared_at_last;
   };
   tells = tells_second;
@@ -206,7 +193,7 @@ wrote_first = record {
   write = last_of nothing write_ops;
   since = close_ops ++ take 2 first_ops;
   order = in_last before_write write_ops (take 2 write_ops) (last_of nothing write_ops) (close_ops ++ take 2 first_ops) ends.2;
-  writes = writes_it;
+  writes = write_told;
   spared = spared_at_first;
 }
 

@@ -37,7 +37,7 @@ use Rattle.nfs_promises.specs.Bytes.ChangeSeen as seen
 
 -- What is there under a number.
 
-abbrev Each : ℕ → (Object → Type 0) → List Stored → Type 0
+abbrev pub Each : ℕ → (Object → Type 0) → List Stored → Type 0
 Each n P xs = (k : Stored) → stored_in xs n ≡ Some k → P k.object
 
 abbrev Any : Object → Type 0
@@ -94,7 +94,7 @@ each_push n P xs x w there all k e =
     let is : w ≡ k = cc in
     subst (λ (k : Stored). P k.object) is (all w there)
 
-each_rest : (n : ℕ) (P : Object → Type 0) (p : ℕ → Bool) (xs : List Stored) → Each n P xs → Each n P (filter (λ (s : Stored). p s.number) xs)
+pub each_rest : (n : ℕ) (P : Object → Type 0) (p : ℕ → Bool) (xs : List Stored) → Each n P xs → Each n P (filter (λ (s : Stored). p s.number) xs)
 each_rest n P p xs all k e = elim (cases_Bool (p n)) [
   | inl stays ↦ all k (sym (find_past (λ (s : Stored). s.number == n) (λ s. p s.number) xs (λ s e. ap p (eqb-true s.number n e) ∙ stays)) ∙ e)
   | inr goes ↦ absurd (let none : None ≡ Some k =

@@ -1,7 +1,6 @@
 -- The run of an entry that tells what a GETATTR told, and the wrong entries, computed.
-use Rattle.std.proofs.Common.{◌≡◌, inl, ℕ, List, [], ◌∷◌, ◌++◌, take, get_or, length, refl, sym, subst, ap, arith}
-use Rattle.nfs_xdr.specs.{Spelling.hyper, Tables.In, Text.IsBytes}
-use Rattle.nfs_xdr.proofs.Lists.{last_in}
+use Rattle.std.proofs.Common.{◌≡◌, inl, ℕ, List, [], ◌∷◌, ◌++◌, take, get_or, length, refl, subst, ap, arith}
+use Rattle.nfs_xdr.specs.{Spelling.hyper, Text.IsBytes}
 use Rattle.nfs_compound.specs.ArgCodecs.{read_dir_args}
 use Rattle.nfs_results.specs.{declared.res.Fattr.Fattr, ResultCodec.FitsResult, Results.spell_result}
 use Rattle.nfs_results.specs.declared.res.Res.TheVariants as Res
@@ -16,29 +15,10 @@ use Rattle.nfs_promises.specs.{Locks.LockKeptWorked.last_of, Runs.Points.ops_of,
 use Rattle.nfs_promises.specs.Bytes.{EntriesAlike.{Gets, Lists}, EntriesAlikeWorked.{asked_for, lists, asked, attributes, entry, listing, spelled, told}}
 use Rattle.nfs_promises.specs.Bytes.EntriesAlikeWorked.{listing_op, IsToldAlike, TellsOther, EntriesAreRefused, getting, AttributesAreRefused}
 use Rattle.nfs_promises.specs.{Bytes.ChangeTells.GetsOf, Names.ListsAll.Page}
-use Rattle.nfs_promises.proofs.{Runs.{Computing.computing, LastOperation.{nothing, three, two}}, Names.ListsAllWorked.are_bytes}
-
-abbrev got : RanOp
-got = last_of nothing (ops_of read_once (gets 107 8 6))
+use Rattle.nfs_promises.proofs.{Runs.{Computing.computing, LastOperation.{nothing, last_there}}, Bytes.ChangeTellsWorked.{got, got_ops}, Names.ListsAllWorked.are_bytes}
 
 abbrev listed : RanOp
 listed = last_of nothing (ops_of got_once lists)
-
-got_ops : ops_of read_once (gets 107 8 6) ≡ take 2 (ops_of read_once (gets 107 8 6)) ++ got ∷ []
-unfolding computing get_attr values results.fattr
-got_ops = three nothing (ops_of read_once (gets 107 8 6)) refl
-
-listed_ops : ops_of got_once lists ≡ take 1 (ops_of got_once lists) ++ listed ∷ []
-unfolding computing read_dir_args get_attr values entry_of fitting read_dir results.entry results.fattr listing_codec.read_dir
-listed_ops = two nothing (ops_of got_once lists) refl
-
-unchanged : change_of listed.before.store.tree 2 ≡ change_of got.before.store.tree 2
-unfolding computing read_dir_args get_attr values entry_of fitting read_dir results.entry results.fattr listing_codec.read_dir
-unchanged = refl
-
-got_told : TellsOf 2 asked_for got told
-unfolding computing get_attr values results.fattr
-got_told = Gets (record { is = refl; at = refl; ok = refl }) refl
 
 -- A page of one entry that XDR has.
 
@@ -71,14 +51,15 @@ unfolding computing read_dir_args get_attr values entry_of fitting read_dir resu
 listed_is = (refl, refl)
 
 pub is_told_alike : IsToldAlike
+unfolding computing read_dir_args get_attr values entry_of fitting read_dir results.entry results.fattr listing_codec.read_dir
 is_told_alike = record {
   front = take 2 (ops_of read_once (gets 107 8 6));
   got = got;
   ops = got_ops;
   listed = listed;
-  late = inl (subst (In listed) (sym listed_ops) (last_in (take 1 (ops_of got_once lists)) listed));
-  same = unchanged;
-  first = got_told;
+  late = inl (last_there nothing (ops_of got_once lists) 1 refl);
+  same = refl;
+  first = Gets (record { is = refl; at = refl; ok = refl }) refl;
   second = subst (TellsOf 2 asked_for listed) listed_is.1
       (subst (λ (d : RanOp). TellsOf 2 asked_for d (spelled (attributes 3 8 420 1))) listed_is.0 (page_tells nothing (attributes 3 8 420 1) true_fits));
 }

@@ -25,14 +25,6 @@ pub make_ops : ops_of outset makes ≡ take 1 (ops_of outset makes) ++ opening �
 unfolding computing
 make_ops = two nothing (ops_of outset makes) refl
 
-read_ops : ops_of closed reads ≡ take 2 (ops_of closed reads) ++ read ∷ []
-unfolding computing
-read_ops = three nothing (ops_of closed reads) refl
-
-again_ops : ops_of longer reads_hole ≡ take 2 (ops_of longer reads_hole) ++ again ∷ []
-unfolding computing set_attr_args of_set.set_attr
-again_ops = three nothing (ops_of longer reads_hole) refl
-
 pub is_read_whole : IsReadWhole
 unfolding computing set_attr_args of_set.set_attr
 is_read_whole = record {
@@ -42,10 +34,10 @@ is_read_whole = record {
   file = record { asked = _; is = refl; free = refl; there = refl; given = refl };
   until = take 2 (ops_of closed reads);
   read = read;
-  last = read_ops;
+  last = three nothing (ops_of closed reads) refl;
   before = take 2 (ops_of longer reads_hole);
   again = again;
-  end = again_ops;
+  end = three nothing (ops_of longer reads_hole) refl;
   bytes = refl;
   fewer = refl;
   told = refl;

@@ -1,13 +1,12 @@
 -- Bytes that are read by a filehandle, computed.
-use Rattle.std.proofs.{Common.{◌≡◌, ℕ, List, [], ◌∷◌, refl, sym, ◌∙◌, arith}, lemmas.Bool.ltb-true}
+use Rattle.std.proofs.Common.{◌≡◌, ℕ, List, [], ◌∷◌, refl, sym, ◌∙◌, arith}
 use Rattle.nfs_compound.specs.declared.op.Item.TheVariants.{Operation}
 use Rattle.nfs_names.specs.GetFh.{get_fh}
 use Rattle.nfs_exec.specs.Runs.Ops.{RanOp}
 use Rattle.nfs_promises.specs.{Runs.{Requests.words, Points.ops_of}, Bytes.{HandleBytes.SparesAt, HandleBytesWorked.{writes, reads, written, byte, answering}}}
 use Rattle.nfs_promises.specs.{Bytes.HandleBytesWorked.AreReadBack, Names.{HandlesWorked.given, KnownHandles.starts, KnownHandlesWorked.found}}
 use Rattle.nfs_promises.specs.Locks.LockKeptWorked.{last_of}
-use Rattle.nfs_promises.proofs.{Runs.{Computing.computing, LastOperation.nothing}, Names.HandlesWorked.{first_of, two}, Bytes.WrittenStaysWorked.wrote}
-use Rattle.nfs_promises.proofs.Bytes.WrittenStaysWorked.{reads_it}
+use Rattle.nfs_promises.proofs.{Runs.{Computing.computing, LastOperation.nothing}, Names.HandlesWorked.{first_of, two}, Bytes.WrittenStaysWorked.{writes_it, reads_it}}
 use Rattle.nfs_compound.specs.declared.op.Op.TheVariants as Op
 
 -- The run, computed.
@@ -28,20 +27,7 @@ are_read_back = record {
   write = last_of nothing wrote_ops;
   wrote = two nothing wrote_ops refl;
   known = λ top. refl;
-  brings = record {
-    over = record {
-      asked = wrote;
-      is = refl;
-      at = refl;
-      count = words (4 ∷ []);
-      more = words (2 ∷ 7 ∷ 0 ∷ []);
-      answers = refl;
-      long = refl;
-      from = omega arith;
-      below = ltb-true 1 _ refl;
-    };
-    value = refl;
-  };
+  brings = writes_it (last_of nothing wrote_ops) refl refl refl;
   again = first_of nothing read_ops;
   read = last_of nothing read_ops;
   looked = two nothing read_ops refl;

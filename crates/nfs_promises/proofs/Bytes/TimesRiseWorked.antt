@@ -1,7 +1,6 @@
 -- The run of two changes within a second, and the wrong times, computed.
-use Rattle.std.proofs.{Common.{◌≡◌, ℕ, ◌+◌, ◌<◌, pos, [], ◌∷◌, ◌++◌, take, Some, refl, sym, ap, subst, arith, inl, inr}, lemmas.Bool.{false≢true, ltb-true}}
-use Rattle.nfs_xdr.specs.{declared.time.Time.Time, Tables.In}
-use Rattle.nfs_xdr.proofs.Lists.{last_in}
+use Rattle.std.proofs.{Common.{◌≡◌, ℕ, ◌+◌, ◌<◌, pos, [], ◌∷◌, take, Some, refl, sym, ap, subst, arith, inl, inr}, lemmas.Bool.{false≢true, ltb-true}}
+use Rattle.nfs_xdr.specs.declared.time.Time.{Time}
 use Rattle.nfs_compound.specs.declared.file_args.StableHow.TheVariants.{Unstable}
 use Rattle.nfs_results.specs.Items as results
 use Rattle.nfs_attrs.specs.Attributes.{values}
@@ -10,7 +9,7 @@ use Rattle.nfs_exec.specs.Runs.Ops.{RanOp}
 use Rattle.nfs_promises.specs.{Runs.{Requests.words, Points.ops_of}, Locks.LockKeptWorked.last_of, Bytes.{ChangeSeen.Writes, WrittenStaysWorked.writes}}
 use Rattle.nfs_promises.specs.Bytes.TimesRise.{Rises, BothRise}
 use Rattle.nfs_promises.specs.Bytes.TimesRiseWorked.{made_in_unix, writes_again, asked, at, TimesAreTwo, TimesAreRefused}
-use Rattle.nfs_promises.proofs.{Bytes.Dated.sets, Runs.{LastOperation.{nothing, three}, Computing.computing}}
+use Rattle.nfs_promises.proofs.{Bytes.Dated.sets, Runs.{LastOperation.{nothing, three, last_there}, Computing.computing}}
 
 abbrev write : RanOp
 write = last_of nothing (ops_of made_in_unix writes)
@@ -18,25 +17,14 @@ write = last_of nothing (ops_of made_in_unix writes)
 abbrev again : RanOp
 again = last_of nothing (ops_of asked writes_again)
 
-write_ops : ops_of made_in_unix writes ≡ take 2 (ops_of made_in_unix writes) ++ write ∷ []
-unfolding computing
-write_ops = three nothing (ops_of made_in_unix writes) refl
-
-again_ops : ops_of asked writes_again ≡ take 2 (ops_of asked writes_again) ++ again ∷ []
-unfolding computing get_attr values results.fattr
-again_ops = three nothing (ops_of asked writes_again) refl
-
-again_in : In again (ops_of asked writes_again)
-again_in = subst (In again) (sym again_ops) (last_in (take 2 (ops_of asked writes_again)) again)
-
 pub times_are_two : TimesAreTwo
 unfolding computing get_attr values results.fattr
 times_are_two = record {
   front = take 2 (ops_of made_in_unix writes);
   write = write;
-  ops = write_ops;
+  ops = three nothing (ops_of made_in_unix writes) refl;
   again = again;
-  late = inr (inl again_in);
+  late = inr (inl (last_there nothing (ops_of asked writes_again) 2 refl));
   first = record {
     there = refl;
     ok = refl;

@@ -1,7 +1,8 @@
 -- The run of a byte that stays, computed.
-use Rattle.std.proofs.Common.{◌≡◌, ℕ, ◌++◌, length, ◌<◌, Bool, true, false, List, [], ◌∷◌, take, Some, refl, sym, ◌∙◌, ap, subst, arith, inl, inr}
-use Rattle.std.proofs.lemmas.Bool.{and_parts, not-true, leb-false, ltb-true, true≢false}
-use Rattle.std.specs.Prelude.{◌&&◌, not, nat_le}
+use Rattle.std.proofs.Common.{◌≡◌, ℕ, ◌++◌, length, ◌<◌, Bool, true, false, List, [], ◌∷◌, take, Some, refl, sym, ◌∙◌, ap, arith, inl}
+use Rattle.std.proofs.lemmas.Bool.{not-true, leb-false, ltb-true, true≢false}
+use Rattle.std.specs.Prelude.{not, nat_le}
+use Rattle.std.specs.List.{list_all}
 use Rattle.nfs_xdr.specs.Spelling.{number}
 use Rattle.nfs_compound.specs.declared.op_num.OpNum.TheVariants as Num
 use Rattle.nfs_compound.specs.declared.file_args.Write as args
@@ -14,15 +15,15 @@ use Rattle.nfs_files.specs.Written.{Byte, WritesOver, Reads, bytes_in}
 use Rattle.nfs_exec.specs.{Runs.Ops.RanOp, Runs.WrittenRun.{WritesIt, SparesIt, AreSpared}}
 use Rattle.nfs_promises.specs.{Runs.{Requests.words, Points.ops_of}, Locks.LockKeptWorked.last_of, Bytes.WrittenStaysWorked.{StaysTo, BytesRefused, made}}
 use Rattle.nfs_promises.specs.Bytes.WrittenStaysWorked.{writes, written, goes_on, grown, closes, closed, reads, byte, answering}
-use Rattle.nfs_promises.proofs.Runs.{LastOperation.{nothing, three}, Computing.computing}
+use Rattle.nfs_promises.proofs.Runs.{LastOperation.{nothing, three, each_of}, Computing.computing}
 
 -- A WRITE behind the place, an OPEN that makes nothing, and whatever is none of the three that change bytes, spares the byte.
 
-abbrev makes_it : OpenHow → Bool
+abbrev pub makes_it : OpenHow → Bool
 makes_it NoCreate = false
 makes_it (Create how) = true
 
-abbrev changes : Byte → Item → Bool
+abbrev pub changes : Byte → Item → Bool
 changes b (Operation (Op.Write w)) = nat_le w.offset b.place
 changes b (Operation (Op.SetAttr a)) = true
 changes b (Operation (Op.Open a)) = makes_it a.openhow
@@ -40,16 +41,8 @@ spared_by b d e = record {
   opens = λ opens. true≢false (sym (ap (changes b) opens.is ∙ ap makes_it opens.how) ∙ e);
 }
 
-abbrev pub all_spare : Byte → List RanOp → Bool
-all_spare b [] = true
-all_spare b (d ∷ ds) = not (changes b d.item) && all_spare b ds
-
-pub all_spared : (b : Byte) (ds : List RanOp) → all_spare b ds ≡ true → AreSpared b ds
-all_spared b [] e d there = absurd there
-all_spared b (x ∷ ds) e d there = (let p = and_parts _ _ e in elim there [
-  | inl here ↦ subst (SparesIt b) (sym here) (spared_by b x (not-true _ p.0))
-  | inr later ↦ all_spared b ds p.1 d later
-])
+pub all_spared : (b : Byte) (ds : List RanOp) → list_all (λ d. not (changes b d.item)) ds ≡ true → AreSpared b ds
+all_spared b = each_of (SparesIt b) (λ d. not (changes b d.item)) (λ d e. spared_by b d (not-true _ e))
 
 abbrev pub wrote : args.Write
 wrote = record { stateid = anonymous; offset = 0; stable = Unstable; bytes = words (0x7365_656e ∷ []) }
@@ -59,42 +52,24 @@ read = record { stateid = anonymous; offset = 0; count = 8 }
 
 -- The parts of the run, each computed by itself.
 
-write_ops : ops_of made writes ≡ take 2 (ops_of made writes) ++ last_of nothing (ops_of made writes) ∷ []
+-- the WRITE, answered that it wrote four bytes
+pub writes_it : (d : RanOp) → d.item ≡ Operation (Op.Write wrote) → d.context.current ≡ Some byte.file
+    → d.result ≡ done_head Num.Write ++ (words (4 ∷ []) ++ words (2 ∷ 7 ∷ 0 ∷ [])) → WritesIt byte d
 unfolding computing
-write_ops = three nothing (ops_of made writes) refl
-
-read_ops : ops_of closed reads ≡ take 2 (ops_of closed reads) ++ last_of nothing (ops_of closed reads) ∷ []
-unfolding computing
-read_ops = three nothing (ops_of closed reads) refl
-
-tells : WritesIt byte (last_of nothing (ops_of made writes))
-unfolding computing
-tells = record {
+writes_it d is at answers = record {
   over = record {
     asked = wrote;
-    is = refl;
-    at = refl;
+    is = is;
+    at = at;
     count = words (4 ∷ []);
     more = words (2 ∷ 7 ∷ 0 ∷ []);
-    answers = refl;
+    answers = answers;
     long = refl;
     from = omega arith;
     below = ltb-true 1 _ refl;
   };
   value = refl;
 }
-
-beside : AreSpared byte (ops_of written goes_on)
-unfolding computing
-beside = all_spared byte (ops_of written goes_on) refl
-
-shut : AreSpared byte (ops_of grown closes)
-unfolding computing
-shut = all_spared byte (ops_of grown closes) refl
-
-until_read : AreSpared byte (take 2 (ops_of closed reads))
-unfolding computing
-until_read = all_spared byte (take 2 (ops_of closed reads)) refl
 
 -- the READ, answered that the file ends behind it and with these bytes
 abbrev pub reads_it : (d : RanOp) (text : List ℕ) → d.item ≡ Operation (Op.Read read) → d.context.current ≡ Some byte.file
@@ -120,17 +95,18 @@ unfolding given number
 bytes = refl
 
 pub stays_to : StaysTo
+unfolding computing
 stays_to = record {
   front = take 2 (ops_of made writes);
   write = last_of nothing (ops_of made writes);
-  ops = write_ops;
-  tells = tells;
-  beside = beside;
-  shut = shut;
+  ops = three nothing (ops_of made writes) refl;
+  tells = writes_it (last_of nothing (ops_of made writes)) refl refl refl;
+  beside = all_spared byte (ops_of written goes_on) refl;
+  shut = all_spared byte (ops_of grown closes) refl;
   until = take 2 (ops_of closed reads);
   read = last_of nothing (ops_of closed reads);
-  last = read_ops;
-  spared = until_read;
+  last = three nothing (ops_of closed reads) refl;
+  spared = all_spared byte (take 2 (ops_of closed reads)) refl;
   given = given;
   bytes = bytes;
 }

@@ -161,12 +161,7 @@ Read old new read written = (entries : List Entry) × (rest : List ℕ) × (read
 fault_ran : (stop : Stop) (entry : ℕ) (old new : ServerState) (held : List Gathered) (read written : List ℕ) → ReplaysFault stop entry old new held read written → Read old new read written
 fault_ran stops.WriteFailed entry old new held read written (entries, last, is, which, (streams, into, all)) =
     (entries ++ last ∷ [], [], is.spelled, inr (front_ran Tagged old new (entries ++ last ∷ []) entries last streams written refl into))
-fault_ran stops.Cut entry old new held read written (entries, rest, is, which, (streams, runs, all)) = (entries, rest, is.spelled, inl (all_ran Tagged old new entries streams written runs))
-fault_ran stops.Connection entry old new held read written (entries, rest, is, which, (streams, runs, all)) = (entries, rest, is.spelled, inl (all_ran Tagged old new entries streams written runs))
-fault_ran stops.Long entry old new held read written (entries, rest, is, which, (streams, runs, all)) = (entries, rest, is.spelled, inl (all_ran Tagged old new entries streams written runs))
-fault_ran stops.Late entry old new held read written (entries, rest, is, which, (streams, runs, all)) = (entries, rest, is.spelled, inl (all_ran Tagged old new entries streams written runs))
-fault_ran stops.Many entry old new held read written (entries, rest, is, which, (streams, runs, all)) = (entries, rest, is.spelled, inl (all_ran Tagged old new entries streams written runs))
-fault_ran stops.ReadFailed entry old new held read written (entries, rest, is, which, (streams, runs, all)) = (entries, rest, is.spelled, inl (all_ran Tagged old new entries streams written runs))
+fault_ran stop entry old new held read written (entries, rest, is, which, (streams, runs, all)) = (entries, rest, is.spelled, inl (all_ran Tagged old new entries streams written runs))
 
 replayed : (answer : Result (Unit {0}) ReplayFault) (old new : ServerState) (held : List Gathered) (read written : List ℕ) → Replayed answer old new held read written → Read old new read written
 replayed (Ok u) old new held read written (entries, is, (streams, runs, all)) =

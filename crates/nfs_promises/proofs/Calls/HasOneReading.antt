@@ -144,13 +144,9 @@ StopsHow (Some stop) n r = StopsAt stop n r
 how : (a : Option Stop) (script : List ℕ) (es : List Entry) (r : List ℕ) → IsRead a script es r → StopsHow a (length es) r
 unfolding StopsHow
 how None script es r h = h.1
-how (Some Cut) script es r h = h.stands
-how (Some Connection) script es r h = h.stands
-how (Some Long) script es r h = h.stands
-how (Some Late) script es r h = h.stands
-how (Some Many) script es r h = h.stands
 how (Some ReadFailed) script es r h = absurd h
 how (Some WriteFailed) script es r h = absurd h
+how (Some stop) script es r h = h.stands
 
 empty_some : (r : List ℕ) → r ≡ [] → 0 < length r → ⊥
 empty_some r e some = omega (arith, ap length e, some)
@@ -159,69 +155,23 @@ same_how : (a b : Option Stop) (script other : List ℕ) (es fs : List Entry) (n
     → IsRead a script es r → IsRead b other fs r → StopsHow a n r → StopsHow b n r → a ≡ b
 unfolding StopsHow
 same_how None None script other es fs n r ra rb h g = refl
+same_how (Some ReadFailed) b script other es fs n r ra rb h g = absurd ra
+same_how (Some WriteFailed) b script other es fs n r ra rb h g = absurd ra
+same_how a (Some ReadFailed) script other es fs n r ra rb h g = absurd rb
+same_how a (Some WriteFailed) script other es fs n r ra rb h g = absurd rb
 same_how None (Some Cut) script other es fs n r ra rb h g = absurd (empty_some r h g.1)
-same_how None (Some Connection) script other es fs n r ra rb h g = absurd (empty_some r h (refused_some Connection r g.1))
-same_how None (Some Long) script other es fs n r ra rb h g = absurd (empty_some r h (refused_some Long r g.1))
-same_how None (Some Late) script other es fs n r ra rb h g = absurd (empty_some r h (refused_some Late r g.1))
 same_how None (Some Many) script other es fs n r ra rb h g = absurd (empty_some r h g.1)
-same_how None (Some ReadFailed) script other es fs n r ra rb h g = absurd rb
-same_how None (Some WriteFailed) script other es fs n r ra rb h g = absurd rb
+same_how None (Some b) script other es fs n r ra rb h g = absurd (empty_some r h (refused_some b r g.1))
 same_how (Some Cut) None script other es fs n r ra rb h g = absurd (empty_some r g h.1)
-same_how (Some Cut) (Some Cut) script other es fs n r ra rb h g = refl
-same_how (Some Cut) (Some Connection) script other es fs n r ra rb h g = absurd (partial_refused Connection r h.2 g.1)
-same_how (Some Cut) (Some Long) script other es fs n r ra rb h g = absurd (partial_refused Long r h.2 g.1)
-same_how (Some Cut) (Some Late) script other es fs n r ra rb h g = absurd (partial_refused Late r h.2 g.1)
-same_how (Some Cut) (Some Many) script other es fs n r ra rb h g = absurd (omega (arith, h.0, g.0))
-same_how (Some Cut) (Some ReadFailed) script other es fs n r ra rb h g = absurd rb
-same_how (Some Cut) (Some WriteFailed) script other es fs n r ra rb h g = absurd rb
-same_how (Some Connection) None script other es fs n r ra rb h g = absurd (empty_some r g (refused_some Connection r h.1))
-same_how (Some Connection) (Some Cut) script other es fs n r ra rb h g = absurd (partial_refused Connection r g.2 h.1)
-same_how (Some Connection) (Some Connection) script other es fs n r ra rb h g = refl
-same_how (Some Connection) (Some Long) script other es fs n r ra rb h g = refused_same Connection Long r h.1 g.1
-same_how (Some Connection) (Some Late) script other es fs n r ra rb h g = refused_same Connection Late r h.1 g.1
-same_how (Some Connection) (Some Many) script other es fs n r ra rb h g = absurd (omega (arith, h.0, g.0))
-same_how (Some Connection) (Some ReadFailed) script other es fs n r ra rb h g = absurd rb
-same_how (Some Connection) (Some WriteFailed) script other es fs n r ra rb h g = absurd rb
-same_how (Some Long) None script other es fs n r ra rb h g = absurd (empty_some r g (refused_some Long r h.1))
-same_how (Some Long) (Some Cut) script other es fs n r ra rb h g = absurd (partial_refused Long r g.2 h.1)
-same_how (Some Long) (Some Connection) script other es fs n r ra rb h g = refused_same Long Connection r h.1 g.1
-same_how (Some Long) (Some Long) script other es fs n r ra rb h g = refl
-same_how (Some Long) (Some Late) script other es fs n r ra rb h g = refused_same Long Late r h.1 g.1
-same_how (Some Long) (Some Many) script other es fs n r ra rb h g = absurd (omega (arith, h.0, g.0))
-same_how (Some Long) (Some ReadFailed) script other es fs n r ra rb h g = absurd rb
-same_how (Some Long) (Some WriteFailed) script other es fs n r ra rb h g = absurd rb
-same_how (Some Late) None script other es fs n r ra rb h g = absurd (empty_some r g (refused_some Late r h.1))
-same_how (Some Late) (Some Cut) script other es fs n r ra rb h g = absurd (partial_refused Late r g.2 h.1)
-same_how (Some Late) (Some Connection) script other es fs n r ra rb h g = refused_same Late Connection r h.1 g.1
-same_how (Some Late) (Some Long) script other es fs n r ra rb h g = refused_same Late Long r h.1 g.1
-same_how (Some Late) (Some Late) script other es fs n r ra rb h g = refl
-same_how (Some Late) (Some Many) script other es fs n r ra rb h g = absurd (omega (arith, h.0, g.0))
-same_how (Some Late) (Some ReadFailed) script other es fs n r ra rb h g = absurd rb
-same_how (Some Late) (Some WriteFailed) script other es fs n r ra rb h g = absurd rb
 same_how (Some Many) None script other es fs n r ra rb h g = absurd (empty_some r g h.1)
-same_how (Some Many) (Some Cut) script other es fs n r ra rb h g = absurd (omega (arith, h.0, g.0))
-same_how (Some Many) (Some Connection) script other es fs n r ra rb h g = absurd (omega (arith, h.0, g.0))
-same_how (Some Many) (Some Long) script other es fs n r ra rb h g = absurd (omega (arith, h.0, g.0))
-same_how (Some Many) (Some Late) script other es fs n r ra rb h g = absurd (omega (arith, h.0, g.0))
+same_how (Some a) None script other es fs n r ra rb h g = absurd (empty_some r g (refused_some a r h.1))
+same_how (Some Cut) (Some Cut) script other es fs n r ra rb h g = refl
 same_how (Some Many) (Some Many) script other es fs n r ra rb h g = refl
-same_how (Some Many) (Some ReadFailed) script other es fs n r ra rb h g = absurd rb
-same_how (Some Many) (Some WriteFailed) script other es fs n r ra rb h g = absurd rb
-same_how (Some ReadFailed) None script other es fs n r ra rb h g = absurd ra
-same_how (Some ReadFailed) (Some Cut) script other es fs n r ra rb h g = absurd ra
-same_how (Some ReadFailed) (Some Connection) script other es fs n r ra rb h g = absurd ra
-same_how (Some ReadFailed) (Some Long) script other es fs n r ra rb h g = absurd ra
-same_how (Some ReadFailed) (Some Late) script other es fs n r ra rb h g = absurd ra
-same_how (Some ReadFailed) (Some Many) script other es fs n r ra rb h g = absurd ra
-same_how (Some ReadFailed) (Some ReadFailed) script other es fs n r ra rb h g = absurd ra
-same_how (Some ReadFailed) (Some WriteFailed) script other es fs n r ra rb h g = absurd ra
-same_how (Some WriteFailed) None script other es fs n r ra rb h g = absurd ra
-same_how (Some WriteFailed) (Some Cut) script other es fs n r ra rb h g = absurd ra
-same_how (Some WriteFailed) (Some Connection) script other es fs n r ra rb h g = absurd ra
-same_how (Some WriteFailed) (Some Long) script other es fs n r ra rb h g = absurd ra
-same_how (Some WriteFailed) (Some Late) script other es fs n r ra rb h g = absurd ra
-same_how (Some WriteFailed) (Some Many) script other es fs n r ra rb h g = absurd ra
-same_how (Some WriteFailed) (Some ReadFailed) script other es fs n r ra rb h g = absurd ra
-same_how (Some WriteFailed) (Some WriteFailed) script other es fs n r ra rb h g = absurd ra
+same_how (Some Many) (Some b) script other es fs n r ra rb h g = absurd (omega (arith, h.0, g.0))
+same_how (Some a) (Some Many) script other es fs n r ra rb h g = absurd (omega (arith, h.0, g.0))
+same_how (Some Cut) (Some b) script other es fs n r ra rb h g = absurd (partial_refused b r h.2 g.1)
+same_how (Some a) (Some Cut) script other es fs n r ra rb h g = absurd (partial_refused a r g.2 h.1)
+same_how (Some a) (Some b) script other es fs n r ra rb h g = refused_same a b r h.1 g.1
 
 pub one_reading : HasOneReading
 one_reading script a b es fs r q h g =

@@ -1,7 +1,7 @@
 -- The account of a connection that is served all along.
 use Rattle.std.proofs.Common.{◌≡◌, ℕ, List, [], ◌∷◌, ◌++◌, Bool, true, false, refl, sym, ap, subst, ◌∙◌, append_assoc, append-nil}
 use Rattle.nfs_serve.specs.Step.{ServerState}
-use Rattle.nfs_serve.specs.Desk.{Desk, Act, Opened, Over, Looked, Unready, Counted, Came, ReadBlocked, Ended, Took, WriteBlocked, Failed, Closed, Stepped, Goes}
+use Rattle.nfs_serve.specs.Desk.{Desk, Act, Unready, Came, ReadBlocked, Ended, Took, WriteBlocked, Failed, Closed, Stepped, Goes}
 use Rattle.nfs_promises.specs.Calls.NothingIsLost.{Account}
 
 both : {A : Type 0} (b : Bool) → b ≡ true → b ≡ false → A
@@ -13,10 +13,6 @@ both b h k = absurd (no (sym h ∙ k))
 -- a connection that is not served is not served again
 dead : (port : ℕ) (s t : ServerState) (d e : Desk) (acts : List Act) → Goes port s d acts t e → d.live ≡ false → e.live ≡ false
 dead port s t d e [] h off = ap (λ x. x.live) h.1 ∙ off
-dead port s t d e (Opened ∷ acts) h off = absurd h.2
-dead port s t d e (Over ∷ acts) h off = absurd h.2
-dead port s t d e (Looked ∷ acts) h off = absurd h.2
-dead port s t d e (Counted ∷ acts) h off = absurd h.2
 dead port s t d e (Unready ∷ acts) h off = let (u, c, does, rest) = h in dead port u t c e acts rest (ap (λ x. x.live) does.2 ∙ off)
 dead port s t d e (Came bytes ∷ acts) h off = let (u, c, does, rest) = h in both d.live does.1.live off
 dead port s t d e (ReadBlocked ∷ acts) h off = let (u, c, does, rest) = h in both d.live does.1.live off
@@ -26,6 +22,7 @@ dead port s t d e (WriteBlocked ∷ acts) h off = let (u, c, does, rest) = h in 
 dead port s t d e (Failed ∷ acts) h off = let (u, c, does, rest) = h in both d.live does.1 off
 dead port s t d e (Closed ∷ acts) h off = let (u, c, does, rest) = h in dead port u t c e acts rest (ap (λ x. x.live) does.2)
 dead port s t d e (Stepped moment part late first ∷ acts) h off = let (u, c, does, rest) = h in let (is, left, out, steps, once, same) = does in both d.live steps.live off
+dead port s t d e (act ∷ acts) h off = absurd h.2
 
 pub account : (port : ℕ) (s t : ServerState) (d e : Desk) (acts : List Act) → Goes port s d acts t e → e.live ≡ true → Account port s d acts t e
 account port s t d e [] h on = record {
@@ -34,10 +31,6 @@ account port s t d e [] h on = record {
   in_order = rw append-nil (sym (ap (λ x. x.unread) h.1));
   out_order = rw append-nil (sym (ap (λ x. x.owed) h.1));
 }
-account port s t d e (Opened ∷ acts) h on = absurd h.2
-account port s t d e (Over ∷ acts) h on = absurd h.2
-account port s t d e (Looked ∷ acts) h on = absurd h.2
-account port s t d e (Counted ∷ acts) h on = absurd h.2
 account port s t d e (Unready ∷ acts) h on =
     let (u, c, does, rest) = h in
     let (same, none, is) = does in
@@ -94,3 +87,4 @@ account port s t d e (Stepped moment part late first ∷ acts) h on =
       in_order = rw steps.split (append_assoc part left _ ∙ ap (λ l. part ++ l) a.in_order ∙ sym (append_assoc part _ e.unread));
       out_order = sym (append_assoc d.owed out a.outs) ∙ a.out_order;
     }
+account port s t d e (act ∷ acts) h on = absurd h.2

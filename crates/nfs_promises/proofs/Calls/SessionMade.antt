@@ -53,12 +53,10 @@ module _ (session : SessionId) (m : Machine) (absent : session_at m.sessions ses
       ]
 
   by_answer : (refused : Bool) (c : CreateSession) (v : clients.Verdict) → c.clientid ≡ n → Renews (by_number m now refused c v).machine
-  by_answer refused c clients.Stale mine = same m refl
   by_answer refused c (clients.Again (results.Done body)) mine = same m refl
   by_answer refused c (clients.Again (results.Refused status)) mine = same m refl
-  by_answer refused c clients.Misordered mine = same m refl
-  by_answer refused c clients.InUse mine = same m refl
   by_answer refused c clients.Runs mine = by_new refused c mine
+  by_answer refused c v mine = same m refl
 
   by_place : (number : ℕ) (f : Option Status) (o : MachineOutcome) → Renews o.machine → Renews (by_fault m number f o).machine
   by_place number None o renews = renews

@@ -1,5 +1,5 @@
 -- The run of a session that ends, computed.
-use Rattle.std.proofs.Common.{◌≡◌, ℕ, ◌+◌, ◌*◌, ◌<◌, Bool, true, cond, List, [], ◌∷◌, ◌++◌, Some, refl, sym, ◌∙◌, ap, arith, inl, inr}
+use Rattle.std.proofs.Common.{◌≡◌, ℕ, ◌+◌, ◌<◌, Bool, true, cond, List, [], ◌∷◌, ◌++◌, Some, refl, sym, ◌∙◌, ap, arith, inl, inr}
 use Rattle.std.proofs.lemmas.Bool.{and_parts, false≢true, leb-true, not-true}
 use Rattle.std.specs.Prelude.{◌^◌, ◌&&◌, nat_le, not}
 use Rattle.nfs_xdr.specs.declared.status.Status.TheVariants.{BadSession}
@@ -8,13 +8,13 @@ use Rattle.nfs_compound.specs.declared.op_num.OpNum.TheVariants as Num
 use Rattle.nfs_sessions.specs.{declared.id.SessionId.SessionId, Sessions.is_session}
 use Rattle.nfs_exec.specs.{Runs.OneSession.MakesOne}
 use Rattle.nfs_serve.specs.{Step.{ServerState, step}}
-use Rattle.nfs_promises.specs.{Runs.{Requests.words, Points.{state_after, state_after_all, taken, before, asked_by}}, Network.Endpoint.Arrival}
+use Rattle.nfs_promises.specs.{Runs.{Requests.words, Points.{state_after, state_after_all, taken, before}}, Network.Endpoint.Arrival}
 use Rattle.nfs_promises.specs.{Network.ThisServer.accepted_reply, Calls.SessionsDenied.{SaysFirst, IsBadSession, BySequence, ByDestroy, HasEnded, Made}}
 use Rattle.nfs_promises.specs.Calls.{SessionStaysWorked.{id, forgetful}, SessionStays.ends_by, SessionsDeniedWorked.{known, creates, goes_on, too_late}}
 use Rattle.nfs_promises.specs.{Calls.SessionsDeniedWorked.{destroys, destroys_again, restarts, hasty, IsLeft, EndsAreRefused}, Locks.LockKeptWorked.outset}
 use Rattle.nfs_promises.specs.Locks.{LockKeptWorked.{locks, renewal, waits}, LockKept.{renews_by, replaces_by}}
 use Rattle.nfs_promises.specs.Calls.SessionsOnceWorked as once
-use Rattle.nfs_promises.proofs.{Runs.Computing.computing, Network.ThisServer.no_bytes, Calls.SessionsOnceWorked.given}
+use Rattle.nfs_promises.proofs.{Runs.Computing.computing, Network.ThisServer.no_bytes}
 
 makes : MakesOne id.client once.id (before known creates).sessions (state_after known creates).machine.sessions
 unfolding computing
@@ -79,7 +79,7 @@ bad_renewal s sent = BySequence _ refl refl (said Num.Sequence s renewal 4 (omeg
 pub is_left : IsLeft
 unfolding computing makes
 is_left = record {
-  made = Made 1 once.id (given (7 * 2 ^ 32 + 1) 1 once.id known creates (asked_by known creates) refl refl) makes refl;
+  made = Made 1 once.id (record { event = _; asks = refl; gives = record { request = _; who = _; size = _; now = _; choice = _; is = refl; asked = _; more = _; first = refl; for = refl; with = refl; behind = _; answers = refl; long = refl } }) makes refl;
   left = not_ended id 90 101 outset (locks ∷ waits) goes_on refl;
   run_out = record { denied = BySequence _ refl refl (said Num.Sequence _ too_late 4 (omega arith) refl); ended = inr (omega arith) };
   destroyed = record { denied = bad_renewal (state_after_all outset (locks ∷ destroys ∷ [])) refl; ended = inr (inl (inr (inl refl))) };

@@ -5,7 +5,7 @@ use Rattle.nfs_rpc.specs.Stream.{End, Open, TooLong}
 use Rattle.nfs_serve.specs.{declared.form.Form.TheVariants.Plain, Script.Entry, Step.ServerState}
 use Rattle.nfs_serve.specs.Run.{Streams, with_stream, TakesAll, StreamEvent, Arrives, overflow, Brings, Move, events, after, after_event, output, output_of}
 use Rattle.nfs_serve.specs.Server.{Stands}
-use Rattle.nfs_serve.specs.Desk.{most_ports, Desk, closed, leaving, Act, Opened, Over, Looked, Unready, Counted, Came, ReadBlocked, Ended, Took, WriteBlocked, Failed, Closed, Stepped, Goes}
+use Rattle.nfs_serve.specs.Desk.{most_ports, Desk, closed, leaving, Act, Unready, Came, ReadBlocked, Ended, Took, WriteBlocked, Failed, Closed, Stepped, Goes}
 use Rattle.nfs_promises.specs.Calls.{NothingIsLost.{came, taken, part_of}, WholeRuns.{close, IsEntry, entries_of, port_of, output_on}}
 use Rattle.nfs_serve.proofs.Terms.{NoneCloses}
 use Rattle.nfs_serve.proofs.{Moves.{after-append, output-append, events-append}, Runs.takes_piece}
@@ -121,10 +121,6 @@ ran port s t d e [] from le holds h = record {
   };
   open_on = λ on. All-nil (λ q. q.conn ≡ port → q.piece ≢ []);
 }
-ran port s t d e (Opened ∷ acts) from le holds h = absurd h.2
-ran port s t d e (Over ∷ acts) from le holds h = absurd h.2
-ran port s t d e (Looked ∷ acts) from le holds h = absurd h.2
-ran port s t d e (Counted ∷ acts) from le holds h = absurd h.2
 ran port s t d e (Unready ∷ acts) from le holds h =
     let (u, c, does, rest) = h in
     let (same, none, is) = does in
@@ -217,3 +213,4 @@ ran port s t d e (Stepped moment part late first ∷ acts) from le holds h =
           };
       open_on = λ on. All-cons (λ q. q.conn ≡ port → q.piece ≢ []) entry (flat_map (entries_of port) acts) (λ own. some) (r.open_on on);
     }
+ran port s t d e (act ∷ acts) from le holds h = absurd h.2

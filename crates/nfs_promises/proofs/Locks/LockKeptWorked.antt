@@ -1,7 +1,8 @@
 -- The run of a lock that is kept, computed.
-use Rattle.std.proofs.Common.{◌≡◌, ℕ, ◌+◌, ◌≤◌, Bool, true, false, List, [], ◌∷◌, ◌++◌, length, take, drop, refl, sym, ◌∙◌, ap, subst, arith, inl, inr}
+use Rattle.std.proofs.Common.{◌≡◌, ℕ, ◌+◌, ◌≤◌, Bool, true, false, List, [], ◌∷◌, ◌++◌, length, take, drop, refl, sym, ◌∙◌, ap, arith}
 use Rattle.std.proofs.lemmas.Bool.{and_parts, leb-true, true≢false}
 use Rattle.std.specs.{Prelude.{◌&&◌, not, nat_le, bytes_eq, if◌then◌else◌, Ok}, Int.{w64, from_be_bytes}}
+use Rattle.std.specs.List.{list_all}
 use Rattle.nfs_xdr.specs.Spelling.{number}
 use Rattle.nfs_compound.specs.{declared.op_num.OpNum.OpNum, declared.op.Item.Item, declared.op.Item.TheVariants.Operation, declared.lock_args.Lock.Lock}
 use Rattle.nfs_compound.specs.declared.lock_args.Locker.TheVariants.{OpenOwner}
@@ -10,17 +11,18 @@ use Rattle.nfs_results.specs.Results.{done_head}
 use Rattle.nfs_compound.specs.declared.op.Op.TheVariants as Op
 use Rattle.nfs_compound.specs.declared.lock_args.LockType.TheVariants as LockTypes
 use Rattle.nfs_files.specs.{Ranges.wished, LockTold.{LockTold, Names}}
-use Rattle.nfs_exec.specs.{Runs.Ops.RanOp, Runs.LockHeld.{LocksFor, Spares, AreSpared}}
+use Rattle.nfs_exec.specs.{Runs.Ops.RanOp, Runs.{Kept.{Kept, after_all}, LockHeld.{LocksFor, Spares, AreSpared, the_lock}}}
+use Rattle.nfs_exec.specs.Runs.Kept as kept
 use Rattle.nfs_serve.specs.{Step.ServerState}
 use Rattle.nfs_promises.specs.{Network.Endpoint.Arrival, Runs.Points.{state_after, state_after_all, taken, ops_of}, Locks.LockKept.{renews_by, replaces_by}}
-use Rattle.nfs_promises.specs.Locks.{LockKept.AreInTime, LockKeptWorked.{outset, locks, last_of, IsHeldTo, AreBothTold}}
+use Rattle.nfs_promises.specs.Locks.{LockKept.InTimeFor, LockKeptWorked.{outset, locks, last_of, IsHeldTo, AreBothTold}}
 use Rattle.nfs_promises.specs.Locks.LockKeptWorked as worked
-use Rattle.nfs_promises.proofs.Runs.{LastOperation.{nothing, three}, Computing.computing}
+use Rattle.nfs_promises.proofs.Runs.{LastOperation.{nothing, three, each_of}, Computing.computing}
 use Rattle.nfs_exec.proofs.Step.Invariant.{not_true}
 
 -- An operation that was refused, or that is none of the three that end locks, spares each lock.
 
-abbrev ends : Item → Bool
+abbrev pub ends : Item → Bool
 ends (Operation (Op.Lock a)) = true
 ends (Operation (Op.LockU a)) = true
 ends (Operation (Op.Close a)) = true
@@ -30,12 +32,8 @@ ends i = false
 abbrev pub says_ok : List ℕ → Bool
 says_ok result = bytes_eq (take 4 (drop 4 result)) (0 ∷ 0 ∷ 0 ∷ 0 ∷ [])
 
-abbrev spares : RanOp → Bool
+abbrev pub spares : RanOp → Bool
 spares d = not (says_ok d.result && ends d.item)
-
-abbrev all_spare : List RanOp → Bool
-all_spare [] = true
-all_spare (d ∷ ds) = spares d && all_spare ds
 
 named_ok : (op : OpNum) (id : List ℕ) → says_ok (done_head op ++ id) ≡ true
 unfolding number
@@ -56,44 +54,38 @@ spared k d e = record {
   closes = λ l. ended d Num.Close 0 e (ap ends l.is) l.names;
 }
 
-pub all_spared : (k : LockTold) (ds : List RanOp) → all_spare ds ≡ true → AreSpared k ds
-all_spared k [] e d there = absurd there
-all_spared k (x ∷ ds) e d there = (let p = and_parts _ _ e in elim there [
-  | inl here ↦ subst (Spares k) (sym here) (spared k x p.0)
-  | inr later ↦ all_spared k ds p.1 d later
-])
+pub all_spared : (k : LockTold) (ds : List RanOp) → list_all spares ds ≡ true → AreSpared k ds
+all_spared k = each_of (Spares k) spares (spared k)
 
 -- So the premises can be tested.
 
-abbrev in_time : LockTold → (lease last : ℕ) → ServerState → List Arrival → Bool
-in_time k lease last s [] = true
-in_time k lease last s (c ∷ more) =
+abbrev pub in_time : ℕ → (List RanOp → Bool) → (lease last : ℕ) → ServerState → List Arrival → Bool
+in_time client test lease last s [] = true
+in_time client test lease last s (c ∷ more) =
     nat_le (taken s c) (last + lease)
-    && (all_spare (ops_of s c)
-    && (not (replaces_by k.client s c) && in_time k lease (if renews_by k.client s c then taken s c else last) (state_after s c) more))
+    && (test (ops_of s c) && (not (replaces_by client s c) && in_time client test lease (if renews_by client s c then taken s c else last) (state_after s c) more))
 
-pub are_in_time : (k : LockTold) (lease last : ℕ) (s : ServerState) (cs : List Arrival) → in_time k lease last s cs ≡ true → AreInTime k lease last s cs (λ last t. Unit {0})
-are_in_time k lease last s [] e = tt
-are_in_time k lease last s (c ∷ more) e =
-    let p = and_parts _ _ e in
-    let q = and_parts _ _ p.1 in
-    let r = and_parts _ _ q.1 in (
-      leb-true _ _ p.0,
-      all_spared k (ops_of s c) q.0,
-      not_true (replaces_by k.client s c) r.0,
-      are_in_time k lease (if renews_by k.client s c then taken s c else last) (state_after s c) more r.1,
-    )
-
--- and up to what holds behind them
 abbrev pub last_of_all : ℕ → ℕ → ServerState → List Arrival → ℕ
 last_of_all client last s [] = last
 last_of_all client last s (c ∷ more) = last_of_all client (if renews_by client s c then taken s c else last) (state_after s c) more
 
-pub up_to : (k : LockTold) (lease last : ℕ) (s : ServerState) (cs : List Arrival) (Then : ℕ → ServerState → Type 0) → AreInTime k lease last s cs (λ last t. Unit {0})
-    → Then (last_of_all k.client last s cs) (state_after_all s cs) → AreInTime k lease last s cs Then
-up_to k lease last s [] Then all holds = holds
-up_to k lease last s (c ∷ more) Then all holds =
-    (all.0, all.1, all.2, up_to k lease (if renews_by k.client s c then taken s c else last) (state_after s c) more Then all.3 holds)
+abbrev pub way_of_all : (k : Kept) → k.Way → ServerState → List Arrival → k.Way
+way_of_all k way s [] = way
+way_of_all k way s (c ∷ more) = way_of_all k (after_all k.after way (ops_of s c)) (state_after s c) more
+
+pub are_in_time : (k : Kept) (client : ℕ) (test : List RanOp → Bool) (lease last : ℕ) (way : k.Way) (s : ServerState) (cs : List Arrival)
+    (Then : k.Way → ℕ → ServerState → Type 0) → ((ds : List RanOp) → test ds ≡ true → kept.AreSpared k ds) → in_time client test lease last s cs ≡ true
+    → Then (way_of_all k way s cs) (last_of_all client last s cs) (state_after_all s cs) → InTimeFor k client lease last way s cs Then
+are_in_time k client test lease last way s [] Then spared e holds = holds
+are_in_time k client test lease last way s (c ∷ more) Then spared e holds =
+    let p = and_parts _ _ e in
+    let q = and_parts _ _ p.1 in
+    let r = and_parts _ _ q.1 in (
+      leb-true _ _ p.0,
+      spared (ops_of s c) q.0,
+      not_true (replaces_by client s c) r.0,
+      are_in_time k client test lease (if renews_by client s c then taken s c else last) (after_all k.after way (ops_of s c)) (state_after s c) more Then spared r.1 holds,
+    )
 
 -- a LOCK of the byte at an offset, and what it was answered
 abbrev pub asking : (offset : ℕ) → Lock
@@ -135,7 +127,8 @@ is_held_to = record {
     client = refl;
     opened = refl;
   };
-  kept = are_in_time worked.told 90 102 worked.locked (worked.waits ++ worked.clashes ∷ []) refl;
+  kept = are_in_time (the_lock worked.told) worked.told.client (list_all spares) 90 102 tt worked.locked (worked.waits ++ worked.clashes ∷ []) (λ way last t. Unit {0})
+      (all_spared worked.told) refl tt;
   held = refl;
   denied = refl;
   still = refl;
@@ -151,11 +144,11 @@ are_both_told = record {
   until = take 2 (ops_of worked.asked worked.goes_beside);
   second = last_of nothing (ops_of worked.asked worked.goes_beside);
   locks = locks_for (last_of nothing (ops_of worked.asked worked.goes_beside)) 2 1 4 refl refl refl refl refl;
-  between = up_to worked.told 90 102 worked.locked worked.waits
-      (λ last t. (ops_of t worked.goes_beside
+  between = are_in_time (the_lock worked.told) worked.told.client (list_all spares) 90 102 tt worked.locked worked.waits
+      (λ way last t. (ops_of t worked.goes_beside
       ≡ take 2 (ops_of worked.asked worked.goes_beside) ++ last_of nothing (ops_of worked.asked worked.goes_beside) ∷ [])
       × (taken t worked.goes_beside ≤ last + 90)
-      × AreSpared worked.told (take 2 (ops_of worked.asked worked.goes_beside))) (are_in_time worked.told 90 102 worked.locked worked.waits refl) (
+      × AreSpared worked.told (take 2 (ops_of worked.asked worked.goes_beside))) (all_spared worked.told) refl (
         three nothing (ops_of worked.asked worked.goes_beside) refl,
         omega arith,
         all_spared worked.told (take 2 (ops_of worked.asked worked.goes_beside)) refl,

@@ -104,9 +104,7 @@ module _ (client : ℕ) (P : Table → Type 0) (had : IsHad client P) (m : Machi
       → is_ok (by_created m now c t v).status ≡ true → P (by_created m now c t v).machine.store.opens → (by_created m now c t v).machine ≡ m
   by_made now c t (Ok id) takes ok holds = absurd (none_left c takes holds)
   by_made now c t (Err F.TooSmall) takes ok holds = absurd (false≢true ok)
-  by_made now c t (Err F.NoSpc) takes ok holds = absurd (false≢true ok)
-  by_made now c t (Err F.ServerFault) takes ok holds = absurd (false≢true ok)
-  by_made now c t (Err F.Memory) takes ok holds = absurd (false≢true ok)
+  by_made now c t (Err fault) takes ok holds = absurd (false≢true ok)
 
   by_new : (now : ℕ) (refused : Bool) (c : CreateSession) → takes_place client m.clients (Operation (Op.CreateSession c)) ≡ true
       → is_ok (by_number m now refused c clients.Runs).status ≡ true → P (by_number m now refused c clients.Runs).machine.store.opens
@@ -122,12 +120,10 @@ module _ (client : ℕ) (P : Table → Type 0) (had : IsHad client P) (m : Machi
 
   by_answer : (now : ℕ) (refused : Bool) (c : CreateSession) (v : clients.Verdict) → takes_place client m.clients (Operation (Op.CreateSession c)) ≡ true
       → is_ok (by_number m now refused c v).status ≡ true → P (by_number m now refused c v).machine.store.opens → (by_number m now refused c v).machine ≡ m
-  by_answer now refused c clients.Stale takes ok holds = refl
   by_answer now refused c (clients.Again (results.Done body)) takes ok holds = refl
   by_answer now refused c (clients.Again (results.Refused status)) takes ok holds = refl
-  by_answer now refused c clients.Misordered takes ok holds = refl
-  by_answer now refused c clients.InUse takes ok holds = refl
   by_answer now refused c clients.Runs takes ok holds = by_new now refused c takes ok holds
+  by_answer now refused c v takes ok holds = refl
 
   first_same : (declared : ℕ) (who : Caller) (now : ℕ) (refused : Bool) (i : Item) → takes_place client m.clients i ≡ true
       → is_ok (first_item m declared who now refused i).status ≡ true → P (first_item m declared who now refused i).machine.store.opens

@@ -1,5 +1,5 @@
 -- Wrong steps that the promises of locks refuse, computed.
-use Rattle.std.proofs.lemmas.Bool.{and_parts, eqb-true, false≢true}
+use Rattle.std.proofs.lemmas.{Bool.{and_parts, eqb-true, false≢true}, List.take_all}
 use Rattle.std.proofs.Common.{◌≡◌, ℕ, Bool, true, false, ◌+◌, ◌≤◌, List, [], ◌∷◌, ◌++◌, length, take, get_or, Option, Some, None, refl, sym, ◌∙◌, ap, subst, arith, inl, inr}
 use Rattle.std.specs.Prelude.{◌==◌, ◌&&◌, Result, Ok}
 use Rattle.nfs_xdr.specs.{Spelling.{number, hyper}, declared.status.Status.Status, Tables.In, Caller.Caller}
@@ -79,12 +79,7 @@ unfolding number
 ok_byte r count results left = refl
 
 whole : (items : List Item) → length items ≡ 4 → items ≡ take 4 items
-whole [] e = refl
-whole (a ∷ []) e = refl
-whole (a ∷ b ∷ []) e = refl
-whole (a ∷ b ∷ c ∷ []) e = refl
-whole (a ∷ b ∷ c ∷ d ∷ []) e = refl
-whole (a ∷ b ∷ c ∷ d ∷ f ∷ more) e = absurd (omega arith)
+whole items e = sym (take_all 4 items (omega arith))
 
 not_delayed : (m : Machine) (r : Request) (who : Caller) (size now : ℕ) → length r.left ≡ 4 → get_or (compound m r who size now None).text 2 0 ≡ 39
     → IsDelayed m r who size now 3 → ⊥

@@ -1,19 +1,18 @@
 -- The run of a file that is open and loses its name, and the wrong answers, computed.
-use Rattle.std.proofs.Common.{◌≡◌, ◌⊎◌, ℕ, true, false, List, [], ◌∷◌, ◌++◌, length, get_or, take, refl, sym, ap, subst, arith, inl, inr}
+use Rattle.std.proofs.Common.{◌≡◌, ◌⊎◌, ℕ, true, false, List, [], ◌∷◌, ◌++◌, get_or, take, refl, sym, ap, subst, arith, inl, inr}
 use Rattle.std.proofs.lemmas.Bool.{true≢false, false≢true}
 use Rattle.nfs_xdr.specs.{declared.status.Status.Status, declared.status.Status.TheVariants.{NoEnt, RepTooBig}, Tables.In}
 use Rattle.nfs_compound.specs.{declared.file_args.Read.Read, declared.stateid.Stateid.Stateid}
-use Rattle.nfs_tree.specs.Files.{is_there, has_row}
 use Rattle.nfs_names.specs.{GetFh.get_fh, Outcome.is_ok, Remove.remove}
 use Rattle.nfs_files.specs.StateIds.{state_id}
-use Rattle.nfs_promises.specs.Runs.{Requests.words, Started.usual, Handles.Gives, OpenHeld.TellsOpen, Points.{reached, ops_of}}
+use Rattle.nfs_promises.specs.Runs.{Requests.words, Started.usual, Handles.Gives, Points.{reached, ops_of}}
 use Rattle.nfs_promises.specs.{Bytes.WrittenStaysWorked.{makes, made, writes, written}, Names.FileStays.IsHandleOf}
 use Rattle.nfs_promises.specs.Names.FileStaysWorked.{its_bits, IsKeptOpen, LossesAreRefused}
 use Rattle.nfs_promises.specs.{Names.{HandlesWorked.given, NameStays.Finds, NameStaysWorked.f}, Locks.LockKeptWorked.earlier}
-use Rattle.nfs_promises.specs.Locks.{LockKeptWorked.{outset, last_of}, OpenKeptWorked.its_open, OpenKept.LeaveOpen}
+use Rattle.nfs_promises.specs.Locks.{LockKeptWorked.{outset, last_of}, OpenKeptWorked.its_open}
 use Rattle.nfs_exec.specs.{Runs.Ops.RanOp}
 use Rattle.nfs_promises.specs.Names.FileStaysWorked as worked
-use Rattle.nfs_promises.proofs.{Runs.{Computing.computing, LastOperation.{nothing, two}}, Bytes.FileReadWorked.{opening, make_ops}, Locks.OpenKeptWorked.leave_open}
+use Rattle.nfs_promises.proofs.{Runs.{Computing.computing, LastOperation.{nothing, two, last_there}}, Bytes.FileReadWorked.{opening, make_ops}, Locks.OpenKeptWorked.leave_open}
 
 abbrev removal : RanOp
 removal = last_of nothing (ops_of worked.found worked.removes)
@@ -24,23 +23,12 @@ its_stateid = record { seqid = 0; other = words (7 ∷ 0 ∷ 1 ∷ []) }
 abbrev asked : Read
 asked = record { stateid = its_stateid; offset = 0; count = 8 }
 
-tells : TellsOpen its_open its_bits opening
-unfolding computing
-tells = record { opens = record { asked = _; is = refl; names = refl; leads = refl }; client = refl; owner = refl; bits = refl }
-
-last_in : (x : RanOp) (ds : List RanOp) → length ds ≡ 3 → In (last_of x ds) ds
-last_in x [] e = absurd (omega arith)
-last_in x (a ∷ []) e = absurd (omega arith)
-last_in x (a ∷ b ∷ []) e = absurd (omega arith)
-last_in x (a ∷ b ∷ c ∷ []) e = inr (inr (inl refl))
-last_in x (a ∷ b ∷ c ∷ d ∷ more) e = absurd (omega arith)
-
 abbrev get : RanOp
 get = last_of nothing (ops_of written worked.finds)
 
 found_ops : In get (ops_of written worked.finds)
 unfolding computing get_fh
-found_ops = last_in nothing (ops_of written worked.finds) refl
+found_ops = last_there nothing (ops_of written worked.finds) 2 refl
 
 gives : Gives 2 given get
 unfolding computing get_fh
@@ -59,33 +47,21 @@ handle = record {
   gives = gives;
 }
 
-kept : LeaveOpen its_open its_bits 90 102 made (writes ∷ worked.finds ∷ worked.removes ∷ worked.reads ∷ worked.misses ∷ []) (λ b last s. b ≡ its_bits)
-unfolding computing get_fh remove
-kept = leave_open its_open its_bits 90 102 made (writes ∷ worked.finds ∷ worked.removes ∷ worked.reads ∷ worked.misses ∷ []) (λ b last s. b ≡ its_bits) refl refl
-
-remove_ops : ops_of worked.found worked.removes ≡ take 1 (ops_of worked.found worked.removes) ++ removal ∷ []
-unfolding computing get_fh remove
-remove_ops = two nothing (ops_of worked.found worked.removes) refl
-
-taken_away : (is_there removal.before.store.tree 2 ≡ true) × (has_row removal.before.store.tree.rows 2 ≡ true) × (has_row removal.behind.store.tree.rows 2 ≡ false)
-unfolding computing get_fh remove
-taken_away = (refl, refl, refl)
-
 pub is_kept_open : IsKeptOpen
 unfolding computing get_fh remove
 is_kept_open = record {
   front = take 1 (ops_of outset makes);
   told = opening;
   ops = make_ops;
-  tells = tells;
+  tells = record { opens = record { asked = _; is = refl; names = refl; leads = refl }; client = refl; owner = refl; bits = refl };
   handle = handle;
-  kept = kept;
+  kept = leave_open its_open its_bits 90 102 made (writes ∷ worked.finds ∷ worked.removes ∷ worked.reads ∷ worked.misses ∷ []) (λ b last s. b ≡ its_bits) refl refl;
   until = take 1 (ops_of worked.found worked.removes);
   remove = removal;
-  last = remove_ops;
-  there = taken_away.0;
-  named = taken_away.1;
-  unnamed = taken_away.2;
+  last = two nothing (ops_of worked.found worked.removes) refl;
+  there = refl;
+  named = refl;
+  unnamed = refl;
   read = λ d. refl;
   none = refl;
   shut = refl;

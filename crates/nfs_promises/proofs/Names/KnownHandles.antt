@@ -1,7 +1,7 @@
 -- What is known of filehandles by what was sent and answered is so, in every run.
 use Rattle.std.proofs.Common.{◌≡◌, ℕ, zero, suc, ◌<◌, ◌^◌, Bool, true, false, cond, not, List, [], ◌∷◌, length, take, drop, get_or, Option, Some, None}
 use Rattle.std.proofs.Common.{refl, sym, ◌∙◌, ap, subst, arith, inl, inr}
-use Rattle.std.proofs.lemmas.Bool.{and_parts, and_from, not-true, eqb-true, ltb-true, true≢false}
+use Rattle.std.proofs.lemmas.Bool.{and_parts, and_from, not-true, eqb-true, ltb-true, false≢true, true≢false}
 use Rattle.std.proofs.{lemmas.List.{take_at, drop_at}, lemmas.Option.same_Some, lemmas.Slice.Eq.bytes_eq-Decides}
 use Rattle.std.specs.{Prelude.{◌==◌, bytes_eq, find, is_some, option_map, option_and_then}, Int.{w32, from_be_bytes}}
 use Rattle.std.specs.Option.{option_map_or}
@@ -21,26 +21,24 @@ use Rattle.nfs_attrs.specs.Handle.{handle_of}
 use Rattle.nfs_attrs.proofs.{Lengths.length_handle, Texts.handle_is}
 use Rattle.nfs_names.specs.{declared.start.Start.Start, declared.context.Context.Context}
 use Rattle.nfs_names.specs.{Checks.{saved_object, current}, Outcome.is_ok}
-use Rattle.nfs_files.proofs.WrittenOps.{number_back}
-use Rattle.nfs_files.proofs.ChangesTold.{some_same}
+use Rattle.nfs_names.proofs.NameLaws.{by_get_fh}
+use Rattle.nfs_files.proofs.{WrittenOps.{number_back, current_number}, ChangesTold.{Done, some_same}}
 use Rattle.nfs_exec.specs.Step.Machine.{Machine}
 use Rattle.nfs_promises.specs.Runs.Handles.{Gives}
-use Rattle.nfs_exec.specs.Runs.Ops.{RanOp, done, left_by, AreChained}
-use Rattle.nfs_exec.proofs.{Step.Instances.instance_kept, Runs.KeptByRuns.Is, Runs.OneRun.{IsRun, by_item}}
+use Rattle.nfs_exec.specs.Runs.Ops.{RanOp, left_by, AreChained}
+use Rattle.nfs_exec.proofs.{Step.Instances.instance_kept, Runs.KeptByRuns.Is, Runs.OneRun.{IsRun, by_item, by_ok}}
 use Rattle.nfs_promises.proofs.Runs.{LaterRecords.op_keeps, Handles.{handle_in, handle_read}}
 use Rattle.nfs_promises.proofs.Runs.Handles as handles
 use Rattle.nfs_promises.specs.Answers.Reasons.{Reason}
-use Rattle.nfs_promises.proofs.{Answers.NameReasons.get_fh_blames, Runs.StatusTold.is_told}
+use Rattle.nfs_promises.proofs.{Answers.NameReasons.get_fh_blames, Runs.StatusTold.{is_told, done_ok}}
 use Rattle.nfs_serve.specs.{Step.{ServerState, new_state}}
 use Rattle.nfs_promises.specs.{Network.Endpoint.Arrival, Names.KnownHandles.{Place, KnownName, Known, starts, is_at, object_of, directory_of, may_be, without}}
 use Rattle.nfs_promises.specs.Names.KnownHandles.{with_name, place_in, are_bytes, led_by, opened, given_in, behind, IsHandleOf, known_after, known_after_all}
-use Rattle.nfs_promises.specs.Names.{KnownHandles.{Tells, Follow, names_after, FollowThrough, root_of, HandlesFollow}, NameStays.{IsDone, TakesIt, Removed}}
-use Rattle.nfs_promises.specs.{Names.NameStays.{MovedAway, MovedOver, next_of, Links, Renames}, Runs.Points.{state_after, before, asked_by, ops_of}}
+use Rattle.nfs_promises.specs.Names.{KnownHandles.{Tells, Follow, names_after, FollowThrough, root_of, HandlesFollow}, NameStays.{TakesIt, Removed}}
+use Rattle.nfs_promises.specs.{Names.NameStays.{MovedAway, MovedOver, next_of}, Runs.Points.{state_after, before, asked_by, ops_of}}
 use Rattle.nfs_promises.proofs.Names.{Handles.{Has, has_next, number_in}, NameRows.{run_rows, kept_rows, takes_names, spared}}
-use Rattle.nfs_promises.proofs.{Names.NameStays.{RunsTo, AreLinked, rows, ran_as, as_step, asked_runs, missed, says_leads}, Runs.Points.{IsSound, whole_before}}
-use Rattle.nfs_promises.proofs.Runs.{Points.{sound_next, sound_new, next_is}, Seats.{Room, LedTo, PutTo, IsParent, OpenedTo, plain_same, was_put, root_put}}
-use Rattle.nfs_promises.proofs.Runs.Seats.{public_put, was_saved, was_restored, was_spent, looked_up, was_created, was_opened, by_name, parent_found}
-use Rattle.nfs_promises.proofs.Runs.Seats.{removed_so, renamed_as, linked_as, was_got}
+use Rattle.nfs_promises.proofs.{Names.NameStays.{RunsTo, AreLinked, rows, asked_runs, missed}, Runs.Points.{IsSound, whole_before}}
+use Rattle.nfs_promises.proofs.Runs.{Points.{sound_next, sound_new, next_is}, Seats.{AtRoot, LedTo, PutTo, IsParent, OpenedTo, Did, led_on, by_name, did}}
 
 -- A test for bytes.
 
@@ -60,20 +58,15 @@ given_back h long =
     ap (λ text. take (from_be_bytes w32 (take 4 text)) (drop 4 text)) text
     ∙ (ap (λ n. take n (drop 4 (opaque h))) size ∙ (ap (take (length h)) bytes ∙ take_at h _ (length h) refl))
 
--- What there is of an operation that was run.
-
--- the room that it ran in, and its answer there
-abbrev room_of : (d : RanOp) → IsRun d → Room
-room_of d r = record { limit = r.limit; sofar = r.sofar; now = r.now; refused = r.refused }
-
-was_ok : (d : RanOp) (r : IsRun d) (i : Item) → d.item ≡ i → is_ok d.status ≡ true → is_ok (ran_as d r i).outcome.status ≡ true
-was_ok d r i item ok = ap (λ (d : RanOp). is_ok d.status) (sym (as_step d r i item)) ∙ ok
-
-result_is : (d : RanOp) (r : IsRun d) (i : Item) → d.item ≡ i → d.result ≡ (ran_as d r i).outcome.result
-result_is d r i item = ap (λ (d : RanOp). d.result) (as_step d r i item)
-
-behind_is : (d : RanOp) (r : IsRun d) (i : Item) → d.item ≡ i → d.behind ≡ (ran_as d r i).outcome.machine
-behind_is d r i item = ap (λ (d : RanOp). d.behind) (as_step d r i item)
+-- A GETFH that was answered NFS4_OK gave the filehandle of the current object.
+was_got : (d : RanOp) → IsRun d → d.item ≡ Operation Op.GetFh → is_ok d.status ≡ true
+    → (n : ℕ) × (d.context.current ≡ Some n) × (d.result ≡ spell_result (Res.GetFh (handle_in d.before.store.opens.instance n)))
+was_got d r item ok =
+    let s = d.before.store in
+    let Got : List ℕ → Type 0 = λ text. (n : ℕ) × (d.context.current ≡ Some n) × (text ≡ spell_result (Res.GetFh (handle_in s.opens.instance n))) in
+    by_ok (λ text left. Got text) d r (Operation Op.GetFh) item ok
+    (by_get_fh (Done (λ o. Got (spell_result o.result))) s d.context (λ f h ok. absurd (false≢true (sym h.done ∙ ok)))
+    (λ k there ok. (k.number, current_number s d.context k there, refl)))
 
 -- a name leads to an object by rows
 abbrev Leads : List Row → ℕ → List ℕ → ℕ → Type 0
@@ -300,21 +293,17 @@ module _ (instance : ℕ) (low : instance < 2 ^ 32) where
   seat_same current saved x y s same =
       seat_put current saved current x y s same.1 (λ h e. at_again h _ _ same.0 (s.at_current h e))
 
-  led_seat : (k : Known) (name : List ℕ) (d : RanOp) (r : IsRun d) (i : Item) → d.item ≡ i → takes_names i ≡ false → Seated k.current k.saved d.context
-      → AllStand k.names (rows d.before) → (let s = ran_as d r i in LedTo name s.outcome.machine.store.tree d.context s.context → Seated (led_by name k).current k.saved s.context)
-  led_seat k name d r i item spares seated stand led =
-      seat_put k.current k.saved (led_by name k).current d.context (ran_as d r i).context seated led.saved (λ h e.
+  led_seat : (k : Known) (name : List ℕ) (d : RanOp) → IsRun d → takes_names d.item ≡ false → Seated k.current k.saved d.context → AllStand k.names (rows d.before)
+      → (y : Context) → LedTo name d.behind.store.tree d.context y → Seated (led_by name k).current k.saved y
+  led_seat k name d r spares seated stand y led =
+      seat_put k.current k.saved (led_by name k).current d.context y seated led.saved (λ h e.
       (let n = numbers k.names (rows d.before) k.current d.context.current name h stand seated.at_current e in
-      let kept = leads_kept d r n.directory name n.number n.leads (spared n.directory name d (ap takes_names item ∙ spares)) in
-      let at : led.directory ≡ n.directory = some_same d.context.current led.directory n.directory led.from n.at in
-      let leads : Leads (rows d.behind) n.directory name led.object =
-      subst (λ e. Leads (rows d.behind) e name led.object) at (subst (λ (m : Machine). Leads (rows m) led.directory name led.object) (sym (behind_is d r i item)) led.leads) in
-      (n.number, n.of_it, led.to ∙ (sym leads ∙ kept))))
+      let kept = leads_kept d r n.directory name n.number n.leads (spared n.directory name d spares) in
+      (n.number, n.of_it, led_on name d.behind.store.tree d.context y n.directory n.at led ∙ kept)))
 
-  led_came : (k : Known) (name : List ℕ) (d : RanOp) (r : IsRun d) (i : Item) → d.item ≡ i → Seated k.current k.saved d.context
-      → (let s = ran_as d r i in LedTo name s.outcome.machine.store.tree d.context s.context
-      → (p : Place) → place_in k.current name ≡ Some p → CameBy p s.context (rows d.behind))
-  led_came k name d r i item seated led p e =
+  led_came : (k : Known) (name : List ℕ) (d : RanOp) → Seated k.current k.saved d.context → (y : Context) → LedTo name d.behind.store.tree d.context y
+      → (p : Place) → place_in k.current name ≡ Some p → CameBy p y (rows d.behind)
+  led_came k name d seated y led p e =
       let h = placed k.current name p e in
       let at = seated.at_current h.0 h.1 in
       let same : at.0 ≡ led.directory = some_same d.context.current at.0 led.directory at.2 led.from in
@@ -322,8 +311,7 @@ module _ (instance : ℕ) (low : instance < 2 ^ 32) where
         directory = led.directory;
         object = led.object;
         in_it = subst (λ (p : Place). Its p.directory led.directory) (sym h.2) (subst (Its h.0) same at.1);
-        leads = subst (λ (p : Place). Leads (rows d.behind) led.directory p.name led.object) (sym h.2)
-            (subst (λ (m : Machine). Leads (rows m) led.directory name led.object) (sym (behind_is d r i item)) led.leads);
+        leads = subst (λ (p : Place). Leads (rows d.behind) led.directory p.name led.object) (sym h.2) led.leads;
         now = led.to;
       }
 
@@ -350,17 +338,16 @@ module _ (instance : ℕ) (low : instance < 2 ^ 32) where
   abbrev the_root : List ℕ
   the_root = root_of instance
 
-  root_at : (x y : Context) → y.current ≡ Some root → (g : List ℕ) → Some the_root ≡ Some g → IsAt g y.current
-  root_at x y at g e = (let same : the_root ≡ g = cc in (root, record { is = sym same; small = omega arith }, at))
+  root_at : (y : Context) → y.current ≡ Some root → (g : List ℕ) → Some the_root ≡ Some g → IsAt g y.current
+  root_at y at g e = (let same : the_root ≡ g = cc in (root, record { is = sym same; small = omega arith }, at))
 
   -- GETFH
   got_at : (d : RanOp) (r : IsRun d) → d.before.store.opens.instance ≡ instance → d.item ≡ Operation Op.GetFh → is_ok d.status ≡ true
       → (n : ℕ) × Its (given_in d.result) n × (d.context.current ≡ Some n)
   got_at d r own item ok =
-      let got = was_got (room_of d r) d.before d.context (was_ok d r (Operation Op.GetFh) item ok) in
+      let got = was_got d r item ok in
       let h = handle_in instance got.0 in
-      let told : d.result ≡ spell_result (Res.GetFh h) =
-      result_is d r (Operation Op.GetFh) item ∙ (got.2 ∙ ap (λ i. spell_result (Res.GetFh (handle_in i got.0))) own) in
+      let told : d.result ≡ spell_result (Res.GetFh h) = got.2 ∙ ap (λ i. spell_result (Res.GetFh (handle_in i got.0))) own in
       let long : length h ≡ 16 = length_handle (record { instance = instance; number = got.0 }) in
       let gives : Gives got.0 h d = record { is = item; at = got.1; short = omega (arith, long); answers = told } in
       (got.0, record { is = ap given_in told ∙ given_back h long; small = (handles.given_in d r got.0 h gives).small }, got.1)
@@ -405,11 +392,8 @@ module _ (instance : ℕ) (low : instance < 2 ^ 32) where
     abbrev r : IsRun d
     r = to.run
 
-    abbrev room : Room
-    room = room_of d r
-
-    abbrev after : Item → Context
-    after i = (ran_as d r i).context
+    seat_root : (y : Context) → AtRoot d.context y → Seated (Some the_root) k.saved y
+    seat_root y p = seat_put k.current k.saved (Some the_root) d.context y seated p.1 (root_at y p.0)
 
     names_behind : (i : Item) → d.item ≡ i → AllStand (behind the_root k i d.result).names (rows d.behind)
     names_behind (Operation Op.GetFh) item = by_known (is_some k.current)
@@ -437,15 +421,15 @@ module _ (instance : ℕ) (low : instance < 2 ^ 32) where
         (let at = placed k.current name p place in
         let in_it = seated.at_current at.0 at.1 in
         let of_it = seated.at_saved h object in
-        let is : IsDone Num.Link d.result =
-        subst (IsDone Num.Link) (sym (result_is d r (Operation (Op.Link name)) item))
-        ((linked_as room d.before d.context name).0 (was_ok d r (Operation (Op.Link name)) item ok)) in
+        let linked = (did d r (Operation (Op.Link name)) item ok).1 in
+        let to = some_same d.context.current linked.directory in_it.0 linked.from in_it.2 in
+        let of = some_same (saved_object d.context.saved) linked.object of_it.0 linked.saved of_it.2 in
         subst (λ p. StandsIn (rows d.behind) (record { place = p; object = h })) (sym at.2) (record {
-          directory = in_it.0;
-          object = of_it.0;
-          in_it = in_it.1;
-          of_it = of_it.1;
-          leads = says_leads (record { directory = in_it.0; name = name; object = of_it.0 }) d next to (Links item in_it.2 of_it.2 is);
+          directory = linked.directory;
+          object = linked.object;
+          in_it = subst (Its at.0) (sym to) in_it.1;
+          of_it = subst (Its h) (sym of) of_it.1;
+          leads = linked.leads;
         })))
     names_behind (Operation (Op.Remove name)) item = removed_stand d r name item k seated stand
     names_behind (Operation (Op.Rename a)) item =
@@ -454,15 +438,15 @@ module _ (instance : ℕ) (low : instance < 2 ^ 32) where
         (let at = placed k.current a.newname p place in
         let in_it = seated.at_current at.0 at.1 in
         let n = numbers k.names (rows d.before) k.saved (saved_object d.context.saved) a.oldname h stand seated.at_saved object in
-        let is : IsDone Num.Rename d.result =
-        subst (IsDone Num.Rename) (sym (result_is d r (Operation (Op.Rename a)) item))
-        ((renamed_as room d.before d.context a).0 (was_ok d r (Operation (Op.Rename a)) item ok)) in
+        let renamed = (did d r (Operation (Op.Rename a)) item ok).1 in
+        let to = some_same d.context.current renamed.target in_it.0 renamed.to in_it.2 in
+        let from = some_same (saved_object d.context.saved) renamed.source n.directory renamed.from n.at in
         subst (λ p. StandsIn (rows d.behind) (record { place = p; object = h })) (sym at.2) (record {
-          directory = in_it.0;
+          directory = renamed.target;
           object = n.number;
-          in_it = in_it.1;
+          in_it = subst (Its at.0) (sym to) in_it.1;
           of_it = n.of_it;
-          leads = says_leads (record { directory = in_it.0; name = a.newname; object = n.number }) d next to (Renames a item refl in_it.2 n.directory n.at n.leads is);
+          leads = renamed.leads n.number (subst (λ e. Leads (rows d.before) e a.oldname n.number) (sym from) n.leads);
         })))
     names_behind (Operation (Op.Open a)) item =
         subst (λ names. AllStand names (rows d.behind)) (sym (open_names a.claim)) (plain_kept d r k.names stand (ap takes_names item))
@@ -472,70 +456,53 @@ module _ (instance : ℕ) (low : instance < 2 ^ 32) where
         open_names claim = refl
     names_behind i item = plain_kept d r k.names stand (ap takes_names item)
 
-    seats_behind : (i : Item) → d.item ≡ i → (let b = behind the_root k i d.result in Seated b.current b.saved (after i))
-    seats_behind (Operation (Op.PutFh h)) item =
-        let p = was_put room d.before d.context h (was_ok d r (Operation (Op.PutFh h)) item ok) in
-        seat_put k.current k.saved _ d.context (after (Operation (Op.PutFh h))) seated p.saved
-        (put_at h d.before.store.opens.instance d.context (after (Operation (Op.PutFh h))) p own (are_bytes h) refl)
-    seats_behind (Operation Op.PutRootFh) item =
-        let p = root_put room d.before d.context (was_ok d r (Operation Op.PutRootFh) item ok) in
-        seat_put k.current k.saved (Some the_root) d.context (after (Operation Op.PutRootFh)) seated p.1 (root_at d.context (after (Operation Op.PutRootFh)) p.0)
-    seats_behind (Operation Op.PutPubFh) item =
-        let p = public_put room d.before d.context (was_ok d r (Operation Op.PutPubFh) item ok) in
-        seat_put k.current k.saved (Some the_root) d.context (after (Operation Op.PutPubFh)) seated p.1 (root_at d.context (after (Operation Op.PutPubFh)) p.0)
-    seats_behind (Operation Op.GetFh) item =
+    seats_behind : (i : Item) (y : Context) → d.item ≡ i → Did i d.before.store d.context d.behind.store y
+        → (let b = behind the_root k i d.result in Seated b.current b.saved y)
+    seats_behind (Operation (Op.PutFh h)) y item p =
+        seat_put k.current k.saved _ d.context y seated p.saved (put_at h d.before.store.opens.instance d.context y p own (are_bytes h) refl)
+    seats_behind (Operation Op.PutRootFh) y item p = seat_root y p
+    seats_behind (Operation Op.PutPubFh) y item p = seat_root y p
+    seats_behind (Operation Op.GetFh) y item p =
         let got = got_at d r own item ok in
-        let same = plain_same room d.before d.context (Operation Op.GetFh) refl in
-        seat_put k.current k.saved (Some (given_in d.result)) d.context (after (Operation Op.GetFh)) seated same.1 (λ h e.
-        (let is : given_in d.result ≡ h = cc in (got.0, subst (λ h. Its h got.0) is got.1, same.0 ∙ got.2)))
-    seats_behind (Operation Op.SaveFh) item =
-        let p = was_saved room d.before d.context (was_ok d r (Operation Op.SaveFh) item ok) in
+        seat_put k.current k.saved (Some (given_in d.result)) d.context y seated p.1 (λ h e.
+        (let is : given_in d.result ≡ h = cc in (got.0, subst (λ h. Its h got.0) is got.1, p.0 ∙ got.2)))
+    seats_behind (Operation Op.SaveFh) y item p =
         record { at_current = λ h e. at_again h _ _ p.0 (seated.at_current h e); at_saved = λ h e. at_again h _ _ p.1 (seated.at_current h e) }
-    seats_behind (Operation Op.RestoreFh) item =
-        let p = was_restored room d.before d.context (was_ok d r (Operation Op.RestoreFh) item ok) in
-        seat_put k.current k.saved k.saved d.context (after (Operation Op.RestoreFh)) seated p.1 (λ h e. at_again h _ _ p.0 (seated.at_saved h e))
-    seats_behind (Operation (Op.Lookup name)) item =
-        led_seat k name d r (Operation (Op.Lookup name)) item refl seated stand (looked_up room d.before d.context name (was_ok d r (Operation (Op.Lookup name)) item ok))
-    seats_behind (Operation Op.LookupP) item =
-        let p = parent_found room d.before d.context (was_ok d r (Operation Op.LookupP) item ok) in
-        seat_put k.current k.saved _ d.context (after (Operation Op.LookupP)) seated p.saved (parent_at k d (after (Operation Op.LookupP)) r.whole seated stand p)
-    seats_behind (Operation (Op.Create a)) item =
-        led_seat k a.objname d r (Operation (Op.Create a)) item refl seated stand (was_created room d.before d.context a (was_ok d r (Operation (Op.Create a)) item ok))
-    seats_behind (Operation (Op.Open a)) item = by_claim a.claim (was_opened room d.before d.context a (was_ok d r (Operation (Op.Open a)) item ok))
+    seats_behind (Operation Op.RestoreFh) y item p = seat_put k.current k.saved k.saved d.context y seated p.1 (λ h e. at_again h _ _ p.0 (seated.at_saved h e))
+    seats_behind (Operation (Op.Lookup name)) y item p = led_seat k name d r (ap takes_names item) seated stand y p.1
+    seats_behind (Operation Op.LookupP) y item p = seat_put k.current k.saved _ d.context y seated p.saved (parent_at k d y r.whole seated stand p)
+    seats_behind (Operation (Op.Create a)) y item p = led_seat k a.objname d r (ap takes_names item) seated stand y p
+    seats_behind (Operation (Op.Open a)) y item p = by_claim a.claim p
       where
-        by_claim : (claim : OpenClaim) → (let s = ran_as d r (Operation (Op.Open a)) in OpenedTo claim s.outcome.machine.store.tree d.context s.context
-            → Seated (opened claim k).current (opened claim k).saved s.context)
-        by_claim (Null name) is = led_seat k name d r (Operation (Op.Open a)) item refl seated stand
-            (by_name name (ran_as d r (Operation (Op.Open a))).outcome.machine.store.tree d.context (after (Operation (Op.Open a))) is)
-        by_claim claim is = seat_same k.current k.saved d.context (after (Operation (Op.Open a))) seated (sym is.0, is.3)
-    seats_behind (Operation (Op.SecinfoNoName style)) item =
-        seat_put k.current k.saved None d.context (after (Operation (Op.SecinfoNoName style))) seated
-        (was_spent room d.before d.context style (was_ok d r (Operation (Op.SecinfoNoName style)) item ok)) (λ h e. absurd cc)
-    seats_behind i item = seat_same k.current k.saved d.context (after i) seated (plain_same room d.before d.context i refl)
+        by_claim : (claim : OpenClaim) → OpenedTo claim d.behind.store.tree d.context y → Seated (opened claim k).current (opened claim k).saved y
+        by_claim (Null name) is = led_seat k name d r (ap takes_names item) seated stand y (by_name name d.behind.store.tree d.context y is)
+        by_claim claim is = seat_same k.current k.saved d.context y seated (sym is.0, is.3)
+    seats_behind (Operation (Op.SecinfoNoName style)) y item p = seat_put k.current k.saved None d.context y seated p (λ h e. absurd cc)
+    seats_behind (Operation (Op.Link name)) y item p = seat_same k.current k.saved d.context y seated p.0
+    seats_behind (Operation (Op.Remove name)) y item p = seat_same k.current k.saved d.context y seated p.0
+    seats_behind (Operation (Op.Rename a)) y item p = seat_same k.current k.saved d.context y seated p.0
+    seats_behind i y item p = seat_same k.current k.saved d.context y seated p
 
-    came_behind : (i : Item) → d.item ≡ i → (p : Place) → (behind the_root k i d.result).came_by ≡ Some p → CameBy p (after i) (rows d.behind)
-    came_behind (Operation (Op.PutFh h)) item p e = absurd cc
-    came_behind (Operation Op.PutRootFh) item p e = absurd cc
-    came_behind (Operation Op.PutPubFh) item p e = absurd cc
-    came_behind (Operation Op.SaveFh) item p e =
-        came_kept p d r (after (Operation Op.SaveFh)) (ap takes_names item) (was_saved room d.before d.context (was_ok d r (Operation Op.SaveFh) item ok)).0 (came p e)
-    came_behind (Operation Op.RestoreFh) item p e = absurd cc
-    came_behind (Operation (Op.Lookup name)) item p e =
-        led_came k name d r (Operation (Op.Lookup name)) item seated (looked_up room d.before d.context name (was_ok d r (Operation (Op.Lookup name)) item ok)) p e
-    came_behind (Operation Op.LookupP) item p e = absurd cc
-    came_behind (Operation (Op.Create a)) item p e =
-        led_came k a.objname d r (Operation (Op.Create a)) item seated (was_created room d.before d.context a (was_ok d r (Operation (Op.Create a)) item ok)) p e
-    came_behind (Operation (Op.Open a)) item p e = by_claim a.claim (was_opened room d.before d.context a (was_ok d r (Operation (Op.Open a)) item ok)) e
+    came_behind : (i : Item) (y : Context) → d.item ≡ i → Did i d.before.store d.context d.behind.store y
+        → (p : Place) → (behind the_root k i d.result).came_by ≡ Some p → CameBy p y (rows d.behind)
+    came_behind (Operation (Op.PutFh h)) y item done p e = absurd cc
+    came_behind (Operation Op.PutRootFh) y item done p e = absurd cc
+    came_behind (Operation Op.PutPubFh) y item done p e = absurd cc
+    came_behind (Operation Op.SaveFh) y item done p e = came_kept p d r y (ap takes_names item) done.0 (came p e)
+    came_behind (Operation Op.RestoreFh) y item done p e = absurd cc
+    came_behind (Operation (Op.Lookup name)) y item done p e = led_came k name d seated y done.1 p e
+    came_behind (Operation Op.LookupP) y item done p e = absurd cc
+    came_behind (Operation (Op.Create a)) y item done p e = led_came k a.objname d seated y done p e
+    came_behind (Operation (Op.Open a)) y item done p e = by_claim a.claim done e
       where
-        by_claim : (claim : OpenClaim) → (let s = ran_as d r (Operation (Op.Open a)) in OpenedTo claim s.outcome.machine.store.tree d.context s.context
-            → (opened claim k).came_by ≡ Some p → CameBy p s.context (rows d.behind))
-        by_claim (Null name) is e = led_came k name d r (Operation (Op.Open a)) item seated
-            (by_name name (ran_as d r (Operation (Op.Open a))).outcome.machine.store.tree d.context (after (Operation (Op.Open a))) is) p e
-        by_claim claim is e = came_kept p d r (after (Operation (Op.Open a))) (ap takes_names item) (sym is.0) (came p e)
-    came_behind (Operation (Op.Remove name)) item p e = absurd cc
-    came_behind (Operation (Op.Rename a)) item p e = absurd cc
-    came_behind (Operation (Op.SecinfoNoName style)) item p e = absurd cc
-    came_behind i item p e = came_kept p d r (after i) (ap takes_names item) (plain_same room d.before d.context i refl).0 (came p e)
+        by_claim : (claim : OpenClaim) → OpenedTo claim d.behind.store.tree d.context y → (opened claim k).came_by ≡ Some p → CameBy p y (rows d.behind)
+        by_claim (Null name) is e = led_came k name d seated y (by_name name d.behind.store.tree d.context y is) p e
+        by_claim claim is e = came_kept p d r y (ap takes_names item) (sym is.0) (came p e)
+    came_behind (Operation (Op.Link name)) y item done p e = came_kept p d r y (ap takes_names item) done.0.0 (came p e)
+    came_behind (Operation (Op.Remove name)) y item done p e = absurd cc
+    came_behind (Operation (Op.Rename a)) y item done p e = absurd cc
+    came_behind (Operation (Op.SecinfoNoName style)) y item done p e = absurd cc
+    came_behind i y item done p e = came_kept p d r y (ap takes_names item) done.0 (came p e)
 
   -- What an operation tells.
 
@@ -543,11 +510,10 @@ module _ (instance : ℕ) (low : instance < 2 ^ 32) where
   tells d r k own holds = record {
     gives = λ h known item ok.
         (let at = holds.seated.at_current h known in
-        let got = was_got (room_of d r) d.before d.context (was_ok d r (Operation Op.GetFh) item ok) in
+        let got = was_got d r item ok in
         let same : got.0 ≡ at.0 = some_same d.context.current got.0 at.0 got.1 at.2 in
-        result_is d r (Operation Op.GetFh) item
-        ∙ (got.2 ∙ (ap (λ i. spell_result (Res.GetFh (handle_in i got.0))) own
-        ∙ (ap (λ n. spell_result (Res.GetFh (handle_in instance n))) same ∙ ap (λ h. spell_result (Res.GetFh h)) (sym at.1.is)))));
+        got.2 ∙ (ap (λ i. spell_result (Res.GetFh (handle_in i got.0))) own
+        ∙ (ap (λ n. spell_result (Res.GetFh (handle_in instance n))) same ∙ ap (λ h. spell_result (Res.GetFh h)) (sym at.1.is))));
     there = λ h known item told.
         (let at = holds.seated.at_current h known in
         got_there d r at.0 at.2 item told);
@@ -565,29 +531,15 @@ module _ (instance : ℕ) (low : instance < 2 ^ 32) where
   begun : (names : List KnownName) (rs : List Row) (next : Option Context) → Begins (starts names) rs next
   begun names rs next x e = (record { at_current = λ h e. absurd cc; at_saved = λ h e. absurd cc }, λ p e. absurd cc)
 
-  refused_names : (d : RanOp) → IsRun d → (names : List KnownName) → AllStand names (rows d.before) → is_ok d.status ≡ false → (i : Item) → d.item ≡ i
-      → AllStand names (rows d.behind)
-  refused_names d r names stand failed (Operation (Op.Remove name)) item k there = stands_kept d r k (stand k there) (λ n bears. by_take n)
-    where
-      none : IsDone Num.Remove d.result → ⊥
-      none is = (removed_so (room_of d r) d.before d.context name).1 (ap (λ (d : RanOp). is_ok d.status) (sym (as_step d r (Operation (Op.Remove name)) item)) ∙ failed)
-          (subst (IsDone Num.Remove) (result_is d r (Operation (Op.Remove name)) item) is)
+  -- what was refused takes none
+  took : (d : RanOp) → IsRun d → (n : ℕ) (name : List ℕ) → TakesIt n name d → is_ok d.status ≡ true
+  took d r n name (Removed is at done) = done_ok d r Num.Remove done
+  took d r n name (MovedAway a is old saved done) = done_ok d r Num.Rename done
+  took d r n name (MovedOver a is new at done) = done_ok d r Num.Rename done
 
-      by_take : (n : ℕ) → TakesIt n k.place.name d → ⊥
-      by_take n (Removed is at done) = none done
-      by_take n (MovedAway a is old saved done) = (let bad : Operation (Op.Rename a) ≡ Operation (Op.Remove name) = sym is ∙ item in absurd cc)
-      by_take n (MovedOver a is new at done) = (let bad : Operation (Op.Rename a) ≡ Operation (Op.Remove name) = sym is ∙ item in absurd cc)
-  refused_names d r names stand failed (Operation (Op.Rename a)) item k there = stands_kept d r k (stand k there) (λ n bears. by_take n)
-    where
-      none : IsDone Num.Rename d.result → ⊥
-      none is = (renamed_as (room_of d r) d.before d.context a).1 (ap (λ (d : RanOp). is_ok d.status) (sym (as_step d r (Operation (Op.Rename a)) item)) ∙ failed)
-          (subst (IsDone Num.Rename) (result_is d r (Operation (Op.Rename a)) item) is)
-
-      by_take : (n : ℕ) → TakesIt n k.place.name d → ⊥
-      by_take n (Removed is at done) = (let bad : Operation (Op.Remove k.place.name) ≡ Operation (Op.Rename a) = sym is ∙ item in absurd cc)
-      by_take n (MovedAway b is old saved done) = none done
-      by_take n (MovedOver b is new at done) = none done
-  refused_names d r names stand failed i item k there = plain_kept d r names stand (ap takes_names item) k there
+  refused_names : (d : RanOp) → IsRun d → (names : List KnownName) → AllStand names (rows d.before) → is_ok d.status ≡ false → AllStand names (rows d.behind)
+  refused_names d r names stand failed k there =
+      stands_kept d r k (stand k there) (λ n bears takes. false≢true (sym failed ∙ took d r n k.place.name takes))
 
   record Steps (k : Known) (d : RanOp) (next : Option Context) : Type 0 where
     pub begins : Begins (known_after the_root k d) (rows d.behind) next
@@ -601,11 +553,10 @@ module _ (instance : ℕ) (low : instance < 2 ^ 32) where
           let after : known_after the_root k d ≡ behind the_root k d.item d.result = ap (λ b. cond b (behind the_root k d.item d.result) k) ok in
           record {
             begins = subst (λ k. Begins k (rows d.behind) next) (sym after) (λ x e.
-                subst (λ x. Seated (behind the_root k d.item d.result).current (behind the_root k d.item d.result).saved x
-                × ((p : Place) → (behind the_root k d.item d.result).came_by ≡ Some p → CameBy p x (rows d.behind))) (sym (to.hands x e)) (
-                  seats_behind d next to k own ok holds.seated holds.came holds.names d.item refl,
-                  came_behind d next to k own ok holds.seated holds.came holds.names d.item refl,
-                ));
+                (let done = subst (Did d.item d.before.store d.context d.behind.store) (sym (to.hands x e)) (did d to.run d.item refl ok) in (
+                  seats_behind d next to k own ok holds.seated holds.came holds.names d.item x refl done,
+                  came_behind d next to k own ok holds.seated holds.came holds.names d.item x refl done,
+                )));
             names = subst (λ (k : Known). AllStand k.names (rows d.behind)) (sym after)
                 (names_behind d next to k own ok holds.seated holds.came holds.names d.item refl);
           }
@@ -613,7 +564,7 @@ module _ (instance : ℕ) (low : instance < 2 ^ 32) where
           let after : known_after the_root k d ≡ k = ap (λ b. cond b (behind the_root k d.item d.result) k) failed in
           record {
             begins = λ x e. absurd (let bad : None ≡ Some x = sym (to.stops failed) ∙ e in cc);
-            names = subst (λ (k : Known). AllStand k.names (rows d.behind)) (sym after) (refused_names d to.run k.names holds.names failed d.item refl);
+            names = subst (λ (k : Known). AllStand k.names (rows d.behind)) (sym after) (refused_names d to.run k.names holds.names failed);
           }
 
   -- what is known before each operation is so

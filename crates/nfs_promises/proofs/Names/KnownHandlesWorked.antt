@@ -6,27 +6,14 @@ use Rattle.nfs_results.specs.Items as results
 use Rattle.nfs_results.specs.declared.res.Res.TheVariants as Res
 use Rattle.nfs_results.specs.Results.{spell_result}
 use Rattle.nfs_names.specs.{Checks.both, GetFh.get_fh, Link.link, Rename.rename, RestoreFh.restore_fh, SaveFh.save_fh}
-use Rattle.nfs_promises.specs.Names.{HandlesWorked.given, KnownHandles.{starts, Follow, names_after}, KnownHandlesWorked.{finds, links, renames, found, linked}}
+use Rattle.nfs_promises.specs.Names.{HandlesWorked.given, KnownHandles.{starts, Follow}, KnownHandlesWorked.{finds, links, renames, found, linked}}
 use Rattle.nfs_promises.specs.Names.KnownHandlesWorked.{root, another, f, g, h, IsKnown, but_for, answering, no_handle, giving, HandlesRefused}
 use Rattle.nfs_promises.specs.{Names.NameStays.finds_none, Runs.Points.ops_of, Bytes.WrittenStaysWorked.made}
 use Rattle.nfs_promises.proofs.Runs.Computing.{computing}
 
--- The parts of the run, each computed by itself.
-
-found_f : names_after root [] made finds ≡ f ∷ []
-unfolding computing get_fh
-found_f = refl
-
-linked_g : names_after root (f ∷ []) found links ≡ g ∷ f ∷ []
-unfolding computing get_fh save_fh both link
-linked_g = refl
-
-renamed_h : names_after root (g ∷ f ∷ []) linked renames ≡ h ∷ g ∷ []
-unfolding computing get_fh save_fh both link rename rename_args results.rename restore_fh
-renamed_h = refl
-
 pub is_known : IsKnown
-is_known = record { found_f = found_f; linked_g = linked_g; renamed_h = renamed_h }
+unfolding computing get_fh save_fh both link rename rename_args results.rename restore_fh
+is_known = record { found_f = refl; linked_g = refl; renamed_h = refl }
 
 -- the last byte of a filehandle that GETFH gives
 another_given : spell_result (Res.GetFh another) ≡ spell_result (Res.GetFh given) → ⊥

@@ -2,7 +2,7 @@
 use Rattle.std.proofs.Common.{◌≡◌, ℕ, suc, ◌<◌, ◌≤◌, true, false, List, [], ◌∷◌, ◌++◌, Option, Some, None, refl, sym, ◌∙◌, ap, subst, arith, inl, inr}
 use Rattle.std.proofs.{lemmas.Bool.{cases_Bool, cases_lt, eq-eqb, ne_eqb}, lemmas.Slice.Eq.bytes_eq-Decides}
 use Rattle.std.specs.Prelude.{◌==◌, bytes_eq}
-use Rattle.nfs_xdr.specs.{Tables.In, declared.status.Status.TheVariants.RepTooBig}
+use Rattle.nfs_xdr.specs.Tables.{In}
 use Rattle.nfs_xdr.proofs.Lists.{find_in}
 use Rattle.nfs_compound.specs.declared.op.Item.TheVariants.{Operation}
 use Rattle.nfs_compound.specs.declared.op.Op.TheVariants as Op
@@ -13,13 +13,13 @@ use Rattle.nfs_tree.specs.{declared.row.Row.Row, Files.{is_entry, entry}}
 use Rattle.nfs_attrs.specs.Mask.{mask_of}
 use Rattle.nfs_names.specs.{declared.start.Start.Start, declared.context.Context.Context}
 use Rattle.nfs_exec.specs.Runs.Ops.{RanOp}
-use Rattle.nfs_exec.proofs.Runs.WhatWasDone.{IsRun, in_room_is}
+use Rattle.nfs_exec.proofs.Runs.OneRun.{IsRun, by_ok}
 use Rattle.nfs_serve.specs.{Step.{ServerState, new_state}}
 use Rattle.nfs_promises.specs.{Bytes.ChangeTells.RunsIn, Network.Endpoint.Arrival, Names.ListsAll.{Page, IsPage, last_cookie, ArePages, entries_of, entry_in}}
 use Rattle.nfs_promises.specs.Names.{ListsAll.{IsListedOnce, RowsAreListed, PagesAreParts, all_ops, NamesAreListed, GoneIsUnlisted}, NameStays.TakesIt}
 use Rattle.nfs_promises.specs.Names.NameStays.{MakesIt, HoldsWhile, AllSpare, HoldsThrough, HoldsFrom, row_of, LeadsBefore, MissesBefore}
 use Rattle.nfs_promises.specs.Runs.Points.{state_after, reached, ops_of}
-use Rattle.nfs_promises.proofs.{Runs.{LaterRecords.{run_done, later_done}, Points.{sound_all, sound_new}}, Names.{NameSaid.not_done, NameStays.as_step}}
+use Rattle.nfs_promises.proofs.Runs.{LaterRecords.{run_done, later_done}, Points.{sound_all, sound_new}, StatusTold.done_ok}
 use Rattle.nfs_promises.proofs.Names.{NameStays.{name_stays, gone_stays}, PageLists.{Rises, times, times_both, counted_same, last_up, front_rises, rest_rises}}
 use Rattle.nfs_promises.proofs.Names.{PageLists.{in_page, none_low, none_high, once_in, in_both, first_in, second_in, in_flat}, PageRows.entry_cookie}
 use Rattle.nfs_promises.proofs.Names.PageRows.{entry_name, Lists, page_told, one_row, one_cookie, some_cookie}
@@ -32,13 +32,10 @@ Told p n c = Lists p.op.before.store (mask_of p.asked.attr_request) n c p.told
 pub page_lists : (p : Page) (n c : ℕ) → IsRun p.op → IsPage n c p → Told p n c
 page_lists p n c run is =
     let d = p.op in
-    let i = Operation (Op.ReadDir p.asked) in
-    let Lists : List ℕ → Type 0 = λ result. result ≡ spell_result (Res.ReadDir p.told) → Told p n p.asked.cookie in
+    let ok = done_ok d run Num.ReadDir ((parts (Res.ReadDir p.told)).behind, is.answers) in
     subst (Told p n) is.from
-    (in_room_is (λ s. Lists s.outcome.result) run.limit run.sofar run.now run.refused d.before d.context i
-    (λ e. absurd (not_done Num.ReadDir 26 RepTooBig refl ((parts (Res.ReadDir p.told)).behind, e)))
-    (page_told d.before.store d.context p.asked n p.told run.whole.tree is.at is.valid)
-    (sym (ap (λ (d : RanOp). d.result) (as_step d run i is.is)) ∙ is.answers))
+    (by_ok (λ text left. text ≡ spell_result (Res.ReadDir p.told) → Told p n p.asked.cookie) d run (Operation (Op.ReadDir p.asked)) is.is ok
+    (λ fine told. page_told d.before.store d.context p.asked n p.told run.whole.tree is.at is.valid told) is.answers)
 
 -- How often a cookie is listed that a row has.
 
@@ -179,7 +176,7 @@ pages_are_parts start records n c p runs page =
 
 -- What operations said, up to a point.
 
-abbrev HoldsFor : (P Spares : RanOp → Type 0) → List RanOp → Type 0
+abbrev pub HoldsFor : (P Spares : RanOp → Type 0) → List RanOp → Type 0
 HoldsFor P Spares [] = Unit {0}
 HoldsFor P Spares (d ∷ more) = P d × (Spares d → HoldsFor P Spares more)
 

@@ -16,9 +16,9 @@ use Rattle.nfs_names.specs.{ReadDir.{entry_of, fitting, read_dir, zeros}, Remove
 use Rattle.nfs_exec.specs.Runs.Ops.{RanOp}
 use Rattle.nfs_promises.specs.{Locks.LockKeptWorked.last_of, Names.{ListsAll.{Page, IsPage, all_ops}, ListsAllWorked.{makes_more, first, removes, second}}}
 use Rattle.nfs_promises.specs.Names.ListsAllWorked.{third, later, more, begun, removed, gone_on, entry, told, page, g, IsListedInPages, ListingsAreRefused}
-use Rattle.nfs_promises.specs.{Names.NameStays.{TakesIt, Removed, MovedAway, MovedOver, Says, Opens, AllSpare, next_of}, Runs.Points.ops_of}
+use Rattle.nfs_promises.specs.{Names.NameStays.{TakesIt, Removed, MovedAway, MovedOver, Opens, AllSpare}, Runs.Points.ops_of}
 use Rattle.nfs_promises.specs.Bytes.WrittenStaysWorked.{made}
-use Rattle.nfs_promises.proofs.{Runs.{Computing.computing, LastOperation.nothing}, Names.{PageLists.{first_in, second_in}, PageRows.entry_name}}
+use Rattle.nfs_promises.proofs.{Runs.{Computing.computing, LastOperation.{nothing, last_there, each_of}}, Names.{PageLists.{first_in, second_in}, PageRows.entry_name}}
 
 -- Lists of few operations.
 
@@ -35,12 +35,6 @@ second_there x [] e = absurd (omega arith)
 second_there x (a ∷ []) e = absurd (omega arith)
 second_there x (a ∷ b ∷ ds) e = refl
 
-last_there : (x : RanOp) (ds : List RanOp) → length ds ≡ 2 → In (last_of x ds) ds
-last_there x [] e = absurd (omega arith)
-last_there x (a ∷ []) e = absurd (omega arith)
-last_there x (a ∷ b ∷ []) e = inr (inl refl)
-last_there x (a ∷ b ∷ c ∷ ds) e = absurd (omega arith)
-
 -- What spares a name.
 
 abbrev takes : List ℕ → Item → Bool
@@ -53,16 +47,8 @@ spared directory name d e (Removed is at done) = true≢false (sym (ap (takes na
 spared directory name d e (MovedAway a is old saved done) = true≢false (sym (ap (takes name) is) ∙ e)
 spared directory name d e (MovedOver a is new at done) = true≢false (sym (ap (takes name) is) ∙ e)
 
-abbrev all_spare : List ℕ → List RanOp → Bool
-all_spare name [] = true
-all_spare name (d ∷ ds) = not (takes name d.item) && all_spare name ds
-
-all_spared : (directory : ℕ) (name : List ℕ) (ds : List RanOp) → all_spare name ds ≡ true → AllSpare (λ d. TakesIt directory name d → ⊥) ds
-all_spared directory name [] e d there = absurd there
-all_spared directory name (x ∷ ds) e d there = (let p = and_parts _ _ e in elim there [
-  | inl here ↦ subst (λ d. TakesIt directory name d → ⊥) (sym here) (spared directory name x (not-true _ p.0))
-  | inr behind ↦ all_spared directory name ds p.1 d behind
-])
+all_spared : (directory : ℕ) (name : List ℕ) (ds : List RanOp) → list_all (λ d. not (takes name d.item)) ds ≡ true → AllSpare (λ d. TakesIt directory name d → ⊥) ds
+all_spared directory name = each_of (λ d. TakesIt directory name d → ⊥) (λ d. not (takes name d.item)) (λ d e. spared directory name d (not-true _ e))
 
 -- Pages that XDR has.
 
@@ -103,18 +89,6 @@ two = last_of nothing (ops_of removed second)
 abbrev three : RanOp
 three = last_of nothing (ops_of gone_on third)
 
-ops : opens ≡ take 1 opens ++ opening ∷ back
-unfolding computing
-ops = second_there nothing opens refl
-
-says : Says g opening (next_of back)
-unfolding computing
-says = Opens _ refl refl refl 2 refl (_, refl, refl)
-
-all_spared_until : AllSpare (λ d. TakesIt g.directory g.name d → ⊥) (back ++ all_ops more later)
-unfolding computing read_dir_args values entry_of fitting read_dir results.entry results.fattr listing.read_dir remove
-all_spared_until = all_spared g.directory g.name (back ++ all_ops more later) refl
-
 first_page : IsPage root 0 (page one 0 (told (entry 3 0x66 ∷ []) false))
 unfolding computing read_dir_args values entry_of fitting read_dir results.entry results.fattr listing.read_dir
 first_page = record { is = refl; at = refl; from = refl; valid = page_fits 3 0x66 false (omega arith) refl; answers = refl }
@@ -129,15 +103,15 @@ third_page = record { is = refl; at = refl; from = refl; valid = page_fits 5 0x6
 
 one_there : In one (ops_of more first)
 unfolding computing read_dir_args values entry_of fitting read_dir results.entry results.fattr listing.read_dir
-one_there = last_there nothing (ops_of more first) refl
+one_there = last_there nothing (ops_of more first) 1 refl
 
 two_there : In two (ops_of removed second)
 unfolding computing read_dir_args values entry_of fitting read_dir results.entry results.fattr listing.read_dir remove
-two_there = last_there nothing (ops_of removed second) refl
+two_there = last_there nothing (ops_of removed second) 1 refl
 
 three_there : In three (ops_of gone_on third)
 unfolding computing read_dir_args values entry_of fitting read_dir results.entry results.fattr listing.read_dir remove
-three_there = last_there nothing (ops_of gone_on third) refl
+three_there = last_there nothing (ops_of gone_on third) 1 refl
 
 all_run : (p : Page)
     → In p (page one 0 (told (entry 3 0x66 ∷ []) false) ∷ page two 3 (told (entry 4 0x67 ∷ []) false) ∷ page three 4 (told (entry 5 0x68 ∷ []) true) ∷ [])
@@ -153,13 +127,14 @@ all_run p (inr (inr (inl is))) = subst (λ (p : Page). In p.op (back ++ all_ops 
 all_run p (inr (inr (inr none))) = absurd none
 
 pub is_listed_in_pages : IsListedInPages
+unfolding computing read_dir_args values entry_of fitting read_dir results.entry results.fattr listing.read_dir remove
 is_listed_in_pages = record {
   front = take 1 opens;
   opening = opening;
   back = back;
-  ops = ops;
-  says = says;
-  spared = all_spared_until;
+  ops = second_there nothing opens refl;
+  says = Opens _ refl refl refl 2 refl (_, refl, refl);
+  spared = all_spared g.directory g.name (back ++ all_ops more later) refl;
   one = one;
   two = two;
   three = three;

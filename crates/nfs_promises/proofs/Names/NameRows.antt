@@ -1,5 +1,5 @@
--- What each operation does to the rows of the tree, by what was asked and what was answered.
-use Rattle.std.proofs.Common.{◌≡◌, ℕ, ◌+◌, Bool, true, false, not, List, [], ◌∷◌, ◌++◌, Option, Some, None, refl, sym, ◌∙◌, ap, subst, inl, inr}
+-- What each operation does to the rows of the tree, by what was asked and what was answered; and that one on names changes the tree once or not at all.
+use Rattle.std.proofs.Common.{◌≡◌, ◌⊎◌, ℕ, ◌+◌, Bool, true, false, not, List, [], ◌∷◌, ◌++◌, Option, Some, None, refl, sym, ◌∙◌, ap, subst, inl, inr}
 use Rattle.std.proofs.lemmas.Bool.{cases_Bool, true≢false}
 use Rattle.std.specs.{Prelude.{◌&&◌, IfSome, Ok}, Option.ForSome}
 use Rattle.nfs_xdr.specs.{declared.time.Time.Time}
@@ -10,11 +10,11 @@ use Rattle.nfs_compound.specs.declared.op.Op.{Op}
 use Rattle.nfs_compound.specs.declared.op.Item.{Item, TheVariants.{Operation, Fault}}
 use Rattle.nfs_compound.specs.declared.op_num.OpNum.TheVariants as Num
 use Rattle.nfs_results.specs.{declared.res.Res.Res, Results.spell_result}
-use Rattle.nfs_tree.specs.{declared.row.Row.Row, Files.{Files, is_entry, entry, object_named, without_entry}}
-use Rattle.nfs_tree.specs.Names.{Move, moves, moved_object, with_row}
+use Rattle.nfs_tree.specs.{declared.row.Row.Row, Files.{Files, next_count, is_entry, entry, object_named, number_named, without_entry}}
+use Rattle.nfs_tree.specs.Names.{Move, moves, moved_object, with_row, without_name}
 use Rattle.nfs_tree.proofs.RowsKept.{entry_parts}
 use Rattle.nfs_opens.specs.Closing as closing
-use Rattle.nfs_names.specs.{declared.context.Context.Context, State.{State, is_used, without_unused, time_at}}
+use Rattle.nfs_names.specs.{declared.context.Context.Context, State.{State, is_used, with_tree, without_unused, time_at}}
 use Rattle.nfs_names.specs.{Ending.with_opens, Checks.{saved_object, both}, Outcome.{Outcome, checked}, PutPubFh.put_pub_fh}
 use Rattle.nfs_names.specs.{PutRootFh.put_root_fh, Rename.{without_replaced, move_of, renamed}}
 use Rattle.nfs_names.specs.Operation as names
@@ -41,7 +41,7 @@ pub data DidRows (t : Files) (rows : List Row) (x : Context) (i : Item) (result 
   Moved : (m : Move) (n cookie : ℕ) → rows ≡ with_row (without_entry m.source m.old (without_entry m.target m.name t.rows)) m.target m.name n cookie
       → Takes m.source m.old x i result → Takes m.target m.name x i result → Makes m.target m.name x i result → DidRows t rows x i result
 
-abbrev Did : State → Context → Item → Outcome → Type 0
+abbrev pub Did : State → Context → Item → Outcome → Type 0
 Did s x i o = DidRows s.tree o.state.tree.rows x i (spell_result o.result)
 
 pub unused_rows : (s : State) (n : ℕ) → (without_unused s n).tree.rows ≡ s.tree.rows
@@ -50,6 +50,21 @@ unused_rows s n = elim (cases_Bool (is_used s n)) [ inl stays ↦ rw stays refl 
 pub replaced_rows : (s : State) (o : Option ℕ) → (without_replaced s o).tree.rows ≡ s.tree.rows
 replaced_rows s None = refl
 replaced_rows s (Some n) = unused_rows s n
+
+-- The count of changes is the same, or one more.
+
+abbrev pub Once : State → Outcome → Type 0
+Once s o = (o.state.tree.changes ≡ s.tree.changes) ⊎ (o.state.tree.changes ≡ next_count s.tree.changes)
+
+abbrev pub DidOnce : State → Context → Item → Outcome → Type 0
+DidOnce s x i o = Did s x i o × Once s o
+
+pub unused_count : (s : State) (n : ℕ) → (without_unused s n).tree.changes ≡ s.tree.changes
+unused_count s n = elim (cases_Bool (is_used s n)) [ inl stays ↦ rw stays refl | inr goes ↦ rw goes refl ]
+
+replaced_count : (s : State) (o : Option ℕ) → (without_replaced s o).tree.changes ≡ s.tree.changes
+replaced_count s None = refl
+replaced_count s (Some n) = unused_count s n
 
 -- The objects of the current filehandle and of the saved one.
 
@@ -65,47 +80,55 @@ both_at s x p e = record {
 
 -- Operations on names.
 
-did_rename : (s : State) (x : Context) (now : Time) (a : Rename) (p : _) (b : Bool) → both s x ≡ Ok p → Did s x (Operation (Op.Rename a)) (renamed s x now a p b)
-did_rename s x now a p true at =
-    Moved (move_of a p) (moved_object s.tree (move_of a p)) (s.tree.last_cookie + 1) (replaced_rows _ (object_named s.tree p.current.number a.newname))
-    (MovedAway a refl refl (both_at s x p at).saved_is (_, refl)) (MovedOver a refl refl (both_at s x p at).current_is (_, refl))
-    (ByRename a refl refl (both_at s x p at).current_is (_, refl))
-did_rename s x now a p false at = Same refl
+did_rename : (s : State) (x : Context) (now : Time) (a : Rename) (p : _) (b : Bool) → both s x ≡ Ok p → DidOnce s x (Operation (Op.Rename a)) (renamed s x now a p b)
+did_rename s x now a p true at = (
+  Moved (move_of a p) (moved_object s.tree (move_of a p)) (s.tree.last_cookie + 1) (replaced_rows _ (object_named s.tree p.current.number a.newname))
+      (MovedAway a refl refl (both_at s x p at).saved_is (_, refl)) (MovedOver a refl refl (both_at s x p at).current_is (_, refl))
+      (ByRename a refl refl (both_at s x p at).current_is (_, refl)),
+  inr (replaced_count _ (object_named s.tree p.current.number a.newname)),
+)
+did_rename s x now a p false at = (Same refl, inl refl)
 
-did_name : (s : State) (x : Context) (now : Time) (op : Op) → IfSome (names.one s x now op) (Did s x (Operation op))
+did_name : (s : State) (x : Context) (now : Time) (op : Op) → IfSome (names.one s x now op) (DidOnce s x (Operation op))
 unfolding put_pub_fh put_root_fh
-did_name s x now (Op.Access asked) = law.by_access (Did s x (Operation (Op.Access asked))) s x asked (λ f h. Same refl) (λ d there. Same refl)
-did_name s x now (Op.Create c) = law.by_create (Did s x (Operation (Op.Create c))) s x now c (λ f h. Same refl) (λ d wanted there placed read row.
-    Added (record { directory = d.number; name = c.objname; object = s.tree.last_object + 1; cookie = s.tree.last_cookie + 1 }) refl
-    (ByCreate c refl refl (current_number s x d there) (_, refl)))
-did_name s x now (Op.GetAttr words) = law.by_get_attr (Did s x (Operation (Op.GetAttr words))) s x words (λ f h. Same refl) (λ d there plain. Same refl)
-did_name s x now Op.GetFh = law.by_get_fh (Did s x (Operation Op.GetFh)) s x (λ f h. Same refl) (λ d there. Same refl)
-did_name s x now (Op.Link name) = law.by_link (Did s x (Operation (Op.Link name))) s x now name (λ f h. Same refl) (λ p there placed row.
-    Added (record { directory = p.current.number; name = name; object = p.saved.number; cookie = s.tree.last_cookie + 1 }) refl
-    (ByLink refl (both_at s x p there).current_is (_, refl)))
-did_name s x now (Op.Lookup name) = law.by_lookup (Did s x (Operation (Op.Lookup name))) s x name (λ f h. Same refl) (λ d n there placed named. Same refl)
-did_name s x now Op.LookupP = law.by_lookup_p (Did s x (Operation Op.LookupP)) s x (λ f h. Same refl) (λ d n there placed stands. Same refl)
-did_name s x now (Op.NVerify a) = law.by_nverify (Did s x (Operation (Op.NVerify a))) s x a (λ f h. Same refl) (λ equal e unequal. Same refl)
-did_name s x now (Op.PutFh object) = law.by_put_fh (Did s x (Operation (Op.PutFh object))) s x object (λ f h. Same refl) (λ h read placed. Same refl)
-did_name s x now Op.PutPubFh = Same refl
-did_name s x now Op.PutRootFh = Same refl
-did_name s x now (Op.ReadDir a) = law.by_read_dir (Did s x (Operation (Op.ReadDir a))) s x a (λ f h. Same refl) (λ d there placed some. Same refl)
-did_name s x now Op.ReadLink = law.by_read_link (Did s x (Operation Op.ReadLink)) s x (λ f h. Same refl) (λ d there linked. Same refl)
-did_name s x now (Op.Remove name) = law.by_remove (Did s x (Operation (Op.Remove name))) s x now name (λ f h. Same refl) (λ d there placed row.
-    Dropped d.number name (unused_rows _ _) (Removed refl (current_number s x d there) (_, refl)))
-did_name s x now (Op.Rename a) = law.by_rename (Did s x (Operation (Op.Rename a))) s x now a (λ f h. Same refl) (λ p there row.
+did_name s x now (Op.Access asked) = law.by_access (DidOnce s x (Operation (Op.Access asked))) s x asked (λ f h. (Same refl, inl refl)) (λ d there. (Same refl, inl refl))
+did_name s x now (Op.Create c) = law.by_create (DidOnce s x (Operation (Op.Create c))) s x now c (λ f h. (Same refl, inl refl)) (λ d wanted there placed read row. (
+  Added (record { directory = d.number; name = c.objname; object = s.tree.last_object + 1; cookie = s.tree.last_cookie + 1 }) refl
+      (ByCreate c refl refl (current_number s x d there) (_, refl)),
+  inr refl,
+))
+did_name s x now (Op.GetAttr words) = law.by_get_attr (DidOnce s x (Operation (Op.GetAttr words))) s x words (λ f h. (Same refl, inl refl)) (λ d there plain. (Same refl, inl refl))
+did_name s x now Op.GetFh = law.by_get_fh (DidOnce s x (Operation Op.GetFh)) s x (λ f h. (Same refl, inl refl)) (λ d there. (Same refl, inl refl))
+did_name s x now (Op.Link name) = law.by_link (DidOnce s x (Operation (Op.Link name))) s x now name (λ f h. (Same refl, inl refl)) (λ p there placed row. (
+  Added (record { directory = p.current.number; name = name; object = p.saved.number; cookie = s.tree.last_cookie + 1 }) refl
+      (ByLink refl (both_at s x p there).current_is (_, refl)),
+  inr refl,
+))
+did_name s x now (Op.Lookup name) = law.by_lookup (DidOnce s x (Operation (Op.Lookup name))) s x name (λ f h. (Same refl, inl refl)) (λ d n there placed named. (Same refl, inl refl))
+did_name s x now Op.LookupP = law.by_lookup_p (DidOnce s x (Operation Op.LookupP)) s x (λ f h. (Same refl, inl refl)) (λ d n there placed stands. (Same refl, inl refl))
+did_name s x now (Op.NVerify a) = law.by_nverify (DidOnce s x (Operation (Op.NVerify a))) s x a (λ f h. (Same refl, inl refl)) (λ equal e unequal. (Same refl, inl refl))
+did_name s x now (Op.PutFh object) = law.by_put_fh (DidOnce s x (Operation (Op.PutFh object))) s x object (λ f h. (Same refl, inl refl)) (λ h read placed. (Same refl, inl refl))
+did_name s x now Op.PutPubFh = (Same refl, inl refl)
+did_name s x now Op.PutRootFh = (Same refl, inl refl)
+did_name s x now (Op.ReadDir a) = law.by_read_dir (DidOnce s x (Operation (Op.ReadDir a))) s x a (λ f h. (Same refl, inl refl)) (λ d there placed some. (Same refl, inl refl))
+did_name s x now Op.ReadLink = law.by_read_link (DidOnce s x (Operation Op.ReadLink)) s x (λ f h. (Same refl, inl refl)) (λ d there linked. (Same refl, inl refl))
+did_name s x now (Op.Remove name) = law.by_remove (DidOnce s x (Operation (Op.Remove name))) s x now name (λ f h. (Same refl, inl refl)) (λ d there placed row. (
+  Dropped d.number name (unused_rows _ _) (Removed refl (current_number s x d there) (_, refl)),
+  inr (unused_count (with_tree s (without_name s.tree d.number name now)) (number_named s.tree d.number name)),
+))
+did_name s x now (Op.Rename a) = law.by_rename (DidOnce s x (Operation (Op.Rename a))) s x now a (λ f h. (Same refl, inl refl)) (λ p there row.
     did_rename s x now a p (moves s.tree (move_of a p)) there)
-did_name s x now Op.RestoreFh = law.by_restore_fh (Did s x (Operation Op.RestoreFh)) s x (λ f h. Same refl) (λ saved there stands. Same refl)
-did_name s x now Op.SaveFh = law.by_save_fh (Did s x (Operation Op.SaveFh)) s x (λ f h. Same refl) (λ d there. Same refl)
+did_name s x now Op.RestoreFh = law.by_restore_fh (DidOnce s x (Operation Op.RestoreFh)) s x (λ f h. (Same refl, inl refl)) (λ saved there stands. (Same refl, inl refl))
+did_name s x now Op.SaveFh = law.by_save_fh (DidOnce s x (Operation Op.SaveFh)) s x (λ f h. (Same refl, inl refl)) (λ d there. (Same refl, inl refl))
 did_name s x now (Op.SecinfoNoName style) =
-    law.by_secinfo_no_name (Did s x (Operation (Op.SecinfoNoName style))) s x style (λ f h. Same refl) (λ d there placed. Same refl)
-did_name s x now (Op.Verify a) = law.by_verify (Did s x (Operation (Op.Verify a))) s x a (λ f h. Same refl) (λ equal e same. Same refl)
+    law.by_secinfo_no_name (DidOnce s x (Operation (Op.SecinfoNoName style))) s x style (λ f h. (Same refl, inl refl)) (λ d there placed. (Same refl, inl refl))
+did_name s x now (Op.Verify a) = law.by_verify (DidOnce s x (Operation (Op.Verify a))) s x a (λ f h. (Same refl, inl refl)) (λ equal e same. (Same refl, inl refl))
 did_name s x now op = tt
 
-did_names : (refused : Bool) (s : State) (x : Context) (now : Time) (i : Item) → ForSome (names.comes_to refused s x now i) (Did s x i)
+pub did_names : (refused : Bool) (s : State) (x : Context) (now : Time) (i : Item) → ForSome (names.comes_to refused s x now i) (DidOnce s x i)
 did_names refused s x now (Operation op) =
-    each_of (Did s x (Operation op)) (names.comes_to refused s x now (Operation op))
-    (if_delayed (Did s x (Operation op)) (names.grows s x op && refused) s x (arguments op).op (names.one s x now op) (Same refl) (did_name s x now op))
+    each_of (DidOnce s x (Operation op)) (names.comes_to refused s x now (Operation op))
+    (if_delayed (DidOnce s x (Operation op)) (names.grows s x op && refused) s x (arguments op).op (names.one s x now op) (Same refl, inl refl) (did_name s x now op))
 did_names refused s x now (Fault n status) = λ o e. absurd cc
 
 -- Operations on open files: an OPEN may make a name.
@@ -147,7 +170,7 @@ DidStep m x i s = DidRows m.store.tree s.outcome.machine.store.tree.rows x i s.o
 
 step_rows : (m : Machine) (x : Context) (now : ℕ) (refused : Bool) (i : Item) → DidStep m x i (step m x now refused i)
 step_rows m x now refused i =
-    by_step (DidStep m x i) m x now refused i (did_names refused m.store x (time_at m.store now) i)
+    by_step (DidStep m x i) m x now refused i (λ o e. (did_names refused m.store x (time_at m.store now) i o e).0)
     (for_each (λ o. DidStep m x i (on_store m o)) refused m.store x (time_at m.store now) i (did_files refused m.store x (time_at m.store now) i))
     (λ none other. Same (ap (λ (s : State). s.tree.rows) (otherwise_store m x i)))
 

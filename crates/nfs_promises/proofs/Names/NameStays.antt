@@ -10,11 +10,11 @@ use Rattle.nfs_compound.specs.declared.op_num.OpNum.TheVariants as Num
 use Rattle.nfs_compound.specs.OpNum.{op_number}
 use Rattle.nfs_sessions.specs.Id.{id_of}
 use Rattle.nfs_tree.specs.{declared.row.Row.Row, Files.{Files, entry, object_named}}
-use Rattle.nfs_names.specs.{declared.start.Start.Start, declared.context.Context.Context, Context.begins, Outcome.is_ok}
+use Rattle.nfs_names.specs.{declared.start.Start.Start, declared.context.Context.Context, Checks.saved_object, Context.begins, Outcome.is_ok}
 use Rattle.nfs_names.specs.State as store
 use Rattle.nfs_names.specs.State.{State}
-use Rattle.nfs_files.specs.OpenTold.{names_open}
-use Rattle.nfs_exec.specs.Step.{Machine.Machine, Behind.Step, Run.{in_room, is_here, behind_here}, Parts.without_any_opens}
+use Rattle.nfs_files.proofs.ChangesTold.{some_same}
+use Rattle.nfs_exec.specs.Step.{Machine.Machine, Run.{in_room, is_here, behind_here}, Parts.without_any_opens}
 use Rattle.nfs_exec.specs.{Step.Sequence.{Sequenced, sequenced}, Step.Compound.{first_item, renewed, begun, bare, in_session, by_first}}
 use Rattle.nfs_exec.specs.Step.Laws.{MachineEvent, Expires, Asks, stepped}
 use Rattle.nfs_exec.specs.Runs.Ops.{RanOp, done, ops, ops_in, ops_of as ops_first, ops_by, left_by, AreChained}
@@ -22,22 +22,15 @@ use Rattle.nfs_exec.specs.Step.Sequence as sequence
 use Rattle.nfs_exec.proofs.{Runs.{KeptByRuns.{Is, whole_room}, OpsRun.are_run, WhatWasDone.IsRun}, Step.AloneKeeps.holds_whoever}
 use Rattle.nfs_serve.specs.{Step.{ServerState, new_state}}
 use Rattle.nfs_promises.specs.{Network.Endpoint.Arrival, Runs.Points.{state_after, reached, before, asked_by, ops_of}, Names.NameStays.{Name, IsDone}}
-use Rattle.nfs_promises.specs.Names.NameStays.{finds_none, MakesIt, ByCreate, ByOpen, ByLink, ByRename, TakesIt, Removed, MovedAway, MovedOver, next_of, Leaves}
+use Rattle.nfs_promises.specs.Names.NameStays.{finds_none, MakesIt, ByCreate, ByOpen, ByLink, ByRename, TakesIt, next_of, Leaves}
 use Rattle.nfs_promises.specs.Names.NameStays.{Says, Creates, Opens, Finds, Links, Renames, Denies, Removes, RenamesIt, Misses, HoldsWhile, AllSpare}
 use Rattle.nfs_promises.specs.Names.NameStays.{HoldsThrough, HoldsFrom, row_of, LeadsBefore, NameStays, MissesBefore, GoneStays}
 use Rattle.nfs_exec.proofs.Runs.OneRun.{by_item}
 use Rattle.nfs_promises.specs.Answers.{Asked.{Seeks, InCurrent, InSaved, NamedOf, Left, Kept}, Reasons.Reason}
-use Rattle.nfs_promises.proofs.{Answers.NameReasons.lookup_blames, Runs.StatusTold.is_told}
-use Rattle.nfs_promises.proofs.{Runs.Points.{left, next_is, IsSound, whole_before, sound_next, sound_all, sound_new}, Names.NameRows.{run_rows, kept_rows}}
-use Rattle.nfs_promises.proofs.Names.{NameRows.{gone_rows, entry_at}, NameSaid.{create_leads, link_leads, find_leads, open_leads, rename_leads, remove_gone}}
-use Rattle.nfs_promises.proofs.Names.NameSaid.{rename_gone, none_room}
-
--- what an item would come to in the place of an operation that was run, and that its own item came to that
-abbrev pub ran_as : (d : RanOp) → IsRun d → Item → Step
-ran_as d r i = in_room r.limit r.sofar r.now r.refused d.before d.context i
-
-pub as_step : (d : RanOp) (r : IsRun d) (i : Item) → d.item ≡ i → d ≡ done r.limit r.sofar r.refused d.before d.context i (ran_as d r i)
-as_step d r i same = r.is ∙ ap (λ i. done r.limit r.sofar r.refused d.before d.context i (ran_as d r i)) same
+use Rattle.nfs_promises.proofs.{Answers.NameReasons.lookup_blames, Runs.StatusTold.{is_told, done_ok, names_ok}}
+use Rattle.nfs_promises.proofs.{Runs.Points.{left, next_is, IsSound, whole_before, sound_next, sound_all, sound_new}, Names.NameRows.{run_rows, kept_rows, gone_rows, entry_at}}
+use Rattle.nfs_promises.proofs.Runs.Seats.{LedTo, OpenedTo, led_on, by_name, did}
+pub use Rattle.nfs_promises.proofs.Runs.Seats.{ran_as, as_step}
 
 -- Operations that were run one after the other: each hands its context on to the next one.
 
@@ -195,17 +188,18 @@ sound_at start earlier = sound_all (new_state start) earlier (sound_new start)
 
 -- A name that was said.
 
-some_is : (a b : ℕ) → Some a ≡ Some b → a ≡ b
-some_is a b e = cc
-
 -- what a LOOKUP of the directory's name comes to
+looked_up : (d : RanOp) (r : IsRun d) (directory : ℕ) (name : List ℕ) → d.item ≡ Operation (Op.Lookup name) → d.context.current ≡ Some directory → IsDone Num.Lookup d.result
+    → LedTo name d.before.store.tree d.context (ran_as d r (Operation (Op.Lookup name))).context
+looked_up d r directory name item at is =
+    let found = did d r (Operation (Op.Lookup name)) item (done_ok d r Num.Lookup is) in
+    subst (λ (s : State). LedTo name s.tree d.context (ran_as d r (Operation (Op.Lookup name))).context) found.0 found.1
+
 seen : (d : RanOp) (next : Option Context) (k : Name) → RunsTo d next → d.item ≡ Operation (Op.Lookup k.name) → d.context.current ≡ Some k.directory
     → IsDone Num.Lookup d.result → (y : Context) → next ≡ Some y → y.current ≡ object_named d.before.store.tree k.directory k.name
 seen d next k to item at is y here =
-    let r = to.run in
-    let same : d ≡ done r.limit r.sofar r.refused d.before d.context (Operation (Op.Lookup k.name)) (ran_as d r (Operation (Op.Lookup k.name))) = as_step d r (Operation (Op.Lookup k.name)) item in
-    ap (λ (y : Context). y.current) (to.hands y here ∙ ap (λ i. (ran_as d r i).context) item)
-    ∙ find_leads k r.limit r.sofar r.now r.refused d.before d.context at (subst (λ (d : RanOp). IsDone Num.Lookup d.result) same is)
+    ap (λ (y : Context). y.current) (to.hands y here ∙ ap (λ i. (ran_as d to.run i).context) item)
+    ∙ led_on k.name d.before.store.tree d.context _ k.directory at (looked_up d to.run k.directory k.name item at is)
 
 -- a LOOKUP of what is there has no reason to be answered NFS4ERR_NOENT
 not_missing : (s : State) (x : Context) (name : List ℕ) (directory n : ℕ) → x.current ≡ Some directory → object_named s.tree directory name ≡ Some n
@@ -236,16 +230,11 @@ missed d r directory name n item at named told =
 none_seen : (d : RanOp) → IsRun d → (directory : ℕ) (name : List ℕ) → d.item ≡ Operation (Op.Lookup name) → d.context.current ≡ Some directory
     → entry (rows d.before) directory name ≡ None → IsDone Num.Lookup d.result → ⊥
 none_seen d r directory name item at gone is =
-    let same : d ≡ done r.limit r.sofar r.refused d.before d.context (Operation (Op.Lookup name)) (ran_as d r (Operation (Op.Lookup name))) = as_step d r (Operation (Op.Lookup name)) item in
-    none_room directory name r.limit r.sofar r.now r.refused d.before d.context at (ap (option_map (λ (r : Row). r.object)) gone)
-    (subst (λ (d : RanOp). IsDone Num.Lookup d.result) same is)
+    let led = looked_up d r directory name item at is in
+    let bad : Some led.object ≡ None = sym led.to ∙ (led_on name d.before.store.tree d.context _ directory at led ∙ ap (option_map (λ (r : Row). r.object)) gone) in
+    absurd cc
 
--- a LOOKUP neither takes a name away nor makes one
-looks_only : (d : RanOp) (directory : ℕ) (name called : List ℕ) → d.item ≡ Operation (Op.Lookup called) → TakesIt directory name d → ⊥
-looks_only d directory name called item (Removed is at done) = (let bad : Operation (Op.Lookup called) ≡ Operation (Op.Remove name) = sym item ∙ is in cc)
-looks_only d directory name called item (MovedAway a is old saved done) = (let bad : Operation (Op.Lookup called) ≡ Operation (Op.Rename a) = sym item ∙ is in cc)
-looks_only d directory name called item (MovedOver a is new at done) = (let bad : Operation (Op.Lookup called) ≡ Operation (Op.Rename a) = sym item ∙ is in cc)
-
+-- a LOOKUP makes no name
 makes_nothing : (d : RanOp) (directory : ℕ) (name called : List ℕ) → d.item ≡ Operation (Op.Lookup called) → MakesIt directory name d → ⊥
 makes_nothing d directory name called item (ByCreate a is new at done) = (let bad : Operation (Op.Lookup called) ≡ Operation (Op.Create a) = sym item ∙ is in cc)
 makes_nothing d directory name called item (ByOpen a is claim at done) = (let bad : Operation (Op.Lookup called) ≡ Operation (Op.Open a) = sym item ∙ is in cc)
@@ -280,48 +269,37 @@ stands_by k t e = go (entry t.rows k.directory k.name) refl e
     go None at e = absurd cc
     go (Some r) at e =
         let parts = entry_at t.rows k.directory k.name r at in
-        (r.cookie, at ∙ ap (λ (r : Row). Some r) (row_is k r parts.0 parts.1 (some_is r.object k.object e)))
+        (r.cookie, at ∙ ap (λ (r : Row). Some r) (row_is k r parts.0 parts.1 (same_Some r.object k.object e)))
 
--- the context that is handed on has the object
-handed : (d : RanOp) (next : Option Context) (i : Item) (object : ℕ) (to : RunsTo d next) → d.item ≡ i → Leaves next object
-    → (ran_as d to.run i).context.current ≡ Some object
-handed d next i object to item leaves =
-    ap (λ (y : Context). y.current) (sym (to.hands leaves.0 leaves.1 ∙ ap (λ i. (ran_as d to.run i).context) item)) ∙ leaves.2
+-- a name that leads to the current object leads to that of the context that is handed on
+led_there : (k : Name) (d : RanOp) (next : Option Context) (i : Item) (to : RunsTo d next) → d.item ≡ i → d.context.current ≡ Some k.directory → Leaves next k.object
+    → LedTo k.name d.behind.store.tree d.context (ran_as d to.run i).context → object_named d.behind.store.tree k.directory k.name ≡ Some k.object
+led_there k d next i to item at leaves led =
+    sym (led_on k.name d.behind.store.tree d.context _ k.directory at led)
+    ∙ (ap (λ (y : Context). y.current) (sym (to.hands leaves.0 leaves.1 ∙ ap (λ i. (ran_as d to.run i).context) item)) ∙ leaves.2)
 
 pub says_leads : (k : Name) (d : RanOp) (next : Option Context) → RunsTo d next → Says k d next → object_named d.behind.store.tree k.directory k.name ≡ Some k.object
 says_leads k d next to (Creates a item name at is leaves) =
-    let r = to.run in
-    let i = Operation (Op.Create a) in
-    let same : d ≡ done r.limit r.sofar r.refused d.before d.context i (ran_as d r i) = as_step d r i item in
-    subst (λ (d : RanOp). object_named d.behind.store.tree k.directory k.name ≡ Some k.object) (sym same)
-    (create_leads k r.limit r.sofar r.now r.refused d.before d.context a name at (subst (λ (d : RanOp). IsDone Num.Create d.result) same is)
-    (handed d next i k.object to item leaves))
+    led_there k d next (Operation (Op.Create a)) to item at leaves
+    (subst (λ name. LedTo name d.behind.store.tree d.context (ran_as d to.run (Operation (Op.Create a))).context) name (did d to.run (Operation (Op.Create a)) item (done_ok d to.run Num.Create is)))
 says_leads k d next to (Opens a item claim at n names leaves) =
-    let r = to.run in
-    let i = Operation (Op.Open a) in
-    let same : d ≡ done r.limit r.sofar r.refused d.before d.context i (ran_as d r i) = as_step d r i item in
-    subst (λ (d : RanOp). object_named d.behind.store.tree k.directory k.name ≡ Some k.object) (sym same)
-    (open_leads k r.limit r.sofar r.now r.refused d.before d.context a n claim at (subst (λ (d : RanOp). names_open Num.Open d.result n ≡ true) same names)
-    (handed d next i k.object to item leaves))
+    led_there k d next (Operation (Op.Open a)) to item at leaves
+    (let y = (ran_as d to.run (Operation (Op.Open a))).context in
+    by_name k.name d.behind.store.tree d.context y
+    (subst (λ claim. OpenedTo claim d.behind.store.tree d.context y) claim (did d to.run (Operation (Op.Open a)) item (names_ok d to.run Num.Open n names))))
 says_leads k d next to (Finds item at is leaves) =
-    let r = to.run in
-    let named : object_named d.before.store.tree k.directory k.name ≡ Some k.object = sym (seen d next k to item at is leaves.0 leaves.1) ∙ leaves.2 in
-    let row = stands_by k d.before.store.tree named in
-    let spared : TakesIt k.directory k.name d → ⊥ = looks_only d k.directory k.name k.name item in
-    ap (option_map (λ (r : Row). r.object)) ((name_kept k row.0).behind d r row.1 spared)
+    led_there k d next (Operation (Op.Lookup k.name)) to item at leaves (did d to.run (Operation (Op.Lookup k.name)) item (done_ok d to.run Num.Lookup is)).1
 says_leads k d next to (Links item at saved is) =
-    let r = to.run in
-    let i = Operation (Op.Link k.name) in
-    let same : d ≡ done r.limit r.sofar r.refused d.before d.context i (ran_as d r i) = as_step d r i item in
-    subst (λ (d : RanOp). object_named d.behind.store.tree k.directory k.name ≡ Some k.object) (sym same)
-    (link_leads k r.limit r.sofar r.now r.refused d.before d.context at saved (subst (λ (d : RanOp). IsDone Num.Link d.result) same is))
+    let linked = (did d to.run (Operation (Op.Link k.name)) item (done_ok d to.run Num.Link is)).1 in
+    ap (λ e. object_named d.behind.store.tree e k.name) (some_same d.context.current k.directory linked.directory at linked.from)
+    ∙ (linked.leads ∙ (sym linked.saved ∙ saved))
 says_leads k d next to (Renames a item name at source saved from is) =
-    let r = to.run in
-    let i = Operation (Op.Rename a) in
-    let same : d ≡ done r.limit r.sofar r.refused d.before d.context i (ran_as d r i) = as_step d r i item in
-    subst (λ (d : RanOp). object_named d.behind.store.tree k.directory k.name ≡ Some k.object) (sym same)
-    (rename_leads k r.limit r.sofar r.now r.refused d.before d.context a source r.whole name at saved from
-    (subst (λ (d : RanOp). IsDone Num.Rename d.result) same is))
+    let renamed = (did d to.run (Operation (Op.Rename a)) item (done_ok d to.run Num.Rename is)).1 in
+    let t = d.behind.store.tree in
+    ap (object_named t k.directory) (sym name)
+    ∙ (ap (λ e. object_named t e a.newname) (some_same d.context.current k.directory renamed.target at renamed.to)
+    ∙ renamed.leads k.object
+    (ap (λ e. object_named d.before.store.tree e a.oldname) (some_same (saved_object d.context.saved) renamed.source source renamed.from saved) ∙ from))
 
 pub name_stays : NameStays
 name_stays start earlier c k front d back same says =
@@ -346,16 +324,16 @@ gone_kept directory name = record {
 
 denies_gone : (directory : ℕ) (name : List ℕ) (d : RanOp) → IsRun d → Denies directory name d → IsGone directory name (rows d.behind)
 denies_gone directory name d r (Removes item at is) =
-    let i = Operation (Op.Remove name) in
-    let same : d ≡ done r.limit r.sofar r.refused d.before d.context i (ran_as d r i) = as_step d r i item in
-    subst (λ (d : RanOp). IsGone directory name (rows d.behind)) (sym same)
-    (remove_gone directory name r.limit r.sofar r.now r.refused d.before d.context at (subst (λ (d : RanOp). IsDone Num.Remove d.result) same is))
+    let removed = (did d r (Operation (Op.Remove name)) item (done_ok d r Num.Remove is)).1 in
+    subst (λ e. IsGone e name (rows d.behind)) (some_same d.context.current removed.directory directory removed.from at) removed.gone
 denies_gone directory name d r (RenamesIt a item old saved target at differ is) =
-    let i = Operation (Op.Rename a) in
-    let same : d ≡ done r.limit r.sofar r.refused d.before d.context i (ran_as d r i) = as_step d r i item in
-    subst (λ (d : RanOp). IsGone directory name (rows d.behind)) (sym same)
-    (rename_gone directory name r.limit r.sofar r.now r.refused d.before d.context a target r.whole old saved at differ
-    (subst (λ (d : RanOp). IsDone Num.Rename d.result) same is))
+    let renamed = (did d r (Operation (Op.Rename a)) item (done_ok d r Num.Rename is)).1 in
+    let t = d.before.store.tree in
+    let from = some_same (saved_object d.context.saved) renamed.source directory renamed.from saved in
+    let to = some_same d.context.current target renamed.target at renamed.to in
+    subst (λ e. IsGone e name (rows d.behind)) from (subst (λ n. IsGone renamed.source n (rows d.behind)) old (renamed.gone (λ same.
+    differ (ap (λ e. object_named t e name) (sym from)
+    ∙ (ap (object_named t renamed.source) (sym old) ∙ (same ∙ ap (λ e. object_named t e a.newname) (sym to)))))))
 denies_gone directory name d r (Misses item at told) = elim (some_or_none (entry (rows d.before) directory name)) [
   | inl some ↦ absurd (missed d r directory name some.0.object item at (ap (option_map (λ (r : Row). r.object)) some.1) told)
   | inr none ↦ (gone_kept directory name).behind d r none (λ makes. makes_nothing d directory name name item makes)

@@ -20,7 +20,7 @@ use Rattle.nfs_names.proofs.Masks.{at_most_three_words}
 use Rattle.nfs_names.proofs.NameLaws as law
 use Rattle.nfs_files.proofs.WrittenOps.{current_number}
 use Rattle.nfs_files.proofs.ChangesTold.{some_same}
-use Rattle.nfs_promises.proofs.Names.{NameSaid.not_done, PageLists.{Rises, first_in}, PageText.{AreWords, ArePlain, IsPlain, AllPlain, one_page}}
+use Rattle.nfs_promises.proofs.{Runs.StatusTold.not_done, Names.{PageLists.{Rises, first_in}, PageText.{AreWords, ArePlain, IsPlain, AllPlain, one_page}}}
 use Rattle.nfs_names.proofs.Terms.{fits}
 
 abbrev pub entry_at : State → Mask → Row → Entry

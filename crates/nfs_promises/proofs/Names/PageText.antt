@@ -24,7 +24,7 @@ number_cut x y v w small low e =
     let c = append_same (number x) (number y) v w (length_number x ∙ sym (length_number y)) e in
     (sym (number_back x small) ∙ (ap (from_be_bytes w32) c.0 ∙ number_back y low), c.1)
 
-hyper_back : (n : ℕ) → n < 2 ^ 64 → from_be_bytes w64 (hyper n) ≡ n
+pub hyper_back : (n : ℕ) → n < 2 ^ 64 → from_be_bytes w64 (hyper n) ≡ n
 unfolding hyper
 hyper_back n small = from_be_bytes-to_be_bytes_8 n small
 

@@ -18,14 +18,10 @@ use Rattle.nfs_exec.proofs.Step.Repeating.{repeats}
 use Rattle.nfs_serve.specs.Step.{asked_of, ServerState, Stepped, answered, step}
 use Rattle.nfs_promises.specs.Network.{Endpoint.{Place, Compound, Heading, Answer, Server, Arrival, stepped, ran}, ThisServer.{ReplyReader, slot_in, ticked}}
 use Rattle.nfs_promises.specs.Network.{ThisServer.{seen, server}, AnsweredAgain.{AreElsewhere, Stands, AnsweredAgain}}
-use Rattle.nfs_promises.proofs.Network.{StepLaws.{Runs, KeepsSlots}, SlotsLeft.fewer_leaves, SlotsOfSessions.{IsSlotted, ticked_slotted, step_slotted}}
+use Rattle.nfs_promises.proofs.Network.{StepLaws.{Runs, KeepsSlots, ran_keeps}, SlotsLeft.fewer_leaves, SlotsOfSessions.{IsSlotted, ticked_slotted, step_slotted}}
 use Rattle.nfs_promises.proofs.Network.{SlotsOfSessions.ran_slotted, ThisServer.answer_found, ServerKeepsSlots.{taken, Heads, heads, stepped_is, keeps_slots}}
 
 -- Of any server that keeps the laws of slots.
-
-sound_ran : (s : Server) (k : KeepsSlots s) (m : s.State) (records : List Arrival) → k.Sound m → k.Sound (ran s m records)
-sound_ran s k m [] sound = sound
-sound_ran s k m (a ∷ more) sound = sound_ran s k (stepped s m a).state more (k.step_sound m a.bytes a.now a.choice sound)
 
 -- through records that do not execute on it a slot is left, or its session ends
 left_ran : (s : Server) (k : KeepsSlots s) (p : Place) (x : Option SlotState) (m : s.State) (records : List Arrival) → k.Sound m → k.Given m p
@@ -157,7 +153,7 @@ slot_left reader start before a h between b g fits reads does elsewhere stands =
     let s = server reader.find start in
     let k = keeps_slots reader start in
     let outset : ServerState = ran s s.new before in
-    let sound = sound_ran s k s.new before k.new_sound in
+    let sound = ran_keeps s k.Sound k.step_sound s.new before k.new_sound in
     let run : Runs s outset h (stepped s outset a) = k.runs outset a.bytes a.now a.choice h fits sound reads does in
     let behind : ServerState = (stepped s outset a).state in
     let sound_behind = k.step_sound outset a.bytes a.now a.choice sound in

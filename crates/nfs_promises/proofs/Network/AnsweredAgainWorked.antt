@@ -5,8 +5,8 @@ use Rattle.nfs_rpc.specs.{CallHead.{Call, Called, Accepted, Refused, call_of}, R
 use Rattle.nfs_compound.specs.Request.{Request}
 use Rattle.nfs_slots.specs.Slot.{SlotState, unused_slot}
 use Rattle.nfs_serve.specs.{Step.asked_of}
-use Rattle.nfs_promises.specs.Network.{Endpoint.{Place, Heading, ran}, ThisServer.{ReplyReader, ticked}, LostReply.{here, place, compound, packet, answer}}
-use Rattle.nfs_promises.specs.Network.{AnsweredAgain.{AreElsewhere, Stands}, FreshRuns.Passes, AnsweredAgainWorked.{lost, between, again, outset, behind}}
+use Rattle.nfs_promises.specs.Network.{Endpoint.{Place, Heading}, ThisServer.ReplyReader, LostReply.{here, place, compound, answer}}
+use Rattle.nfs_promises.specs.Network.AnsweredAgainWorked.{lost}
 use Rattle.nfs_promises.specs.Network.AnsweredAgainWorked.{IsFreshThere, IsHadAgain, IsUnderItsXid}
 use Rattle.nfs_promises.proofs.{Runs.Computing.computing, Network.{LostReply.is_bytes, ThisServer.{found, found_by}}}
 
@@ -20,14 +20,6 @@ other_slot o h zero is on =
 abbrev kept : ℕ → SlotState
 kept number = record { number = number; used = true; uid = 5; args = (compound number).args; reply = (answer 0 number).result }
 
-elsewhere : AreElsewhere (here found) (behind found) place between
-unfolding computing
-elsewhere = (λ h reads does on. other_slot _ h refl reads on, (λ h reads does on. other_slot _ h refl reads on, tt))
-
-stands : Stands (here found) (ran (here found) (behind found) between) place (packet 5 2).heading.highest again.now
-unfolding computing
-stands = record { slot = kept 2; here = refl; top = unused_slot; below = refl }
-
 computed_again : IsHadAgain found
 unfolding computing
 computed_again = record {
@@ -35,19 +27,15 @@ computed_again = record {
   reads = refl;
   executes = refl;
   first = refl;
-  elsewhere = elsewhere;
+  elsewhere = (λ h reads does on. other_slot _ h refl reads on, (λ h reads does on. other_slot _ h refl reads on, tt));
   bytes_again = is_bytes _ refl;
   reads_again = refl;
-  stands = stands;
+  stands = record { slot = kept 2; here = refl; top = unused_slot; below = refl };
   answer = refl;
 }
 
 pub is_had_again : (reader : ReplyReader) → IsHadAgain reader.find
 is_had_again reader = subst IsHadAgain (found_by reader) computed_again
-
-stands_fresh : Stands (here found) (outset found) place (packet 4 2).heading.highest lost.now
-unfolding computing
-stands_fresh = record { slot = kept 1; here = refl; top = unused_slot; below = refl }
 
 -- how many operations it declares
 abbrev declared_of : Called → ℕ
@@ -63,18 +51,14 @@ few call r called asked =
     let one : 1 ≡ r.declared = sym declares ∙ (ap declared_of called ∙ ap (λ (o : Option Request). option_map_or (λ (r : Request). r.declared) o 0) asked) in
     omega arith
 
-passes : Passes (ticked (outset found) lost.now) place lost.bytes
-unfolding computing
-passes = record { session = _; there = refl; short = leb-true _ _ refl; few = few }
-
 computed_fresh : IsFreshThere found
-unfolding computing stands_fresh
+unfolding computing
 computed_fresh = record {
   bytes = is_bytes _ refl;
   reads = refl;
-  stands = stands_fresh;
+  stands = record { slot = kept 1; here = refl; top = unused_slot; below = refl };
   next = refl;
-  passes = passes;
+  passes = record { session = _; there = refl; short = leb-true _ _ refl; few = few };
 }
 
 pub is_fresh_there : (reader : ReplyReader) → IsFreshThere reader.find

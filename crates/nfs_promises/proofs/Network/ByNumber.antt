@@ -6,7 +6,7 @@ use Rattle.nfs_promises.specs.Network.{Endpoint.{Place, Compound, Heading, Answe
 use Rattle.nfs_promises.specs.Network.ExactlyOnce.{Packet, Reply, RanCompound, Line, Network, NetworkEvent, Sends, Resends, Arrives, Asks, Intrudes, Accepts}
 use Rattle.nfs_promises.specs.Network.ExactlyOnce.{IsLast, with_line, sending, resending, accepting, executing, result_of, with_reply, with_packet, arriving}
 use Rattle.nfs_promises.specs.Network.{ExactlyOnce.{after, ended, IsUnused, begins, IsExact}, ByNumber.{CanSend, CanAccept, Can, Happens, ExactlyOnceByNumber}}
-use Rattle.nfs_promises.proofs.{Runs.Terms.no_line, Network.{StepLaws.{KeepsSlots, Runs, IsElsewhere}, CountedLists.{In-front, In-last, In-push, counted_once}}}
+use Rattle.nfs_promises.proofs.{Runs.Terms.no_line, Network.{StepLaws.{KeepsSlots, Runs, IsElsewhere, ran_keeps}, CountedLists.{In-front, In-last, In-push, counted_once}}}
 use Rattle.nfs_promises.proofs.Network.SlotLines.{updated, Stands, Idle, IsLine, executed_first, accepted_first, line_more, line_leaves, line_sends}
 use Rattle.nfs_promises.proofs.Network.SlotLines.{line_resends, line_runs, line_accepts, kept_is_executed}
 
@@ -402,14 +402,10 @@ events_keep s laws callers outset net (e ∷ more) is can = events_keep s laws c
 
 -- the beginning, and the end
 
-sound_ran : (s : Server) (laws : KeepsSlots s) (m : s.State) (arrivals : List Arrival) → laws.Sound m → laws.Sound (ran s m arrivals)
-sound_ran s laws m [] sound = sound
-sound_ran s laws m (a ∷ more) sound = sound_ran s laws (stepped s m a).state more (laws.step_sound m a.bytes a.now a.choice sound)
-
 pub begins_is : (s : Server) (laws : KeepsSlots s) (callers : Callers) (before : List Arrival) → (let m : s.State = ran s s.new before in IsNetwork s laws callers m (begins s m))
 begins_is s laws callers before =
     let m : s.State = ran s s.new before in
-    let sound : laws.Sound m = sound_ran s laws s.new before laws.new_sound in
+    let sound : laws.Sound m = ran_keeps s laws.Sound laws.step_sound s.new before laws.new_sound in
     record {
       sound = sound;
       stage = λ p i. inr refl;

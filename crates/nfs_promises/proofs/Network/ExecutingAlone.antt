@@ -3,7 +3,7 @@ use Rattle.std.proofs.{Common.{◌≡◌, ℕ, Bool, true, false, List, [], ◌�
 use Rattle.std.specs.Prelude.{max, ◌≤◌, if◌then◌else◌}
 use Rattle.nfs_promises.specs.Network.{Endpoint.{Answer, Server, Arrival, Stepped, stepped, ran}, ExecutingAlone.{taken, alone, answers, executing_answers}}
 use Rattle.nfs_promises.specs.Network.ExecutingAlone.{ExecutingAlone, StaysSettled}
-use Rattle.nfs_promises.proofs.Network.StepLaws.{KeepsTime}
+use Rattle.nfs_promises.proofs.Network.StepLaws.{KeepsTime, ran_keeps}
 
 -- x and m are alike once the moment of m is taken
 abbrev pub IsAlike : (s : Server) → s.State → s.State → Type 0
@@ -119,12 +119,8 @@ executing_again s laws m records = all_again s laws records m m refl (omega arit
 
 -- and behind a run of a new server it changes nothing
 
-sound_ran : (s : Server) (laws : KeepsTime s) (records : List Arrival) (m : s.State) → laws.Sound m → laws.Sound (ran s m records)
-sound_ran s laws [] m sound = sound
-sound_ran s laws (a ∷ more) m sound = sound_ran s laws more (stepped s m a).state (laws.step_sound m a.bytes a.now a.choice sound)
-
 sound_here : (s : Server) (laws : KeepsTime s) (records : List Arrival) → laws.Sound (ran s s.new records)
-sound_here s laws records = sound_ran s laws records s.new laws.new_sound
+sound_here s laws records = ran_keeps s laws.Sound laws.step_sound s.new records laws.new_sound
 
 pub stays_settled : (s : Server) → KeepsTime s → StaysSettled s
 stays_settled s laws records = laws.settled (ran s s.new records) (sound_here s laws records)
@@ -134,6 +130,6 @@ executing_alone s laws before arrivals =
     let m : s.State = ran s s.new before in
     let same = alone_ticked s laws m arrivals in
     record {
-      state = sym (laws.settled (ran s m arrivals) (sound_ran s laws arrivals m (sound_here s laws before))) ∙ same.state;
+      state = sym (laws.settled (ran s m arrivals) (ran_keeps s laws.Sound laws.step_sound m arrivals (sound_here s laws before))) ∙ same.state;
       answered = same.answered;
     }

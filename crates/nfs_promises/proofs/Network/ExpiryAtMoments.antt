@@ -3,7 +3,7 @@ use Rattle.std.proofs.Common.{◌≡◌, ℕ, max, Bool, true, false, List, [], 
 use Rattle.std.proofs.lemmas.Bool.{cases_Bool}
 use Rattle.std.specs.{Prelude.{◌==◌, ◌&&◌, ◌||◌, not, nat_lt, is_some}, Option.option_map_or}
 use Rattle.nfs_xdr.specs.{Caller.Caller, declared.status.Status.Status}
-use Rattle.nfs_rpc.specs.{declared.refusal.Refusal.TheVariants.{Silent, Mismatch, Auth, Accept}, declared.call.Procedure.Procedure}
+use Rattle.nfs_rpc.specs.{declared.refusal.Refusal.TheVariants.Silent, declared.call.Procedure.Procedure}
 use Rattle.nfs_rpc.specs.CallHead.{Called, Accepted, Refused, call_of}
 use Rattle.nfs_rpc.specs.declared.call.Procedure.TheVariants as Procedures
 use Rattle.nfs_compound.specs.{declared.op.Item.Item, declared.op.Item.TheVariants.{Operation, Fault}, Request.{Request, item_number}, ReadRequest.request_at}
@@ -63,9 +63,7 @@ compound_idle m r who size now choice e = elim (cases_Bool (r.minor == 1)) [
 
 reply_moment : (s : ServerState) (size : ℕ) (choice : Option ℕ) (called : Called) → (reply_to s size choice called).state.moment ≡ s.moment
 reply_moment s size choice (Refused Silent) = refl
-reply_moment s size choice (Refused (Mismatch xid)) = refl
-reply_moment s size choice (Refused (Auth xid stat)) = refl
-reply_moment s size choice (Refused (Accept xid stat)) = refl
+reply_moment s size choice (Refused refusal) = refl
 reply_moment s size choice (Accepted call) = by_call call.procedure
   where
     by_request : (o : Option Request) → (with_arguments s call size choice o).state.moment ≡ s.moment
@@ -78,9 +76,7 @@ reply_moment s size choice (Accepted call) = by_call call.procedure
 
 reply_idle : (s : ServerState) (size : ℕ) (choice : Option ℕ) (called : Called) → executes_by s size called ≡ false → (reply_to s size choice called).state ≡ s
 reply_idle s size choice (Refused Silent) e = refl
-reply_idle s size choice (Refused (Mismatch xid)) e = refl
-reply_idle s size choice (Refused (Auth xid stat)) e = refl
-reply_idle s size choice (Refused (Accept xid stat)) e = refl
+reply_idle s size choice (Refused refusal) e = refl
 reply_idle s size choice (Accepted call) e = by_call call.procedure e
   where
     by_request : (o : Option Request) → option_map_or (λ r. executes s.machine r call.who size) o false ≡ false → (with_arguments s call size choice o).state ≡ s

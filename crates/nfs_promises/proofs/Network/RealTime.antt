@@ -98,11 +98,7 @@ event_back s callers net (Accepts p d a) more q c i = inl (same_back net.lines p
 
 sendings_more : (e : NetworkEvent) (more : List NetworkEvent) (q : Packet) → In q (sendings more) → In q (sendings (e ∷ more))
 sendings_more (Sends p) more q i = inr i
-sendings_more (Resends p) more q i = i
-sendings_more (Arrives p now choice) more q i = i
-sendings_more (Asks caller a) more q i = i
-sendings_more (Intrudes a) more q i = i
-sendings_more (Accepts p c a) more q i = i
+sendings_more e more q i = i
 
 ended_back : (s : Server) (callers : Callers) (net : Network s) (events : List NetworkEvent) (q : Place) (c : Compound)
     → In c ((ended callers net events).lines q).sent → In c (net.lines q).sent ⊎ WasSent q c (sendings events)
@@ -117,11 +113,7 @@ sendings_front : (front : List NetworkEvent) (p : Place) (c : Compound) (a : Ans
 sendings_front [] p c a q i = i
 sendings_front (Sends r ∷ more) p c a q (inl e) = inl e
 sendings_front (Sends r ∷ more) p c a q (inr i) = inr (sendings_front more p c a q i)
-sendings_front (Resends r ∷ more) p c a q i = sendings_front more p c a q i
-sendings_front (Arrives r now choice ∷ more) p c a q i = sendings_front more p c a q i
-sendings_front (Asks caller b ∷ more) p c a q i = sendings_front more p c a q i
-sendings_front (Intrudes b ∷ more) p c a q i = sendings_front more p c a q i
-sendings_front (Accepts r d b ∷ more) p c a q i = sendings_front more p c a q i
+sendings_front (e ∷ more) p c a q i = sendings_front more p c a q i
 
 -- a result that is accepted is the last one of its slot
 accepted_here : (s : Server) (callers : Callers) (net : Network s) (front : List NetworkEvent) (p : Place) (c : Compound) (a : Answer)

@@ -4,8 +4,8 @@ use Rattle.std.specs.Prelude.{◌==◌, ◌&&◌}
 use Rattle.nfs_xdr.specs.Spelling as spelling
 use Rattle.nfs_xdr.specs.{Limits.opaque_limit, Codec.{number, opaque}, Lawful.IsCodec, declared.status.Status.Status, Status.status_number}
 use Rattle.nfs_xdr.proofs.CodecLaws.{is_number, is_opaque, is_then}
-use Rattle.nfs_rpc.specs.{declared.refusal.Refusal.Refusal, declared.refusal.Refusal.TheVariants.{Silent, Mismatch, Auth, Accept}}
-use Rattle.nfs_rpc.specs.{declared.refusal.AcceptStat.TheVariants.{ProgUnavail, ProgMismatch, ProcUnavail, GarbageArgs}, Reply.{spell_head, spell_refusal}}
+use Rattle.nfs_rpc.specs.{declared.refusal.Refusal.Refusal, declared.refusal.Refusal.TheVariants.Accept}
+use Rattle.nfs_rpc.specs.{declared.refusal.AcceptStat.TheVariants.ProgUnavail, Reply.{spell_head, spell_refusal}}
 use Rattle.nfs_promises.proofs.Network.ReplyReading.{head, by_head, answer_in, front, by_front, sequenced}
 
 -- The head of a reply.
@@ -28,13 +28,9 @@ answer_spelled xid result small =
 -- a refusal is no success
 pub refusal_spelled : (refusal : Refusal) → answer_in (spell_refusal refusal) ≡ None
 unfolding spell_refusal spelling.number
-refusal_spelled Silent = refl
-refusal_spelled (Mismatch xid) = refl
-refusal_spelled (Auth xid stat) = refl
 refusal_spelled (Accept xid ProgUnavail) = refl
-refusal_spelled (Accept xid ProgMismatch) = refl
-refusal_spelled (Accept xid ProcUnavail) = refl
-refusal_spelled (Accept xid GarbageArgs) = refl
+refusal_spelled (Accept xid stat) = refl
+refusal_spelled refusal = refl
 
 -- The front of a result.
 

@@ -1,5 +1,5 @@
 -- This server keeps the laws of slots.
-use Rattle.std.proofs.Common.{◌≡◌, inl, inr, ℕ, ◌<◌, ◌^◌, suc, Bool, true, false, List, [], ◌∷◌, ◌++◌, length, Option, Some, None, refl, sym, ◌∙◌, ap, subst, arith}
+use Rattle.std.proofs.Common.{◌≡◌, inl, inr, ℕ, ◌<◌, ◌^◌, Bool, true, false, List, [], ◌∷◌, length, Option, Some, None, refl, sym, ◌∙◌, ap, subst, arith}
 use Rattle.std.proofs.{lemmas.Bool.{cases_Bool, false≢true}, lemmas.Option.same_Some, lemmas.List.append-nil}
 use Rattle.std.specs.{Prelude.{Result, Ok, ◌==◌, ◌||◌, not, nat_le, nat_lt, is_some, slice_get, option_map, option_and_then}, Option.option_map_or}
 use Rattle.nfs_xdr.specs.{Limits.opaque_limit, Codec.{number, opaque}, Text.IsBytes, Caller.Caller, Checks.first_fault, declared.status.Status.Status}
@@ -10,7 +10,7 @@ use Rattle.nfs_rpc.specs.{declared.refusal.Refusal.Refusal, declared.refusal.Ref
 use Rattle.nfs_rpc.specs.{declared.refusal.AcceptStat.TheVariants.GarbageArgs, declared.call.Procedure.Procedure, HeadCodec.header}
 use Rattle.nfs_rpc.specs.{CallHead.{Call, Called, Accepted, Refused, call_of}, Reply.spell_head}
 use Rattle.nfs_rpc.specs.declared.call.Procedure.TheVariants as Procedures
-use Rattle.nfs_rpc.proofs.HeadLaws.{call_taken}
+use Rattle.nfs_rpc.proofs.{Fragments.bytes_behind_front, HeadLaws.call_taken}
 use Rattle.nfs_compound.specs.{declared.op.Item.Item, declared.op.Item.TheVariants.Operation, Request.{Request, IsRequest}, ReadRequest.request_at}
 use Rattle.nfs_compound.specs.declared.session_args.Sequence.{Sequence}
 use Rattle.nfs_compound.specs.declared.op.Op.TheVariants as Op
@@ -40,10 +40,6 @@ use Rattle.nfs_promises.proofs.{Network.RunsAreSequenced.{numbered_compound, seq
 
 -- A call and its request.
 
-bytes_behind : (xs ys : List ℕ) → IsBytes (xs ++ ys) → IsBytes ys
-bytes_behind [] ys is = is
-bytes_behind (x ∷ xs) ys is = bytes_behind xs ys (record { each = λ i. is.each (suc i) })
-
 -- what an accepted call is known by
 pub record IsCall (call : Call) : Type 0 where
   pub small : call.xid < 2 ^ 32
@@ -55,7 +51,8 @@ taken bytes call fits e =
     let whole = subst IsBytes t.3 fits in
     record {
       small = t.1;
-      args = bytes_behind (header.spell t.0) call.args (bytes_behind (number.spell 2) _ (bytes_behind (number.spell 0) _ (bytes_behind (number.spell call.xid) _ whole)));
+      args = bytes_behind_front (header.spell t.0) call.args
+          (bytes_behind_front (number.spell 2) _ (bytes_behind_front (number.spell 0) _ (bytes_behind_front (number.spell call.xid) _ whole)));
     }
 
 pub asked_is : (call : Call) (p : Procedure) (r : Request) → asked_of call p ≡ Some r → request_at call.args ≡ Some r
@@ -124,9 +121,7 @@ reply_holds : (P : SessionTable → Type 0) (t : ServerState) (size : ℕ) (choi
     → ((call : Call) (r : Request) → called ≡ Accepted call → asked_of call call.procedure ≡ Some r → P (compound t.machine r call.who size t.moment choice).machine.sessions)
     → P (reply_to t size choice called).state.machine.sessions
 reply_holds P t size choice (Refused Silent) is does = is
-reply_holds P t size choice (Refused (Mismatch xid)) is does = is
-reply_holds P t size choice (Refused (Auth xid stat)) is does = is
-reply_holds P t size choice (Refused (Accept xid stat)) is does = is
+reply_holds P t size choice (Refused refusal) is does = is
 reply_holds P t size choice (Accepted call) is does = by_call call.procedure (λ r asked. does call r refl asked)
   where
     by_request : (o : Option Request) → ((r : Request) → o ≡ Some r → P (compound t.machine r call.who size t.moment choice).machine.sessions)
@@ -340,9 +335,7 @@ again_slot : (r : Request) (size : ℕ) (s : Sequence) (x : Session) (reply : Li
 again_slot r size s x reply (Some status) v e = absurd cc
 again_slot r size s x reply None slot.Fresh e = absurd (past_runs (fresh_fault r size x.channel) x.channel reply e)
 again_slot r size s x reply None slot.Again e = (refl, cc)
-again_slot r size s x reply None slot.FalseRetry e = absurd cc
-again_slot r size s x reply None slot.Misordered e = absurd cc
-again_slot r size s x reply None slot.NoSlot e = absurd cc
+again_slot r size s x reply None v e = absurd cc
 
 pub again_session : (r : Request) (who : Caller) (size : ℕ) (s : Sequence) (found : Option Session) (reply : List ℕ) → by_session r who size s found ≡ Repeats reply
     → (session : Session) × (found ≡ Some session) × (judge session.slots s.slotid s.sequenceid who.uid (compared r) ≡ slot.Again) × (reply ≡ kept session.slots s.slotid)

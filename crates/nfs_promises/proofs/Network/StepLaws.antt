@@ -1,8 +1,8 @@
 -- What a server's step has to keep to: the only facts of it that the promises over a network rest on.
-use Rattle.std.specs.Prelude.{◌≡◌, ◌⊎◌, ℕ, max, true, false, List, Option, Some, None}
+use Rattle.std.specs.Prelude.{◌≡◌, ◌⊎◌, ℕ, max, true, false, List, [], ◌∷◌, Option, Some, None}
 use Rattle.nfs_xdr.specs.Text.{IsBytes}
 use Rattle.nfs_slots.specs.{Slot.{SlotState, judge_slot}, declared.slot.Verdict.TheVariants.{Fresh, Again}}
-use Rattle.nfs_promises.specs.Network.Endpoint.{Place, Heading, Answer, SlotNumber, Stepped, Server}
+use Rattle.nfs_promises.specs.Network.Endpoint.{Place, Heading, Answer, SlotNumber, Stepped, Server, Arrival, stepped, ran}
 
 -- a fresh request: the slot takes it, and keeps the result that is answered
 pub record Runs (s : Server) (m : s.State) (h : Heading) (step : Stepped s.State) : Type 0 where
@@ -72,3 +72,9 @@ pub record KeepsTime (s : Server) : Type 1 where
   pub new_sound : Sound s.new
   pub step_sound : (m : s.State) (bytes : List ℕ) (now : ℕ) (choice : Option ℕ) → Sound m → Sound (s.step m bytes now choice).state
   pub settled : (m : s.State) → Sound m → s.tick m (s.moment m) ≡ m
+
+-- what each step keeps, a run keeps
+pub ran_keeps : (s : Server) (P : s.State → Type 0) → ((m : s.State) (bytes : List ℕ) (now : ℕ) (choice : Option ℕ) → P m → P (s.step m bytes now choice).state)
+    → (m : s.State) (records : List Arrival) → P m → P (ran s m records)
+ran_keeps s P each m [] is = is
+ran_keeps s P each m (a ∷ more) is = ran_keeps s P each (stepped s m a).state more (each m a.bytes a.now a.choice is)

@@ -2,7 +2,7 @@
 use Rattle.std.proofs.Common.{◌≡◌, inl, inr, ℕ, ◌<◌, zero, suc, true, false, List, [], ◌∷◌, ◌++◌, length, get_or, Option, Some, None, refl, sym, ◌∙◌, ap, subst, arith}
 use Rattle.std.proofs.lemmas.Bool.{cases_Bool, true≢false}
 use Rattle.nfs_xdr.specs.Text.{IsBytes}
-use Rattle.nfs_slots.specs.{declared.slot.Verdict.Verdict, declared.slot.Verdict.TheVariants.{Fresh, Again, FalseRetry, Misordered, NoSlot}}
+use Rattle.nfs_slots.specs.{declared.slot.Verdict.Verdict, declared.slot.Verdict.TheVariants.{Fresh, Again}}
 use Rattle.nfs_promises.specs.Network.{Endpoint.{Place, Heading, Compound, Answer, SlotNumber, Stepped, Arrival}, ExactlyOnce.{Callers, Packet, Next}}
 use Rattle.nfs_promises.specs.Network.{ExactlyOnce.{NetworkEvent, Sends, Arrives, Accepts, begins, same_place}, ByNumber.Happens, WrongServers.{Small, place}}
 use Rattle.nfs_promises.specs.Network.WrongServers.{heading, spell, arguments, judged, is_fresh, by_verdict, taken, executes, runs_repeats, says_one}
@@ -24,9 +24,7 @@ is_some x y e = cc
 same_xid : (s : Small) (h : Heading) (a : Answer) (v : Verdict) → (by s h v).answer ≡ Some a → a.xid ≡ h.xid
 same_xid s h a Fresh e = ap (λ (a : Answer). a.xid) (sym (is_some _ a e))
 same_xid s h a Again e = ap (λ (a : Answer). a.xid) (sym (is_some _ a e))
-same_xid s h a FalseRetry e = absurd cc
-same_xid s h a Misordered e = absurd cc
-same_xid s h a NoSlot e = absurd cc
+same_xid s h a v e = absurd cc
 
 runs : (s : Small) (h : Heading) (v : Verdict) → judged arguments s h ≡ v → is_fresh v ≡ true → Runs runs_repeats s h (by s h v)
 runs s h Fresh e is = record {
@@ -38,27 +36,19 @@ runs s h Fresh e is = record {
   numbered = refl;
   keeps = rw (same_place_self h.place) refl;
 }
-runs s h Again e is = absurd (true≢false (sym is))
-runs s h FalseRetry e is = absurd (true≢false (sym is))
-runs s h Misordered e is = absurd (true≢false (sym is))
-runs s h NoSlot e is = absurd (true≢false (sym is))
+runs s h v e is = absurd (true≢false (sym is))
 
 repeats : (s : Small) (h : Heading) (a : Answer) (v : Verdict) → judged arguments s h ≡ v → is_fresh v ≡ false → (by s h v).answer ≡ Some a → Repeats runs_repeats s h a.result
 repeats s h a Fresh e is told = absurd (true≢false is)
 repeats s h a Again e is told = record { slot = s.slots h.place; stands = refl; again = e; kept = ap (λ (a : Answer). a.result) (sym (is_some _ a told)) }
-repeats s h a FalseRetry e is told = absurd cc
-repeats s h a Misordered e is told = absurd cc
-repeats s h a NoSlot e is told = absurd cc
+repeats s h a v e is told = absurd cc
 
 leaves : (s : Small) (h : Heading) (p : Place) (v : Verdict) → (is_fresh v ≡ true → h.place ≡ p → ⊥) → Some ((by s h v).state.slots p) ≡ Some (s.slots p)
 leaves s h p Fresh elsewhere = elim (cases_Bool (same_place h.place p)) [
   | inl here ↦ absurd (elsewhere refl (same_place_is h.place p here))
   | inr other ↦ rw other refl
 ]
-leaves s h p Again elsewhere = refl
-leaves s h p FalseRetry elsewhere = refl
-leaves s h p Misordered elsewhere = refl
-leaves s h p NoSlot elsewhere = refl
+leaves s h p v elsewhere = refl
 
 -- by what a record says
 by_heading : (P : Option Heading → Type 0) (o : Option Heading) (h : Heading) → o ≡ Some h → P (Some h) → P o

@@ -2,7 +2,7 @@
 use Rattle.std.proofs.Common.{◌≡◌, inl, inr, List, [], ◌∷◌, sym, ◌∙◌, ap, subst}
 use Rattle.nfs_xdr.specs.Tables.{In}
 use Rattle.nfs_promises.specs.Network.{Endpoint.{Place, Compound, Answer, Server, Arrival, ran}, ExactlyOnce.{Callers, Packet, Line, Network, NetworkEvent}}
-use Rattle.nfs_promises.specs.Network.ExactlyOnce.{Sends, Resends, Arrives, Asks, Intrudes, Accepts, after, IsOfOneCompound, MayAccept, May, Schedule, IsUnused}
+use Rattle.nfs_promises.specs.Network.ExactlyOnce.{Sends, Resends, Accepts, after, IsOfOneCompound, MayAccept, May, Schedule, IsUnused}
 use Rattle.nfs_promises.specs.Network.{ExactlyOnce.{begins, ExactlyOnce}, ByNumber.{CanAccept, Can, Happens}}
 use Rattle.nfs_promises.proofs.Network.{StepLaws.KeepsSlots, CountedLists.last_one, ByNumber.{Begun, IsNetwork, begun_waits, event_keeps, begins_is}}
 use Rattle.nfs_promises.proofs.Network.ByNumber.{exactly_once_by_number}
@@ -72,10 +72,8 @@ event_can s laws callers outset net (Resends q) unused is apart may = (
   record { bytes = may.bytes; reads = may.reads; place = may.place; waits = may.outstanding; last = may.last },
   apart_more callers net.packets q may.xid apart,
 )
-event_can s laws callers outset net (Arrives q now choice) unused is apart may = (may, apart)
-event_can s laws callers outset net (Asks caller a) unused is apart may = (may, apart)
-event_can s laws callers outset net (Intrudes a) unused is apart may = (may, apart)
 event_can s laws callers outset net (Accepts p c a) unused is apart may = (accepts s laws callers outset net p c a is apart may, apart)
+event_can s laws callers outset net e unused is apart may = (may, apart)
 
 events_can : (s : Server) (laws : KeepsSlots s) (callers : Callers) (outset : s.State) (net : Network s) (events : List NetworkEvent) → ((p : Place) → In p callers.places → IsUnused s outset p)
     → IsNetwork s laws callers outset net → Apart callers net.packets → Schedule callers net events → Happens callers outset net events

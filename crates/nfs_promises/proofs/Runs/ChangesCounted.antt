@@ -1,22 +1,20 @@
 -- An operation changes the tree once or not at all, and so the count of changes tells how many operations ran, modulo 10^9.
 use Rattle.std.proofs.Common.{◌≡◌, ◌⊎◌, inl, inr, ℕ, ◌+◌, ◌<◌, ◌≤◌, Bool, true, false, Option, Some, None, refl, sym, ◌∙◌, ap, subst, arith}
 use Rattle.std.proofs.lemmas.Bool.{cases_Bool, ltb-true, ltb-false, true≢false}
-use Rattle.std.specs.{Prelude.{nat_lt, ◌&&◌, IfSome}, Option.ForSome}
+use Rattle.std.specs.Prelude.{nat_lt, ◌&&◌}
 use Rattle.nfs_xdr.specs.declared.time.Time.{Time}
-use Rattle.nfs_compound.specs.{Arguments.arguments, declared.name_args.Rename.Rename, declared.file_args.SetAttr.SetAttr, declared.file_args.Write.Write}
+use Rattle.nfs_compound.specs.declared.{file_args.SetAttr.SetAttr, file_args.Write.Write}
 use Rattle.nfs_compound.specs.declared.open_args.Open.{Open}
 use Rattle.nfs_compound.specs.declared.op.Op.{Op}
 use Rattle.nfs_compound.specs.declared.op.Item.{Item, TheVariants.{Operation, Fault}}
 use Rattle.nfs_compound.specs.declared.op_num.OpNum.TheVariants as Num
 use Rattle.nfs_results.specs.declared.res.Res.{Res}
-use Rattle.nfs_tree.specs.{Files.{Files, next_count, object_named, number_named}, Names.{moves, without_name}, Bytes.has_bytes}
+use Rattle.nfs_tree.specs.{Files.{Files, next_count}, Bytes.has_bytes}
 use Rattle.nfs_attrs.specs.declared.wanted.Wanted.{Wanted}
 use Rattle.nfs_opens.specs.Closing.{without_open}
-use Rattle.nfs_names.specs.{declared.context.Context.Context, declared.node.Node.Node, State.{State, with_tree, is_used, without_unused, time_at}, Ending.{with_opens}}
-use Rattle.nfs_names.specs.{Checks.current, Outcome.{Outcome, checked}, PutPubFh.put_pub_fh, PutRootFh.put_root_fh, Rename.{without_replaced, move_of, renamed}}
-use Rattle.nfs_names.specs.Operation as names
-use Rattle.nfs_names.proofs.Ones.{if_delayed, each_of, by_delay}
-use Rattle.nfs_names.proofs.NameLaws as law
+use Rattle.nfs_names.specs.{declared.context.Context.Context, declared.node.Node.Node, State.{State, time_at}, Ending.{with_opens}}
+use Rattle.nfs_names.specs.{Checks.current, Outcome.checked}
+use Rattle.nfs_names.proofs.Ones.{by_delay}
 use Rattle.nfs_files.specs.{Operation.grows, Parts.writable}
 use Rattle.nfs_files.specs.OpenParts as open_parts
 use Rattle.nfs_files.specs.Open as of_open
@@ -31,54 +29,7 @@ use Rattle.nfs_files.proofs.{OpenTrees.opened_once, WrittenOps.by_found}
 use Rattle.nfs_files.proofs.InSteps as in_steps
 use Rattle.nfs_exec.specs.Runs.Ops.{RanOp}
 use Rattle.nfs_exec.proofs.Runs.OneRun.{IsRun, by_run}
-
--- The count is the same, or one more.
-
-abbrev Once : State → Outcome → Type 0
-Once s o = (o.state.tree.changes ≡ s.tree.changes) ⊎ (o.state.tree.changes ≡ next_count s.tree.changes)
-
-unused_count : (s : State) (n : ℕ) → (without_unused s n).tree.changes ≡ s.tree.changes
-unused_count s n = elim (cases_Bool (is_used s n)) [ inl stays ↦ rw stays refl | inr goes ↦ rw goes refl ]
-
-replaced_count : (s : State) (o : Option ℕ) → (without_replaced s o).tree.changes ≡ s.tree.changes
-replaced_count s None = refl
-replaced_count s (Some n) = unused_count s n
-
--- Operations on names.
-
-once_renamed : (s : State) (x : Context) (now : Time) (a : Rename) (p : _) (b : Bool) → Once s (renamed s x now a p b)
-once_renamed s x now a p true = inr (replaced_count _ (object_named s.tree p.current.number a.newname))
-once_renamed s x now a p false = inl refl
-
-once_name : (s : State) (x : Context) (now : Time) (op : Op) → IfSome (names.one s x now op) (Once s)
-unfolding put_pub_fh put_root_fh
-once_name s x now (Op.Access asked) = law.by_access (Once s) s x asked (λ f h. inl refl) (λ d there. inl refl)
-once_name s x now (Op.Create c) = law.by_create (Once s) s x now c (λ f h. inl refl) (λ d wanted there placed read row. inr refl)
-once_name s x now (Op.GetAttr words) = law.by_get_attr (Once s) s x words (λ f h. inl refl) (λ d there plain. inl refl)
-once_name s x now Op.GetFh = law.by_get_fh (Once s) s x (λ f h. inl refl) (λ d there. inl refl)
-once_name s x now (Op.Link name) = law.by_link (Once s) s x now name (λ f h. inl refl) (λ p there placed row. inr refl)
-once_name s x now (Op.Lookup name) = law.by_lookup (Once s) s x name (λ f h. inl refl) (λ d n there placed named. inl refl)
-once_name s x now Op.LookupP = law.by_lookup_p (Once s) s x (λ f h. inl refl) (λ d n there placed stands. inl refl)
-once_name s x now (Op.NVerify a) = law.by_nverify (Once s) s x a (λ f h. inl refl) (λ equal e unequal. inl refl)
-once_name s x now (Op.PutFh object) = law.by_put_fh (Once s) s x object (λ f h. inl refl) (λ h read placed. inl refl)
-once_name s x now Op.PutPubFh = inl refl
-once_name s x now Op.PutRootFh = inl refl
-once_name s x now (Op.ReadDir a) = law.by_read_dir (Once s) s x a (λ f h. inl refl) (λ d there placed some. inl refl)
-once_name s x now Op.ReadLink = law.by_read_link (Once s) s x (λ f h. inl refl) (λ d there linked. inl refl)
-once_name s x now (Op.Remove name) = law.by_remove (Once s) s x now name (λ f h. inl refl) (λ d there placed row. inr (unused_count (with_tree s (without_name s.tree d.number name now)) (number_named s.tree d.number name)))
-once_name s x now (Op.Rename a) =
-    law.by_rename (Once s) s x now a (λ f h. inl refl) (λ p there row. once_renamed s x now a p (moves s.tree (move_of a p)))
-once_name s x now Op.RestoreFh = law.by_restore_fh (Once s) s x (λ f h. inl refl) (λ saved there stands. inl refl)
-once_name s x now Op.SaveFh = law.by_save_fh (Once s) s x (λ f h. inl refl) (λ d there. inl refl)
-once_name s x now (Op.SecinfoNoName style) = law.by_secinfo_no_name (Once s) s x style (λ f h. inl refl) (λ d there placed. inl refl)
-once_name s x now (Op.Verify a) = law.by_verify (Once s) s x a (λ f h. inl refl) (λ equal e same. inl refl)
-once_name s x now op = tt
-
-once_names : (refused : Bool) (s : State) (x : Context) (now : Time) (i : Item) → ForSome (names.comes_to refused s x now i) (Once s)
-once_names refused s x now (Operation op) =
-    each_of (Once s) (names.comes_to refused s x now (Operation op))
-    (if_delayed (Once s) (names.grows s x op && refused) s x (arguments op).op (names.one s x now op) (inl refl) (once_name s x now op))
-once_names refused s x now (Fault n status) = λ o e. absurd cc
+use Rattle.nfs_promises.proofs.Names.NameRows.{Once, unused_count, did_names}
 
 -- Operations on open files: OPEN, SETATTR and WRITE may change the tree.
 
@@ -139,7 +90,7 @@ pub run_count : (d : RanOp) → IsRun d
     → (d.behind.store.tree.changes ≡ d.before.store.tree.changes) ⊎ (d.behind.store.tree.changes ≡ next_count d.before.store.tree.changes)
 run_count d r =
     by_run (λ status text s. (s.tree.changes ≡ d.before.store.tree.changes) ⊎ (s.tree.changes ≡ next_count d.before.store.tree.changes)) d r (inl refl)
-    (once_names r.refused d.before.store d.context (time_at d.before.store r.now) d.item)
+    (λ o e. (did_names r.refused d.before.store d.context (time_at d.before.store r.now) d.item o e).1)
     (once_files r.refused d.before.store d.context (time_at d.before.store r.now) d.item) (λ other. inl refl)
 
 -- Behind so many operations the count is that of the first and no more than as many; or that less 10^9, if it came to that once.

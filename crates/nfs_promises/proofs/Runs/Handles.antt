@@ -1,8 +1,8 @@
 -- What a GETFH gave leads back to its object.
-use Rattle.std.proofs.Common.{◌≡◌, ℕ, ◌+◌, ◌<◌, ◌≤◌, ◌^◌, Bool, true, false, cond, eqb, List, [], ◌∷◌, length, take, drop, get_or, Option, Some, None, refl, sym, ◌∙◌, ap, arith}
-use Rattle.std.proofs.{lemmas.Bool.{eqb-true, false≢true}, lemmas.List.{drop_at, take_at, append-nil, length-append}, lemmas.Nat.from_be_bytes-to_be_bytes_4}
+use Rattle.std.proofs.Common.{◌≡◌, ℕ, ◌+◌, ◌<◌, ◌≤◌, ◌^◌, Bool, true, false, cond, eqb, List, [], ◌∷◌, length, take, drop, Option, Some, None, refl, sym, ◌∙◌, ap, arith}
+use Rattle.std.proofs.{lemmas.Bool.eqb-true, lemmas.Option.same_Some, lemmas.List.{drop_at, take_at, append-nil, length-append}, lemmas.Nat.from_be_bytes-to_be_bytes_4}
 use Rattle.std.specs.{Prelude.{◌==◌, is_some, option_map, Ok}, Int.{w32, from_be_bytes}}
-use Rattle.nfs_xdr.specs.{Caller.Caller, Limits.fhsize, Reading.{◌>>=◌}, Spelling.{number, fixed, opaque}, declared.status.Status.Status}
+use Rattle.nfs_xdr.specs.{Caller.Caller, Limits.fhsize, Reading.◌>>=◌, Spelling.{number, fixed, opaque}, declared.status.Status.Status}
 use Rattle.nfs_xdr.specs.declared.status.Status.TheVariants.{Nfs4Ok, BadHandle, Stale, RepTooBig}
 use Rattle.nfs_xdr.proofs.{Lists.find_in, Putting.length_number, Tables.in_bounds}
 use Rattle.nfs_compound.specs.{declared.op.Item.Item, declared.op.Item.TheVariants.Operation, OpNum.op_number, Request.Request}
@@ -18,14 +18,14 @@ use Rattle.nfs_attrs.proofs.{Lengths.length_handle, Texts.{is_handle, handles}}
 use Rattle.nfs_sessions.specs.Id.{id_of}
 use Rattle.nfs_names.specs.{declared.context.Context.Context, declared.node.Node.Node, Checks.{current, node_at, node_as}, Context.begins, Outcome.is_ok}
 use Rattle.nfs_names.specs.{PutFh.put_fh, State.State}
-use Rattle.nfs_names.specs.Outcome as of_store
-use Rattle.nfs_names.proofs.NameLaws.{by_get_fh, by_put_fh}
+use Rattle.nfs_names.proofs.NameLaws.{by_get_fh}
 use Rattle.nfs_exec.specs.{Step.Compound.{renewed, begun}, Step.Laws.{MachineEvent, Expires, Asks}, Step.Machine.Machine}
 use Rattle.nfs_promises.specs.Runs.Handles.{Gives, Leads}
-use Rattle.nfs_exec.specs.{Step.Behind.Step, Runs.Ops.{RanOp, done, ops, ops_in, ops_of, ops_by}, Step.Run.{in_room, is_here, behind_here}}
+use Rattle.nfs_promises.proofs.Runs.{Seats.{ran_as, did}, StatusTold.is_told}
+use Rattle.nfs_exec.specs.{Runs.Ops.{RanOp, done, ops, ops_in, ops_of, ops_by}, Step.Run.{in_room, is_here, behind_here}}
 use Rattle.nfs_exec.specs.Step.Sequence.{Sequenced, sequenced}
 use Rattle.nfs_exec.specs.Step.Sequence as sequence
-use Rattle.nfs_exec.proofs.{Step.Instances.instance_kept, Runs.OneRun.{IsRun, in_room_is, too_big, by_item}, Runs.KeptByRuns.{Is, whole_room}}
+use Rattle.nfs_exec.proofs.{Step.Instances.instance_kept, Runs.OneRun.{IsRun, by_item}, Runs.KeptByRuns.{Is, whole_room}}
 use Rattle.nfs_exec.proofs.Runs.WrittenRun.{used_there, put_run}
 
 -- Two opaques of few bytes that are spelled alike are alike.
@@ -109,41 +109,20 @@ handle_read instance n small low =
     ap handle.read (sym (handles.same k) ∙ sym (append-nil (handle.spell k))) ∙ is_handle.again k [] (handles.from k (small, (omega arith, low))) in
     ap (λ (v : Option (Handle × List ℕ)). v >>= λ x. cond (eqb (length x.1) 0) (Some x.0) None) read
 
-put_leads : (limit sofar now : ℕ) (refused : Bool) (m : Machine) (x : Context) (h : List ℕ) (k : Handle) → handle_of h ≡ Some k
-    → (let s = in_room limit sofar now refused m x (Operation (Op.PutFh h)) in is_ok s.outcome.status ≡ true → s.context.current ≡ Some k.number)
-put_leads limit sofar now refused m x h k is =
-    in_room_is (λ s. is_ok s.outcome.status ≡ true → s.context.current ≡ Some k.number) limit sofar now refused m x (Operation (Op.PutFh h))
-    (λ ok. absurd (too_big m x (Operation (Op.PutFh h)) ok))
-    (by_put_fh (λ o. of_store.is_ok (status_of_result o.result) ≡ true → o.context.current ≡ Some k.number) m.store x h
-    (λ f refusal ok. absurd (false≢true (sym refusal.done ∙ ok)))
-    (λ j read placed ok. (let both : Some j ≡ Some k = sym read ∙ is in let one : j ≡ k = cc in ap (λ (j : Handle). Some j.number) one)))
-
-stale_not_bad : spell_result (Res.Refused 22 Stale) ≡ spell_result (Res.Refused 22 BadHandle) → ⊥
-unfolding number
-stale_not_bad e = let bad : ◌≡◌ {A = ℕ} 70 17 = ap (λ (text : List ℕ). get_or text 7 0) e in absurd (omega arith)
-
-big_not_bad : spell_result (Res.Refused 22 RepTooBig) ≡ spell_result (Res.Refused 22 BadHandle) → ⊥
-unfolding number
-big_not_bad e = let bad : ◌≡◌ {A = ℕ} 82 17 = ap (λ (text : List ℕ). get_or text 7 0) e in absurd (omega arith)
-
-put_not_bad : spell_result Res.PutFh ≡ spell_result (Res.Refused 22 BadHandle) → ⊥
-unfolding number
-put_not_bad e = let bad : ◌≡◌ {A = ℕ} 0 17 = ap (λ (text : List ℕ). get_or text 7 0) e in absurd (omega arith)
-
-put_known : (s : State) (x : Context) (h : List ℕ) (k : Handle) → handle_of h ≡ Some k → spell_result (put_fh s x h).result ≡ spell_result (Res.Refused 22 BadHandle) → ⊥
+put_known : (s : State) (x : Context) (h : List ℕ) (k : Handle) → handle_of h ≡ Some k → status_of_result (put_fh s x h).result ≡ BadHandle → ⊥
 unfolding put_fh
 put_known s x h k is told = go (k.instance == s.opens.instance) (is_some (object_at s.tree k.number)) refl refl
   where
     go : (own there : Bool) → (k.instance == s.opens.instance) ≡ own → is_some (object_at s.tree k.number) ≡ there → ⊥
-    go true true own there = put_not_bad (rw (is, own, there) at told)
-    go true false own there = stale_not_bad (rw (is, own, there) at told)
-    go false there own held = stale_not_bad (rw (is, own) at told)
+    go true true own there = (let bad : Nfs4Ok ≡ BadHandle = rw (is, own, there) at told in absurd cc)
+    go true false own there = (let bad : Stale ≡ BadHandle = rw (is, own, there) at told in absurd cc)
+    go false there own held = (let bad : Stale ≡ BadHandle = rw (is, own) at told in absurd cc)
 
-known_room : (limit sofar now : ℕ) (refused : Bool) (m : Machine) (x : Context) (h : List ℕ) (k : Handle) → handle_of h ≡ Some k
-    → (let s = in_room limit sofar now refused m x (Operation (Op.PutFh h)) in s.outcome.result ≡ spell_result (Res.Refused 22 BadHandle) → ⊥)
-known_room limit sofar now refused m x h k is =
-    in_room_is (λ s. s.outcome.result ≡ spell_result (Res.Refused 22 BadHandle) → ⊥) limit sofar now refused m x (Operation (Op.PutFh h))
-    big_not_bad (put_known m.store x h k is)
+known : (d : RanOp) → IsRun d → (h : List ℕ) (k : Handle) → handle_of h ≡ Some k → d.item ≡ Operation (Op.PutFh h)
+    → d.result ≡ spell_result (Res.Refused 22 BadHandle) → ⊥
+known d r h k read item told =
+    by_item (λ status text t. status ≡ BadHandle → ⊥) d r (Operation (Op.PutFh h)) item (λ e. (let bad : RepTooBig ≡ BadHandle = e in absurd cc))
+    (put_known d.before.store d.context h k read) (is_told d r 22 BadHandle told)
 
 -- One operation behind another.
 
@@ -156,10 +135,6 @@ first_behind limit sofar now choice m x (i ∷ items) e more is =
 in_follow : (b : Bool) (ds : List RanOp) (e : RanOp) (more : List RanOp) → cond b ds [] ≡ e ∷ more → (b ≡ true) × (ds ≡ e ∷ more)
 in_follow true ds e more is = (refl, is)
 in_follow false ds e more is = absurd cc
-
-item_in : (i : Item) (h : List ℕ) (limit sofar now : ℕ) (refused : Bool) (m : Machine) (x : Context) → i ≡ Operation (Op.PutFh h)
-    → in_room limit sofar now refused m x i ≡ in_room limit sofar now refused m x (Operation (Op.PutFh h))
-item_in i h limit sofar now refused m x is = ap (in_room limit sofar now refused m x) is
 
 leads_on : (instance n : ℕ) (h : List ℕ) → h ≡ handle_in instance n → instance < 2 ^ 32 → n < 2 ^ 64
     → (limit sofar now : ℕ) (choice : Option ℕ) (m : Machine) (x : Context) (items : List Item) → Is m → m.store.opens.instance ≡ instance
@@ -174,17 +149,15 @@ leads_on instance n h is small low limit sofar now choice m x (i ∷ more) whole
     let ran : RanOp = done limit sofar (is_here choice) m x i s in
     let run : IsRun ran = record { limit = limit; sofar = sofar; now = now; refused = is_here choice; whole = whole; is = refl } in (
       record {
-        leads = λ put e behind same.
+        leads = λ asked e behind same.
             (let there = in_follow (is_ok s.outcome.status) rest e behind same in
             let at = first_behind limit next now (behind_here choice) s.outcome.machine s.context more e behind there.1 in
-            let same_item = item_in i h limit sofar now (is_here choice) m x put in
+            let put = did ran run (Operation (Op.PutFh h)) asked there.0 in
             ap (λ (y : Context). y.current) at
-            ∙ (ap (λ (s : Step). s.context.current) same_item
-            ∙ put_leads limit sofar now (is_here choice) m x h k read (ap (λ (s : Step). is_ok s.outcome.status) (sym same_item) ∙ there.0)));
+            ∙ (ap (λ i. (ran_as ran run i).context.current) asked ∙ (put.current ∙ ap (λ (k : Handle). Some k.number) (same_Some put.handle k (sym put.read ∙ read)))));
         found = λ put used told. put_run ran run n (used_there m.store n whole used) h put
             (read ∙ ap (λ instance. Some (record { instance = instance; number = n })) (sym own)) told;
-        known = λ put told. known_room limit sofar now (is_here choice) m x h k read
-            (ap (λ (s : Step). s.outcome.result) (sym (item_in i h limit sofar now (is_here choice) m x put)) ∙ told);
+        known = λ put told. known ran run h k read put told;
       },
       follow_leads (is_ok s.outcome.status) rest (leads_on instance n h is small low limit next now (behind_here choice) s.outcome.machine s.context more
           (whole_room limit sofar now (is_here choice) m x i whole)

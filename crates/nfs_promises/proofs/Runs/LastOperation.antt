@@ -1,6 +1,7 @@
--- The last operation of a compound, in runs that are worked by hand.
-use Rattle.std.proofs.Common.{◌≡◌, false, List, [], ◌∷◌, ◌++◌, length, take, refl, arith}
-use Rattle.nfs_xdr.specs.declared.status.Status.TheVariants.{Nfs4Ok}
+-- Operations of compounds, in runs that are worked by hand: the last one, and what a test says of each.
+use Rattle.std.proofs.{Common.{◌≡◌, ℕ, zero, suc, Bool, true, false, List, [], ◌∷◌, ◌++◌, length, take, refl, sym, ap, subst, arith, inl, inr}, lemmas.Bool.and_parts}
+use Rattle.std.specs.List.{list_all}
+use Rattle.nfs_xdr.specs.{Tables.In, declared.status.Status.TheVariants.Nfs4Ok}
 use Rattle.nfs_compound.specs.declared.op.Item.TheVariants.{Operation}
 use Rattle.nfs_compound.specs.declared.op.Op.TheVariants as Op
 use Rattle.nfs_names.specs.Context.{begins}
@@ -21,15 +22,32 @@ nothing = record {
   behind = outset.machine;
 }
 
+pub last_there : (x : RanOp) (ds : List RanOp) (n : ℕ) → length ds ≡ suc n → In (last_of x ds) ds
+last_there x [] n e = absurd (omega arith)
+last_there x (a ∷ []) n e = inl refl
+last_there x (a ∷ b ∷ ds) n e = inr (last_there a (b ∷ ds) (length ds) refl)
+
+last_op : (x : RanOp) (ds : List RanOp) (n : ℕ) → length ds ≡ suc n → ds ≡ take n ds ++ last_of x ds ∷ []
+last_op x [] n e = absurd (omega arith)
+last_op x (a ∷ []) zero e = refl
+last_op x (a ∷ []) (suc n) e = absurd (omega arith)
+last_op x (a ∷ b ∷ ds) zero e = absurd (omega arith)
+last_op x (a ∷ b ∷ ds) (suc n) e = ap (λ more. a ∷ more) (last_op a (b ∷ ds) n (omega arith))
+
 pub two : (x : RanOp) (ds : List RanOp) → length ds ≡ 2 → ds ≡ take 1 ds ++ last_of x ds ∷ []
-two x [] e = absurd (omega arith)
-two x (a ∷ []) e = absurd (omega arith)
-two x (a ∷ b ∷ []) e = refl
-two x (a ∷ b ∷ c ∷ more) e = absurd (omega arith)
+two x ds e = last_op x ds 1 e
 
 pub three : (x : RanOp) (ds : List RanOp) → length ds ≡ 3 → ds ≡ take 2 ds ++ last_of x ds ∷ []
-three x [] e = absurd (omega arith)
-three x (a ∷ []) e = absurd (omega arith)
-three x (a ∷ b ∷ []) e = absurd (omega arith)
-three x (a ∷ b ∷ c ∷ []) e = refl
-three x (a ∷ b ∷ c ∷ d ∷ more) e = absurd (omega arith)
+three x ds e = last_op x ds 2 e
+
+pub four : (x : RanOp) (ds : List RanOp) → length ds ≡ 4 → ds ≡ take 3 ds ++ last_of x ds ∷ []
+four x ds e = last_op x ds 3 e
+
+-- what holds of each operation that passes a test holds of those that all do
+pub each_of : (P : RanOp → Type 0) (test : RanOp → Bool) → ((d : RanOp) → test d ≡ true → P d) → (ds : List RanOp) → list_all test ds ≡ true
+    → (d : RanOp) → In d ds → P d
+each_of P test one [] e d there = absurd there
+each_of P test one (x ∷ ds) e d there = (let p = and_parts (test x) (list_all test ds) e in elim there [
+  | inl here ↦ subst P (sym here) (one x p.0)
+  | inr later ↦ each_of P test one ds p.1 d later
+])

@@ -196,15 +196,13 @@ made_strange client m now c t (Err fault) other stays made = record {
 
 created_strange : (client : ℕ) (m : Machine) (now : ℕ) (refused : Bool) (c : CreateSession) (v : clients.Verdict)
     → c.clientid ≢ client → leaving m.clients c.clientid ≢ Some client → IsAsBefore client m (by_number m now refused c v).machine
-created_strange client m now refused c clients.Stale other stays = as_it_was client m
 created_strange client m now refused c (clients.Again (results.Done body)) other stays = as_it_was client m
 created_strange client m now refused c (clients.Again (results.Refused status)) other stays = as_it_was client m
-created_strange client m now refused c clients.Misordered other stays = as_it_was client m
-created_strange client m now refused c clients.InUse other stays = as_it_was client m
 created_strange client m now refused c clients.Runs other stays =
     let did = create m.sessions c.clientid (wish_of m c) in
     delayed client m (creates m now c did) refused 43 (made_strange client m now c did.after did.answer other stays
     (session_made m.sessions client c.clientid (wish_of m c) (create_fault m.sessions (wish_of m c)) other))
+created_strange client m now refused c v other stays = as_it_was client m
 
 session_strange : (client : ℕ) (m : Machine) (sessionid : List ℕ) → (id_of sessionid).client ≢ client → IsAsBefore client m (destroy_session m sessionid).machine
 session_strange client m sessionid other = elim (cases_Bool (is_some (session_at m.sessions (id_of sessionid)))) [

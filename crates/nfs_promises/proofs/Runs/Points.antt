@@ -50,9 +50,7 @@ by_call s call size choice Procedure.Compound = by_request s call size choice (r
 
 by_called : (s : ServerState) (size : ℕ) (choice : Option ℕ) (called : Called) → (reply_to s size choice called).state ≡ with_left s (asks size s.moment choice called)
 by_called s size choice (Refused Refusals.Silent) = refl
-by_called s size choice (Refused (Refusals.Mismatch xid)) = refl
-by_called s size choice (Refused (Refusals.Auth xid stat)) = refl
-by_called s size choice (Refused (Refusals.Accept xid stat)) = refl
+by_called s size choice (Refused refusal) = refl
 by_called s size choice (Accepted call) = by_call s call size choice call.procedure
 
 pub next_is : (s : ServerState) (c : Arrival) → state_after s c ≡ record { machine = left (before s c) (asked_by s c); moment = taken s c }

@@ -1,31 +1,34 @@
 -- The status that an operation was answered stands in its result, behind its number.
-use Rattle.std.proofs.Common.{◌≡◌, true, false, List, ◌++◌, take, append_assoc, cond, sym, ◌∙◌, ap, subst}
-use Rattle.std.proofs.lemmas.{List.{take_at, drop_at}, Option.same_Some}
+use Rattle.std.proofs.Common.{◌≡◌, true, false, eqb, List, ◌++◌, take, drop, append_assoc, cond, sym, ◌∙◌, ap, subst}
+use Rattle.std.proofs.lemmas.{Bool.{and_parts, true≢false}, List.{take_at, drop_at, take-append-drop}, Option.same_Some, Slice.Eq.bytes_eq-Decides}
 use Rattle.std.specs.{Prelude.{Result, Ok, Err, ℕ}, Int.{w32, from_be_bytes}}
 use Rattle.nfs_xdr.specs.{Spelling.number, Status.status_number, StatusCodec.status_of, declared.status.Status.Status}
-use Rattle.nfs_xdr.specs.declared.status.Status.TheVariants.{RepTooBig, CompleteAlready}
+use Rattle.nfs_xdr.specs.declared.status.Status.TheVariants.{Nfs4Ok, RepTooBig, CompleteAlready}
 use Rattle.nfs_xdr.proofs.{Putting.length_number, StatusLaws.is_status_listing}
-use Rattle.nfs_compound.specs.{declared.op.Item.Item, declared.op.Item.TheVariants.Operation, Request.item_number, OpNum.op_number}
+use Rattle.nfs_compound.specs.{declared.op.Item.Item, declared.op.Item.TheVariants.Operation, declared.op_num.OpNum.OpNum, Request.item_number, OpNum.op_number}
 use Rattle.nfs_compound.specs.declared.op.Op.TheVariants as Op
 use Rattle.nfs_compound.specs.declared.op_num.OpNum.TheVariants as Num
-use Rattle.nfs_results.specs.{declared.res.Res.Res, Parts.parts, Results.{operation_of, refusal, spell_result, status_of_result}}
+use Rattle.nfs_results.specs.{declared.res.Res.Res, Parts.parts, Results.{operation_of, refusal, head, done_head, spell_result, status_of_result}}
 use Rattle.nfs_clients.specs.Marks.{has_reclaimed, with_reclaimed}
-use Rattle.nfs_names.specs.{declared.context.Context.Context, declared.node.Node.Node, Checks.current, State.time_at}
+use Rattle.nfs_names.specs.{declared.context.Context.Context, declared.node.Node.Node, Checks.current, Outcome.is_ok, State.time_at}
 use Rattle.nfs_names.proofs.Faulted.{status_of_refusal}
+use Rattle.nfs_files.specs.OpenTold.{names_open}
 use Rattle.nfs_files.proofs.{Outcomes.comes_to, WrittenOps.number_back}
 use Rattle.nfs_exec.specs.{Runs.Ops.RanOp, Step.Behind.otherwise, Step.Machine.{Machine, with_refusal, with_result}, Step.Place.status_behind}
 use Rattle.nfs_exec.proofs.{Runs.OneRun.{IsRun, by_run}, Step.Terms.{of_one, of_all}}
-use Rattle.nfs_promises.specs.Calls.NeverExpired.{says}
+use Rattle.nfs_promises.specs.{Calls.NeverExpired.says, Names.NameStays.IsDone}
 
 abbrev pub Says : Status → List ℕ → Type 0
 Says f text = says text ≡ number (status_number f)
 
+head_says : (n : ℕ) (f : Status) (more : List ℕ) → Says f (head n f ++ more)
+head_says n f more =
+    let s = number (status_number f) in
+    ap says (append_assoc (number n) s more)
+    ∙ (ap (take 4) (drop_at (number n) (s ++ more) 4 (length_number n)) ∙ take_at s more 4 (length_number (status_number f)))
+
 pub spelled_says : (r : Res) → Says (status_of_result r) (spell_result r)
-spelled_says r =
-    let n = number (operation_of r) in
-    let s = number (status_number (status_of_result r)) in
-    ap says (append_assoc n s (parts r).behind)
-    ∙ (ap (take 4) (drop_at n (s ++ (parts r).behind) 4 (length_number (operation_of r))) ∙ take_at s (parts r).behind 4 (length_number (status_number (status_of_result r))))
+spelled_says r = head_says (operation_of r) (status_of_result r) (parts r).behind
 
 -- RECLAIM_COMPLETE, and what nothing carries out
 
@@ -62,3 +65,18 @@ pub is_told : (d : RanOp) → IsRun d → (n : ℕ) (f : Status) → d.result �
 is_told d r n f told =
     let says_it : Says f (spell_result (refusal n f)) = subst (λ g. Says g (spell_result (refusal n f))) (status_of_refusal n f) (spelled_says (refusal n f)) in
     one_status d.status f (sym (status_told d r) ∙ (ap says told ∙ says_it))
+
+-- and what an operation has behind NFS4_OK is of one that was answered it
+pub done_ok : (d : RanOp) → IsRun d → (op : OpNum) → IsDone op d.result → is_ok d.status ≡ true
+done_ok d r op is = ap is_ok (one_status d.status Nfs4Ok (sym (status_told d r) ∙ (ap says is.1 ∙ head_says (op_number op) Nfs4Ok is.0)))
+
+pub names_ok : (d : RanOp) → IsRun d → (op : OpNum) (n : ℕ) → names_open op d.result n ≡ true → is_ok d.status ≡ true
+names_ok d r op n names =
+    let front = (bytes_eq-Decides (take 8 d.result) (done_head op)).0 (and_parts _ _ (and_parts _ _ names).1).0 in
+    done_ok d r op (drop 8 d.result, sym (take-append-drop 8 d.result) ∙ ap (λ text. text ++ drop 8 d.result) front)
+
+-- and no refusal is spelled so
+pub not_done : (op : OpNum) (n : ℕ) (f : Status) → eqb (status_number f) 0 ≡ false → IsDone op (spell_result (Res.Refused n f)) → ⊥
+not_done op n f refused is =
+    let same : f ≡ Nfs4Ok = one_status f Nfs4Ok (sym (spelled_says (Res.Refused n f)) ∙ (ap says is.1 ∙ head_says (op_number op) Nfs4Ok is.0)) in
+    true≢false (ap (λ g. eqb (status_number g) 0) (sym same) ∙ refused)
