@@ -22,7 +22,6 @@ pub mod StayingInTime
 pub mod LaterRecords
 pub mod ToldOtherwise
 pub mod Terms
-pub mod RefusedOtherwise
 pub mod Computing
 pub mod LastOperation
 pub mod Seats

@@ -1,6 +1,6 @@
 -- SETATTR: what it is refused with has its reason, and what it set was the caller's to set. And whose a new object is.
 use Rattle.std.proofs.Common.{◌≡◌, ◌⊎◌, ◌<◌, ℕ, Bool, true, false, cond, not, [], ◌∷◌, Option, Some, None, refl, sym, ◌∙◌, ap, subst, inl, inr}
-use Rattle.std.proofs.lemmas.{Bool.{and_parts, ltb-true, false≢true, not-true, eq-eqb, eqb-true, cases_Bool}}
+use Rattle.std.proofs.lemmas.Bool.{and_parts, ltb-true, false≢true, not-true, eq-eqb, eqb-true, cases_Bool, or_parts, and_from, or_right, or_cases}
 use Rattle.std.specs.{Prelude.{◌==◌, ◌||◌, ◌&&◌, nat_lt, is_some, Result, Ok}, Option.option_map_or}
 use Rattle.nfs_xdr.specs.{Caller.Caller, Checks.first_fault, declared.time.Time.Time, declared.status.Status.Status}
 use Rattle.nfs_xdr.specs.declared.status.Status.TheVariants as S
@@ -15,22 +15,17 @@ use Rattle.nfs_opens.specs.{declared.judging.Sort.TheVariants.Either, declared.s
 use Rattle.nfs_names.specs.{declared.context.Context.Context, declared.node.Node.Node, State.State, Outcome.Outcome, Checks.{current, permits}, Create.attributes_in}
 use Rattle.nfs_files.specs.{Bytes.{file_checks, writing, may_use}, SetAttr.{may_resize, gives_some, set_attr}}
 use Rattle.nfs_files.proofs.{TreeFiles.IsWhole, WrittenOps.current_number}
-use Rattle.nfs_promises.specs.Permission.Permitted.{Rights, Writes, IsIn, Grants, rights_of, rights_at}
 use Rattle.nfs_promises.specs.Answers.Asked.{StateGiven, sets_size, size_in, Owns, MaySet, own, Sets, ToSet, Touches, Access, Modify, ToTouch, ToSize}
-use Rattle.nfs_promises.specs.Answers.Reasons.{IsSet, BySize, Reason}
+use Rattle.nfs_promises.specs.{Answers.Reasons.{IsSet, BySize, Reason}, Permission.Permitted.{Rights, Writes, IsIn, Grants, rights_of, rights_at}}
 use Rattle.nfs_promises.proofs.Answers.Blaming.{Blames, AllBlame, then_blames, then_checks, ends_then, ends_checks, answers_blame, passed_all}
-use Rattle.nfs_promises.proofs.Answers.{Placed.{Answers, refused_so, done_so, found_now, current_blames, denied_by, rights_is, one_or}, InvalidReasons.{given_blames, spent_there}, StateReasons.stands_for, FileReasons.{file_all, may_use_blames}}
+use Rattle.nfs_promises.proofs.Answers.{Placed.{Answers, refused_so, done_so, found_now, current_blames, denied_by, rights_is}, InvalidReasons.{given_blames, spent_there}, StateReasons.stands_for, FileReasons.{file_all, may_use_blames}}
 use Rattle.nfs_promises.proofs.Permission.Granting.{is_in, in_is, writes, may_write, may_write_bytes, rights_here, current_at}
 
 not_or : (a b : Bool) → not (a || b) ≡ true → (a ≡ false) × (b ≡ false)
-not_or false false e = (refl, refl)
-not_or true b e = absurd (false≢true e)
-not_or false true e = absurd (false≢true e)
+not_or a b e = or_parts a b (not-true _ e)
 
 both_false : (a b : Bool) → a ≡ true → b ≡ true → a && b ≡ false → ⊥
-both_false true true p q e = false≢true (sym e)
-both_false false b p q e = false≢true p
-both_false true false p q e = false≢true q
+both_false a b p q e = false≢true (sym e ∙ and_from a b p q)
 
 -- What is refused by NFS4ERR_PERM is not the caller's to set.
 
@@ -39,7 +34,7 @@ not_owns owner who r same other (inl root) = let p = not_or (who.uid == 0) (who.
 not_owns owner who r same other (inr is) = let p = not_or (who.uid == 0) (who.uid == owner) other in false≢true (sym p.1 ∙ eq-eqb who.uid owner (is ∙ same))
 
 owns_so : (owner : ℕ) (who : Caller) (r : Rights) → r.owner ≡ owner → owns owner who ≡ true → Owns who r
-owns_so owner who r same is = elim (one_or (who.uid == 0) (who.uid == owner) is) [
+owns_so owner who r same is = elim (or_cases (who.uid == 0) (who.uid == owner) is) [
   | inl root ↦ inl (eqb-true _ _ root)
   | inr own ↦ inr (eqb-true _ _ own ∙ sym same)
 ]
@@ -89,7 +84,7 @@ module _ (profile : Profile) (who : Caller) (r : Rights) (w : Wanted) where
   times_forbidden : (is_given w.access || is_given w.modify) && not (owns r.owner who) ≡ true → MaySet profile who r w → ⊥
   times_forbidden takes set =
       let p = and_parts (is_given w.access || is_given w.modify) (not (owns r.owner who)) takes in
-      elim (one_or (is_given w.access) (is_given w.modify) p.0) [
+      elim (or_cases (is_given w.access) (is_given w.modify) p.0) [
         | inl access ↦ by w.access access (λ t is. not_owns r.owner who r refl p.1 (set.accessed t is))
         | inr modify ↦ by w.modify modify (λ t is. not_owns r.owner who r refl p.1 (set.modified t is))
       ]
@@ -108,13 +103,9 @@ module _ (profile : Profile) (who : Caller) (r : Rights) (w : Wanted) where
     group = λ new is. by_group new (subst (λ o. takes_group o r.owner r.group who ≡ false) is group);
     mode = λ new is. owned (is_some w.mode) (ap is_some is) mode;
     accessed = λ t is. owned (is_given w.access || is_given w.modify) (ap (λ o. is_given o || is_given w.modify) is) times;
-    modified = λ t is. owned (is_given w.access || is_given w.modify) (ap (λ o. is_given w.access || is_given o) is ∙ or_true (is_given w.access)) times;
+    modified = λ t is. owned (is_given w.access || is_given w.modify) (ap (λ o. is_given w.access || is_given o) is ∙ or_right (is_given w.access) true refl) times;
   }
     where
-      or_true : (b : Bool) → b || true ≡ true
-      or_true true = refl
-      or_true false = refl
-
       owned : (b : Bool) → b ≡ true → b && not (owns r.owner who) ≡ false → Owns who r
       owned b is off = elim (cases_Bool (owns r.owner who)) [
         | inl own ↦ owns_so r.owner who r refl own
@@ -135,7 +126,7 @@ module _ (profile : Profile) (who : Caller) (r : Rights) (w : Wanted) where
       by_group new off = elim (cases_Bool (new == r.group)) [
         | inl same ↦ inr (inl (eqb-true _ _ same))
         | inr other ↦ elim (cases_Bool (who.uid == 0 || who.uid == r.owner && in_group new who)) [
-          | inl is ↦ elim (one_or (who.uid == 0) (who.uid == r.owner && in_group new who) is) [
+          | inl is ↦ elim (or_cases (who.uid == 0) (who.uid == r.owner && in_group new who) is) [
             | inl root ↦ inl (eqb-true _ _ root)
             | inr own ↦ (let p = and_parts (who.uid == r.owner) (in_group new who) own in inr (inr (eqb-true _ _ p.0, is_in new who p.1)))
           ]
@@ -158,7 +149,7 @@ too_long limit (Some size) long is = is size refl (ltb-true limit size long)
 -- SETATTR
 
 touched : (w : Wanted) → is_now w.access || is_now w.modify ≡ true → Touches w
-touched w is = elim (one_or (is_now w.access) (is_now w.modify) is) [ inl access ↦ Access (by w.access access) | inr modify ↦ Modify (by w.modify modify) ]
+touched w is = elim (or_cases (is_now w.access) (is_now w.modify) is) [ inl access ↦ Access (by w.access access) | inr modify ↦ Modify (by w.modify modify) ]
   where
     by : (o : Option SetTime) → is_now o ≡ true → o ≡ Some Now
     by None is = absurd (false≢true is)
@@ -167,11 +158,7 @@ touched w is = elim (one_or (is_now w.access) (is_now w.modify) is) [ inl access
 
 touches_so : (w : Wanted) → Touches w → is_now w.access || is_now w.modify ≡ true
 touches_so w (Access is) = ap (λ o. is_now o || is_now w.modify) is
-touches_so w (Modify is) = ap (λ o. is_now w.access || is_now o) is ∙ or_true (is_now w.access)
-  where
-    or_true : (b : Bool) → b || true ≡ true
-    or_true true = refl
-    or_true false = refl
+touches_so w (Modify is) = ap (λ o. is_now w.access || is_now o) is ∙ or_right (is_now w.access) true refl
 
 module _ (s : State) (whole : IsWhole s) (x : Context) (a : SetAttr) where
   abbrev i : Item

@@ -1,6 +1,6 @@
 -- Operations on open files: what they are refused with has its reason.
 use Rattle.std.proofs.Common.{◌≡◌, ◌⊎◌, ◌<◌, ℕ, Bool, true, false, not, [], ◌∷◌, Option, Some, None, refl, sym, ◌∙◌, ap, subst, inl, inr}
-use Rattle.std.proofs.lemmas.{Bool.{and_parts, eqb-true, false≢true, ltb-true, not-true}}
+use Rattle.std.proofs.lemmas.Bool.{and_parts, eqb-true, false≢true, ltb-true, not-true, or_cases}
 use Rattle.std.specs.{Prelude.{◌==◌, ◌&&◌, ◌+◌, length, nat_lt, Ok, ok_or}, Option.option_map_or}
 use Rattle.nfs_xdr.specs.{Tables.In, declared.status.Status.Status, declared.time.Time.Time}
 use Rattle.nfs_xdr.proofs.Lists.{in_any}
@@ -12,26 +12,25 @@ use Rattle.nfs_compound.specs.declared.op_num.OpNum.TheVariants as Num
 use Rattle.nfs_results.specs.declared.res.Res.TheVariants as Res
 use Rattle.nfs_ranges.specs.declared.Held.{Held}
 use Rattle.nfs_tree.specs.{Bytes.{has_bytes, is_too_long}, Files.{Files, can_change}, Object.{is_directory, is_link}}
-use Rattle.nfs_opens.specs.{declared.judging.Seat.Seat, declared.judging.Seat.TheVariants.{Anonymous, ReadBypass, Open as AnOpen, Lock as ALock}}
-use Rattle.nfs_opens.specs.{declared.judging.Sort.TheVariants.{Either, LockOnly}, declared.stateid.CurrentSeqid.TheVariants.Any, declared.stateid.StateId.StateId}
-use Rattle.nfs_opens.specs.{declared.locking.Wish.Wish, declared.share.Share.Share}
-use Rattle.nfs_opens.specs.{Judging.judge, Locking.{unlock, test_lock, access_in, state_of as lock_state_of}, Share.{is_part, meets, neither}, Table.{Table, denials, lock_at}, Steps.{◌>>=◌}}
-use Rattle.nfs_opens.specs.declared.records.{LockState.LockState, OpenState.OpenState}
+use Rattle.nfs_opens.specs.{Judging.judge, Locking.{unlock, test_lock, access_in, state_of as lock_state_of}, Share.{is_part, meets, neither}, Steps.◌>>=◌}
+use Rattle.nfs_opens.specs.{Table.{Table, denials, lock_at}, declared.judging.Seat.{Seat, TheVariants.{Anonymous, ReadBypass, Open as AnOpen, Lock as ALock}}}
+use Rattle.nfs_opens.specs.declared.{judging.Sort.TheVariants.{Either, LockOnly}, locking.Wish.Wish, records.{LockState.LockState, OpenState.OpenState}}
+use Rattle.nfs_opens.specs.declared.{share.Share.Share, stateid.{CurrentSeqid.TheVariants.Any, StateId.StateId}}
 use Rattle.nfs_opens.proofs.LockLemmas.{judged_lock}
 use Rattle.nfs_names.specs.{declared.context.Context.Context, declared.node.Node.Node, State.State, Outcome.{Outcome, done}, Checks.current}
 use Rattle.nfs_names.proofs.Found.{came}
 use Rattle.nfs_files.specs.{Bytes.{file_checks, reading, writing, lets_use, seat, seat_checks, may_use}, Commit.commit, LockT.lock_t, Denied.lock_denied}
 use Rattle.nfs_files.specs.{LockU.lock_u, Ranges.{range, wished, all_ones}, Read.read, StateIds.meant, Target.the_file, Write.{write, last_checks as write_lasts}}
 use Rattle.nfs_files.proofs.{TreeFiles.IsWhole, WrittenOps.current_number}
-use Rattle.nfs_promises.specs.{Names.FileStays.is_on_current, Permission.Permitted.{Right, Reads, Writes, Executes, has_right, rights_of}}
-use Rattle.nfs_promises.specs.Answers.Invalid.{ranged, NoRange}
 use Rattle.nfs_promises.specs.Answers.Asked.{Range, is_of_file, used, StandsFor, AFile, TheFile, Used, StateGiven, by_state, IsSpecial, Needs, ToRead, ToWrite}
-use Rattle.nfs_promises.specs.Answers.Reasons.{IsDenied, MayDo, Written, Reason}
+use Rattle.nfs_promises.specs.{Answers.{Invalid.{ranged, NoRange}, Reasons.{IsDenied, MayDo, Written, Reason}}, Names.FileStays.is_on_current}
+use Rattle.nfs_promises.specs.Permission.Permitted.{Right, Reads, Writes, Executes, has_right, rights_of}
 use Rattle.nfs_promises.proofs.Answers.Blaming.{Blames, AllBlame, then_blames, there_blames, then_checks, ends_then, ends_checks, answers_blame}
-use Rattle.nfs_promises.proofs.Answers.{Placed.{Answers, of_refusal, refused_so, done_so, found_now, current_blames, has_kind, denied_by, one_or}, HeldReasons.held_so, InvalidReasons.{no_range, beyond_last, spent_there}, StateReasons.{IsSeated, access_there, seated, stands_for, meant_blames, state_blames}}
+use Rattle.nfs_promises.proofs.Answers.{Placed.{Answers, of_refusal, refused_so, done_so, found_now, current_blames, has_kind, denied_by}, HeldReasons.held_so, InvalidReasons.{no_range, beyond_last, spent_there}, StateReasons.{IsSeated, access_there, seated, stands_for, meant_blames, state_blames}}
 pub use Rattle.nfs_promises.proofs.Answers.HeldReasons.{the_file_is, wished_is}
 use Rattle.nfs_promises.proofs.Locks.OneStateEach.{HasOneEach, found_one}
-use Rattle.nfs_promises.proofs.Permission.{Granting.{may_read_bytes, may_write_bytes}, PermittedBytes.is_state}
+use Rattle.nfs_promises.proofs.Permission.Granting.{may_read_bytes, may_write_bytes}
+use Rattle.nfs_promises.proofs.Answers.StateReasons.{is_state}
 
 -- The current file.
 
@@ -58,7 +57,7 @@ module _ (s : State) (whole : IsWhole s) (x : Context) (i : Item) (on : is_on_cu
 
 -- a WRITE that ends beyond the limit
 beyond : (t : Files) (a : Write) → is_too_long t a.offset a.bytes ≡ true → (t.limits.bytes < a.offset + length a.bytes) ⊎ (0xffff_ffff < length a.bytes)
-beyond t a long = elim (one_or (nat_lt t.limits.bytes (a.offset + length a.bytes)) (nat_lt 4294967295 (length a.bytes)) long) [
+beyond t a long = elim (or_cases (nat_lt t.limits.bytes (a.offset + length a.bytes)) (nat_lt 4294967295 (length a.bytes)) long) [
   | inl past ↦ inl (ltb-true _ _ past)
   | inr many ↦ inr (ltb-true _ _ many)
 ]
@@ -72,7 +71,7 @@ as_share Executes = neither
 
 denying : (t : Table) (n : ℕ) (right : Right) → meets (as_share right) (denials t n) ≡ true → (o : OpenState) × In o t.opens × (o.file ≡ n) × (has_right o.deny right ≡ true)
 denying t n Reads some =
-    let o = in_any (λ (o : OpenState). (o.file == n) && o.deny.reads) t.opens (elim (one_or (denials t n).reads false some) [ inl is ↦ is | inr off ↦ absurd (false≢true off) ]) in
+    let o = in_any (λ (o : OpenState). (o.file == n) && o.deny.reads) t.opens (elim (or_cases (denials t n).reads false some) [ inl is ↦ is | inr off ↦ absurd (false≢true off) ]) in
     let p = and_parts (o.0.file == n) o.0.deny.reads o.2 in
     (o.0, o.1, eqb-true _ _ p.0, p.1)
 denying t n Writes some =

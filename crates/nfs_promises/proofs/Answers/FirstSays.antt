@@ -1,7 +1,7 @@
 -- What stands first in a compound is refused with a reason, and what it answers is so.
-use Rattle.std.proofs.Common.{◌≡◌, ◌≢◌, ◌⊎◌, ℕ, ◌+◌, ◌≤◌, Bool, true, false, cond, not, List, [], ◌∷◌, ◌++◌, length, Option, Some, None, refl, sym, ◌∙◌, ap, subst, arith, inl, inr}
-use Rattle.std.proofs.lemmas.{Bool.{and_parts, ne_eqb, eq-eqb, eqb-true, false≢true, leb-true, ltb-true, ltb-false, not-true, not-false, or_parts}, List.{length-replicate, Sums.count_by-le-length}, Option.same_Some}
-use Rattle.std.proofs.lemmas.Slice.Eq.{bytes_eq-Decides}
+use Rattle.std.proofs.Common.{◌≡◌, ◌≢◌, ◌⊎◌, ℕ, ◌+◌, ◌≤◌, Bool, true, false, cond, not, List, [], ◌∷◌, ◌++◌, length, Option, Some, None, refl, sym, ◌∙◌, ap}
+use Rattle.std.proofs.{Common.{subst, arith, inl, inr}, lemmas.{List.{length-replicate, Sums.count_by-le-length}, Option.same_Some, Slice.Eq.bytes_eq-Decides}}
+use Rattle.std.proofs.lemmas.Bool.{and_parts, ne_eqb, eq-eqb, eqb-true, false≢true, leb-true, ltb-true, ltb-false, not-true, not-false, or_parts, and_from}
 use Rattle.std.specs.{Prelude.{◌==◌, ◌||◌, ◌&&◌, ◌%◌, ◌^◌, bit_and, bytes_eq, nat_le, nat_lt, filter, count_by, is_some, option_map, option_and_then, find, slice_get, ◌-◌, Ok, ok_or}, List.list_any, Option.option_map_or}
 use Rattle.nfs_xdr.specs.{Caller.Caller, Numbers.next_number, Spelling.number, Status.status_number, StatusCodec.status, Tables.In, declared.status.Status.Status}
 use Rattle.nfs_xdr.specs.declared.status.Status.TheVariants as S
@@ -30,6 +30,7 @@ use Rattle.nfs_serve.specs.Step.{ServerState}
 use Rattle.nfs_promises.specs.{Runs.Points.{state_after, reached, before}, Calls.OwnIds.{answered, text_of}, Answers.Reasons.stands_alone}
 use Rattle.nfs_promises.specs.Answers.FirstSays.{HasId, InSession, Updates, IsOwners, ByClient, IsSmall, FirstReason, IsKept, BySlot, ByRecord, ByRefusal, FirstSays, No, Unread, Again, Yes, EachFirstSaysSo}
 use Rattle.nfs_promises.proofs.{Answers.Blaming.{ends_checks, ends_so, ends_then, ends_with, Ends, held_blames, there_blames}, Runs.Points.{left, next_is}}
+use Rattle.nfs_promises.proofs.Answers.InvalidReasons.{ok_some}
 
 pub has_id : (s : Session) (id : List ℕ) → is_session (id_of id) s ≡ true → HasId s id
 has_id s id is = (let p = and_parts (s.counter == (id_of id).counter) (s.client == (id_of id).client) is in record { client = eqb-true _ _ p.1; counter = eqb-true _ _ p.0 })
@@ -110,12 +111,9 @@ module _ (m : Machine) (r : Request) (who : Caller) (size now : ℕ) (choice : O
               on = record { found = found; slot = at };
               used = used;
               number = sym number;
-              another = λ uid args. false≢true (sym is ∙ both (eq-eqb who.uid x.uid (sym uid)) ((bytes_eq-Decides (compared r) x.args).1 (sym args)));
+              another = λ uid args. false≢true (sym is ∙ and_from _ _ (eq-eqb who.uid x.uid (sym uid)) ((bytes_eq-Decides (compared r) x.args).1 (sym args)));
             },
           )
-            where
-              both : who.uid == x.uid ≡ true → bytes_eq (compared r) x.args ≡ true → (who.uid == x.uid) && bytes_eq (compared r) x.args ≡ true
-              both p q = rw (p, q) refl
 
       slot_so : Ends RS IsSo (by_slot r size a session (option_map_or (λ (x : SlotState). judge_slot x a.sequenceid who.uid (compared r)) (slice_get session.slots a.slotid) V.NoSlot))
       slot_so = by (slice_get session.slots a.slotid) refl
@@ -134,15 +132,11 @@ module _ (m : Machine) (r : Request) (who : Caller) (size now : ℕ) (choice : O
           λ s there has.
               none_of (is_session (id_of a.sessionid)) m.sessions.sessions s (none_found _ m.sessions.sessions none) there (is_id s a.sessionid has),
         ))) (λ session got.
-        (let found = some_got (session_at m.sessions (id_of a.sessionid)) session got in
+        (let found = ok_some (session_at m.sessions (id_of a.sessionid)) S.BadSession session got in
         ends_checks RS IsSo (slot_checks a session.channel) _ (
           λ high. (k session found, inl (leb-true session.channel.maxrequests a.slotid high)),
           λ u. (λ high. (k session found, leb-true session.channel.maxrequests a.highest_slotid high), λ u. tt),
         ) (λ u. slot_so session found))))
-      where
-        some_got : (o : Option Session) (s : Session) → ok_or o S.BadSession ≡ Ok s → o ≡ Some s
-        some_got None s e = absurd cc
-        some_got (Some t) s e = (let same : t ≡ s = cc in ap Some same)
 
     sequence_says : (more : List Item) (v : Sequenced) (t : Machine) → IsSo v → FirstSays m r who size refused si (in_session m r who now choice a more v).text t
     sequence_says more (Refuses f) t why = No f (head_is si f (with_refusal m (item_number si) f) (status_of_refusal (item_number si) f)) why
@@ -376,11 +370,7 @@ module _ (m : Machine) (r : Request) (who : Caller) (size now : ℕ) (choice : O
           λ k there same.
               none_of (λ (k : ClientRecord). k.id == c.clientid) m.clients.records k (none_found _ m.clients.records none) there (eq-eqb k.id c.clientid same),
         )))
-        (λ k got. client_says k (some_got (client_at m.clients c.clientid) k got)))
-      where
-        some_got : (o : Option ClientRecord) (k : ClientRecord) → ok_or o S.StaleClientId ≡ Ok k → o ≡ Some k
-        some_got None k e = absurd cc
-        some_got (Some j) k e = (let same : j ≡ k = cc in ap Some same)
+        (λ k got. client_says k (ok_some (client_at m.clients c.clientid) S.StaleClientId k got)))
 
   -- DESTROY_SESSION and DESTROY_CLIENTID
   session_says : (id : List ℕ) → Says (Operation (Op.DestroySession id)) (destroy_session m id)

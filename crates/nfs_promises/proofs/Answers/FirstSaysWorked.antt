@@ -17,8 +17,8 @@ use Rattle.nfs_sessions.specs.Sessions.{Session}
 use Rattle.nfs_exec.specs.Step.Machine.{Machine}
 use Rattle.nfs_promises.specs.{Calls.OwnIds.answered, Locks.LockKeptWorked.outset, Runs.Requests.{session, words}}
 use Rattle.nfs_promises.specs.Answers.FirstSays.{InSession, ByClient, FirstReason, FirstSays, No, Unread, Again, Yes, IsKept, IsSequenced, BySlot, ByRecord, ByRefusal}
-use Rattle.nfs_promises.specs.Answers.FirstSaysWorked.{FirstsRefused, Lies, begun, begins, comes, renews, with_bytes}
-use Rattle.nfs_promises.proofs.{Answers.{FirstSays.one_status, RowsWorked.only}, Runs.Computing.computing}
+use Rattle.nfs_promises.specs.Answers.FirstSaysWorked.{FirstsRefused, Lies, renews, with_bytes}
+use Rattle.nfs_promises.proofs.{Answers.{FirstSays.one_status}, Runs.{Computing.computing, LastOperation.only}}
 
 -- a refusal has 20 bytes, where the compound has no tag
 refusal_length : (n : ℕ) (f : Status) (text : List ℕ) → (n == op_number Num.SetAttr) ≡ false → text ≡ spell_compound_head f [] 1 ++ spell_result (refusal n f) → length text ≡ 20
@@ -99,10 +99,6 @@ highest_lies m r who size refused a text t s x one at fresh tag id long four tol
     three (sym told ∙ highest_told is.told is.status is.count is.rest text (is.session ∙ (ap (λ (a : Sequence). a.sessionid) (sym (asked_is m r a s x one at fresh is.of)) ∙ id))
     (is.highest ∙ ap (λ n. n - 1) slots) (is.says ∙ ap (λ tag. spell_compound_head is.status tag is.count ++ (spell_result (Res.Sequence is.told) ++ is.rest)) tag))))
 
-flagged : Lies outset renews (with_bytes 52 (words (8 ∷ [])) (answered outset renews))
-unfolding computing
-flagged lie = flag_lies _ _ _ _ _ _ _ _ _ _ refl refl refl refl refl refl refl (lie _ _ _ _ _ _ _ refl refl refl)
-
 far : Lies outset renews (with_bytes 44 (words (63 ∷ [])) (answered outset renews))
 unfolding computing
 far lie = highest_lies _ _ _ _ _ _ _ _ _ _ refl refl refl refl refl refl refl refl (lie _ _ _ _ _ _ _ refl refl refl)
@@ -137,10 +133,6 @@ slot_lies m r who size refused a t s x one at fresh tag id within (Yes is) =
     eight (sym none_there ∙ flags_told is.told is.status is.count is.rest _ 8 (is.session ∙ (ap (λ (a : Sequence). a.sessionid) (sym (asked_is m r a s x one at fresh is.of)) ∙ id)) is.flags
     (is.says ∙ ap (λ tag. spell_compound_head is.status tag is.count ++ (spell_result (Res.Sequence is.told) ++ is.rest)) tag))
 
-no_slot : Lies outset renews (spell_compound_head S.BadSlot [] 1 ++ spell_result (refusal (op_number Num.Sequence) S.BadSlot))
-unfolding computing
-no_slot lie = slot_lies _ _ _ _ _ _ _ _ _ refl refl refl refl refl refl (lie _ _ _ _ _ _ _ refl refl refl)
-
 -- CREATE_SESSION
 
 slots_told : (told : CreateSessionOk) (client counter : ℕ) (text : List ℕ) → told.sessionid ≡ hyper client ++ hyper counter → told.fore_chan_attrs.maxrequests ≡ 4
@@ -163,8 +155,7 @@ two e = absurd (omega arith)
 module _ (m : Machine) (r : Request) (c : CreateSession) (k : ClientRecord) (one : m.clients.records ≡ k ∷ []) (first : c.sequence ≡ 1) (next : k.number ≡ 1) where
   no_repeat : (b : ByClient m (Operation (Op.CreateSession c))) → next_number b.asked.sequence ≡ b.record_of.number → ⊥
   no_repeat b same =
-      let is : Operation (Op.CreateSession c) ≡ Operation (Op.CreateSession b.asked) = b.is in
-      let asked : c ≡ b.asked = cc in
+      let asked : c ≡ b.asked = (let is : Operation (Op.CreateSession c) ≡ Operation (Op.CreateSession b.asked) = b.is in cc) in
       let its : b.record_of.number ≡ 1 = only (λ (k : ClientRecord). k.number ≡ 1) m.clients.records k one next b.record_of b.there in
       two (ap next_number (sym first) ∙ (ap (λ (c : CreateSession). next_number c.sequence) asked ∙ (same ∙ its)))
 
@@ -184,10 +175,6 @@ channel_lies m r who size refused c text t k s one first next made four tag long
     let slots : is.session.channel.maxrequests ≡ 4 = only (λ (s : Session). s.channel.maxrequests ≡ 4) t.sessions.sessions s made four is.session is.there in
     many (sym told ∙ slots_told is.told is.session.client is.session.counter text is.id (ap (λ (a : ChannelAttrs). a.maxrequests) is.channel ∙ slots)
     (is.says ∙ ap (λ tag. spell_compound_head S.Nfs4Ok tag 1 ++ spell_result (Res.CreateSession is.told)) tag))
-
-slots : Lies begun begins (with_bytes 64 (words (64 ∷ [])) (answered begun begins))
-unfolding computing
-slots lie = channel_lies _ _ _ _ _ _ _ _ _ _ refl refl refl refl refl refl refl refl (lie _ _ _ _ _ _ _ refl refl refl)
 
 -- EXCHANGE_ID
 
@@ -213,8 +200,7 @@ id_lies m r who size refused e text t a b both first second name tag long told (
   where
     asked : is.asked.ownerid ≡ 0x42 ∷ []
     asked =
-        let same : Operation (Op.ExchangeId e) ≡ Operation (Op.ExchangeId is.asked) = is.is in
-        let one : e ≡ is.asked = cc in
+        let one : e ≡ is.asked = (let same : Operation (Op.ExchangeId e) ≡ Operation (Op.ExchangeId is.asked) = is.is in cc) in
         ap (λ (e : ExchangeId). e.ownerid) (sym one) ∙ name
 
     by : (c : ClientRecord) → In c (a ∷ b ∷ []) → c.owner ≡ 0x42 ∷ [] → c.id ≡ 7 * 2 ^ 32 + 2
@@ -225,9 +211,12 @@ id_lies m r who size refused e text t a b both first second name tag long told (
     its : (c : ClientRecord) → In c t.clients.records → c.owner ≡ 0x42 ∷ [] → c.id ≡ 7 * 2 ^ 32 + 2
     its c there owner = by c (subst (In c) both there) owner
 
-another : Lies outset comes (with_bytes 20 (words (7 ∷ 1 ∷ [])) (answered outset comes))
-unfolding computing
-another lie = id_lies _ _ _ _ _ _ _ _ _ _ refl refl refl refl refl refl refl (lie _ _ _ _ _ _ _ refl refl refl)
-
 pub firsts_refused : FirstsRefused
-firsts_refused = record { flagged = flagged; far = far; no_slot = no_slot; slots = slots; another = another }
+unfolding computing
+firsts_refused = record {
+  flagged = λ lie. flag_lies _ _ _ _ _ _ _ _ _ _ refl refl refl refl refl refl refl (lie _ _ _ _ _ _ _ refl refl refl);
+  far = far;
+  no_slot = λ lie. slot_lies _ _ _ _ _ _ _ _ _ refl refl refl refl refl refl (lie _ _ _ _ _ _ _ refl refl refl);
+  slots = λ lie. channel_lies _ _ _ _ _ _ _ _ _ _ refl refl refl refl refl refl refl refl (lie _ _ _ _ _ _ _ refl refl refl);
+  another = λ lie. id_lies _ _ _ _ _ _ _ _ _ _ refl refl refl refl refl refl refl (lie _ _ _ _ _ _ _ refl refl refl);
+}

@@ -1,15 +1,13 @@
 -- FREE_STATEID and RECLAIM_COMPLETE: what they are refused with has its reason.
 use Rattle.std.proofs.Common.{◌≡◌, ℕ, Bool, true, false, cond, not, Some, None, refl, sym, ◌∙◌, ap, subst, inl, inr}
-use Rattle.std.proofs.lemmas.Bool.{eqb-true, false≢true}
+use Rattle.std.proofs.lemmas.Bool.{eqb-true, false≢true, not-false}
 use Rattle.std.specs.Prelude.{◌==◌, Result, Ok, Err, ok_or}
-use Rattle.nfs_xdr.specs.{declared.status.Status.Status}
+use Rattle.nfs_xdr.specs.{declared.status.Status.Status, Tables.In}
 use Rattle.nfs_xdr.specs.declared.status.Status.TheVariants as S
-use Rattle.nfs_xdr.specs.Tables.{In}
 use Rattle.nfs_xdr.proofs.Lists.{find_in}
-use Rattle.nfs_compound.specs.{declared.op.Item.Item, declared.op.Item.TheVariants.Operation, declared.stateid.Stateid.Stateid}
+use Rattle.nfs_compound.specs.{declared.{op.Item.{Item, TheVariants.Operation}, stateid.Stateid.Stateid}, OpNum.op_number}
 use Rattle.nfs_compound.specs.declared.op.Op.TheVariants as Op
 use Rattle.nfs_compound.specs.declared.op_num.OpNum.TheVariants as Num
-use Rattle.nfs_compound.specs.OpNum.{op_number}
 use Rattle.nfs_results.specs.declared.res.Res.TheVariants as Res
 use Rattle.nfs_clients.specs.Marks.{has_reclaimed, with_reclaimed}
 use Rattle.nfs_ranges.specs.{Facts.HoldsAny, Holders.holds_any}
@@ -85,12 +83,8 @@ module _ (s : State) (x : Context) (given : Stateid) where
         is = refl;
         id = id;
         means = stood;
-        holds = inr (in_use n id l (number_is id seat n at is) (ok_some (lock_at s.opens n) S.BadStateId l there) (not_off (holds_any (s.opens.held l.file) n) off));
+        holds = inr (in_use n id l (number_is id seat n at is) (ok_some (lock_at s.opens n) S.BadStateId l there) (not-false (holds_any (s.opens.held l.file) n) off));
       })) (λ u e. tt)))))) (λ did e. done_so s x i tt))))
-    where
-      not_off : (b : Bool) → not b ≡ false → b ≡ true
-      not_off true off = refl
-      not_off false off = absurd (false≢true (sym off))
 
 -- RECLAIM_COMPLETE
 

@@ -233,8 +233,7 @@ module _ (s : State) (x : Context) (a : Lock) (may : MayLock s x a) where
       false≢true (sym may.fresh ∙ (ap (λ (a : Lock). a.reclaim) one ∙ on))
   none S.NotSupp fails (inl (b, is, on)) = (let bad : Operation (Ops.Lock a) ≡ Operation (Ops.Open b) = is in cc)
   none S.NotSupp fails (inr (op, is, alone)) =
-      let same : Operation (Ops.Lock a) ≡ Operation op = is in
-      let one : Ops.Lock a ≡ op = cc in
+      let one : Ops.Lock a ≡ op = (let same : Operation (Ops.Lock a) ≡ Operation op = is in cc) in
       false≢true (ap stands_alone one ∙ alone)
   none S.NotSame fails (inl (b, is, text, are, differs)) = (let bad : Operation (Ops.Lock a) ≡ Operation (Ops.Verify b) = is in cc)
   none S.NotSame fails (inr (b, is, differs)) = (let bad : Operation (Ops.Lock a) ≡ Operation (Ops.ReadDir b) = is in cc)

@@ -9,14 +9,11 @@ use Rattle.nfs_compound.specs.{declared.lock_args.LockType.LockType, declared.op
 use Rattle.nfs_ranges.specs.{declared.Held.Held, declared.Kind.{Kind, TheVariants.{Read, Write}}, Told.{clashes, meets, told, told_at}, Facts.Tells, Holders.{Holders, least}}
 use Rattle.nfs_ranges.proofs.ToldLemmas.{told_is_unique}
 use Rattle.nfs_opens.specs.{declared.locking.Wish.Wish, declared.records.LockState.LockState, Locking.clash, Steps.in_order}
-use Rattle.nfs_names.specs.{declared.context.Context.Context, declared.node.Node.Node, State.State}
-use Rattle.nfs_names.proofs.Found.{came, ok_is}
-use Rattle.nfs_files.specs.{Ranges.{all_ones, kind_of, range, wished}, Target.the_file}
+use Rattle.nfs_names.specs.{declared.{context.Context.Context, node.Node.Node}, State.State, Checks.current}
+use Rattle.nfs_names.proofs.Found.{came, ok_is, checked_ok}
+use Rattle.nfs_files.specs.{Ranges.{all_ones, kind_of, range, wished}, Target.the_file, Bytes.file_checks}
 use Rattle.nfs_files.proofs.{TreeFiles.IsWhole, Wishes.{wish_is, wish_range}, WrittenOps.current_number}
 use Rattle.nfs_files.proofs.InSteps as in_steps
-use Rattle.nfs_names.proofs.Found.{checked_ok}
-use Rattle.nfs_files.specs.Bytes.{file_checks}
-use Rattle.nfs_names.specs.Checks.{current}
 use Rattle.nfs_promises.specs.Answers.{Asked.{InRange, IsAskers, LiesBeside, Range, locked}, Reasons.Reason}
 use Rattle.nfs_promises.proofs.Answers.Blaming.{passed_all}
 

@@ -1,13 +1,12 @@
 -- CLOSE, OPEN_DOWNGRADE and LOCK: what they are refused with has its reason.
 use Rattle.std.proofs.Common.{◌≡◌, ℕ, Bool, true, false, cond, not, List, [], ◌∷◌, Option, Some, None, refl, sym, ◌∙◌, ap, subst, inl, inr}
-use Rattle.std.proofs.lemmas.Bool.{false≢true, eq-eqb, eqb-true}
+use Rattle.std.proofs.lemmas.Bool.{false≢true, eq-eqb, eqb-true, not-false}
 use Rattle.std.specs.{Prelude.{◌==◌, is_none, Result, Ok, Err, ok_or, option_map}, Option.option_map_or}
 use Rattle.nfs_xdr.specs.{Checks.judged, Tables.In, declared.status.Status.Status}
 use Rattle.nfs_xdr.specs.declared.status.Status.TheVariants as S
 use Rattle.nfs_xdr.proofs.Lists.{find_in, any_in, none_found}
-use Rattle.nfs_compound.specs.{declared.open_args.{Close.Close, OpenDowngrade.OpenDowngrade}, declared.lock_args.{Lock.Lock, Locker.{Locker, TheVariants.{OpenOwner, LockOwner}}}}
-use Rattle.nfs_compound.specs.{declared.op.Item.Item, declared.op.Item.TheVariants.Operation}
-use Rattle.nfs_compound.specs.declared.lock_args.LockType.{LockType}
+use Rattle.nfs_compound.specs.declared.{open_args.{Close.Close, OpenDowngrade.OpenDowngrade}, lock_args.{Lock.Lock, Locker.Locker}}
+use Rattle.nfs_compound.specs.declared.{lock_args.{Locker.TheVariants.{OpenOwner, LockOwner}, LockType.LockType}, op.Item.{Item, TheVariants.Operation}}
 use Rattle.nfs_compound.specs.declared.lock_args.LockType.TheVariants as LockTypes
 use Rattle.nfs_compound.specs.declared.op.Op.TheVariants as Op
 use Rattle.nfs_compound.specs.declared.op_num.OpNum.TheVariants as Num
@@ -32,10 +31,10 @@ use Rattle.nfs_promises.proofs.Answers.FileReasons.{file_blames, the_file_is, wi
 
 -- What the table of opens refuses, by its reason.
 
-module _ (R : Status → Type 0) where
+module _ (R : Status → Type 0) (D : Held → Type 0) where
   abbrev pub HasReason : OpenFault → Type 0
   HasReason (Refused f) = R f
-  HasReason (Denied h) = R S.Denied
+  HasReason (Denied h) = D h
   HasReason Memory = ⊥
 
   abbrev pub Faults : {A : Type 0} → Result A OpenFault → Type 0
@@ -46,7 +45,7 @@ module _ (R : Status → Type 0) where
   faults_then (Err f) next is each = is
   faults_then (Ok a) next is each = each a
 
-  seat_faults : {A : Type 0} (v : Result Seat Status) (next : Seat → Result A OpenFault) → Blames R v → ((k : Seat) → v ≡ Ok k → Faults (next k)) → Faults (map_err Refused v >>= next)
+  pub seat_faults : {A : Type 0} (v : Result Seat Status) (next : Seat → Result A OpenFault) → Blames R v → ((k : Seat) → v ≡ Ok k → Faults (next k)) → Faults (map_err Refused v >>= next)
   seat_faults (Err f) next is each = is
   seat_faults (Ok k) next is each = each k refl
 
@@ -55,7 +54,7 @@ module _ (R : Status → Type 0) where
   there_faults (Some a) f why = tt
 
   module _ (t : Table) (w : Wish) (access : Share) (mode : permits access w.kind ≡ false → R S.OpenMode) (fault : (t.last == last_number) ≡ true → R S.ServerFault) where
-    judged_faults : (own : ℕ) → ((h : Held) → clash t own w ≡ Some h → R S.Denied) → Faults (lock_judged t own access w)
+    judged_faults : (own : ℕ) → ((h : Held) → clash t own w ≡ Some h → D h) → Faults (lock_judged t own access w)
     judged_faults own denied = by (permits access w.kind) (clash t own w) refl refl
       where
         by : (may : Bool) (o : Option Held) → permits access w.kind ≡ may → clash t own w ≡ o → Faults (cond may (judged (option_map Denied o)) (Err (Refused S.OpenMode)))
@@ -63,12 +62,12 @@ module _ (R : Status → Type 0) where
         by true (Some h) may held = denied h held
         by false o may held = mode may
 
-    as_faults : (n : ℕ) → (lock_at t n ≡ None → R S.BadStateId) → ((h : Held) → clash t n w ≡ Some h → R S.Denied) → Faults (lock_as t w n access)
+    pub as_faults : (n : ℕ) → (lock_at t n ≡ None → R S.BadStateId) → ((h : Held) → clash t n w ≡ Some h → D h) → Faults (lock_as t w n access)
     as_faults n none denied =
         faults_then (lock_judged t n access w) _ (judged_faults n denied) (λ u.
         faults_then (ok_or (lock_at t n) (Refused S.BadStateId)) _ (there_faults (lock_at t n) S.BadStateId none) (λ l. tt))
 
-    first_faults : (opened : ℕ) (owner : List ℕ) → ((h : Held) → clash t 0 w ≡ Some h → R S.Denied) → Faults (lock_first t w opened owner access)
+    pub first_faults : (opened : ℕ) (owner : List ℕ) → ((h : Held) → clash t 0 w ≡ Some h → D h) → Faults (lock_first t w opened owner access)
     first_faults opened owner denied =
         faults_then (lock_judged t 0 access w) _ (judged_faults 0 denied) (λ u.
         faults_then (require (not (t.last == last_number)) (Refused S.ServerFault)) _ (held_faults (t.last == last_number) fault) (λ u. tt))
@@ -136,7 +135,13 @@ module _ (s : State) (whole : IsWhole s) (x : Context) where
 
   -- LOCK
 
-  locked_so : (a : Lock) (v : _) → Faults (Reason s x (Operation (Op.Lock a))) v → Answers s x (Operation (Op.Lock a)) (locked s x v)
+  abbrev IsDenied : Lock → Held → Type 0
+  IsDenied a h = Reason s x (Operation (Op.Lock a)) S.Denied
+
+  abbrev HaveReason : {A : Type 0} → Lock → Result A OpenFault → Type 0
+  HaveReason a v = Faults (Reason s x (Operation (Op.Lock a))) (IsDenied a) v
+
+  locked_so : (a : Lock) (v : _) → HaveReason a v → Answers s x (Operation (Op.Lock a)) (locked s x v)
   locked_so a (Ok did) is = done_so s x (Operation (Op.Lock a)) tt
   locked_so a (Err (Denied h)) is = of_refusal s x (Operation (Op.Lock a)) S.Denied is
   locked_so a (Err (Refused f)) is = refused_so s x (Operation (Op.Lock a)) Num.Lock f is
@@ -174,31 +179,31 @@ module _ (s : State) (whole : IsWhole s) (x : Context) where
     }
 
     under_faults : (k : StateGiven) → by_state i ≡ Some k → (id : StateId) → StandsFor x k id → k.sort ≡ OpenOnly → (owner : List ℕ)
-        → AreAskers (number_of (state_of s.opens w.client owner w.file)) → Blames (Reason s x i) (judge s.opens id w.client (Some w.file) OpenOnly) → Faults (Reason s x i) (lock_under s.opens id owner w)
-    under_faults k is id means sort owner askers blames = seat_faults (Reason s x i) (judge s.opens id w.client (Some w.file) OpenOnly) _ blames (λ n e.
+        → AreAskers (number_of (state_of s.opens w.client owner w.file)) → Blames (Reason s x i) (judge s.opens id w.client (Some w.file) OpenOnly) → HaveReason a (lock_under s.opens id owner w)
+    under_faults k is id means sort owner askers blames = seat_faults (Reason s x i) (IsDenied a) (judge s.opens id w.client (Some w.file) OpenOnly) _ blames (λ n e.
         by n (mode k is id means n (λ either. (let bad : OpenOnly ≡ Either = sym sort ∙ either in cc)) (subst (λ sort. IsSeated s.opens id sort n) (sym sort) (seated s.opens id w.client (Some w.file) OpenOnly n e)))
         (state_of s.opens w.client owner w.file) refl)
       where
         by : (n : Seat) → (permits (access_in n) w.kind ≡ false → Reason s x i S.OpenMode) → (o : Option LockState) → state_of s.opens w.client owner w.file ≡ o
-            → Faults (Reason s x i) (option_map_or (λ (l : LockState). lock_as s.opens w l.number (access_in n)) o (lock_first s.opens w id.number owner (access_in n)))
-        by n lacks None found = first_faults (Reason s x i) s.opens w (access_in n) lacks last_state id.number owner (denied 0 (λ l there file mine. askers l there file mine ∙ ap number_of found))
+            → HaveReason a (option_map_or (λ (l : LockState). lock_as s.opens w l.number (access_in n)) o (lock_first s.opens w id.number owner (access_in n)))
+        by n lacks None found = first_faults (Reason s x i) (IsDenied a) s.opens w (access_in n) lacks last_state id.number owner (denied 0 (λ l there file mine. askers l there file mine ∙ ap number_of found))
         by n lacks (Some l) found =
-            as_faults (Reason s x i) s.opens w (access_in n) lacks last_state l.number (λ none. absurd (found_stands s.opens w.client w.file owner l found none))
+            as_faults (Reason s x i) (IsDenied a) s.opens w (access_in n) lacks last_state l.number (λ none. absurd (found_stands s.opens w.client w.file owner l found none))
             (denied l.number (λ k there file mine. askers k there file mine ∙ ap number_of found))
 
     known_faults : (k : StateGiven) → by_state i ≡ Some k → (id : StateId) → StandsFor x k id → k.sort ≡ LockOnly → AreAskers id.number
-        → Blames (Reason s x i) (judge s.opens id w.client (Some w.file) LockOnly) → Faults (Reason s x i) (lock_known s.opens id w)
-    known_faults k is id means sort askers blames = seat_faults (Reason s x i) (judge s.opens id w.client (Some w.file) LockOnly) _ blames (λ n e.
+        → Blames (Reason s x i) (judge s.opens id w.client (Some w.file) LockOnly) → HaveReason a (lock_known s.opens id w)
+    known_faults k is id means sort askers blames = seat_faults (Reason s x i) (IsDenied a) (judge s.opens id w.client (Some w.file) LockOnly) _ blames (λ n e.
         (let its = judged_lock s.opens id w.client w.file n e in
-        as_faults (Reason s x i) s.opens w (access_in n)
+        as_faults (Reason s x i) (IsDenied a) s.opens w (access_in n)
         (mode k is id means n (λ either. (let bad : LockOnly ≡ Either = sym sort ∙ either in cc)) (subst (λ sort. IsSeated s.opens id sort n) (sym sort) (seated s.opens id w.client (Some w.file) LockOnly n e)))
         last_state id.number (λ none. (let bad : None ≡ Some its.0 = sym none ∙ its.1 in cc))
         (denied id.number askers)))
 
-    pub lock_faults : (id : StateId) → meant x Any (stateid_in a.locker) ≡ Ok id → Faults (Reason s x i) (locks_as s.opens a.locker id w)
+    pub lock_faults : (id : StateId) → meant x Any (stateid_in a.locker) ≡ Ok id → HaveReason a (locks_as s.opens a.locker id w)
     lock_faults id means = by a.locker refl means
       where
-        by : (l : Locker) → a.locker ≡ l → meant x Any (stateid_in l) ≡ Ok id → Faults (Reason s x i) (locks_as s.opens l id w)
+        by : (l : Locker) → a.locker ≡ l → meant x Any (stateid_in l) ≡ Ok id → HaveReason a (locks_as s.opens l id w)
         by (OpenOwner o) is means = (let k : StateGiven = record { given = o.open_stateid; sort = OpenOnly; form = Any; here = true } in
             let named = ap (λ l. Some (of_locker l)) is in
             under_faults k named id (stands_for x k id means) refl o.lock_owner.owner (λ l there file mine. found_one s.opens each w.client o.lock_owner.owner w.file l there
@@ -219,9 +224,5 @@ module _ (s : State) (whole : IsWhole s) (x : Context) where
       let Y : Outcome → Type 0 = Answers s x i in
       answers_blame B Y s x Num.Lock _ (refused_so s x i Num.Lock) (ends_then B Y (wished s x a.locktype a.offset a.length) _
       (wished_blames s whole x i refl refl a.locktype a.offset a.length refl) (λ w asks.
-      ends_then B Y (require (not a.reclaim) S.NoGrace) _ (held_blames B (not a.reclaim) S.NoGrace (λ off. inr (a, refl, reclaimed a.reclaim off))) (λ u e.
+      ends_then B Y (require (not a.reclaim) S.NoGrace) _ (held_blames B (not a.reclaim) S.NoGrace (λ off. inr (a, refl, not-false a.reclaim off))) (λ u e.
       ends_then B Y (meant x Any (stateid_in a.locker)) _ (meant_so a a.locker refl) (λ id means. locked_so a (locks_as s.opens a.locker id w) (lock_faults each a w asks id means)))))
-    where
-      reclaimed : (b : Bool) → not b ≡ false → b ≡ true
-      reclaimed true off = refl
-      reclaimed false off = absurd (false≢true (sym off))

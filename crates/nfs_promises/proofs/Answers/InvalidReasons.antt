@@ -1,29 +1,22 @@
 -- What is invalid whatever is there, and counters that are at their end.
 use Rattle.std.proofs.Common.{◌≡◌, ◌⊎◌, ◌<◌, ◌≤◌, ℕ, suc, Bool, true, false, cond, not, List, Option, Some, None, refl, sym, ◌∙◌, ap, arith, inl, inr}
-use Rattle.std.proofs.lemmas.Bool.{and_parts, cases_Bool, eq-eqb, eqb-true, false≢true, ltb-true, ltb-false, not-true}
-use Rattle.std.specs.Prelude.{◌==◌, ◌+◌, ◌&&◌, ◌||◌, nat_lt, is_none, is_some, option_map, Ok, ok_or}
-use Rattle.std.specs.Option.{option_map_or}
+use Rattle.std.proofs.lemmas.Bool.{and_parts, cases_Bool, eq-eqb, eqb-true, false≢true, ltb-true, ltb-false, not-true, and_cases, not-false, or_cases}
+use Rattle.std.specs.{Prelude.{◌==◌, ◌+◌, ◌&&◌, ◌||◌, nat_lt, is_none, is_some, option_map, Ok, ok_or}, Option.option_map_or}
 use Rattle.nfs_xdr.specs.declared.status.Status.{Status}
 use Rattle.nfs_compound.specs.{declared.attributes.Attributes.Attributes, declared.op.Item.Item}
-use Rattle.nfs_tree.specs.{declared.profile.Profile.TheVariants.Exact, declared.stored.Stored.Stored}
-use Rattle.nfs_tree.specs.Files.{last_count, stored_in, object_at, is_there, can_change}
-use Rattle.nfs_attrs.specs.{declared.set_time.SetTime.SetTime, declared.set_time.SetTime.TheVariants.{Now, Given}, declared.mask.Mask.Mask}
-use Rattle.nfs_attrs.specs.{Attributes.{Settings, settable, supported}, Mask.{mask_of, within}, Owner.owner_of, Reading.{exceeds, judged_settings, names_nobody, overflows}}
-use Rattle.nfs_attrs.specs.SettingsCodec.{settings_of}
+use Rattle.nfs_tree.specs.{declared.{profile.Profile.TheVariants.Exact, stored.Stored.Stored}, Files.{last_count, stored_in, object_at, is_there, can_change}}
+use Rattle.nfs_attrs.specs.{declared.{set_time.SetTime.{SetTime, TheVariants.{Now, Given}}, mask.Mask.Mask}, Attributes.{Settings, settable, supported}}
+use Rattle.nfs_attrs.specs.{Mask.{mask_of, within}, Owner.owner_of, Reading.{exceeds, judged_settings, names_nobody, overflows}, SettingsCodec.settings_of}
 use Rattle.nfs_opens.specs.{declared.share.Share.Share, Share.{is_neither, is_part, neither, share_of}}
 use Rattle.nfs_names.specs.{declared.context.Context.Context, declared.node.Node.Node, Create.attributes_in, State.State}
 use Rattle.nfs_files.specs.Ranges.{all_ones}
 use Rattle.nfs_promises.specs.Answers.{Asked.Range, Reasons.Reason}
 use Rattle.nfs_promises.specs.Answers.Invalid.{ranged, IsNoRange, given_in, IsNoValue, Accessed, Modified, Mode, NamesNobody, Fixed, NoValue, IsSpent, Change, Objects, Cookies}
-use Rattle.nfs_promises.proofs.Answers.{Blaming.{Blames, bool_blames}, Placed.one_or}
+use Rattle.nfs_promises.proofs.Answers.{Blaming.{Blames, bool_blames}}
 
 -- one of two does not hold
-pub not_both : (a b : Bool) → a && b ≡ false → (a ≡ false) ⊎ (b ≡ false)
-not_both true b e = inr e
-not_both false b e = inl refl
-
 pub never_both : (a b : Bool) → not (a && b) ≡ true → (a ≡ false) ⊎ (b ≡ false)
-never_both a b e = not_both a b (not-true (a && b) e)
+never_both a b e = and_cases a b (not-true (a && b) e)
 
 -- what is taken out of an option is there
 pub ok_some : {A : Type 0} (o : Option A) (f : Status) (a : A) → ok_or o f ≡ Ok a → o ≡ Some a
@@ -68,14 +61,10 @@ no_share n none = by (n == 0) (n == 1) (n == 2) (n == 3) refl refl refl refl non
 -- a share that an open does not have
 pub not_narrower : (access deny : Share) (has_access has_deny : Share) → not (is_neither access) && (is_part access has_access && is_part deny has_deny) ≡ false
     → (is_neither access ≡ true) ⊎ ((is_part access has_access ≡ false) ⊎ (is_part deny has_deny ≡ false))
-not_narrower access deny has_access has_deny off = elim (not_both (not (is_neither access)) (is_part access has_access && is_part deny has_deny) off) [
-  | inl none ↦ inl (on (is_neither access) none)
-  | inr other ↦ inr (not_both (is_part access has_access) (is_part deny has_deny) other)
+not_narrower access deny has_access has_deny off = elim (and_cases (not (is_neither access)) (is_part access has_access && is_part deny has_deny) off) [
+  | inl none ↦ inl (not-false (is_neither access) none)
+  | inr other ↦ inr (and_cases (is_part access has_access) (is_part deny has_deny) other)
 ]
-  where
-    on : (b : Bool) → not b ≡ false → b ≡ true
-    on true e = refl
-    on false e = absurd (false≢true (sym e))
 
 -- Attributes.
 
@@ -114,7 +103,7 @@ given_blames s x i a is =
     bool_blames (Reason s x i) (not (within m settable)) _ _ (λ fixed. Fixed a is (not-true _ fixed)) (λ set. by (settings_of m a.attr_vals) refl))
   where
     nobody : (v : Settings) → settings_of (mask_of a.attrmask) a.attr_vals ≡ Some v → names_nobody v.owner || names_nobody v.group ≡ true → NamesNobody i
-    nobody v read e = elim (one_or (names_nobody v.owner) (names_nobody v.group) e) [
+    nobody v read e = elim (or_cases (names_nobody v.owner) (names_nobody v.group) e) [
       | inl owner ↦ (let n = nobody_named v.owner owner in record { given = a; is = is; set = v; read = read; text = n.0; of = inl n.1; nobody = n.2 })
       | inr group ↦ (let n = nobody_named v.group group in record { given = a; is = is; set = v; read = read; text = n.0; of = inr n.1; nobody = n.2 })
     ]
@@ -152,7 +141,7 @@ module _ (s : State) where
       → not (can_change s.tree d.number && (nat_lt s.tree.last_object last_count && nat_lt s.tree.last_cookie last_count)) ≡ true → IsSpent s
   none_is_made d is off = elim (never_both (can_change s.tree d.number) (nat_lt s.tree.last_object last_count && nat_lt s.tree.last_cookie last_count) off) [
     | inl change ↦ spent_there d is change
-    | inr count ↦ elim (not_both (nat_lt s.tree.last_object last_count) (nat_lt s.tree.last_cookie last_count) count) [
+    | inr count ↦ elim (and_cases (nat_lt s.tree.last_object last_count) (nat_lt s.tree.last_cookie last_count) count) [
       | inl object ↦ no_object_left object
       | inr cookie ↦ no_cookie_left cookie
     ]
@@ -163,7 +152,7 @@ module _ (s : State) where
       → not (can_change s.tree d.number && (can_change s.tree n.number && nat_lt s.tree.last_cookie last_count)) ≡ true → IsSpent s
   none_is_linked d n is there off = elim (never_both (can_change s.tree d.number) (can_change s.tree n.number && nat_lt s.tree.last_cookie last_count) off) [
     | inl place ↦ spent_there d is place
-    | inr more ↦ elim (not_both (can_change s.tree n.number) (nat_lt s.tree.last_cookie last_count) more) [
+    | inr more ↦ elim (and_cases (can_change s.tree n.number) (nat_lt s.tree.last_cookie last_count) more) [
       | inl change ↦ spent_there n there change
       | inr cookie ↦ no_cookie_left cookie
     ]

@@ -1,6 +1,5 @@
 -- What a LOOKUP makes current.
-use Rattle.std.proofs.Common.{◌≡◌, ℕ, Bool, true, List, ◌∷◌, Some, None, refl, sym, ◌∙◌, ap, inl, inr}
-use Rattle.std.proofs.lemmas.Bool.{cases_Bool, false≢true}
+use Rattle.std.proofs.{Common.{◌≡◌, ℕ, Bool, true, List, ◌∷◌, Some, None, refl, sym, ◌∙◌, ap, inl, inr}, lemmas.Bool.{cases_Bool, false≢true}}
 use Rattle.nfs_compound.specs.declared.op.Item.TheVariants.{Operation}
 use Rattle.nfs_compound.specs.declared.op.Op.TheVariants as Op
 use Rattle.nfs_tree.specs.Files.{object_named}

@@ -13,14 +13,11 @@ use Rattle.nfs_compound.specs.declared.op_num.OpNum.TheVariants as Num
 use Rattle.nfs_tree.specs.{declared.row.Row.Row, Object.is_directory, Files.{has_name, links_in, most_links, most_text, number_named}}
 use Rattle.nfs_attrs.specs.{Permissions.change_entries, Setting.make_checks}
 use Rattle.nfs_opens.specs.Steps.{require}
-use Rattle.nfs_names.specs.{declared.context.Context.Context, declared.node.Node.Node, State.State, Outcome.Outcome}
-use Rattle.nfs_names.specs.{Checks.{current, both, no_directory, no_access, permits, name_checks}, Create.{is_made, text_is, place_checks, room_checks, attributes_in, create}}
-use Rattle.nfs_names.specs.Link.{last_checks, link}
+use Rattle.nfs_names.specs.{Checks.{current, both, no_directory, no_access, permits, name_checks}, Link.{last_checks, link}, Outcome.Outcome, State.State}
+use Rattle.nfs_names.specs.{Create.{is_made, text_is, place_checks, room_checks, attributes_in, create}, declared.{context.Context.Context, node.Node.Node}}
 use Rattle.nfs_files.proofs.{TreeFiles.IsWhole, WrittenOps.current_number}
-use Rattle.nfs_promises.specs.Permission.Permitted.{Writes, Executes}
-use Rattle.nfs_promises.specs.Answers.Asked.{ByName, Linked, Kept, ToCreate, ToAdd, made, size_in}
-use Rattle.nfs_promises.specs.Answers.Invalid.{NoText, Sized}
-use Rattle.nfs_promises.specs.Answers.Reasons.{IsThere, IsDenied, is_type, Reason}
+use Rattle.nfs_promises.specs.{Permission.Permitted.{Writes, Executes}, Answers.Asked.{ByName, Linked, Kept, ToCreate, ToAdd, made, size_in}}
+use Rattle.nfs_promises.specs.Answers.{Invalid.{NoText, Sized}, Reasons.{IsThere, IsDenied, is_type, Reason}}
 use Rattle.nfs_promises.proofs.Answers.Blaming.{held_blames, ends_then, ends_checks, answers_blame}
 use Rattle.nfs_promises.proofs.Answers.Placed.{Answers, refused_so, done_so, found_now, no_bytes, current_blames, both_blames, saved_found, denied_by, no_directory_blames, names_blame, named_at}
 use Rattle.nfs_promises.proofs.{Answers.{AttrReasons.make_blames, InvalidReasons.{given_blames, none_is_made, none_is_linked}}, Permission.{Granting.may_change, PermittedNames.both_current}}

@@ -1,6 +1,6 @@
 -- Operations on names and attributes: what they are refused with has its reason, and what was answered NFS4_OK was granted.
 use Rattle.std.proofs.Common.{◌≡◌, ◌≢◌, ◌⊎◌, ℕ, Bool, true, false, cond, not, List, [], ◌∷◌, Option, Some, None, refl, sym, ◌∙◌, ap, subst, inl, inr}
-use Rattle.std.proofs.lemmas.{Bool.{and_parts, false≢true, not-false, not-true, eq-eqb}, Option.same_Some}
+use Rattle.std.proofs.lemmas.{Bool.{and_parts, false≢true, not-false, not-true, eq-eqb, and_cases, or_cases}, Option.same_Some}
 use Rattle.std.specs.{Prelude.{◌||◌, ◌&&◌, option_map, Ok, ok_or, if◌then◌else◌}, Option.option_map_or}
 use Rattle.nfs_xdr.specs.{Checks.first_fault, declared.status.Status.Status, declared.time.Time.Time}
 use Rattle.nfs_xdr.specs.declared.status.Status.TheVariants as S
@@ -16,18 +16,16 @@ use Rattle.nfs_tree.specs.{declared.profile.Profile.Profile, declared.profile.Pr
 use Rattle.nfs_tree.specs.declared.fault.TreeFault.TheVariants as F
 use Rattle.nfs_attrs.specs.{declared.permission.Want.Want, Mask.{has, mask_of, asks_set_only}, Permissions.{execute, change_entries}}
 use Rattle.nfs_opens.specs.Steps.{in_order, require}
-use Rattle.nfs_names.specs.{declared.context.Context.Context, declared.node.Node.Node, State.State, Outcome.Outcome, Faults.tree_fault_status}
-use Rattle.nfs_names.specs.Checks.{current, both, no_directory, no_access, name_checks}
-use Rattle.nfs_names.specs.{GetAttr.get_attr, GetFh.get_fh, Lookup.lookup, ReadLink.read_link, Remove.{remove, last_checks}, SaveFh.save_fh}
-use Rattle.nfs_names.specs.Rename.{rename, renamed, move_of, place_checks as rename_places, last_checks as rename_lasts}
+use Rattle.nfs_names.specs.{Checks.{current, both, no_directory, no_access, name_checks}, Faults.tree_fault_status, GetAttr.get_attr, GetFh.get_fh, State.State}
+use Rattle.nfs_names.specs.{Lookup.lookup, Outcome.Outcome, ReadLink.read_link, Remove.{remove, last_checks}, SaveFh.save_fh, declared.context.Context.Context}
+use Rattle.nfs_names.specs.{Rename.{rename, renamed, move_of, place_checks as rename_places, last_checks as rename_lasts}, declared.node.Node.Node}
 use Rattle.nfs_files.proofs.{TreeFiles.IsWhole, WrittenOps.current_number}
 use Rattle.nfs_promises.specs.Permission.Permitted.{Writes, Executes, Grants, rights_of, rights_at}
 use Rattle.nfs_promises.specs.Answers.Asked.{ByName, ByOldName, ByNewName, InCurrent, InSaved, Source, Searched, ToAdd, ToFind, ToRemove, ToTake, ToPut}
-use Rattle.nfs_promises.specs.Answers.Invalid.{IsBelow, Below, Unreadable, IsSpent}
-use Rattle.nfs_promises.specs.Answers.Reasons.{HasEntry, IsInTheWay, IsGranted, Reason}
+use Rattle.nfs_promises.specs.Answers.{Invalid.{IsBelow, Below, Unreadable, IsSpent}, Reasons.{HasEntry, IsInTheWay, IsGranted, Reason}}
 use Rattle.nfs_promises.proofs.Answers.Blaming.{all_blame, held_blames, there_blames, ends_then, ends_checks, answers_blame, passed_all}
-use Rattle.nfs_promises.proofs.Answers.InvalidReasons.{not_both, never_both, spent_at, spent_there, no_cookie_left}
-use Rattle.nfs_promises.proofs.Answers.Placed.{Answers, refused_so, done_so, found_now, current_blames, both_blames, saved_found, rights_is, unnamed, named_at, named_there, one_or}
+use Rattle.nfs_promises.proofs.Answers.InvalidReasons.{never_both, spent_at, spent_there, no_cookie_left}
+use Rattle.nfs_promises.proofs.Answers.Placed.{Answers, refused_so, done_so, found_now, current_blames, both_blames, saved_found, rights_is, unnamed, named_at, named_there}
 use Rattle.nfs_promises.proofs.Answers.Placed.{has_entry, has_kind, denied_by, no_directory_blames, no_finding, missing, names_blame}
 use Rattle.nfs_promises.proofs.Permission.{Granting.{executes, changes, may_change}, PermittedNames.{gets, one_of, two_of, both_current}}
 
@@ -192,14 +190,14 @@ none_is_moved : (s : State) → IsWhole s → (x : Context) (p : _) → both s x
 none_is_moved s whole x p e saved target a named off =
     let m : Move = move_of a p in
     let t : Files = s.tree in
-    elim (not_both (can_change t m.source) _ off) [
+    elim (and_cases (can_change t m.source) _ off) [
       | inl source ↦ spent_there s p.saved saved source
-      | inr more ↦ elim (not_both (can_change t m.target) _ more) [
+      | inr more ↦ elim (and_cases (can_change t m.target) _ more) [
         | inl place ↦ spent_there s p.current target place
-        | inr more ↦ elim (not_both (not (has_name t m.target m.name) || can_change t (replaced_object t m)) _ more) [
+        | inr more ↦ elim (and_cases (not (has_name t m.target m.name) || can_change t (replaced_object t m)) _ more) [
           | inl replaced ↦ (let q = or_off (has_name t m.target m.name) (can_change t (replaced_object t m)) replaced in
               spent_at s (replaced_object t m) (named_there s p.current.number (replaced_object t m) a.newname whole (named_at t p.current.number a.newname q.0)) q.1)
-          | inr more ↦ elim (not_both (not (is_unix t.profile) || can_change t (moved_object t m)) _ more) [
+          | inr more ↦ elim (and_cases (not (is_unix t.profile) || can_change t (moved_object t m)) _ more) [
             | inl moved ↦ spent_at s (moved_object t m) (named_there s p.saved.number (moved_object t m) a.oldname whole (named_at t p.saved.number a.oldname named))
                 (or_off (is_unix t.profile) (can_change t (moved_object t m)) moved).1
             | inr cookie ↦ no_cookie_left s cookie
@@ -317,7 +315,7 @@ module _ (s : State) (whole : IsWhole s) (x : Context) where
       answers_blame (Reason s x i) (Answers s x i) s x Num.GetAttr _ (refused_so s x i Num.GetAttr) (ends_then (Reason s x i) (Answers s x i) (current s x) _
       (current_blames s whole x i refl) (λ d e. ends_then (Reason s x i) (Answers s x i) (require (not (asks_set_only (mask_of words))) S.Inval) _
       (held_blames (Reason s x i) (not (asks_set_only (mask_of words))) S.Inval (λ some.
-      Unreadable words refl (one_or (has (mask_of words) 48) (has (mask_of words) 54) (not-false _ some)))) (λ u e. done_so s x i tt)))
+      Unreadable words refl (or_cases (has (mask_of words) 48) (has (mask_of words) 54) (not-false _ some)))) (λ u e. done_so s x i tt)))
 
   pub get_fh_blames : Answers s x (Operation Op.GetFh) (get_fh s x)
   unfolding get_fh

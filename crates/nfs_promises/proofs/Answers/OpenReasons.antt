@@ -1,6 +1,7 @@
 -- OPEN: what it is refused with has its reason, and a guarded create that was answered NFS4_OK found the name free.
-use Rattle.std.proofs.Common.{◌≡◌, ◌≢◌, ◌⊎◌, ℕ, ◌+◌, ◌<◌, Bool, true, false, not, List, [], ◌∷◌, length, Option, Some, None, refl, sym, ◌∙◌, ap, subst, arith, inl, inr}
-use Rattle.std.proofs.lemmas.{Bool.{and_parts, eq-eqb, eqb-true, false≢true, leb-true, ltb-true, not-true}, Option.same_Some, Slice.Eq.bytes_eq-Decides}
+use Rattle.std.proofs.Common.{◌≡◌, ◌≢◌, ◌⊎◌, ℕ, ◌+◌, ◌<◌, Bool, true, false, not, List, [], ◌∷◌, length, Option, Some, None, refl, sym, ◌∙◌, ap, subst, arith}
+use Rattle.std.proofs.{Common.{inl, inr}, lemmas.Bool.{and_parts, eq-eqb, eqb-true, false≢true, leb-true, ltb-true, not-true, or_cases, and_from}}
+use Rattle.std.proofs.lemmas.{Option.same_Some, Slice.Eq.bytes_eq-Decides}
 use Rattle.std.specs.{Prelude.{◌==◌, ◌%◌, ◌&&◌, ◌||◌, bytes_eq, is_none, is_some, nat_lt, unwrap_or, Ok, option_map}, List.list_any}
 use Rattle.nfs_xdr.specs.{Caller.Caller, Tables.In, declared.status.Status.Status, declared.time.Time.Time}
 use Rattle.nfs_xdr.specs.declared.status.Status.TheVariants as S
@@ -10,13 +11,11 @@ use Rattle.nfs_compound.specs.declared.open_args.{Open.Open, OpenHow.OpenHow, Op
 use Rattle.nfs_compound.specs.declared.open_args.{OpenClaim.OpenClaim, OpenClaim.TheVariants.{Null, Previous, DelegateCur, DelegatePrev, Fh, DelegCurFh, DelegPrevFh}}
 use Rattle.nfs_compound.specs.declared.op.Op.TheVariants as Op
 use Rattle.nfs_compound.specs.declared.op_num.OpNum.TheVariants as Num
-use Rattle.nfs_tree.specs.{declared.profile.Profile.Profile, declared.stored.Stored.Stored}
-use Rattle.nfs_tree.specs.{Files.{stored_in, object_at, object_named, is_there, can_change}}
+use Rattle.nfs_tree.specs.{declared.{profile.Profile.Profile, stored.Stored.Stored}, Files.{stored_in, object_at, object_named, is_there, can_change}}
 use Rattle.nfs_attrs.specs.{declared.wanted.Wanted.Wanted, Setting.make_checks, Permissions.{execute, write as write_bits}}
 use Rattle.nfs_opens.specs.{declared.share.Share.Share, Share.{meets, share_of}, Steps.{require, in_order}, StateId.last_number, Table.clashes_with, declared.records.OpenState.OpenState}
-use Rattle.nfs_names.specs.{declared.context.Context.Context, declared.node.Node.Node, State.State, Outcome.Outcome, Create.attributes_in}
-use Rattle.nfs_names.specs.Checks.{node_as, node_at, current, no_directory, no_access, name_checks}
-use Rattle.nfs_names.specs.declared.making.Making.{Making}
+use Rattle.nfs_names.specs.{declared.{context.Context.Context, node.Node.Node}, State.State, Outcome.Outcome, Create.attributes_in}
+use Rattle.nfs_names.specs.{Checks.{node_as, node_at, current, no_directory, no_access, name_checks}, declared.making.Making.Making}
 use Rattle.nfs_names.proofs.Found.{came, ok_is}
 use Rattle.nfs_files.specs.{OpenTold.{claimed, named_in}, Open.{access_of, is_made_by, makes, there_checks, found_by, by_claim, open_file, asking, deny_of, file_of, last_checks as open_last}}
 use Rattle.nfs_files.proofs.{OpenFound.{made_of, creates_it, counted_parts}, Opened.none_at_next, TreeFiles.IsWhole, WrittenOps.current_number}
@@ -25,7 +24,7 @@ use Rattle.nfs_promises.specs.Answers.Asked.{AFile, TheFile, Opened, ToMakeAs, a
 use Rattle.nfs_promises.specs.Answers.Invalid.{NoShare, ToOpen as AskOpen, ByHandle, States}
 use Rattle.nfs_promises.specs.Answers.Reasons.{WasFree, Made, MayDo, Reason}
 use Rattle.nfs_promises.proofs.Answers.Blaming.{Blames, AllBlame, held_blames, then_blames, then_checks, ends_then, ends_checks, answers_blame, passed_all}
-use Rattle.nfs_promises.proofs.Answers.Placed.{Answers, refused_so, done_so, node_found, found_now, rights_is, current_blames, denied_by, no_directory_blames, no_finding, one_or}
+use Rattle.nfs_promises.proofs.Answers.Placed.{Answers, refused_so, done_so, node_found, found_now, rights_is, current_blames, denied_by, no_directory_blames, no_finding}
 use Rattle.nfs_promises.proofs.{Answers.{Placed.{missing, named_there, names_blame}, AttrReasons.make_blames, InvalidReasons.{given_blames, no_share, none_is_made, spent_there}}, Permission.Granting.{may_use, may_write}}
 
 in_shared : (access : Share) (right : Right) → has_right access right ≡ true → In right (shared access.reads access.writes)
@@ -218,15 +217,12 @@ module _ (s : State) (whole : IsWhole s) (x : Context) (o : Open) where
           state = p;
           there = there;
           at = leads ∙ ap Some (sym its);
-          other = λ same. false≢true (sym (not-true _ more.0) ∙ both (eq-eqb p.client x.client same.0) ((bytes_eq-Decides p.owner o.owner.owner).1 same.1));
-          clash = one_or (meets (access_of o) p.deny) (meets (deny_of o) p.access) more.1;
+          other = λ same. false≢true (sym (not-true _ more.0) ∙ and_from _ _ (eq-eqb p.client x.client same.0) ((bytes_eq-Decides p.owner o.owner.owner).1 same.1));
+          clash = or_cases (meets (access_of o) p.deny) (meets (deny_of o) p.access) more.1;
         }
         | inr next ↦ absurd (false≢true (sym (none_at_next s whole.tree whole.store)
             ∙ any_in (λ (p : OpenState). p.file == s.tree.last_object + 1) s.opens.opens p there (eq-eqb p.file (s.tree.last_object + 1) (its ∙ next))))
       ]
-    where
-      both : {a b : Bool} → a ≡ true → b ≡ true → a && b ≡ true
-      both p q = rw (p, q) refl
 
   makes_too_long : (w : Wanted) → attributes_in (makes o.openhow).attributes ≡ Ok w → nat_lt s.tree.limits.bytes (unwrap_or w.size 0) ≡ true → B S.FBig
   makes_too_long w gives long = by w.size refl long

@@ -1,6 +1,7 @@
 -- What is found at the place of a filehandle, and the reasons that are said of it.
 use Rattle.std.proofs.Common.{◌≡◌, ◌⊎◌, ℕ, suc, Bool, true, false, cond, not, List, [], ◌∷◌, Option, Some, None, refl, sym, ◌∙◌, ap, subst, arith, inl, inr}
-use Rattle.std.proofs.lemmas.{Bool.{cases_Bool, false≢true, ltb-true, leb-true, not-true, eqb-true}, Option.same_Some, Slice.Eq.bytes_eq-Decides}
+use Rattle.std.proofs.lemmas.{Bool.{cases_Bool, false≢true, ltb-true, leb-true, not-true, eqb-true, and_right, or_cases}, Option.same_Some}
+use Rattle.std.proofs.lemmas.Slice.Eq.{bytes_eq-Decides}
 use Rattle.std.specs.{Prelude.{◌==◌, ◌||◌, ◌&&◌, ◌+◌, ◌<◌, ◌≤◌, nat_le, nat_lt, is_some, length, bytes_eq, Ok, option_map, unwrap_or}, List.list_any}
 use Rattle.nfs_xdr.specs.{Tables.In, Status.status_number, declared.status.Status.Status}
 use Rattle.nfs_xdr.specs.declared.status.Status.TheVariants as S
@@ -17,8 +18,7 @@ use Rattle.nfs_files.proofs.{TreeFiles.IsWhole, WrittenOps.current_number}
 use Rattle.nfs_exec.specs.{Step.{Behind.{refused_step, step}, Run.{in_room, reserve}}, Runs.Ops.RanOp}
 use Rattle.nfs_exec.proofs.{Runs.{OneRun.IsRun, WrittenRun.used_there}}
 use Rattle.nfs_promises.specs.{Names.FileStays.{is_on_current, is_on_saved}, Permission.Permitted.{Right, Executes, rights_of, rights_at}}
-use Rattle.nfs_promises.specs.Answers.Asked.{LooksAt, AtCurrent, AtSaved, Target, is_in_directory, named, Gives, Needs, ToFind, Seeks}
-use Rattle.nfs_promises.specs.Answers.Invalid.{NoName}
+use Rattle.nfs_promises.specs.Answers.{Asked.{LooksAt, AtCurrent, AtSaved, Target, is_in_directory, named, Gives, Needs, ToFind, Seeks}, Invalid.NoName}
 use Rattle.nfs_promises.specs.Answers.Reasons.{HasKind, HasEntry, IsDenied, MayDo, Reason, Granted, IsAnswered, room_of, is_cut, LacksRoom}
 use Rattle.nfs_promises.proofs.{Answers.Blaming.{Blames, AllBlame, then_blames}, Permission.{Granting.may_execute, PermittedNames.picked}}
 
@@ -47,12 +47,8 @@ Blamed s x i refused status = ((status ≡ S.Delay) × (refused ≡ true)) ⊎ I
 
 pub or_delayed : (s : State) (x : Context) (i : Item) (op : OpNum) (wants refused : Bool) (o : Outcome) → Answers s x i o
     → Blamed s x i refused (status_of_result (or_delay (wants && refused) s x op o).result)
-or_delayed s x i op wants false o is = by (wants && false) (never wants)
+or_delayed s x i op wants false o is = by (wants && false) (and_right wants false refl)
   where
-    never : (b : Bool) → b && false ≡ false
-    never true = refl
-    never false = refl
-
     by : (b : Bool) → b ≡ false → Blamed s x i false (status_of_result (or_delay b s x op o).result)
     by true on = absurd (false≢true (sym on))
     by false off = inr is
@@ -259,12 +255,8 @@ named_there s d n name whole at = by (entry s.tree.rows d name) refl at
 
 -- What the checks of a name blame.
 
-pub one_or : (a b : Bool) → a || b ≡ true → (a ≡ true) ⊎ (b ≡ true)
-one_or true b e = inl refl
-one_or false b e = inr e
-
 is_dots : (name : List ℕ) → bytes_eq name (0x2e ∷ []) || bytes_eq name (0x2e ∷ 0x2e ∷ []) ≡ true → (name ≡ 0x2e ∷ []) ⊎ (name ≡ 0x2e ∷ 0x2e ∷ [])
-is_dots name dots = elim (one_or (bytes_eq name (0x2e ∷ [])) (bytes_eq name (0x2e ∷ 0x2e ∷ [])) dots) [
+is_dots name dots = elim (or_cases (bytes_eq name (0x2e ∷ [])) (bytes_eq name (0x2e ∷ 0x2e ∷ [])) dots) [
   | inl one ↦ inl ((bytes_eq-Decides name (0x2e ∷ [])).0 one)
   | inr two ↦ inr ((bytes_eq-Decides name (0x2e ∷ 0x2e ∷ [])).0 two)
 ]
@@ -272,7 +264,7 @@ is_dots name dots = elim (one_or (bytes_eq name (0x2e ∷ [])) (bytes_eq name (0
 odd_byte : (name : List ℕ) → list_any (λ byte. byte == 0x2f || byte == 0) name ≡ true → (byte : ℕ) × In byte name × ((byte ≡ 0x2f) ⊎ (byte ≡ 0))
 odd_byte name odd =
     let b = in_any (λ byte. byte == 0x2f || byte == 0) name odd in
-    (b.0, b.1, elim (one_or (b.0 == 0x2f) (b.0 == 0) b.2) [ inl slash ↦ inl (eqb-true _ _ slash) | inr zero ↦ inr (eqb-true _ _ zero) ])
+    (b.0, b.1, elim (or_cases (b.0 == 0x2f) (b.0 == 0) b.2) [ inl slash ↦ inl (eqb-true _ _ slash) | inr zero ↦ inr (eqb-true _ _ zero) ])
 
 -- no bytes
 pub no_bytes : (name : List ℕ) → length name == 0 ≡ true → name ≡ []

@@ -1,6 +1,5 @@
 -- Each no has its reason, in every run.
-use Rattle.std.proofs.Common.{◌≡◌, ℕ, true, Bool, refl, sym, ◌∙◌, ap, subst, inl, inr, arith}
-use Rattle.std.proofs.lemmas.Bool.{le-leb}
+use Rattle.std.proofs.{Common.{◌≡◌, ℕ, true, Bool, refl, sym, ◌∙◌, ap, subst, inl, inr, arith}, lemmas.Bool.le-leb}
 use Rattle.std.specs.Prelude.{nat_le}
 use Rattle.nfs_xdr.specs.declared.status.Status.{Status}
 use Rattle.nfs_xdr.specs.declared.status.Status.TheVariants as S

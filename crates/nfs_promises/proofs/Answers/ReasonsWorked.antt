@@ -1,28 +1,27 @@
 -- Refusals with a reason and without one, computed.
-use Rattle.std.proofs.Common.{◌≡◌, ◌≢◌, ℕ, ◌<◌, ◌≤◌, Bool, true, false, List, [], ◌∷◌, Option, Some, None, refl, sym, ◌∙◌, ap, subst, arith, inl, inr}
-use Rattle.std.proofs.lemmas.{Bool.{false≢true, ltb-false}, Option.same_Some}
-use Rattle.std.specs.Prelude.{nat_lt, Result, Ok, not, ◌+◌, ◌*◌, ◌^◌}
+use Rattle.std.proofs.Common.{◌≡◌, ◌≢◌, ℕ, ◌<◌, ◌≤◌, true, false, List, [], ◌∷◌, Option, Some, None, refl, sym, ◌∙◌, ap, subst, arith, inl, inr}
+use Rattle.std.proofs.lemmas.{Bool.{false≢true, ltb-false, not-true}, Option.same_Some}
+use Rattle.std.specs.Prelude.{nat_lt, Result, Ok, ◌+◌, ◌*◌, ◌^◌}
 use Rattle.nfs_xdr.specs.declared.status.Status.TheVariants as S
 use Rattle.nfs_xdr.specs.{Tables.In, declared.status.Status.Status}
-use Rattle.nfs_compound.specs.declared.name_args.CreateType.TheVariants.{Other}
+use Rattle.nfs_compound.specs.declared.{name_args.{CreateType.TheVariants.Other, Rename.Rename}, file_args.{Read.Read, SetAttr.SetAttr}, open_args.Open.Open}
+use Rattle.nfs_compound.specs.declared.{op.Item.{Item, TheVariants.Operation}, open_args.{OpenHow.{OpenHow, TheVariants.NoCreate}, OpenClaim.TheVariants.Null}}
+use Rattle.nfs_compound.specs.ArgCodecs.{rename_args, create_args, create_type, set_attr_args}
 use Rattle.nfs_compound.specs.declared.name_args.Create as args
 use Rattle.nfs_attrs.specs.{declared.wanted.Wanted.Wanted, Mask.mask_of}
-use Rattle.nfs_compound.specs.{declared.file_args.{Read.Read, SetAttr.SetAttr}, declared.open_args.Open.Open, declared.name_args.Rename.Rename, declared.op.Item.Item, declared.op.Item.TheVariants.Operation}
-use Rattle.nfs_compound.specs.declared.open_args.{OpenHow.OpenHow, OpenHow.TheVariants.NoCreate, OpenClaim.TheVariants.Null}
-use Rattle.nfs_compound.specs.ArgCodecs.{rename_args, create_args, create_type, set_attr_args}
 use Rattle.nfs_compound.specs.declared.op.Op.TheVariants as Op
 use Rattle.nfs_tree.specs.{declared.object.Object.Object, declared.profile.Profile.TheVariants.{Exact, Unix}, Files.{object_at, object_named}, Object.is_directory}
 use Rattle.nfs_opens.specs.{declared.records.LockState.LockState, declared.stateid.StateId.StateId, declared.stateid.CurrentSeqid.TheVariants.{Any, Own}, declared.judging.Sort.TheVariants.{OpenOnly, LockOnly}}
 use Rattle.nfs_names.specs.{Context.anonymous, declared.context.Context.Context, declared.context.Saved.Saved, State.State, Remove.remove, Rename.rename, SaveFh.save_fh, GetFh.get_fh, Create.{attributes_in, create}, Checks.both}
 use Rattle.nfs_files.specs.{OpenTold.claimed, SetAttr.set_attr, StateIds.state_id}
-use Rattle.nfs_promises.specs.{Runs.Points.ops_of, Runs.Requests.{unchecked, stateid, words}, Locks.LockKeptWorked.{asked, gives_up, last_of, statuses}, Bytes.WrittenStaysWorked.made}
+use Rattle.nfs_promises.specs.{Runs.{Points.ops_of, Requests.{unchecked, stateid, words}}, Locks.LockKeptWorked.{asked, gives_up, last_of}, Bytes.WrittenStaysWorked.made}
 use Rattle.nfs_promises.specs.Permission.Permitted.{Right, Reads, Writes, Executes, Rights, rights_at, Grants, GrantsBytes, ToRoot, ToOwner, ToGroup, ToOthers}
 use Rattle.nfs_promises.specs.Answers.Asked.{StateGiven, by_state, IsAskers, IsCurrent, IsSpecial, AllZeros, AllOnes, StandsFor, Itself, TheCurrent, sought, InCurrent, InSaved, makes_by}
 use Rattle.nfs_promises.specs.Answers.Asked.{DirectoryOf, Target, Source, NoDirectoryOf, AFile, Linked, Used, Opened, NamedOf, Left, Kept, leaves, Needs, ToFind, ToAdd, ToRead, ToPut, Owns, MaySet, Sets, ToSet}
 use Rattle.nfs_promises.specs.Answers.Reasons.{StateTold, state_of, IsOwn, IsOld, IsBad, NoCurrent, Special, NoState, IsNameless, IsForbidden, IsDenied, IsHeld, MayDo, Reason}
-use Rattle.nfs_promises.specs.Answers.ReasonsWorked.{AreAnsweredSo, AnswersRefused, CutsRefused, Refused, opens, guarded, removes, creates, opens_up, shut, moves, locks_again}
+use Rattle.nfs_promises.specs.Answers.ReasonsWorked.{AreAnsweredSo, AnswersRefused, CutsRefused, opens, removes, creates, moves, locks_again}
 use Rattle.nfs_promises.specs.{Names.FileStaysWorked.{missed, closes}, Permission.PermittedWorked.{to_group, runs, asks}}
-use Rattle.nfs_promises.proofs.{Permission.PermittedNames.one_of, Runs.Computing.computing}
+use Rattle.nfs_promises.proofs.{Permission.PermittedNames.one_of, Runs.{Computing.computing, LastOperation.only}}
 
 -- What has no reason, whatever the server.
 
@@ -114,12 +113,8 @@ module _ (s : State) (x : Context) where
   not_placed a saved n o at from both is plain (m, place, kind) =
       let same : n ≡ m = by place in
       let one : o ≡ kind.0 = same_Some o kind.0 (sym is ∙ (ap (object_at s.tree) same ∙ kind.1)) in
-      absurd (false_not (is_directory kind.0.kind) (sym (ap (λ (o : Object). is_directory o.kind) one) ∙ plain) kind.2)
+      false≢true (sym (not-true _ kind.2) ∙ (sym (ap (λ (o : Object). is_directory o.kind) one) ∙ plain))
     where
-      false_not : (b : Bool) → b ≡ true → not b ≡ true → ⊥
-      false_not true e off = false≢true off
-      false_not false e off = false≢true e
-
       by : DirectoryOf x (Operation (Op.Rename a)) m → n ≡ m
       by (Target on here) = same_Some n m (sym at ∙ here)
       by (Source b other so here same) = sym both ∙ (ap (λ (q : Saved). q.object) (same_Some saved other (sym from ∙ here)) ∙ same)
@@ -132,8 +127,7 @@ module _ (s : State) (x : Context) where
       by : (q : Rights) (v : Wanted) → Sets s x (Operation (Op.SetAttr a)) q v → (MaySet s.tree.profile x.who q v → ⊥) → ⊥
       by q v (ToSet m b k u here has given) forbids =
           let rights : r ≡ q = same_Some r q (sym is ∙ (ap (rights_at s.tree) (same_Some n m (sym at ∙ here)) ∙ has)) in
-          let two : ◌≡◌ {A = Result Wanted Status} (Ok w) (Ok v) = sym gives ∙ given in
-          let one : w ≡ v = cc in
+          let one : w ≡ v = (let two : ◌≡◌ {A = Result Wanted Status} (Ok w) (Ok v) = sym gives ∙ given in cc) in
           forbids (subst (λ q. MaySet s.tree.profile x.who q v) rights (subst (λ v. MaySet s.tree.profile x.who r v) one may))
 
   -- a CREATE of a name that is free
@@ -161,16 +155,16 @@ module _ (s : State) (x : Context) where
 
 -- The runs.
 
-no_current : ◌≢◌ {A = ℕ} 7 0
+pub no_current : ◌≢◌ {A = ℕ} 7 0
 no_current e = absurd (omega arith)
 
 not_all_ones : ◌≢◌ {A = ℕ} 7 0xffff_ffff
 not_all_ones e = absurd (omega arith)
 
-no_user : ◌≢◌ {A = ℕ} 5 0
+pub no_user : ◌≢◌ {A = ℕ} 5 0
 no_user e = absurd (omega arith)
 
-no_bit : ◌≢◌ {A = ℕ} 0 1
+pub no_bit : ◌≢◌ {A = ℕ} 0 1
 no_bit e = absurd (omega arith)
 
 -- 555 lets nobody but user 0 write
@@ -180,44 +174,19 @@ not_writable (ToOwner own bit) = no_user own
 not_writable (ToGroup other within bit) = no_bit bit
 not_writable (ToOthers other out bit) = no_bit bit
 
-unlocked : statuses (ops_of asked gives_up) ≡ S.Nfs4Ok ∷ S.Nfs4Ok ∷ []
-unfolding computing
-unlocked = refl
-
-opened : statuses (ops_of made (opens NoCreate)) ≡ S.Nfs4Ok ∷ S.Nfs4Ok ∷ []
-unfolding computing
-opened = refl
-
-made_before : statuses (ops_of made (opens guarded)) ≡ S.Nfs4Ok ∷ S.Exist ∷ []
-unfolding computing
-made_before = refl
-
-closed : statuses (ops_of missed closes) ≡ S.Nfs4Ok ∷ S.Nfs4Ok ∷ []
-unfolding computing get_fh remove
-closed = refl
-
-made_now : statuses (ops_of made creates) ≡ S.Nfs4Ok ∷ S.Nfs4Ok ∷ []
-unfolding computing create create_args create_type
-made_now = refl
-
-set : statuses (ops_of made to_group) ≡ S.Nfs4Ok ∷ S.Nfs4Ok ∷ S.Nfs4Ok ∷ []
-unfolding computing set_attr_args set_attr
-set = refl
-
-forbidden : statuses (ops_of made opens_up) ≡ S.Nfs4Ok ∷ S.Perm ∷ []
-unfolding computing set_attr_args set_attr
-forbidden = refl
-
-denied : statuses (ops_of shut (moves 3 1)) ≡ S.Nfs4Ok ∷ S.Nfs4Ok ∷ S.Access ∷ []
-unfolding computing save_fh both rename rename_args
-denied = refl
-
-relocked : statuses (ops_of asked locks_again) ≡ S.Nfs4Ok ∷ S.Nfs4Ok ∷ []
-unfolding computing
-relocked = refl
-
 pub are_answered_so : AreAnsweredSo
-are_answered_so = record { locked_again = relocked; unlocked = unlocked; opened = opened; made_before = made_before; closed = closed; made_now = made_now; set = set; forbidden = forbidden; denied = denied }
+unfolding computing get_fh remove create create_args create_type set_attr_args set_attr save_fh both rename rename_args
+are_answered_so = record {
+  locked_again = refl;
+  unlocked = refl;
+  opened = refl;
+  made_before = refl;
+  closed = refl;
+  made_now = refl;
+  set = refl;
+  forbidden = refl;
+  denied = refl;
+}
 
 -- The wrong answers.
 
@@ -242,18 +211,7 @@ moving = record { oldname = 0x66 ∷ []; newname = 0x67 ∷ [] }
 abbrev root_saved : Saved
 root_saved = record { object = 1; stateid = anonymous }
 
-old : Refused asked gives_up S.OldStateId
-unfolding computing
-old d is = let e = last_of d (ops_of asked gives_up) in
-    not_old e.before.store e.context e.item lock_given lock_told refl (λ c. no_current c.1) refl refl ((is.answered refl).refused refl)
-
-bad : Refused asked gives_up S.BadStateId
-unfolding computing
-bad d is = let e = last_of d (ops_of asked gives_up) in
-    not_bad e.before.store e.context e.item lock_given lock_told refl (λ c. no_current c.1) refl (record { client = refl; file = λ on. refl; sort = refl })
-    not_special (omega arith) ((is.answered refl).refused refl)
-
-abbrev open_given : StateGiven
+abbrev pub open_given : StateGiven
 open_given = record { given = stateid 1 1; sort = OpenOnly; form = Own; here = true }
 
 abbrev open_told : StateTold
@@ -262,17 +220,6 @@ open_told = record { sort = OpenOnly; client = 7 * 2 ^ 32 + 1; file = 2; seqid =
 pub no_special : IsSpecial (record { seqid = 1; instance = 7; number = 1 }) → ⊥
 no_special (AllZeros a b c) = no_current b
 no_special (AllOnes a b c) = not_all_ones b
-
-old_open : Refused missed closes S.OldStateId
-unfolding computing get_fh remove
-old_open d is = let e = last_of d (ops_of missed closes) in
-    not_old e.before.store e.context e.item open_given open_told refl (λ c. no_current c.1) refl refl ((is.answered refl).refused refl)
-
-bad_open : Refused missed closes S.BadStateId
-unfolding computing get_fh remove
-bad_open d is = let e = last_of d (ops_of missed closes) in
-    not_bad e.before.store e.context e.item open_given open_told refl (λ c. no_current c.1) refl (record { client = refl; file = λ on. refl; sort = refl })
-    no_special (omega arith) ((is.answered refl).refused refl)
 
 -- the mode that the owner sets, and another user
 abbrev mode_set : Wanted
@@ -298,117 +245,54 @@ no_owner : Owns (record { uid = 5; gid = 6; gids = [] }) (record { mode = 511; o
 no_owner (inl root) = no_user root
 no_owner (inr own) = no_user own
 
-unset : Refused made to_group S.Perm
-unfolding computing set_attr_args set_attr
-unset d is = let e = last_of d (ops_of made to_group) in
-    not_forbidden e.before.store e.context setting 2 (record { mode = 420; owner = 5; group = 6 }) mode_set refl refl refl its_own ((is.answered refl).refused refl)
-
-set_by_all : Refused made opens_up S.Nfs4Ok
-unfolding computing set_attr_args set_attr
-set_by_all d is = no_owner (((is.answered refl).granted refl 1 (record { mode = 511; owner = 0; group = 0 }) mode_set refl refl refl).0.mode 32 refl)
-
-occupied : Refused made creates S.Exist
-unfolding computing create create_args create_type
-occupied d is = let e = last_of d (ops_of made creates) in not_occupied e.before.store e.context creating 1 refl refl ((is.answered refl).refused refl)
-
-taken : Refused made (opens NoCreate) S.Exist
-unfolding computing
-taken d is = let e = last_of d (ops_of made (opens NoCreate)) in not_taken e.before.store e.context (asking NoCreate) refl ((is.answered refl).refused refl)
-
-retaken : Refused made (opens unchecked) S.Exist
-unfolding computing
-retaken d is = let e = last_of d (ops_of made (opens unchecked)) in not_taken e.before.store e.context (asking unchecked) refl ((is.answered refl).refused refl)
-
-missing : Refused made (opens NoCreate) S.NoEnt
-unfolding computing
-missing d is = let e = last_of d (ops_of made (opens NoCreate)) in
-    not_missing e.before.store e.context e.item 1 2 (0x66 ∷ []) refl refl refl (λ a so. cc) refl (λ name so. cc) ((is.answered refl).refused refl)
-
-directory : Refused made (opens NoCreate) S.IsDir
-unfolding computing
-directory d is = let e = last_of d (ops_of made (opens NoCreate)) in not_directory e.before.store e.context (asking NoCreate) 2 _ refl refl refl ((is.answered refl).refused refl)
-
-unremoved : Refused made removes S.NoEnt
-unfolding computing remove
-unremoved d is = let e = last_of d (ops_of made removes) in
-    not_missing e.before.store e.context e.item 1 2 (0x66 ∷ []) refl refl refl (λ a so. cc) refl (λ name so. cc) ((is.answered refl).refused refl)
-
-unrenamed : Refused made (moves 4 2) S.NoEnt
-unfolding computing save_fh both rename rename_args
-unrenamed d is = let e = last_of d (ops_of made (moves 4 2)) in not_missing_old e.before.store e.context moving root_saved 2 refl refl ((is.answered refl).refused refl)
-
-unplaced : Refused made (moves 4 2) S.NotDir
-unfolding computing save_fh both rename rename_args
-unplaced d is = let e = last_of d (ops_of made (moves 4 2)) in not_placed e.before.store e.context moving root_saved 1 _ refl refl refl refl refl ((is.answered refl).refused refl)
-
-found : Refused made (opens guarded) S.Nfs4Ok
-unfolding computing
-found d is = (let there : ◌≡◌ {A = Option ℕ} (Some 2) None = (is.answered refl).granted refl 1 (0x66 ∷ []) refl refl refl in cc)
-
-moved : Refused shut (moves 3 1) S.Nfs4Ok
-unfolding computing save_fh both rename rename_args
-moved d is = not_writable ((is.answered refl).granted refl 1 (Writes ∷ Executes ∷ []) (ToPut 1 moving refl) Writes (inl refl) (record { mode = 365; owner = 0; group = 0 }) refl)
-
 abbrev reading : Read
 reading = record { stateid = anonymous; offset = 0; count = 8 }
 
-unread : Refused runs asks S.Access
-unfolding computing set_attr_args set_attr
-unread d is = let e = last_of d (ops_of runs asks) in
-    not_withheld e.before.store e.context reading 2 (record { mode = 64; owner = 5; group = 6 }) refl refl refl (ToOwner refl refl) ((is.answered refl).refused refl)
-
 -- the only lock state is the asker's
 own_alone : (s : State) (x : Context) (i : Item) (l : LockState) → s.opens.locks ≡ l ∷ [] → IsAskers x i l → IsHeld s x i → ⊥
-own_alone s x i l one mine why = by (subst (In why.holder) one why.there)
-  where
-    by : In why.holder (l ∷ []) → ⊥
-    by (inl same) = why.other (subst (IsAskers x i) (sym same) mine)
-    by (inr none) = none
-
-own : Refused asked locks_again S.Denied
-unfolding computing
-own d is = let e = last_of d (ops_of asked locks_again) in own_alone e.before.store e.context e.item _ refl (refl, refl) ((is.answered refl).refused refl)
+own_alone s x i l one mine why = why.other (only (IsAskers x i) s.opens.locks l one mine why.holder why.there)
 
 pub answers_refused : AnswersRefused
+unfolding computing get_fh remove create create_args create_type set_attr_args set_attr save_fh both rename rename_args
 answers_refused = record {
-  old = old;
-  bad = bad;
-  old_open = old_open;
-  bad_open = bad_open;
-  occupied = occupied;
-  unset = unset;
-  set_by_all = set_by_all;
-  taken = taken;
-  retaken = retaken;
-  missing = missing;
-  directory = directory;
-  unremoved = unremoved;
-  unrenamed = unrenamed;
-  unplaced = unplaced;
-  found = found;
-  moved = moved;
-  unread = unread;
-  own = own;
+  old = λ d is. (let e = last_of d (ops_of asked gives_up) in
+      not_old e.before.store e.context e.item lock_given lock_told refl (λ c. no_current c.1) refl refl ((is.answered refl).refused refl));
+  bad = λ d is. (let e = last_of d (ops_of asked gives_up) in
+      not_bad e.before.store e.context e.item lock_given lock_told refl (λ c. no_current c.1) refl (record { client = refl; file = λ on. refl; sort = refl })
+      not_special (omega arith) ((is.answered refl).refused refl));
+  old_open = λ d is. (let e = last_of d (ops_of missed closes) in
+      not_old e.before.store e.context e.item open_given open_told refl (λ c. no_current c.1) refl refl ((is.answered refl).refused refl));
+  bad_open = λ d is. (let e = last_of d (ops_of missed closes) in
+      not_bad e.before.store e.context e.item open_given open_told refl (λ c. no_current c.1) refl (record { client = refl; file = λ on. refl; sort = refl })
+      no_special (omega arith) ((is.answered refl).refused refl));
+  occupied = λ d is. (let e = last_of d (ops_of made creates) in not_occupied e.before.store e.context creating 1 refl refl ((is.answered refl).refused refl));
+  unset = λ d is. (let e = last_of d (ops_of made to_group) in
+      not_forbidden e.before.store e.context setting 2 (record { mode = 420; owner = 5; group = 6 }) mode_set refl refl refl its_own ((is.answered refl).refused refl));
+  set_by_all = λ d is. no_owner (((is.answered refl).granted refl 1 (record { mode = 511; owner = 0; group = 0 }) mode_set refl refl refl).0.mode 32 refl);
+  taken = λ d is. (let e = last_of d (ops_of made (opens NoCreate)) in not_taken e.before.store e.context (asking NoCreate) refl ((is.answered refl).refused refl));
+  retaken = λ d is. (let e = last_of d (ops_of made (opens unchecked)) in not_taken e.before.store e.context (asking unchecked) refl ((is.answered refl).refused refl));
+  missing = λ d is. (let e = last_of d (ops_of made (opens NoCreate)) in
+      not_missing e.before.store e.context e.item 1 2 (0x66 ∷ []) refl refl refl (λ a so. cc) refl (λ name so. cc) ((is.answered refl).refused refl));
+  directory = λ d is. (let e = last_of d (ops_of made (opens NoCreate)) in not_directory e.before.store e.context (asking NoCreate) 2 _ refl refl refl ((is.answered refl).refused refl));
+  unremoved = λ d is. (let e = last_of d (ops_of made removes) in
+      not_missing e.before.store e.context e.item 1 2 (0x66 ∷ []) refl refl refl (λ a so. cc) refl (λ name so. cc) ((is.answered refl).refused refl));
+  unrenamed = λ d is. (let e = last_of d (ops_of made (moves 4 2)) in not_missing_old e.before.store e.context moving root_saved 2 refl refl ((is.answered refl).refused refl));
+  unplaced = λ d is. (let e = last_of d (ops_of made (moves 4 2)) in not_placed e.before.store e.context moving root_saved 1 _ refl refl refl refl refl ((is.answered refl).refused refl));
+  found = λ d is. (let there : ◌≡◌ {A = Option ℕ} (Some 2) None = (is.answered refl).granted refl 1 (0x66 ∷ []) refl refl refl in cc);
+  moved = λ d is. not_writable ((is.answered refl).granted refl 1 (Writes ∷ Executes ∷ []) (ToPut 1 moving refl) Writes (inl refl) (record { mode = 365; owner = 0; group = 0 }) refl);
+  unread = λ d is. (let e = last_of d (ops_of runs asks) in
+      not_withheld e.before.store e.context reading 2 (record { mode = 64; owner = 5; group = 6 }) refl refl refl (ToOwner refl refl) ((is.answered refl).refused refl));
+  own = λ d is. (let e = last_of d (ops_of asked locks_again) in own_alone e.before.store e.context e.item _ refl (refl, refl) ((is.answered refl).refused refl));
 }
 
 pub no_less : (a b : ℕ) → nat_lt a b ≡ false → a < b → ⊥
 no_less a b off less = (let most : b ≤ a = ltb-false a b off in omega arith)
 
-big : Refused made removes S.RepTooBig
-unfolding computing remove
-big d is = no_less _ _ refl (is.room refl)
-
-big_unlock : Refused asked gives_up S.RepTooBig
-unfolding computing
-big_unlock d is = no_less _ _ refl (is.room refl)
-
-big_read : Refused runs asks S.RepTooBig
-unfolding computing set_attr_args set_attr
-big_read d is = no_less _ _ refl (is.room refl)
-
-delayed : Refused made removes S.Delay
-unfolding computing remove
-delayed d is = false≢true (is.memory refl)
-
 pub cuts_refused : CutsRefused
-cuts_refused = record { big = big; big_unlock = big_unlock; big_read = big_read; delayed = delayed }
+unfolding computing remove set_attr_args set_attr
+cuts_refused = record {
+  big = λ d is. no_less _ _ refl (is.room refl);
+  big_unlock = λ d is. no_less _ _ refl (is.room refl);
+  big_read = λ d is. no_less _ _ refl (is.room refl);
+  delayed = λ d is. false≢true (is.memory refl);
+}

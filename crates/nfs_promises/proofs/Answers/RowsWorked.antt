@@ -5,12 +5,11 @@ use Rattle.std.specs.{Prelude.{◌==◌, ◌&&◌, ◌+◌, ◌*◌, ◌^◌, Is
 use Rattle.nfs_xdr.specs.{Limits.most_transfer, Spelling.number, Tables.In}
 use Rattle.nfs_xdr.specs.declared.status.Status.TheVariants as S
 use Rattle.nfs_xdr.proofs.Lists.{find_in, none_any}
-use Rattle.nfs_compound.specs.declared.name_args.{CreateType.TheVariants.Other, ReadDir.ReadDir}
+use Rattle.nfs_compound.specs.{ArgCodecs.{create_args, create_type, read_dir_args, set_attr_args}, declared.{attributes.Attributes.Attributes, op.Item.Item}}
+use Rattle.nfs_compound.specs.declared.{file_args.{StableHow.TheVariants.Unstable, Write.Write}, lock_args.Lock.Lock}
+use Rattle.nfs_compound.specs.declared.{name_args.{CreateType.TheVariants.Other, ReadDir.ReadDir}, op.Item.TheVariants.Operation, open_args.Open.Open}
+use Rattle.nfs_compound.specs.declared.{open_args.OpenHow.TheVariants.NoCreate, session_args.Sequence.Sequence, stateid.Stateid.Stateid}
 use Rattle.nfs_compound.specs.declared.name_args.Create as args
-use Rattle.nfs_compound.specs.ArgCodecs.{create_args, create_type, read_dir_args, set_attr_args}
-use Rattle.nfs_compound.specs.{declared.attributes.Attributes.Attributes, declared.file_args.{StableHow.TheVariants.Unstable, Write.Write}, declared.open_args.{Open.Open, OpenHow.TheVariants.NoCreate}}
-use Rattle.nfs_compound.specs.{declared.session_args.Sequence.Sequence, declared.stateid.Stateid.Stateid, declared.op.{Item.Item, Item.TheVariants.Operation}}
-use Rattle.nfs_compound.specs.declared.lock_args.{Lock.Lock, Locker.TheVariants.OpenOwner}
 use Rattle.nfs_compound.specs.declared.lock_args.LockType.TheVariants as LockTypes
 use Rattle.nfs_compound.specs.declared.op.Op.TheVariants as Op
 use Rattle.nfs_results.specs.{declared.res.Entry.Entry, Straight.entry_text}
@@ -27,7 +26,7 @@ use Rattle.nfs_names.specs.{ReadDir.{entry_of, fitting, left, read_dir}, SaveFh.
 use Rattle.nfs_files.specs.{Open.{access_of, deny_of}, SetAttr.set_attr, StateIds.state_id}
 use Rattle.nfs_promises.specs.{Names.FileStays.is_on_saved, Runs.{Points.ops_of, Requests.{current_stateid, handle, stateid, words}}}
 use Rattle.nfs_promises.specs.Permission.Permitted.{Right, Reads, Writes, Executes, Rights, rights_at, has_right, Grants, ToOthers, IsIn, First, Further}
-use Rattle.nfs_promises.specs.{Locks.LockKeptWorked.{asked, gives_up, last_of, statuses}, Bytes.WrittenStaysWorked.{made, writes}, Permission.PermittedWorked.to_group}
+use Rattle.nfs_promises.specs.{Locks.LockKeptWorked.{asked, gives_up, last_of}, Bytes.WrittenStaysWorked.{made, writes}, Permission.PermittedWorked.to_group}
 use Rattle.nfs_promises.specs.Answers.Asked.{LooksAt, AtCurrent, AtSaved, NoLinkOf, TheFile, Searched, Used, Opened, Gives, ByName, ByOldName, ByNewName, Needs, ToFind, ToAdd}
 use Rattle.nfs_exec.specs.Runs.Ops.{RanOp}
 use Rattle.nfs_promises.specs.{Names.FileStaysWorked.{first_of, with_status}, Answers.Granted.{IsAsTold, IsNotRefused}}
@@ -35,8 +34,9 @@ use Rattle.nfs_promises.specs.Answers.Asked.{IsSpecial, AllZeros, AllOnes, IsNon
 use Rattle.nfs_promises.specs.Answers.Invalid.{given_in, compared, values_in, NamesNobody, AreValues, IsNoShare, ToOpen as AskOpen, ToNarrow, Widens, IsSpent, Change, Objects, Cookies, States, shortest}
 use Rattle.nfs_promises.specs.Answers.Invalid.{NoName, NoText, NoRange, NoShare, ByHandle, Sized, Below, Fixed, NoValue, Unreadable, Uncompared}
 use Rattle.nfs_promises.specs.Answers.Reasons.{IsDenied, MayDo, IsHeld, IsInUse, IsLockedOut, LacksMode, access_under, IsShareDenied, BySize, Made, Written, is_type, stands_alone, AnswersSo, StateTold, state_of, IsOwn, Reason}
-use Rattle.nfs_promises.specs.Answers.{ReasonsWorked.{Refused, opens, creates, removes}, YesIsTrueWorked.{entry, lists, reads_link}, RowsWorked.{AreGranted, RowsRefused, GrantsRefused, finds, puts, links, locks, completes, verifies, differs, lists_one, free, frees}}
-use Rattle.nfs_promises.proofs.{Answers.ReasonsWorked.{asking, no_less, lock_given, lock_told, not_special, stands_itself}, Permission.PermittedNames.one_of, Runs.Computing.computing}
+use Rattle.nfs_promises.specs.Answers.{ReasonsWorked.{Refused, opens, creates, removes}, YesIsTrueWorked.{entry, lists, reads_link}, RowsWorked.{AreGranted, RowsRefused, GrantsRefused, finds, puts, links, locks, verifies, differs, lists_one, free, frees}}
+use Rattle.nfs_promises.proofs.Answers.ReasonsWorked.{asking, no_less, lock_given, lock_told, not_special, stands_itself, no_current, no_user}
+use Rattle.nfs_promises.proofs.{Permission.PermittedNames.one_of, Runs.{Computing.computing, LastOperation.only}, Answers.YesIsTrueWorked.locked_byte}
 
 -- What has no reason, whatever the server.
 
@@ -125,8 +125,7 @@ module _ (s : State) (x : Context) where
 
   formed : (given : List ℕ) (h : Handle) → handle_of given ≡ Some h → Reason s x (Operation (Op.PutFh given)) S.BadHandle → ⊥
   formed given h says (other, is, none) =
-      let same : Operation (Op.PutFh given) ≡ Operation (Op.PutFh other) = is in
-      let one : given ≡ other = cc in
+      let one : given ≡ other = (let same : Operation (Op.PutFh given) ≡ Operation (Op.PutFh other) = is in cc) in
       let bad : Some h ≡ None = sym says ∙ (ap handle_of one ∙ none) in
       cc
 
@@ -137,8 +136,7 @@ module _ (s : State) (x : Context) where
 
   typed : (c : args.Create) → is_type c.objtype ≡ true → Reason s x (Operation (Op.Create c)) S.BadType → ⊥
   typed c fine (other, is, off) =
-      let same : Operation (Op.Create c) ≡ Operation (Op.Create other) = is in
-      let one : c ≡ other = cc in
+      let one : c ≡ other = (let same : Operation (Op.Create c) ≡ Operation (Op.Create other) = is in cc) in
       false≢true (sym off ∙ (ap (λ (c : args.Create). is_type c.objtype) (sym one) ∙ fine))
 
   counted : ((k : Stored) → In k s.tree.objects → nat_le last_count k.object.change ≡ false) → nat_le last_count s.tree.last_object ≡ false
@@ -159,8 +157,7 @@ module _ (s : State) (x : Context) where
   unfilled : (name : List ℕ) (n k : ℕ) → x.current ≡ Some n → object_named s.tree n name ≡ Some k → ((r : Row) → In r s.tree.rows → r.directory ≢ k)
       → Reason s x (Operation (Op.Remove name)) S.NotEmpty → ⊥
   unfilled name n k at there none (inl why) =
-      let same : Operation (Op.Remove name) ≡ Operation (Op.Remove why.name) = why.is in
-      let one : name ≡ why.name = cc in
+      let one : name ≡ why.name = (let same : Operation (Op.Remove name) ≡ Operation (Op.Remove why.name) = why.is in cc) in
       let object : k ≡ why.object = same_Some k why.object (sym there ∙ (ap (λ n. object_named s.tree n name) (same_Some n why.directory (sym at ∙ why.at))
       ∙ (ap (object_named s.tree why.directory) one ∙ why.there))) in
       none why.has.0 why.has.1 (why.has.2 ∙ sym object)
@@ -174,7 +171,7 @@ module _ (s : State) (x : Context) where
 
   module _ (a : Open) where
     no_clash : (o : OpenState) → s.opens.opens ≡ o ∷ [] → meets (access_of a) o.deny ≡ false → meets (deny_of a) o.access ≡ false → IsShareDenied s x (Operation (Op.Open a)) → ⊥
-    no_clash o only reads denies why = by (subst (In why.state) only why.there)
+    no_clash o one reads denies why = clash (only (λ (p : OpenState). p ≡ o) s.opens.opens o one refl why.state why.there) why.clash
       where
         it : a ≡ why.asked
         it = let same : Operation (Op.Open a) ≡ Operation (Op.Open why.asked) = why.is in cc
@@ -183,14 +180,9 @@ module _ (s : State) (x : Context) where
         clash is (inl access) = false≢true (sym reads ∙ (ap (λ (a : Open). meets (access_of a) o.deny) it ∙ (ap (λ (o : OpenState). meets (access_of why.asked) o.deny) (sym is) ∙ access)))
         clash is (inr deny) = false≢true (sym denies ∙ (ap (λ (a : Open). meets (deny_of a) o.access) it ∙ (ap (λ (o : OpenState). meets (deny_of why.asked) o.access) (sym is) ∙ deny)))
 
-        by : In why.state (o ∷ []) → ⊥
-        by (inl is) = clash is why.clash
-        by (inr none) = none
-
     not_reclaimed : reclaims a.claim ≡ false → Reason s x (Operation (Op.Open a)) S.NoGrace → ⊥
     not_reclaimed off (inl (other, is, on)) =
-        let same : Operation (Op.Open a) ≡ Operation (Op.Open other) = is in
-        let one : a ≡ other = cc in
+        let one : a ≡ other = (let same : Operation (Op.Open a) ≡ Operation (Op.Open other) = is in cc) in
         false≢true (sym off ∙ (ap (λ (a : Open). reclaims a.claim) one ∙ on))
     not_reclaimed off (inr (other, is, on)) = (let bad : Operation (Op.Open a) ≡ Operation (Op.Lock other) = is in cc)
 
@@ -200,8 +192,7 @@ module _ (s : State) (x : Context) where
         let one : a ≡ other = cc in
         false≢true (sym off ∙ (ap (λ (a : Open). is_delegated a.claim) one ∙ on))
     supported_op off (inr (op, is, alone)) =
-        let same : Operation (Op.Open a) ≡ Operation op = is in
-        let one : Op.Open a ≡ op = cc in
+        let one : Op.Open a ≡ op = (let same : Operation (Op.Open a) ≡ Operation op = is in cc) in
         false≢true (ap stands_alone one ∙ alone)
 
   -- opens that deny nothing
@@ -275,8 +266,7 @@ module _ (s : State) (x : Context) where
     same_listing : a.cookieverf ≡ replicate 8 0 → Reason s x (Operation (Op.ReadDir a)) S.NotSame → ⊥
     same_listing zeros (inl (other, is, text, are, differs)) = (let bad : Operation (Op.ReadDir a) ≡ Operation (Op.Verify other) = is in cc)
     same_listing zeros (inr (other, is, differs)) =
-        let same : Operation (Op.ReadDir a) ≡ Operation (Op.ReadDir other) = is in
-        let one : a ≡ other = cc in
+        let one : a ≡ other = (let same : Operation (Op.ReadDir a) ≡ Operation (Op.ReadDir other) = is in cc) in
         differs (ap (λ (a : ReadDir). a.cookieverf) (sym one) ∙ zeros)
 
     has_room : (n : ℕ) (o : Object) (first : Entry) (more : List Entry) → x.current ≡ Some n → object_at s.tree n ≡ Some o → left s a (record { number = n; object = o }) ≡ first ∷ more
@@ -346,83 +336,28 @@ module _ (s : State) (x : Context) where
 
     is_equal : (a : Attributes) → a.attrmask ≡ 0 ∷ 2 ∷ [] → a.attr_vals ≡ number o.mode → Reason s x (Operation (Op.Verify a)) S.NotSame → ⊥
     is_equal a mask same (inl (b, is, text, are, differs)) =
-        let one : Operation (Op.Verify a) ≡ Operation (Op.Verify b) = is in
-        let it : a ≡ b = cc in
+        let it : a ≡ b = (let one : Operation (Op.Verify a) ≡ Operation (Op.Verify b) = is in cc) in
         differs (ap (λ (a : Attributes). a.attr_vals) (sym it) ∙ (same ∙ sym (its_mode b text (ap (λ (a : Attributes). a.attrmask) (sym it) ∙ mask) are)))
     is_equal a mask same (inr (b, is, differs)) = (let bad : Operation (Op.Verify a) ≡ Operation (Op.ReadDir b) = is in cc)
 
     is_other : (a : Attributes) → a.attrmask ≡ 0 ∷ 2 ∷ [] → a.attr_vals ≢ number o.mode → Reason s x (Operation (Op.NVerify a)) S.Same → ⊥
     is_other a mask differs (b, is, are) =
-        let one : Operation (Op.NVerify a) ≡ Operation (Op.NVerify b) = is in
-        let it : a ≡ b = cc in
+        let it : a ≡ b = (let one : Operation (Op.NVerify a) ≡ Operation (Op.NVerify b) = is in cc) in
         differs (ap (λ (a : Attributes). a.attr_vals) it ∙ its_mode b b.attr_vals (ap (λ (a : Attributes). a.attrmask) (sym it) ∙ mask) are)
 
 -- The runs.
 
-found : statuses (ops_of made finds) ≡ S.Nfs4Ok ∷ S.Nfs4Ok ∷ []
-unfolding computing
-found = refl
-
-put : statuses (ops_of made puts) ≡ S.Nfs4Ok ∷ []
-unfolding computing
-put = refl
-
-linked_twice : statuses (ops_of made links) ≡ S.Nfs4Ok ∷ S.Nfs4Ok ∷ S.Nfs4Ok ∷ S.Nfs4Ok ∷ S.Nfs4Ok ∷ []
-unfolding computing save_fh both link
-linked_twice = refl
-
-complete : statuses (ops_of made completes) ≡ S.Nfs4Ok ∷ []
-unfolding computing
-complete = refl
-
-verified : statuses (ops_of made verifies) ≡ S.Nfs4Ok ∷ S.Nfs4Ok ∷ S.Nfs4Ok ∷ []
-unfolding computing verify values
-verified = refl
-
-differed : statuses (ops_of made differs) ≡ S.Nfs4Ok ∷ S.Nfs4Ok ∷ S.Nfs4Ok ∷ []
-unfolding computing nverify values
-differed = refl
-
-locked_now : statuses (ops_of made locks) ≡ S.Nfs4Ok ∷ S.Nfs4Ok ∷ S.Nfs4Ok ∷ []
-unfolding computing
-locked_now = refl
-
-listed : statuses (ops_of made lists_one) ≡ S.Nfs4Ok ∷ S.Nfs4Ok ∷ []
-unfolding computing read_dir_args values entry_of fitting read_dir results.entry results.fattr listing.read_dir
-listed = refl
-
 pub are_granted : AreGranted
-are_granted = record {
-  found = found;
-  put = put;
-  linked = linked_twice;
-  complete = complete;
-  verified = verified;
-  differed = differed;
-  listed = listed;
-  locked = locked_now;
-}
+unfolding computing save_fh both link verify values nverify read_dir_args entry_of fitting read_dir results.entry results.fattr listing.read_dir
+are_granted = record { found = refl; put = refl; linked = refl; complete = refl; verified = refl; differed = refl; listed = refl; locked = refl }
 
 -- The wrong answers.
 
-pub only : {X : Type 0} (P : X → Type 0) (xs : List X) (x : X) → xs ≡ x ∷ [] → P x → (y : X) → In y xs → P y
-only P xs x is holds y there = by (subst (In y) is there)
-  where
-    by : In y (x ∷ []) → P y
-    by (inl same) = subst P (sym same) holds
-    by (inr none) = absurd none
-
-seven : ◌≢◌ {A = ℕ} 7 0
-seven e = absurd (omega arith)
-
 not_current : IsCurrent (record { seqid = 1; instance = 7; number = 2 }) → ⊥
-not_current at = seven at.1
+not_current at = no_current at.1
 
 one_two : ◌≢◌ {A = ℕ} 1 2
 one_two e = absurd (omega arith)
-
-five : ◌≢◌ {A = ℕ} 5 0
-five e = absurd (omega arith)
 
 six : IsIn 0 (record { uid = 5; gid = 6; gids = [] }) → ⊥
 six (First is) = (let bad : ◌≡◌ {A = ℕ} 6 0 = is in absurd (omega arith))
@@ -430,40 +365,12 @@ six (Further none) = none
 
 -- 777 lets everybody search
 searched : Grants (record { mode = 511; owner = 0; group = 0 }) (record { uid = 5; gid = 6; gids = [] }) Executes
-searched = ToOthers five six refl
-
-no_handle : Refused made finds S.NoFileHandle
-unfolding computing
-no_handle d is = let e = last_of d (ops_of made finds) in handled e.before.store e.context 1 refl e.item refl ((is.answered refl).refused refl)
-
-stale : Refused made finds S.Stale
-unfolding computing
-stale d is = let e = last_of d (ops_of made finds) in fresh e.before.store e.context 1 refl e.item refl refl (λ given so. cc) ((is.answered refl).refused refl)
-
-symlink : Refused made finds S.Symlink
-unfolding computing
-symlink d is = let e = last_of d (ops_of made finds) in no_symlink e.before.store e.context 1 refl (0x66 ∷ []) _ refl refl ((is.answered refl).refused refl)
+searched = ToOthers no_user six refl
 
 denied : Refused made finds S.Access
 unfolding computing
 denied d is = let e = last_of d (ops_of made finds) in
     not_denied e.before.store e.context 1 refl (0x66 ∷ []) (record { mode = 511; owner = 0; group = 0 }) refl searched ((is.answered refl).refused refl)
-
-long : Refused made finds S.NameTooLong
-unfolding computing
-long d is = let e = last_of d (ops_of made finds) in not_long e.before.store e.context ((is.answered refl).refused refl)
-
-odd : Refused made finds S.BadChar
-unfolding computing
-odd d is = let e = last_of d (ops_of made finds) in no_odd_byte e.before.store e.context ((is.answered refl).refused refl)
-
-dots : Refused made finds S.BadName
-unfolding computing
-dots d is = let e = last_of d (ops_of made finds) in no_dots e.before.store e.context ((is.answered refl).refused refl)
-
-invalid : Refused made finds S.Inval
-unfolding computing
-invalid d is = let e = last_of d (ops_of made finds) in valid e.before.store e.context ((is.answered refl).refused refl)
 
 out_of_order : Refused made finds S.SequencePos
 unfolding computing
@@ -472,27 +379,11 @@ out_of_order d is = by ((is.answered refl).refused refl)
     by : (a : Sequence) × (Operation (Op.Lookup (0x66 ∷ [])) ≡ Operation (Op.Sequence a)) → ⊥
     by (a, is) = (let bad : Operation (Op.Lookup (0x66 ∷ [])) ≡ Operation (Op.Sequence a) = is in cc)
 
-no_form : Refused made puts S.BadHandle
-unfolding computing
-no_form d is = let e = last_of d (ops_of made puts) in formed e.before.store e.context (handle 2) (record { instance = 7; number = 2 }) refl ((is.answered refl).refused refl)
-
-no_link : Refused made reads_link S.WrongType
-unfolding computing create create_args create_type read_link results.create
-no_link d is = let e = last_of d (ops_of made reads_link) in linked e.before.store e.context 3 _ refl refl refl ((is.answered refl).refused refl)
-
 abbrev making : args.Create
 making = record { objtype = Other 2; objname = 0x64 ∷ []; createattrs = record { attrmask = []; attr_vals = [] } }
 
-no_type : Refused made creates S.BadType
-unfolding computing create create_args create_type
-no_type d is = let e = last_of d (ops_of made creates) in typed e.before.store e.context making refl ((is.answered refl).refused refl)
-
 no_more : (a b : ℕ) → nat_le a b ≡ false → a ≤ b → ⊥
 no_more a b off most = (let less : b < a = leb-false a b off in absurd (omega (arith, most, less)))
-
-full : Refused made creates S.NoSpc
-unfolding computing create create_args create_type
-full d is = let e = last_of d (ops_of made creates) in no_more _ _ refl ((is.answered refl).refused refl).1
 
 spent : Refused made creates S.ServerFault
 unfolding computing create create_args create_type
@@ -501,34 +392,8 @@ spent d is = let e = last_of d (ops_of made creates) in counted e.before.store e
     low : (s : State) → list_any (λ (k : Stored). nat_le last_count k.object.change) s.tree.objects ≡ false → (k : Stored) → In k s.tree.objects → nat_le last_count k.object.change ≡ false
     low s none k there = none_any (λ (k : Stored). nat_le last_count k.object.change) s.tree.objects k none there
 
-filled : Refused made removes S.NotEmpty
-unfolding computing remove
-filled d is = let e = last_of d (ops_of made removes) in unfilled e.before.store e.context (0x66 ∷ []) 1 2 refl refl
-    (only (λ (r : Row). r.directory ≢ 2) e.before.store.tree.rows _ refl one_two) ((is.answered refl).refused refl)
-
-many_names : Refused made links S.MLink
-unfolding computing save_fh both link
-many_names d is = let e = last_of d (ops_of made links) in few_names e.before.store e.context e.item (record { object = 2; stateid = anonymous }) refl refl ((is.answered refl).refused refl)
-
 abbrev its_open : OpenState
 its_open = record { number = 1; client = 7 * 2 ^ 32 + 1; owner = 0x6f ∷ []; file = 2; access = record { reads = true; writes = true }; deny = neither; seqid = 1 }
-
-share : Refused made (opens NoCreate) S.ShareDenied
-unfolding computing
-share d is = let e = last_of d (ops_of made (opens NoCreate)) in no_clash e.before.store e.context (asking NoCreate) its_open refl refl refl ((is.answered refl).refused refl)
-
-grace : Refused made (opens NoCreate) S.NoGrace
-unfolding computing
-grace d is = let e = last_of d (ops_of made (opens NoCreate)) in not_reclaimed e.before.store e.context (asking NoCreate) refl ((is.answered refl).refused refl)
-
-unsupported : Refused made (opens NoCreate) S.NotSupp
-unfolding computing
-unsupported d is = let e = last_of d (ops_of made (opens NoCreate)) in supported_op e.before.store e.context (asking NoCreate) refl ((is.answered refl).refused refl)
-
-locked_out : Refused made writes S.Locked
-unfolding computing
-locked_out d is = let e = last_of d (ops_of made writes) in denies_none e.before.store e.context e.item
-    (only (λ (o : OpenState). (o.deny.reads ≡ false) × (o.deny.writes ≡ false)) e.before.store.opens.opens its_open refl (refl, refl)) ((is.answered refl).refused refl)
 
 no_seqid : IsCurrent (record { seqid = 0; instance = 0; number = 0 }) → ⊥
 no_seqid at = (let bad : ◌≡◌ {A = ℕ} 0 1 = at.0 in absurd (omega arith))
@@ -542,15 +407,6 @@ mode d is = let e = last_of d (ops_of made writes) in
 
 abbrev four : Write
 four = record { stateid = anonymous; offset = 0; stable = Unstable; bytes = 0x73 ∷ 0x65 ∷ 0x65 ∷ 0x6e ∷ [] }
-
-big : Refused made writes S.FBig
-unfolding computing
-big d is = let e = last_of d (ops_of made writes) in fits_file e.before.store e.context four refl refl ((is.answered refl).refused refl)
-
-clash : Refused made locks S.Denied
-unfolding computing
-clash d is = let e = last_of d (ops_of made locks) in
-    nothing_held e.before.store e.context e.item (record { type = LockTypes.Write; offset = 0; size = 1 }) 2 refl refl (λ holder b within. refl) ((is.answered refl).refused refl)
 
 lock_mode : Refused made locks S.OpenMode
 unfolding computing
@@ -572,14 +428,10 @@ in_use d is = let e = first_of d (ops_of free frees) in not_in_use e.before.stor
     (λ l b. only (λ (l : LockState). e.before.store.opens.held l.file l.number b ≡ None) e.before.store.opens.locks _ refl (cleared b) l) ((is.answered refl).refused refl)
   where
     plain : IsCurrent (record { seqid = 0; instance = 7; number = 2 }) → ⊥
-    plain at = seven at.1
+    plain at = no_current at.1
 
     cleared : (b : ℕ) → (if (2 == 2) && is_within 0 0 b then None else if (2 == 2) && is_within 0 0 b then Some ToWrite else None) ≡ None
     cleared b = elim (is_within 0 0 b) as (λ c. (if (2 == 2) && c then None else if (2 == 2) && c then Some ToWrite else None) ≡ None) [ true ↦ refl | false ↦ refl ]
-
-completed : Refused made completes S.CompleteAlready
-unfolding computing
-completed d is = false≢true (is.reclaimed false refl refl)
 
 -- READDIR and attributes
 
@@ -590,17 +442,8 @@ cookie : Refused made lists S.BadCookie
 unfolding computing read_dir_args values entry_of fitting read_dir results.entry results.fattr listing.read_dir
 cookie d is = let e = last_of d (ops_of made lists) in even e.before.store e.context first_page refl ((is.answered refl).refused refl)
 
-other_listing : Refused made lists S.NotSame
-unfolding computing read_dir_args values entry_of fitting read_dir results.entry results.fattr listing.read_dir
-other_listing d is = let e = last_of d (ops_of made lists) in same_listing e.before.store e.context first_page refl ((is.answered refl).refused refl)
-
 abbrev one_entry : ReadDir
 one_entry = record { cookie = 0; cookieverf = replicate 8 0; dircount = 56; maxcount = 56; attr_request = 0x10_0000 ∷ [] }
-
-small : Refused made lists_one S.TooSmall
-unfolding computing read_dir_args values entry_of fitting read_dir results.entry results.fattr listing.read_dir
-small d is = let e = last_of d (ops_of made lists_one) in
-    has_room e.before.store e.context one_entry 1 _ (entry 2) [] refl refl refl (omega arith) (omega arith) ((is.answered refl).refused refl)
 
 -- 040, as four bytes
 abbrev its_mode_set : Attributes
@@ -609,68 +452,54 @@ its_mode_set = record { attrmask = 0 ∷ 2 ∷ []; attr_vals = words (32 ∷ [])
 abbrev values_set : Settings
 values_set = record { size = None; mode = Some 32; owner = None; group = None; access = None; modify = None }
 
-unknown : Refused made to_group S.AttrNotSupp
-unfolding computing set_attr_args set_attr
-unknown d is = let e = last_of d (ops_of made to_group) in known e.before.store e.context e.item its_mode_set refl refl refl ((is.answered refl).refused refl)
-
-nobody : Refused made to_group S.BadOwner
-unfolding computing set_attr_args set_attr
-nobody d is = let e = last_of d (ops_of made to_group) in owned e.before.store e.context e.item its_mode_set refl values_set refl refl refl ((is.answered refl).refused refl)
-
-cut : Refused made to_group S.BadXdr
-unfolding computing set_attr_args set_attr
-cut d is = let e = last_of d (ops_of made to_group) in whole_values e.before.store e.context e.item its_mode_set refl values_set refl ((is.answered refl).refused refl)
-
-unequal : Refused made verifies S.NotSame
-unfolding computing verify values
-unequal d is = let e = last_of d (ops_of made verifies) in
-    is_equal e.before.store e.context 2 _ refl refl (record { attrmask = 0 ∷ 2 ∷ []; attr_vals = number 420 }) refl refl ((is.answered refl).refused refl)
-
 other_mode : ◌≢◌ {A = List ℕ} (number 384) (number 420)
 unfolding number
 other_mode same = (let bad : ◌≡◌ {A = ℕ} 128 164 = ap (λ (t : List ℕ). get_or t 3 0) same in absurd (omega arith))
 
-equal : Refused made differs S.Same
-unfolding computing nverify values
-equal d is = let e = last_of d (ops_of made differs) in
-    is_other e.before.store e.context 2 _ refl refl (record { attrmask = 0 ∷ 2 ∷ []; attr_vals = number 384 }) refl other_mode ((is.answered refl).refused refl)
-
 pub rows_refused : RowsRefused
+unfolding computing create create_args create_type read_link results.create remove save_fh both link read_dir_args values entry_of fitting read_dir
+    results.entry results.fattr listing.read_dir set_attr_args set_attr verify nverify
 rows_refused = record {
-  no_handle = no_handle;
-  stale = stale;
-  symlink = symlink;
+  no_handle = λ d is. (let e = last_of d (ops_of made finds) in handled e.before.store e.context 1 refl e.item refl ((is.answered refl).refused refl));
+  stale = λ d is. (let e = last_of d (ops_of made finds) in fresh e.before.store e.context 1 refl e.item refl refl (λ given so. cc) ((is.answered refl).refused refl));
+  symlink = λ d is. (let e = last_of d (ops_of made finds) in no_symlink e.before.store e.context 1 refl (0x66 ∷ []) _ refl refl ((is.answered refl).refused refl));
   denied = denied;
-  long = long;
-  odd = odd;
-  dots = dots;
-  invalid = invalid;
+  long = λ d is. (let e = last_of d (ops_of made finds) in not_long e.before.store e.context ((is.answered refl).refused refl));
+  odd = λ d is. (let e = last_of d (ops_of made finds) in no_odd_byte e.before.store e.context ((is.answered refl).refused refl));
+  dots = λ d is. (let e = last_of d (ops_of made finds) in no_dots e.before.store e.context ((is.answered refl).refused refl));
+  invalid = λ d is. (let e = last_of d (ops_of made finds) in valid e.before.store e.context ((is.answered refl).refused refl));
   out_of_order = out_of_order;
-  no_form = no_form;
-  no_link = no_link;
-  no_type = no_type;
-  full = full;
+  no_form = λ d is. (let e = last_of d (ops_of made puts) in formed e.before.store e.context (handle 2) (record { instance = 7; number = 2 }) refl ((is.answered refl).refused refl));
+  no_link = λ d is. (let e = last_of d (ops_of made reads_link) in linked e.before.store e.context 3 _ refl refl refl ((is.answered refl).refused refl));
+  no_type = λ d is. (let e = last_of d (ops_of made creates) in typed e.before.store e.context making refl ((is.answered refl).refused refl));
+  full = λ d is. (let e = last_of d (ops_of made creates) in no_more _ _ refl ((is.answered refl).refused refl).1);
   spent = spent;
-  filled = filled;
-  many_names = many_names;
-  share = share;
-  grace = grace;
-  unsupported = unsupported;
-  locked = locked_out;
+  filled = λ d is. (let e = last_of d (ops_of made removes) in unfilled e.before.store e.context (0x66 ∷ []) 1 2 refl refl
+      (only (λ (r : Row). r.directory ≢ 2) e.before.store.tree.rows _ refl one_two) ((is.answered refl).refused refl));
+  many_names = λ d is. (let e = last_of d (ops_of made links) in few_names e.before.store e.context e.item (record { object = 2; stateid = anonymous }) refl refl ((is.answered refl).refused refl));
+  share = λ d is. (let e = last_of d (ops_of made (opens NoCreate)) in no_clash e.before.store e.context (asking NoCreate) its_open refl refl refl ((is.answered refl).refused refl));
+  grace = λ d is. (let e = last_of d (ops_of made (opens NoCreate)) in not_reclaimed e.before.store e.context (asking NoCreate) refl ((is.answered refl).refused refl));
+  unsupported = λ d is. (let e = last_of d (ops_of made (opens NoCreate)) in supported_op e.before.store e.context (asking NoCreate) refl ((is.answered refl).refused refl));
+  locked = λ d is. (let e = last_of d (ops_of made writes) in denies_none e.before.store e.context e.item
+      (only (λ (o : OpenState). (o.deny.reads ≡ false) × (o.deny.writes ≡ false)) e.before.store.opens.opens its_open refl (refl, refl)) ((is.answered refl).refused refl));
   mode = mode;
-  big = big;
-  clash = clash;
+  big = λ d is. (let e = last_of d (ops_of made writes) in fits_file e.before.store e.context four refl refl ((is.answered refl).refused refl));
+  clash = λ d is. (let e = last_of d (ops_of made locks) in
+      nothing_held e.before.store e.context e.item (record { type = LockTypes.Write; offset = 0; size = 1 }) 2 refl refl (λ holder b within. refl) ((is.answered refl).refused refl));
   lock_mode = lock_mode;
   in_use = in_use;
-  completed = completed;
+  completed = λ d is. false≢true (is.reclaimed false refl refl);
   cookie = cookie;
-  other_listing = other_listing;
-  small = small;
-  unknown = unknown;
-  nobody = nobody;
-  cut = cut;
-  unequal = unequal;
-  equal = equal;
+  other_listing = λ d is. (let e = last_of d (ops_of made lists) in same_listing e.before.store e.context first_page refl ((is.answered refl).refused refl));
+  small = λ d is. (let e = last_of d (ops_of made lists_one) in
+      has_room e.before.store e.context one_entry 1 _ (entry 2) [] refl refl refl (omega arith) (omega arith) ((is.answered refl).refused refl));
+  unknown = λ d is. (let e = last_of d (ops_of made to_group) in known e.before.store e.context e.item its_mode_set refl refl refl ((is.answered refl).refused refl));
+  nobody = λ d is. (let e = last_of d (ops_of made to_group) in owned e.before.store e.context e.item its_mode_set refl values_set refl refl refl ((is.answered refl).refused refl));
+  cut = λ d is. (let e = last_of d (ops_of made to_group) in whole_values e.before.store e.context e.item its_mode_set refl values_set refl ((is.answered refl).refused refl));
+  unequal = λ d is. (let e = last_of d (ops_of made verifies) in
+      is_equal e.before.store e.context 2 _ refl refl (record { attrmask = 0 ∷ 2 ∷ []; attr_vals = number 420 }) refl refl ((is.answered refl).refused refl));
+  equal = λ d is. (let e = last_of d (ops_of made differs) in
+      is_other e.before.store e.context 2 _ refl refl (record { attrmask = 0 ∷ 2 ∷ []; attr_vals = number 384 }) refl other_mode ((is.answered refl).refused refl));
 }
 
 -- What has no reason to be refused.
@@ -678,11 +507,6 @@ rows_refused = record {
 as_told : (s : State) (x : Context) → state_of s.opens (state_id lock_given.given) ≡ Some lock_told → IsOwn x lock_given lock_told → IsAsTold s x lock_given (state_id lock_given.given) lock_told
 unfolding number
 as_told s x names own = record { means = Itself not_current refl; plain = not_special; names = names; own = own; seqid = inr refl }
-
-old : (d : RanOp) → IsNotRefused (with_status S.OldStateId (last_of d (ops_of asked gives_up))) → ⊥
-unfolding computing
-old d is = let e = last_of d (ops_of asked gives_up) in
-    (is.taken lock_given (state_id lock_given.given) lock_told refl (as_told e.before.store e.context refl (record { client = refl; file = λ on. refl; sort = refl }))).0 refl
 
 bad : (d : RanOp) → IsNotRefused (with_status S.BadStateId (last_of d (ops_of asked gives_up))) → ⊥
 unfolding computing
@@ -696,44 +520,37 @@ open_told = record { sort = OpenOnly; client = 7 * 2 ^ 32 + 1; file = 2; seqid =
 abbrev open_meant : StateId
 open_meant = record { seqid = 0; instance = 7; number = 1 }
 
-abbrev its_lock : Lock
-its_lock = record {
-  locktype = LockTypes.Write;
-  reclaim = false;
-  offset = 0;
-  length = 1;
-  locker = OpenOwner (record { open_seqid = 0; open_stateid = current_stateid; lock_seqid = 0; lock_owner = record { clientid = 0; owner = 0x6c ∷ [] } });
-}
-
 named_open : IsSpecial open_meant → ⊥
-named_open (AllZeros a b c) = seven b
+named_open (AllZeros a b c) = no_current b
 named_open (AllOnes a b c) = (let bad : ◌≡◌ {A = ℕ} 7 0xffff_ffff = b in absurd (omega arith))
 
 known_open : IsNone (record { seqid = 2; instance = 7; number = 1 }) → ⊥
-known_open (Zeros a b) = seven a
+known_open (Zeros a b) = no_current a
 known_open (Ones a b) = (let bad : ◌≡◌ {A = ℕ} 7 0xffff_ffff = a in absurd (omega arith))
 
-refused_clash : (d : RanOp) → IsNotRefused (with_status S.Denied (last_of d (ops_of made locks))) → ⊥
-unfolding computing
-refused_clash d is = let e = last_of d (ops_of made locks) in false≢true (is.locked its_lock refl (record {
-  file = 2;
-  object = _;
-  at = refl;
-  there = refl;
-  used = refl;
-  kind = refl;
-  some = λ none. (let bad : ◌≡◌ {A = ℕ} 1 0 = none in absurd (omega arith));
-  within = inr (omega arith);
-  fresh = refl;
-  id = open_meant;
-  state = open_told;
-  told = record { means = TheCurrent (refl, refl, refl) known_open refl; plain = named_open; names = refl; own = record { client = refl; file = λ on. refl; sort = refl }; seqid = inl refl };
-  access = record { reads = true; writes = true };
-  has = refl;
-  may = refl;
-  free = λ holder b there other within. inl refl;
-  counted = counted e.before.store e.context (λ k there. none_any (λ (k : Stored). nat_le last_count k.object.change) e.before.store.tree.objects k refl there) refl refl refl;
-}) (λ lacks. no_less _ _ refl lacks) refl)
-
 pub grants_refused : GrantsRefused
-grants_refused = record { old = old; bad = bad; denied = refused_clash }
+unfolding computing
+grants_refused = record {
+  old = λ d is. (let e = last_of d (ops_of asked gives_up) in
+      (is.taken lock_given (state_id lock_given.given) lock_told refl (as_told e.before.store e.context refl (record { client = refl; file = λ on. refl; sort = refl }))).0 refl);
+  bad = bad;
+  denied = λ d is. (let e = last_of d (ops_of made locks) in false≢true (is.locked locked_byte refl (record {
+    file = 2;
+    object = _;
+    at = refl;
+    there = refl;
+    used = refl;
+    kind = refl;
+    some = λ none. (let bad : ◌≡◌ {A = ℕ} 1 0 = none in absurd (omega arith));
+    within = inr (omega arith);
+    fresh = refl;
+    id = open_meant;
+    state = open_told;
+    told = record { means = TheCurrent (refl, refl, refl) known_open refl; plain = named_open; names = refl; own = record { client = refl; file = λ on. refl; sort = refl }; seqid = inl refl };
+    access = record { reads = true; writes = true };
+    has = refl;
+    may = refl;
+    free = λ holder b there other within. inl refl;
+    counted = counted e.before.store e.context (λ k there. none_any (λ (k : Stored). nat_le last_count k.object.change) e.before.store.tree.objects k refl there) refl refl refl;
+  }) (λ lacks. no_less _ _ refl lacks) refl));
+}

@@ -5,19 +5,18 @@ use Rattle.std.specs.{Prelude.{◌==◌, ◌||◌, ◌&&◌, nat_lt, Ok, Err, op
 use Rattle.nfs_xdr.specs.declared.status.Status.TheVariants as S
 use Rattle.nfs_xdr.proofs.{Lists.find_in, Tables.at_of_in}
 use Rattle.nfs_compound.specs.declared.op.Item.{Item}
-use Rattle.nfs_opens.specs.{declared.judging.Seat.Seat, declared.judging.Seat.TheVariants.{Anonymous, ReadBypass, Open as AnOpen, Lock as ALock}, declared.judging.Sort.Sort}
-use Rattle.nfs_opens.specs.{declared.judging.Sort.TheVariants.{Either, OpenOnly, LockOnly}, declared.stateid.StateId.StateId, declared.stateid.CurrentSeqid.CurrentSeqid}
-use Rattle.nfs_opens.specs.{declared.stateid.CurrentSeqid.TheVariants.{Any, Own}, declared.records.OpenState.OpenState, declared.records.LockState.LockState}
-use Rattle.nfs_opens.specs.{Table.{Table, open_at, lock_at}, Judging.{is_sort, judge_checks, judge, special, named_by, open_named, lock_named}}
-use Rattle.nfs_opens.specs.{StateId.{is_current, is_anonymous, is_bypass, has_zeros, has_ones, with_seqid}}
-use Rattle.nfs_opens.specs.{Share.neither, Locking.access_in, Steps.in_order, TableInvariants.{IsTable, IsUnder}}
+use Rattle.nfs_opens.specs.{Judging.{is_sort, judge_checks, judge, special, named_by, open_named, lock_named}, Locking.access_in, Share.neither, Steps.in_order}
+use Rattle.nfs_opens.specs.{StateId.{is_current, is_anonymous, is_bypass, has_zeros, has_ones, with_seqid}, Table.{Table, open_at, lock_at}}
+use Rattle.nfs_opens.specs.{TableInvariants.{IsTable, IsUnder}, declared.judging.{Seat.Seat, Sort.{Sort, TheVariants.{Either, OpenOnly, LockOnly}}}}
+use Rattle.nfs_opens.specs.declared.{judging.Seat.TheVariants.{Anonymous, ReadBypass, Open as AnOpen, Lock as ALock}, records.LockState.LockState}
+use Rattle.nfs_opens.specs.declared.{records.OpenState.OpenState, stateid.{CurrentSeqid.{CurrentSeqid, TheVariants.{Any, Own}}, StateId.StateId}}
 use Rattle.nfs_opens.proofs.Terms.{judge_named}
 use Rattle.nfs_names.proofs.Found.{came, ok_is}
 use Rattle.nfs_names.specs.{declared.context.Context.Context, State.State}
 use Rattle.nfs_files.specs.StateIds.{state_id, meant}
 use Rattle.nfs_promises.specs.Answers.Asked.{StateGiven, by_state, IsCurrent, IsNone, Zeros, Ones, IsSpecial, AllZeros, AllOnes, as_given, StandsFor, Itself, TheCurrent, IsGiven}
 use Rattle.nfs_promises.specs.Answers.Reasons.{access_under, access_with, StateTold, one_of, state_of, fits, IsOwn, IsBad, NoCurrent, Special, NoState, Reason}
-use Rattle.nfs_promises.proofs.{Answers.Blaming.{Blames, AllBlame, bool_blames, then_checks}, Permission.PermittedBytes.is_state}
+use Rattle.nfs_promises.proofs.Answers.Blaming.{Blames, AllBlame, bool_blames, then_checks}
 
 -- What a stateid stands for.
 
@@ -49,11 +48,7 @@ none_not id off (Zeros a b) =
     false≢true (sym off ∙ ap (λ z. z || has_ones id) all)
 none_not id off (Ones a b) =
     let all : has_ones id ≡ true = rw (eq-eqb id.instance 0xffff_ffff a, eq-eqb id.number 0xffff_ffff_ffff_ffff b) refl in
-    false≢true (sym off ∙ (ap (λ o. has_zeros id || o) all ∙ or_true (has_zeros id)))
-  where
-    or_true : (z : Bool) → z || true ≡ true
-    or_true true = refl
-    or_true false = refl
+    false≢true (sym off ∙ (ap (λ o. has_zeros id || o) all ∙ or_right (has_zeros id) true refl))
 
 pub special_so : (id : StateId) → is_anonymous id || is_bypass id ≡ true → IsSpecial id
 special_so id e = by (is_anonymous id) (is_bypass id) refl refl e
@@ -213,6 +208,12 @@ module _ (s : State) (x : Context) (i : Item) (k : StateGiven) (is : by_state i 
 
 -- What was judged: by which state.
 
+abbrev pub is_state : Seat → Bool
+is_state Anonymous = false
+is_state ReadBypass = false
+is_state (AnOpen number access) = true
+is_state (ALock number access) = true
+
 abbrev pub IsSeated : Table → StateId → Sort → Seat → Type 0
 IsSeated t id sort (AnOpen n access) = (o : OpenState) × (open_at t id.number ≡ Some o) × (access ≡ o.access)
 IsSeated t id sort (ALock n access) = (l : LockState) × (open_at t id.number ≡ None) × (lock_at t id.number ≡ Some l) × (n ≡ l.number)
@@ -251,7 +252,7 @@ module _ (t : Table) (id : StateId) (client : ℕ) (file : Option ℕ) (sort : S
       by false true is other e = special_seated ReadBypass k e (λ either. (either, special_so id (or_right (is_anonymous id) (is_bypass id) other)))
       by false false is other e = named_seated k (id.instance == t.instance) (open_at t id.number) (lock_at t id.number) refl refl e
 
-open_under : (t : Table) → IsTable t → (l : LockState) (o : OpenState) → IsUnder t.opens l o → open_at t l.opened ≡ Some o
+pub open_under : (t : Table) → IsTable t → (l : LockState) (o : OpenState) → IsUnder t.opens l o → open_at t l.opened ≡ Some o
 open_under t whole l o is = ap (open_at t) (sym is.number) ∙ at_of_in (λ (o : OpenState). o.number) 1 (suc t.last) t.opens o whole.opens is.stands
 
 -- the access that it has is that of its open, which is there

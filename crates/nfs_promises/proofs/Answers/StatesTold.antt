@@ -17,7 +17,7 @@ use Rattle.nfs_opens.specs.{Judging.judge, Locking.{raised, access_in, lock_judg
 use Rattle.nfs_opens.specs.Table.{Table, is_own, lock_at, open_at, with_lock, with_open}
 use Rattle.nfs_opens.specs.Opening as opening
 use Rattle.nfs_opens.proofs.CallLaws.{IsLocked, came, ok_is, first_state, narrowed_is}
-use Rattle.nfs_names.specs.{declared.context.Context.Context, Checks.current, Ending.with_opens, Outcome.Outcome, State.State}
+use Rattle.nfs_names.specs.{declared.{context.Context.Context, node.Node.Node}, Checks.current, Ending.with_opens, Outcome.{Outcome, refuses}, State.State}
 use Rattle.nfs_names.proofs.Found.{checked_ok}
 use Rattle.nfs_files.specs.{Lock.{lock, locked, locks_as, stateid_in}, OpenDowngrade.{bits, open_downgrade}, OpenTold.claimed, Ranges.{kind_of, wished}}
 use Rattle.nfs_files.specs.{Open.{asking, by_claim, file_of, open_file, opened}, StateIds.{meant, wire_id}, Target.the_file}
@@ -27,15 +27,21 @@ use Rattle.nfs_files.proofs.{LockOwners.under_owner, OpensMoved.{answered, lock_
 use Rattle.nfs_files.proofs.InSteps as in_steps
 use Rattle.nfs_promises.specs.Answers.Asked.{StateGiven, StandsFor, IsOf, of_locker}
 use Rattle.nfs_promises.specs.Answers.{Reasons.Reason, YesIsTrue.{IsTrueOf, stateid_of, risen, HasJoined, First, More, OpensTruly, NarrowsTruly, LocksTruly}}
-use Rattle.nfs_promises.proofs.Answers.Blaming.{Blames, checks_blame, held_blames, ends_then, ends_checks, answers_blame, passed_all}
-use Rattle.nfs_promises.proofs.Answers.{FileReasons.{file_blames, the_file_is, wished_blames, wished_is}, HoldReasons.{Faults, lock_faults, meant_so, narrow_blames}, OpenReasons.{claim_blames, last_all}}
-use Rattle.nfs_promises.proofs.Answers.{Placed.no_reason, StateReasons.{stands_for, meant_blames, state_blames}, TruthOfAnswers.{Off, Yes, refused_off, current_off, all_off, up_to}}
-use Rattle.nfs_promises.proofs.Locks.OneStateEach.{HasOneEach}
+use Rattle.nfs_promises.proofs.Answers.{Blaming.{Blames, checks_blame, held_blames, ends_then, ends_checks, answers_blame, passed_all, Ends}, Placed.no_reason}
+use Rattle.nfs_promises.proofs.Answers.{FileReasons.{file_blames, the_file_is, wished_blames, wished_is}, OpenReasons.{claim_blames, last_all}}
+use Rattle.nfs_promises.proofs.Answers.{HoldReasons.{Faults, lock_faults, meant_so, narrow_blames}, StateReasons.{stands_for, meant_blames, state_blames}}
+use Rattle.nfs_promises.proofs.{Answers.TruthOfAnswers.{Off, Yes, refused_off, current_off, all_off, up_to}, Locks.OneStateEach.HasOneEach}
+use Rattle.nfs_opens.specs.Steps.{◌>>=◌}
 
 -- a refusal that has a reason is none of NFS4_OK
 pub off_of : (s : State) (x : Context) (i : Item) {A : Type 0} (v : Result A Status) → Blames (Reason s x i) v → Blames Off v
 off_of s x i (Err f) why = no_reason s x i f why
 off_of s x i (Ok a) why = tt
+
+-- a step whose refusals have their reasons
+pub ends_off : {A : Type 0} (s : State) (x : Context) (i : Item) (Y : Outcome → Type 0) (v : Result A Status) (next : A → Result Outcome Status) → Blames (Reason s x i) v
+    → ((a : A) → v ≡ Ok a → Ends Off Y (next a)) → Ends Off Y (v >>= next)
+ends_off s x i Y v next why each = ends_then Off Y v next (off_of s x i v why) each
 
 -- what is told is the stateid of the state that was left
 pub told_id : (d : StateId) (seqid i n : ℕ) → d ≡ record { seqid = seqid; instance = i; number = n } → (t : State) → t.opens.instance ≡ i → (m : ℕ) → m ≡ n
@@ -145,14 +151,14 @@ module _ (s : State) (whole : IsWhole s) (x : Context) where
   lock_true each a =
       let i : Item = Operation (Op.Lock a) in
       let P : List ℕ → State → Type 0 = IsTrueOf s x i in
-      answers_blame Off (Yes P) s x Num.Lock _ (refused_off P s x Num.Lock) (ends_then Off (Yes P) (wished s x a.locktype a.offset a.length) _
-      (off_of s x i (wished s x a.locktype a.offset a.length) (wished_blames s whole x i refl refl a.locktype a.offset a.length refl)) (λ w asks.
+      answers_blame Off (Yes P) s x Num.Lock _ (refused_off P s x Num.Lock) (
+      ends_off s x i (Yes P) (wished s x a.locktype a.offset a.length) _ (wished_blames s whole x i refl refl a.locktype a.offset a.length refl) (λ w asks.
       ends_then Off (Yes P) (require (not a.reclaim) S.NoGrace) _ (held_blames Off (not a.reclaim) S.NoGrace (λ off. refl)) (λ u e.
-      ends_then Off (Yes P) (meant x Any (stateid_in a.locker)) _ (off_of s x i (meant x Any (stateid_in a.locker)) (meant_so s whole x a a.locker refl)) (λ id means.
+      ends_off s x i (Yes P) (meant x Any (stateid_in a.locker)) _ (meant_so s whole x a a.locker refl) (λ id means.
       came_to a w id asks means (locks_as s.opens a.locker id w) refl (lock_faults s whole x each a w asks id means)))))
     where
       came_to : (a : Lock) (w : Wish) (id : StateId) → wished s x a.locktype a.offset a.length ≡ Ok w → meant x Any (stateid_in a.locker) ≡ Ok id
-          → (v : Result (StateId × Table) OpenFault) → locks_as s.opens a.locker id w ≡ v → Faults (Reason s x (Operation (Op.Lock a))) v
+          → (v : Result (StateId × Table) OpenFault) → locks_as s.opens a.locker id w ≡ v → Faults (Reason s x (Operation (Op.Lock a))) (λ h. Reason s x (Operation (Op.Lock a)) S.Denied) v
           → Yes (IsTrueOf s x (Operation (Op.Lock a))) (locked s x v)
       came_to a w id asks means (Ok did) e why ok = locks a id w did asks means e
       came_to a w id asks means (Err (Refused f)) e why ok = refused_off (IsTrueOf s x (Operation (Op.Lock a))) s x Num.Lock f (no_reason s x (Operation (Op.Lock a)) f why) ok
@@ -193,18 +199,16 @@ module _ (s : State) (whole : IsWhole s) (x : Context) where
       let k : StateGiven = record { given = a.open_stateid; sort = OpenOnly; form = Own; here = true } in
       let P : List ℕ → State → Type 0 = IsTrueOf s x i in
       let checks = (is_none (share_of a.share_access), S.Inval) ∷ (is_none (share_of a.share_deny), S.Inval) ∷ [] in
-      answers_blame Off (Yes P) s x Num.OpenDowngrade _ (refused_off P s x Num.OpenDowngrade) (ends_then Off (Yes P) (the_file s x) _
-      (off_of s x i (the_file s x) (file_blames s whole x i refl refl)) (λ d e.
+      answers_blame Off (Yes P) s x Num.OpenDowngrade _ (refused_off P s x Num.OpenDowngrade) (
+      ends_off s x i (Yes P) (the_file s x) _ (file_blames s whole x i refl refl) (λ d e.
       (let at = current_number s x d (the_file_is s x d e) in
-      ends_then Off (Yes P) (meant x Own a.open_stateid) _ (off_of s x i (meant x Own a.open_stateid) (meant_blames s x i k refl)) (λ id means.
+      ends_off s x i (Yes P) (meant x Own a.open_stateid) _ (meant_blames s x i k refl) (λ id means.
       (let stands = stands_for x k id means in
-      ends_then Off (Yes P) (judge s.opens id x.client (Some d.number) OpenOnly) _
-      (off_of s x i (judge s.opens id x.client (Some d.number) OpenOnly) (state_blames s x i k refl id stands x.client (Some d.number) refl (refl, at))) (λ n e.
+      ends_off s x i (Yes P) (judge s.opens id x.client (Some d.number) OpenOnly) _ (state_blames s x i k refl id stands x.client (Some d.number) refl (refl, at)) (λ n e.
       ends_checks Off (Yes P) checks _ (all_off checks refl) (λ u.
       (let passed = all_passed checks (passed_all checks u) in
-      ends_then Off (Yes P) (opening.downgrade s.opens id x.client d.number (bits a.share_access) (bits a.share_deny)) _
-      (off_of s x i (opening.downgrade s.opens id x.client d.number (bits a.share_access) (bits a.share_deny)) (narrow_blames s whole x a id d.number stands at))
-      (λ did e ok. narrows a id d.number did at stands passed.0 passed.1.0 e)))))))))
+      ends_off s x i (Yes P) (opening.downgrade s.opens id x.client d.number (bits a.share_access) (bits a.share_deny)) _ (narrow_blames s whole x a id d.number stands at) (λ did e ok.
+      narrows a id d.number did at stands passed.0 passed.1.0 e)))))))))
 
 -- OPEN
 
@@ -285,19 +289,22 @@ module _ (s : State) (whole : IsWhole s) (x : Context) (now : Time) (a : Open) w
         stateid = ap wire_id j.id;
       }
 
+  -- it is refused, or opens what its claim came to
+  pub open_ends : (Y : Outcome → Type 0) → ((f : Status) → Off f → Y (refuses s x Num.Open f))
+      → ((d : Node) (f : _) → current s x ≡ Ok d → by_claim s x a a.claim d ≡ Ok f → Y (opened s x now a f)) → Y (open_file s x now a)
+  unfolding open_file
+  open_ends Y refused done =
+      let checks = (a.share_access % 4 == 0, S.Inval) ∷ (is_none (share_of a.share_deny), S.Inval) ∷ [] in
+      answers_blame Off Y s x Num.Open _ refused (ends_then Off Y (current s x) _ (current_off s x) (λ d e.
+      ends_checks Off Y checks _ (all_off checks refl) (λ u.
+      ends_off s x opening_item Y (by_claim s x a a.claim d) _ (claim_blames s whole x a a.claim refl d e) (λ f its.
+      ends_off s x opening_item Y (in_order (of_open.last_checks s x a f)) _
+      (checks_blame (Reason s x opening_item) (of_open.last_checks s x a f) (last_all s whole x a d f e its)) (λ u passed. done d f e its)))))
+
   -- where the claim leads to the current file
   abbrev Tells : Outcome → Type 0
   Tells o = Leads x a o → Yes (IsTrueOf s x opening_item) o
 
-  tells : Tells (open_file s x now a)
-  unfolding open_file
-  tells =
-      let checks = (a.share_access % 4 == 0, S.Inval) ∷ (is_none (share_of a.share_deny), S.Inval) ∷ [] in
-      answers_blame Off Tells s x Num.Open _ (λ f off led. refused_off (IsTrueOf s x opening_item) s x Num.Open f off) (ends_then Off Tells (current s x) _ (current_off s x) (λ d e.
-      ends_checks Off Tells checks _ (all_off checks refl) (λ u.
-      ends_then Off Tells (by_claim s x a a.claim d) _ (off_of s x opening_item (by_claim s x a a.claim d) (claim_blames s whole x a a.claim refl d e)) (λ f its.
-      ends_then Off Tells (in_order (of_open.last_checks s x a f)) _ (off_of s x opening_item (in_order (of_open.last_checks s x a f))
-      (checks_blame (Reason s x opening_item) (of_open.last_checks s x a f) (last_all s whole x a d f e its))) (λ u e led ok. opens f led)))))
-
   pub open_true : Yes (IsTrueOf s x opening_item) (open_file s x now a)
-  open_true = tells (leads s x now a)
+  open_true =
+      open_ends Tells (λ f off led. refused_off (IsTrueOf s x opening_item) s x Num.Open f off) (λ d f e its led ok. opens f led) (leads s x now a)

@@ -5,12 +5,12 @@ use Rattle.std.specs.{Int.bit_at, Prelude.{◌==◌, ◌||◌, ◌&&◌, ◌+◌
 use Rattle.nfs_xdr.specs.{Status.status_number, Tables.In, declared.status.Status.Status}
 use Rattle.nfs_xdr.specs.declared.status.Status.TheVariants as S
 use Rattle.nfs_xdr.proofs.{Lists.find_in, Tables.{in_bounds, in_once}}
-use Rattle.nfs_compound.specs.{declared.lock_args.{LockT.LockT, LockType.LockType}, declared.stateid.Stateid.Stateid, declared.op_num.OpNum.OpNum, OpNum.op_number}
-use Rattle.nfs_compound.specs.declared.op.{Item.{TheVariants.Operation}}
+use Rattle.nfs_compound.specs.{declared.{lock_args.{LockT.LockT, LockType.LockType}, stateid.Stateid.Stateid, op_num.OpNum.OpNum}, OpNum.op_number}
+use Rattle.nfs_compound.specs.declared.{op.Item.TheVariants.Operation, name_args.ReadDir.ReadDir}
 use Rattle.nfs_compound.specs.declared.op.Op.TheVariants as Op
 use Rattle.nfs_compound.specs.declared.op_num.OpNum.TheVariants as Num
 use Rattle.nfs_results.specs.declared.res.Res.TheVariants as Res
-use Rattle.nfs_results.specs.Results.{status_of_result, spell_result}
+use Rattle.nfs_results.specs.{Results.{status_of_result, spell_result}, declared.res.Entry.Entry}
 use Rattle.nfs_ranges.specs.{declared.Held.Held, declared.Kind.{Kind, TheVariants.{Read, Write}}, Told.{meets}, Facts.Tells}
 use Rattle.nfs_ranges.proofs.ToldLemmas.{told_is_unique}
 use Rattle.nfs_tree.specs.{declared.object.Object.Object, declared.object.FileType.{FileType, TheVariants.{Regular, Directory, Link}}, Object.is_link, Files.{object_at, object_named}}
@@ -27,18 +27,16 @@ use Rattle.nfs_files.specs.{LockT.lock_t, Denied.lock_denied, Target.the_file, R
 use Rattle.nfs_files.proofs.{Prompt.all_pass, TreeFiles.IsWhole, Wishes.{wish_range, wish_is}, WrittenOps.current_number, StateAnswers.wished_refuses}
 use Rattle.nfs_exec.specs.Runs.Ops.{RanOp}
 use Rattle.nfs_exec.proofs.Runs.OneRun.{IsRun}
-use Rattle.nfs_promises.specs.Answers.{Reasons.{StateTold, one_of, state_of}}
-use Rattle.nfs_promises.specs.Answers.Asked.{InRange, LiesBeside}
+use Rattle.nfs_promises.specs.Answers.{Reasons.{StateTold, one_of, state_of}, Asked.{InRange, LiesBeside}}
 use Rattle.nfs_promises.specs.Answers.YesIsTrue.{IsTrueOf, IsFree, IsHere, IsEntry, attributes_told, AreTold, bits, Stands, AreTested}
 use Rattle.nfs_promises.proofs.{Names.{PageLists.first_in, PageRows.{entry_at, page_told}}, Runs.AttributesTold.told}
 use Rattle.nfs_names.specs.ReadDir.{attributes_at, entry_of, read_dir}
-use Rattle.nfs_compound.specs.declared.name_args.ReadDir.{ReadDir}
-use Rattle.nfs_results.specs.declared.res.Entry.{Entry}
 use Rattle.nfs_tree.specs.{declared.row.Row.Row, declared.stored.Stored.Stored, Files.{stored_in, is_there}}
 use Rattle.nfs_attrs.specs.declared.mask.Mask.{Mask}
 use Rattle.std.specs.Prelude.{option_map, is_some}
 use Rattle.nfs_promises.proofs.Permission.Granting.{reads, writes, executes, may_read, may_write, may_execute}
 use Rattle.nfs_promises.proofs.Answers.{Blaming.{Blames, AllBlame, held_blames, there_blames, ends_then, ends_checks, answers_blame}, FileReasons.wished_is, Placed.found_now, StateReasons.{current_so, current_not, special_so, special_not}}
+use Rattle.std.proofs.lemmas.Bool.{or_right}
 
 -- What is refused is not answered NFS4_OK.
 
@@ -356,11 +354,7 @@ module _ (s : State) (x : Context) (given : Stateid) where
   zero_by : Stands s x given → (current zeros ones : Bool) → is_current id ≡ current → is_anonymous id ≡ zeros → is_bypass id ≡ ones → code_by current zeros ones ≡ 0
   zero_by k true zeros ones c z o = absurd (k.current (current_so id c))
   zero_by k false true ones c z o = absurd (k.special (special_so id (ap (λ b. b || is_bypass id) z)))
-  zero_by k false false true c z o = absurd (k.special (special_so id (or_last (is_anonymous id) (is_bypass id) o)))
-    where
-      or_last : (a b : Bool) → b ≡ true → a || b ≡ true
-      or_last true b e = refl
-      or_last false b e = e
+  zero_by k false false true c z o = absurd (k.special (special_so id (or_right (is_anonymous id) (is_bypass id) o)))
   zero_by k false false false c z o = zero_named k (id.instance == s.opens.instance) (open_at s.opens id.number) (lock_at s.opens id.number) refl
 
   code_so : code s x given ≡ 0 → Stands s x given

@@ -20,15 +20,13 @@ use Rattle.nfs_names.specs.Checks.{current, no_directory, no_access}
 use Rattle.nfs_names.proofs.Found.{came, ok_is}
 use Rattle.nfs_files.specs.TestStateid.{test_stateid}
 use Rattle.nfs_files.proofs.{TreeFiles.IsWhole, WrittenOps.current_number}
-use Rattle.nfs_promises.specs.Permission.Permitted.{Reads, Executes}
-use Rattle.nfs_promises.specs.Names.FileStays.{is_on_current}
-use Rattle.nfs_promises.specs.Answers.Asked.{AtSaved, Left, leaves, ToLeave, ToList}
+use Rattle.nfs_promises.specs.{Permission.Permitted.{Reads, Executes}, Names.FileStays.is_on_current, Answers.Asked.{AtSaved, Left, leaves, ToLeave, ToList}}
+use Rattle.nfs_promises.specs.Answers.{Invalid.{AreValues, LeavesNoEntry, Unreadable, Uncompared}, Reasons.{IsNameless, Reason}}
 use Rattle.nfs_promises.specs.Answers.Invalid as invalid
-use Rattle.nfs_promises.specs.Answers.Invalid.{AreValues, LeavesNoEntry, Unreadable, Uncompared}
-use Rattle.nfs_promises.specs.Answers.Reasons.{IsNameless, Reason}
 use Rattle.nfs_promises.proofs.Answers.Blaming.{Blames, AllBlame, bool_blames, then_blames, there_blames, held_blames, ends_then, ends_checks, answers_blame}
-use Rattle.nfs_promises.proofs.Answers.Placed.{Answers, refused_so, done_so, found_now, unused, current_blames, denied_by, no_directory_blames, one_or}
+use Rattle.nfs_promises.proofs.Answers.Placed.{Answers, refused_so, done_so, found_now, unused, current_blames, denied_by, no_directory_blames}
 use Rattle.nfs_promises.proofs.Permission.Granting.{may_read, may_execute}
+use Rattle.std.proofs.lemmas.Bool.{or_cases}
 
 -- an object that no row names
 nameless : (s : State) (x : Context) (i : Item) (d : Node) → leaves i ≡ true → current s x ≡ Ok d → parent_in s.tree.rows d.number ≡ None → IsNameless s x i
@@ -71,7 +69,7 @@ module _ (s : State) (whole : IsWhole s) (x : Context) where
   other_verifier given other same = false≢true (sym (not-true _ other) ∙ (bytes_eq-Decides given (replicate 8 0)).1 same)
 
   odd_cookie : (cookie : ℕ) → cookie == 1 || cookie == 2 ≡ true → (cookie ≡ 1) ⊎ (cookie ≡ 2)
-  odd_cookie cookie odd = elim (one_or (cookie == 1) (cookie == 2) odd) [ inl one ↦ inl (eqb-true _ _ one) | inr two ↦ inr (eqb-true _ _ two) ]
+  odd_cookie cookie odd = elim (or_cases (cookie == 1) (cookie == 2) odd) [ inl one ↦ inl (eqb-true _ _ one) | inr two ↦ inr (eqb-true _ _ two) ]
 
   -- an entry is left that has no room
   no_entry : (a : ReadDir) (d : Node) → current s x ≡ Ok d → fits_none s a d ≡ true → LeavesNoEntry s x (Operation (Op.ReadDir a))
@@ -116,7 +114,7 @@ module _ (s : State) (whole : IsWhole s) (x : Context) where
         λ u. (
           λ lacks. denied_by s x i d (Reads ∷ []) e (ToList d.number a (current_number s x d e)) (λ all. false≢true (sym (not-true _ lacks) ∙ may_read x d (all Reads (inl refl)))),
           λ u. (
-            λ some. Unreadable a.attr_request refl (one_or (has (mask_of a.attr_request) 48) (has (mask_of a.attr_request) 54) some),
+            λ some. Unreadable a.attr_request refl (or_cases (has (mask_of a.attr_request) 48) (has (mask_of a.attr_request) 54) some),
             λ u. (λ other. inr (a, refl, other_verifier a.cookieverf other), λ u. (λ odd. (a, refl, odd_cookie a.cookie odd), λ u. (λ small. inl (a, refl, ltb-true a.maxcount 16 small), λ u. tt))),
           ),
         ),

@@ -5,8 +5,7 @@ use Rattle.std.specs.Prelude.{◌==◌, nat_le, Ok, ok_or}
 use Rattle.nfs_xdr.specs.{Tables.In, declared.time.Time.Time}
 use Rattle.nfs_xdr.specs.declared.status.Status.TheVariants as S
 use Rattle.nfs_xdr.proofs.Lists.{in_filter}
-use Rattle.nfs_compound.specs.{declared.file_args.Write.Write, declared.lock_args.LockU.LockU, declared.open_args.Close.Close}
-use Rattle.nfs_compound.specs.declared.op.{Item.{Item, TheVariants.Operation}}
+use Rattle.nfs_compound.specs.declared.{file_args.Write.Write, lock_args.LockU.LockU, open_args.Close.Close, op.Item.{Item, TheVariants.Operation}}
 use Rattle.nfs_compound.specs.declared.op.Op.TheVariants as Op
 use Rattle.nfs_compound.specs.declared.op_num.OpNum.TheVariants as Num
 use Rattle.nfs_results.specs.Results.{spell_result}
@@ -25,6 +24,7 @@ use Rattle.nfs_promises.proofs.Answers.Blaming.{then_blames, there_blames, ends_
 use Rattle.nfs_promises.proofs.Answers.FileReasons.{file_blames, the_file_is, wished_blames, wished_is, may_use_blames}
 use Rattle.nfs_promises.proofs.Answers.{StateReasons.{stands_for, stands_one, meant_blames, state_blames}, StatesTold.{off_of, told_id, raised_in, lock_rises}, TruthOfAnswers.{Off, Yes, refused_off, current_off, all_off, up_to}}
 use Rattle.nfs_promises.proofs.Permission.Granting.{may_write_bytes}
+use Rattle.nfs_promises.proofs.Answers.StatesTold.{ends_off}
 
 -- CLOSE
 
@@ -38,9 +38,9 @@ module _ (s : State) (whole : IsWhole s) (x : Context) where
       let i : Item = Operation (Op.Close a) in
       let k : StateGiven = record { given = a.open_stateid; sort = OpenOnly; form = Own; here = true } in
       let P : List ℕ → State → Type 0 = IsTrueOf s x i in
-      answers_blame Off (Yes P) s x Num.Close _ (refused_off P s x Num.Close) (ends_then Off (Yes P) (the_file s x) _ (off_of s x i (the_file s x) (file_blames s whole x i refl refl)) (λ d e.
+      answers_blame Off (Yes P) s x Num.Close _ (refused_off P s x Num.Close) (ends_off s x i (Yes P) (the_file s x) _ (file_blames s whole x i refl refl) (λ d e.
       (let at = current_number s x d (the_file_is s x d e) in
-      ends_then Off (Yes P) (meant x Own a.open_stateid) _ (off_of s x i (meant x Own a.open_stateid) (meant_blames s x i k refl)) (λ id means.
+      ends_off s x i (Yes P) (meant x Own a.open_stateid) _ (meant_blames s x i k refl) (λ id means.
       ends_then Off (Yes P) (closing.close s.opens id x.client d.number) _
       (then_blames Off (judge s.opens id x.client (Some d.number) OpenOnly) _ (off_of s x i (judge s.opens id x.client (Some d.number) OpenOnly)
       (state_blames s x i k refl id (stands_for x k id means) x.client (Some d.number) refl (refl, at))) (λ n e. tt))
@@ -64,10 +64,10 @@ module _ (s : State) (whole : IsWhole s) (x : Context) where
       let i : Item = Operation (Op.LockU a) in
       let k : StateGiven = record { given = a.lock_stateid; sort = LockOnly; form = Any; here = true } in
       let P : List ℕ → State → Type 0 = IsTrueOf s x i in
-      answers_blame Off (Yes P) s x Num.LockU _ (refused_off P s x Num.LockU) (ends_then Off (Yes P) (wished s x a.locktype a.offset a.length) _
-      (off_of s x i (wished s x a.locktype a.offset a.length) (wished_blames s whole x i refl refl a.locktype a.offset a.length refl)) (λ w e.
+      answers_blame Off (Yes P) s x Num.LockU _ (refused_off P s x Num.LockU) (
+      ends_off s x i (Yes P) (wished s x a.locktype a.offset a.length) _ (wished_blames s whole x i refl refl a.locktype a.offset a.length refl) (λ w e.
       (let at = wished_is s x a.locktype a.offset a.length w e in
-      ends_then Off (Yes P) (meant x Any a.lock_stateid) _ (off_of s x i (meant x Any a.lock_stateid) (meant_blames s x i k refl)) (λ id means.
+      ends_off s x i (Yes P) (meant x Any a.lock_stateid) _ (meant_blames s x i k refl) (λ id means.
       ends_then Off (Yes P) (unlock s.opens id w.client w.file w.first w.last) _
       (then_blames Off (judge s.opens id w.client (Some w.file) LockOnly) _ (off_of s x i (judge s.opens id w.client (Some w.file) LockOnly)
       (state_blames s x i k refl id (stands_for x k id means) w.client (Some w.file) at.0 (refl, at.1))) (λ n e.
@@ -116,11 +116,10 @@ module _ (s : State) (whole : IsWhole s) (x : Context) where
       let i : Item = Operation (Op.Write a) in
       let k : StateGiven = record { given = a.stateid; sort = Either; form = Any; here = true } in
       let P : List ℕ → State → Type 0 = IsTrueOf s x i in
-      answers_blame Off (Yes P) s x Num.Write _ (refused_off P s x Num.Write) (ends_then Off (Yes P) (the_file s x) _ (off_of s x i (the_file s x) (file_blames s whole x i refl refl)) (λ d e.
+      answers_blame Off (Yes P) s x Num.Write _ (refused_off P s x Num.Write) (ends_off s x i (Yes P) (the_file s x) _ (file_blames s whole x i refl refl) (λ d e.
       (let here = the_file_is s x d e in
-      ends_then Off (Yes P) (may_use s x writing a.stateid d) _
-      (off_of s x i (may_use s x writing a.stateid d) (may_use_blames s whole x i k refl refl refl refl Writes refl d here (may_write_bytes x d s.tree) (λ id means some.
-      ToWrite d.number a (record { state = k; is = refl; id = id; means = stands_for x k id means; special = some; at = current_number s x d here })))) (λ n e2.
+      ends_off s x i (Yes P) (may_use s x writing a.stateid d) _ (may_use_blames s whole x i k refl refl refl refl Writes refl d here (may_write_bytes x d s.tree) (λ id means some.
+      ToWrite d.number a (record { state = k; is = refl; id = id; means = stands_for x k id means; special = some; at = current_number s x d here }))) (λ n e2.
       ends_checks Off (Yes P) (write_lasts s a d) _ (all_off (write_lasts s a d) refl) (λ u ok. refl)))))
 
   pub commit_true : (a : _) → Yes (IsTrueOf s x (Operation (Op.Commit a))) (commit s x)

@@ -9,12 +9,9 @@ use Rattle.nfs_attrs.proofs.Unasked.{values_without_room, values_in_exact}
 use Rattle.nfs_names.specs.{declared.context.Context.Context, declared.node.Node.Node, Attributes.{about, taken_by, room_in}, Checks.{node_as, node_at, current}}
 use Rattle.nfs_names.specs.State as store
 use Rattle.nfs_exec.specs.Runs.Ops.{RanOp}
-use Rattle.nfs_exec.proofs.{Step.Instances.instance_kept, Runs.OneRun.IsRun}
-use Rattle.nfs_promises.proofs.Runs.{AttributesTold.told, LeaseTold.lease_kept, LimitsKept.{limits_kept, profile_kept}}
-use Rattle.nfs_serve.specs.{Step.new_state}
-use Rattle.nfs_promises.specs.{Runs.Points.reached, Bytes.ChangeTells.{GetsOf, AsksNoFree, AttributesAreAlike}}
-use Rattle.nfs_promises.proofs.Runs.{Points.{IsSound, sound_all, sound_new}, LaterRecords.{op_done, first_there, later_keeps, later_done}}
-use Rattle.nfs_promises.proofs.Bytes.ChangeTells.{change_tells}
+use Rattle.nfs_exec.proofs.Runs.OneRun.{IsRun}
+use Rattle.nfs_promises.proofs.Runs.AttributesTold.{told}
+use Rattle.nfs_promises.specs.Bytes.ChangeTells.{GetsOf, AsksNoFree}
 
 -- what is told of an object beside the object: of its tree its limits, its profile, and how many more objects there may be
 abbrev pub told_of : (n size links instance lease : ℕ) (limits : Limits) (profile : Profile) (free : ℕ) (k : Stored) → About
@@ -101,8 +98,7 @@ pub text_same : (words : List ℕ) (n : ℕ) (s t : store.State) (text also : Li
     → stored_in t.tree.objects n ≡ stored_in s.tree.objects n → links_in t.tree.rows n ≡ links_in s.tree.rows n
     → Attributes n words s text → Attributes n words t also → also ≡ text
 text_same words n s t text also instance lease limits profile quiet stored links first second =
-    let one : Some first.kept ≡ Some second.kept = sym first.there ∙ (sym stored ∙ second.there) in
-    let kept : second.kept ≡ first.kept = cc in
+    let kept : second.kept ≡ first.kept = (let one : Some first.kept ≡ Some second.kept = sym first.there ∙ (sym stored ∙ second.there) in cc) in
     second.answers
     ∙ (ap (attributes_text words n (links_in t.tree.rows n) t.opens.instance t.lease t.tree.limits t.tree.profile (free_in t.tree)) kept
     ∙ (ap (λ (p : Profile). attributes_text words n (links_in t.tree.rows n) t.opens.instance t.lease t.tree.limits p (free_in t.tree) first.kept) profile
@@ -115,24 +111,3 @@ text_same words n s t text also instance lease limits profile quiet stored links
 
 pub stored_there : (t : Files) (n : ℕ) (k : Stored) → stored_in t.objects n ≡ Some k → is_there t n ≡ true
 stored_there t n k e = ap is_some e
-
-pub attributes_are_alike : AttributesAreAlike
-attributes_are_alike start earlier c front d back more e n words same there equal quiet gets also =
-    let s = reached start earlier in
-    let sound : IsSound s = sound_all (new_state start) earlier (sound_new start) in
-    let run : IsRun d = (op_done s c sound d (first_there s c front d back same)).run in
-    let first = gets_run n words d run gets in
-    let second = gets_run n words e (later_done s c front d back more sound same e there).run also in
-    let alike = (change_tells start earlier c front d back more e n same there (stored_there d.before.store.tree n first.kept first.there)
-    (stored_there e.before.store.tree n second.kept second.there)).same equal in
-    let b = d.before.store in
-    let instances = instance_kept b.opens.instance in
-    let leases = lease_kept b.lease in
-    let limits = limits_kept b.tree.limits in
-    let profiles = profile_kept b.tree.profile in
-    text_same words n b e.before.store d.result e.result
-    (later_keeps (λ t. t.opens.instance ≡ b.opens.instance) instances s c front d back more sound same (instances.run d run refl) e there)
-    (later_keeps (λ t. t.lease ≡ b.lease) leases s c front d back more sound same (leases.run d run refl) e there)
-    (later_keeps (λ t. t.tree.limits ≡ b.tree.limits) limits s c front d back more sound same (limits.run d run refl) e there)
-    (later_keeps (λ t. t.tree.profile ≡ b.tree.profile) profiles s c front d back more sound same (profiles.run d run refl) e there)
-    quiet alike.stored alike.names first second

@@ -5,8 +5,7 @@ use Rattle.nfs_xdr.specs.Tables.{In}
 use Rattle.nfs_compound.specs.declared.op.Item.TheVariants.{Operation}
 use Rattle.nfs_compound.specs.declared.op.Op.TheVariants as Op
 use Rattle.nfs_compound.specs.declared.op_num.OpNum.TheVariants as Num
-use Rattle.nfs_results.specs.{declared.res.ChangeInfo.ChangeInfo, declared.res.CreateOk.CreateOk, declared.res.OpenOk.OpenOk, declared.res.RenameOk.RenameOk}
-use Rattle.nfs_results.specs.Results.{spell_result}
+use Rattle.nfs_results.specs.{declared.res.{ChangeInfo.ChangeInfo, CreateOk.CreateOk, OpenOk.OpenOk, RenameOk.RenameOk}, Results.spell_result}
 use Rattle.nfs_results.specs.declared.res.Res.TheVariants as Res
 use Rattle.nfs_tree.specs.Files.{Files, is_there, change_of}
 use Rattle.nfs_names.specs.{State.{time_at}, Create.create, Link.link, Outcome.is_ok, Rename.{rename}}

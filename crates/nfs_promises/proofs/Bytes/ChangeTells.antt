@@ -7,21 +7,19 @@ use Rattle.nfs_compound.specs.{declared.file_args.Read.Read, declared.op.Item.It
 use Rattle.nfs_compound.specs.declared.op_num.OpNum.TheVariants as Num
 use Rattle.nfs_results.specs.{Largest.given, Results.{spell_result, done_head}}
 use Rattle.nfs_results.specs.declared.res.Res.TheVariants as Res
-use Rattle.nfs_names.specs.{declared.node.Node.Node, Checks.{node_as, node_at, current}, declared.context.Context.Context}
-use Rattle.nfs_names.specs.{State.{with_tree, is_used, without_unused, time_at}, Ending.{with_opens, table_staying, staying}, Rename.without_replaced}
-use Rattle.nfs_names.specs.Outcome.{checked}
+use Rattle.nfs_names.specs.{Checks.{node_as, node_at, current}, Ending.{with_opens, table_staying, staying}, Outcome.checked, Rename.without_replaced}
+use Rattle.nfs_names.specs.{State.{with_tree, is_used, without_unused, time_at}, declared.{context.Context.Context, node.Node.Node}}
 use Rattle.nfs_names.proofs.{Found.{ok_is, checked_ok}, Ones.each_of, Effects.{Makes, Links, Removes, Moves}}
 use Rattle.nfs_files.specs.{Bytes.{file_checks, reading, may_use}, Parts.readable}
 use Rattle.nfs_files.specs.Read as of_read
 use Rattle.nfs_files.proofs.{Passing.if_passed_ok, WrittenOps.by_found, WrittenTold.short, Effects.{Names, Writes, Resizes, Changes, Closes}}
 use Rattle.nfs_xdr.proofs.Lists.{find_in, find_past, find_out, find_push_other}
 use Rattle.nfs_compound.specs.declared.op.Op.TheVariants as Op
-use Rattle.nfs_tree.specs.{declared.row.Row.Row, declared.sets.Sets.Sets, declared.stored.Stored.Stored, Object.{modified, no_sets}}
-use Rattle.nfs_tree.specs.Files.{Files, root, stored_in, is_there, change_of, change_at, with_changed, with_entries_changed, with_links_changed, without_entry}
-use Rattle.nfs_tree.specs.Files.{object_named, number_named}
+use Rattle.nfs_tree.specs.{declared.{row.Row.Row, sets.Sets.Sets, stored.Stored.Stored}, Object.{modified, no_sets}, Files.{Files, root, stored_in, is_there}}
+use Rattle.nfs_tree.specs.Files.{change_of, change_at, with_changed, with_entries_changed, with_links_changed, without_entry, object_named, number_named}
 use Rattle.nfs_tree.specs.Create.{New, with_new, new_object}
-use Rattle.nfs_tree.specs.{Names.{with_link, without_name, forget, Move, moves, replaced_object, touched_object, with_both_changed, with_moved}, Calls.rename_fault}
-use Rattle.nfs_tree.specs.{Bytes.{written, resized, with_bytes, with_written, with_resized, with_sets}, TreeInvariants.IsTree}
+use Rattle.nfs_tree.specs.Names.{with_link, without_name, forget, Move, moves, replaced_object, touched_object, with_both_changed, with_moved}
+use Rattle.nfs_tree.specs.{Calls.rename_fault, Bytes.{written, resized, with_bytes, with_written, with_resized, with_sets}, TreeInvariants.IsTree}
 use Rattle.nfs_tree.proofs.{Objects.{keeps_changed, stored_map, stored_within}, Moved.move_granted, Trees.entry_names}
 use Rattle.nfs_opens.specs.{TableInvariants.IsTable, Closing.without_open}
 use Rattle.nfs_names.specs.State as store
@@ -34,12 +32,11 @@ use Rattle.nfs_files.proofs.Effected as files_effected
 use Rattle.nfs_files.proofs.Sound as files_sound
 use Rattle.nfs_files.proofs.Outcomes as files
 use Rattle.nfs_exec.specs.{Step.Machine.Machine, Runs.Ops.RanOp}
-use Rattle.nfs_promises.proofs.Runs.AttributesTold.{change_in}
+use Rattle.nfs_promises.proofs.{Bytes.SameRows.{SameRows, rows_are, rows_on, rows_push, rows_without, rows_moved}, Runs.AttributesTold.change_in}
+use Rattle.nfs_promises.proofs.Runs.{LaterRecords.{op_done, first_there, later_keeps, later_done}, Points.{IsSound, sound_all, sound_new}}
 use Rattle.nfs_exec.proofs.{Runs.KeptByRuns.Is, Runs.OneRun.{IsRun, by_item, by_run}, Runs.OneWalk.IsKept}
 use Rattle.nfs_serve.specs.{Step.new_state}
 use Rattle.nfs_promises.specs.{Runs.Points.reached, Bytes.ChangeTells.{Tells, ChangeTells, ReadsOf, ReadsAreAlike, ChangeIsTold}}
-use Rattle.nfs_promises.proofs.Runs.{Points.{IsSound, sound_all, sound_new}, LaterRecords.{op_done, first_there, later_keeps, later_done}}
-use Rattle.nfs_promises.proofs.Bytes.SameRows.{SameRows, rows_are, rows_on, rows_push, rows_without, rows_moved}
 use Rattle.nfs_files.proofs.InSteps as in_steps
 
 -- What is there under a number was there, and has a greater change, or is the same, and then this holds.

@@ -2,8 +2,7 @@
 use Rattle.std.proofs.Common.{◌≡◌, ◌⊎◌, inl, inr, ℕ, zero, suc, ◌<◌, ◌≤◌, Bool, true, Some, List, [], ◌∷◌, ◌++◌, length, drop, take, append_assoc, refl, sym}
 use Rattle.std.proofs.{Common.{◌∙◌, ap, subst, arith}, lemmas.List.{take_at, drop_at}}
 use Rattle.std.specs.{Prelude.◌&&◌, Int.{w32, from_be_bytes}}
-use Rattle.nfs_xdr.specs.{Spelling.number, Tables.In, declared.time.Time.Time, declared.status.Status.Status}
-use Rattle.nfs_xdr.specs.declared.status.Status.TheVariants.{Nfs4Ok, Delay, RepTooBig}
+use Rattle.nfs_xdr.specs.{Spelling.number, Tables.In, declared.{time.Time.Time, status.Status.{Status, TheVariants.{Nfs4Ok, Delay, RepTooBig}}}}
 use Rattle.nfs_xdr.proofs.Putting.{length_number}
 use Rattle.nfs_compound.specs.{declared.file_args.Write.Write, declared.op.Item.TheVariants.Operation, OpNum.op_number}
 use Rattle.nfs_compound.specs.declared.op.Op.TheVariants as Op
@@ -39,8 +38,7 @@ split (x ∷ xs) ys [] d v e =
     let tail : xs ++ ys ≡ v = cc in
     inl (xs, ap (λ y. y ∷ xs) head, sym tail)
 split (x ∷ xs) ys (a ∷ u) d v e =
-    let same : x ∷ (xs ++ ys) ≡ a ∷ (u ++ d ∷ v) = e in
-    let head : x ≡ a = cc in
+    let head : x ≡ a = (let same : x ∷ (xs ++ ys) ≡ a ∷ (u ++ d ∷ v) = e in cc) in
     let tail : xs ++ ys ≡ u ++ d ∷ v = cc in
     elim (split xs ys u d v tail) [
       | inl is ↦ inl (is.0, ap (λ y. y ∷ xs) head ∙ ap (λ zs. a ∷ zs) is.1, is.2)

@@ -18,8 +18,7 @@ use Rattle.nfs_names.specs.{Link.link, Outcome.{Outcome, checked, is_ok}, Remove
 use Rattle.nfs_names.specs.State as store
 use Rattle.nfs_names.specs.Operation as names
 use Rattle.nfs_names.proofs.{Found.{came, ok_is, checked_ok, current_is}, NameLaws.{current_refuses, by_create, by_link, by_remove}, Ones.by_delay, Refusing.refuses_checked}
-use Rattle.nfs_files.specs.{Operation.grows, Parts.writable}
-use Rattle.nfs_files.specs.{FileImage.{claimed, is_number, asks_empty}, Bytes.behind_sets}
+use Rattle.nfs_files.specs.{Operation.grows, Parts.writable, FileImage.{claimed, is_number, asks_empty}, Bytes.behind_sets}
 use Rattle.nfs_files.specs.OpenParts as open_parts
 use Rattle.nfs_files.specs.Open as of_open
 use Rattle.nfs_files.specs.SetAttrParts as set_parts
@@ -90,8 +89,7 @@ bytes_modified n t x d now bytes xs =
 
 each_push : (n : ℕ) (P : Object → Type 0) (xs : List Stored) (x w : Stored) → stored_in xs n ≡ Some w → Each n P xs → Each n P (xs ++ x ∷ [])
 each_push n P xs x w there all k e =
-    let same : Some w ≡ Some k = sym (find_push_some (λ (s : Stored). s.number == n) xs x w there) ∙ e in
-    let is : w ≡ k = cc in
+    let is : w ≡ k = (let same : Some w ≡ Some k = sym (find_push_some (λ (s : Stored). s.number == n) xs x w there) ∙ e in cc) in
     subst (λ (k : Stored). P k.object) is (all w there)
 
 pub each_rest : (n : ℕ) (P : Object → Type 0) (p : ℕ → Bool) (xs : List Stored) → Each n P xs → Each n P (filter (λ (s : Stored). p s.number) xs)

@@ -16,6 +16,7 @@ use Rattle.nfs_promises.specs.{Bytes.EntriesAlike.{TellsOf, Gets, Lists, Entries
 use Rattle.nfs_promises.proofs.Bytes.{ChangeAttributes.{text_there, Attributes, gets_run, text_same, stored_there}, ChangeTells.{change_tells, there_stored}}
 use Rattle.nfs_promises.proofs.Runs.{LaterRecords.{op_done, first_there, later_keeps, later_done}, Points.{IsSound, sound_all, sound_new}}
 use Rattle.nfs_promises.proofs.Names.{ListsAll.page_lists, PageLists.first_in, PageRows.{entry_at, entry_name}}
+use Rattle.nfs_promises.specs.Bytes.ChangeTells.{AttributesAreAlike}
 
 entry_attrs : (s : store.State) (mask : Mask) (r : Row) → (entry_at s mask r).attrs ≡ attributes_at s mask r.object (object_at s.tree r.object)
 unfolding entry_of
@@ -45,8 +46,7 @@ entry_told directory cookie n p e run page within leads =
     let name : e.name ≡ r.name = ap (λ (e : Entry). e.name) row.4 ∙ entry_name s mask r in
     let found : object_named s.tree directory e.name ≡ Some r.object =
     ap (λ d. object_named s.tree d e.name) (sym row.2) ∙ (ap (object_named s.tree r.directory) name ∙ ap (option_map (λ (r : Row). r.object)) (run.whole.tree.rows.found r row.1)) in
-    let both : Some r.object ≡ Some n = sym found ∙ leads in
-    let same : r.object ≡ n = cc in
+    let same : r.object ≡ n = (let both : Some r.object ≡ Some n = sym found ∙ leads in cc) in
     row_text s p.asked.attr_request r n e.attrs same (subst (λ n. is_there s.tree n ≡ true) same (run.whole.tree.rows.names r row.1)) (ap (λ (e : Entry). e.attrs) row.4)
 
 tells : (n : ℕ) (words : List ℕ) (d : RanOp) (told : List ℕ) → IsRun d → TellsOf n words d told → Attributes n words d.before.store told
@@ -76,3 +76,8 @@ entries_are_alike start earlier c front d back more e n words told also same the
     (later_keeps (λ t. t.tree.limits ≡ b.tree.limits) limits s c front d back more sound same (limits.run d run refl) e there)
     (later_keeps (λ t. t.tree.profile ≡ b.tree.profile) profiles s c front d back more sound same (profiles.run d run refl) e there)
     quiet alike.stored alike.names first second
+
+-- two GETATTRs tell the same: a case of these
+pub attributes_are_alike : AttributesAreAlike
+attributes_are_alike start earlier c front d back more e n words same there equal quiet gets also =
+    entries_are_alike start earlier c front d back more e n words d.result e.result same there equal quiet (Gets gets refl) (Gets also refl)

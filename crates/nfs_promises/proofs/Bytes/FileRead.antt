@@ -17,15 +17,13 @@ use Rattle.nfs_names.proofs.{Found.current_is, NameLaws.current_refuses}
 use Rattle.nfs_files.specs.{FileImage.{Image, unwritten, new_size, bytes_read, read_answer}, Parts.readable}
 use Rattle.nfs_files.specs.Operation as table
 use Rattle.nfs_files.specs.Read as of_read
-use Rattle.nfs_files.proofs.{ReadBytes.readable_is, Seats.readable_refuses, WrittenOps.current_number}
-use Rattle.nfs_files.proofs.{FileImages.{IsOf, bytes_are, Has, has_staying}, FileOps.{Left, same_if, by_granted, file_left, names_left, open_made}}
+use Rattle.nfs_files.proofs.{ReadBytes.readable_is, Seats.readable_refuses, WrittenOps.current_number, FileImages.{IsOf, bytes_are, Has, has_staying}}
+use Rattle.nfs_files.proofs.{FileOps.{Left, same_if, by_granted, file_left, names_left, open_made}, Terms.bytes_of, ChangesTold.some_same}
 use Rattle.nfs_exec.specs.{Step.Machine.Machine, Step.Behind.{otherwise, refused_step}, Runs.Ops.RanOp}
 use Rattle.nfs_exec.proofs.{Runs.OneRun.{IsRun, too_big, by_item, by_ok, by_run}, Runs.KeptByRuns.Is}
 use Rattle.nfs_promises.specs.Bytes.FileRead.{image_after, ReadsImage, SizeIsTold, TellsFile, MakesFile, ReadsAreWhole}
 use Rattle.nfs_promises.proofs.{Runs.{AttributesTold.size_in, Followed.{Follows, from}}, Bytes.ChangeTells.readable_at}
 use Rattle.nfs_files.proofs.InSteps as in_steps
-use Rattle.nfs_files.proofs.Terms.{bytes_of}
-use Rattle.nfs_files.proofs.ChangesTold.{some_same}
 
 -- One operation.
 

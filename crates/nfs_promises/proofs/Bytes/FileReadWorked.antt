@@ -5,8 +5,7 @@ use Rattle.nfs_names.specs.Context.{anonymous}
 use Rattle.nfs_files.specs.SetAttr as of_set
 use Rattle.nfs_exec.specs.Runs.Ops.{RanOp}
 use Rattle.nfs_promises.specs.{Runs.Points.ops_of, Locks.LockKeptWorked.{outset, last_of}, Bytes.WrittenStaysWorked.{makes, closed, reads}}
-use Rattle.nfs_promises.specs.Bytes.FileReadWorked.{longer, reads_hole}
-use Rattle.nfs_promises.specs.Bytes.FileReadWorked.{IsReadWhole, ReadsAreRefused}
+use Rattle.nfs_promises.specs.Bytes.FileReadWorked.{longer, reads_hole, IsReadWhole, ReadsAreRefused}
 use Rattle.nfs_promises.proofs.Runs.{LastOperation.{two, nothing, three}, Computing.computing}
 
 abbrev pub opening : RanOp

@@ -1,13 +1,11 @@
 -- The records of a connection are those of its stream, whatever comes on other connections between its pieces.
 use Rattle.std.proofs.Common.{◌≡◌, ◌≢◌, ℕ, Bool, true, false, List, [], ◌∷◌, ◌++◌, refl, sym, ap, subst, ◌∙◌, append_assoc, append-nil, flat_map, map, All, inl}
-use Rattle.std.proofs.{Common.{inr, nat_eq}, lemmas.Bool.{eq-eqb, ne_eqb, eqb-true}, lemmas.List.Elements.{All-head, All-tail}}
-use Rattle.std.proofs.lemmas.List.Concat.{flat_map-append}
+use Rattle.std.proofs.{Common.{inr, nat_eq}, lemmas.{Bool.{eq-eqb, ne_eqb, eqb-true}, List.{Elements.{All-head, All-tail}, Concat.flat_map-append}}}
 use Rattle.nfs_rpc.specs.{RecordMarking.start, Stream.{End, Open, TooLong, IsReading, IsUnfinished}}
 use Rattle.nfs_rpc.proofs.Readings.{reading_then, part_unfinished}
 use Rattle.nfs_serve.specs.{Script.Entry, Run.{Streams, with_stream, all_closed, Brings, TakesPiece, TakesAll, StreamEvent, Arrives, overflow}}
 use Rattle.nfs_promises.specs.Calls.Streams.{call_on, overflow_on, IsClosedBehind, ConnectionsAreStreams}
-use Rattle.nfs_serve.proofs.Terms.{events_of, stream_on, NoneCloses}
-use Rattle.nfs_serve.proofs.{Pieces.start_holds}
+use Rattle.nfs_serve.proofs.{Terms.{events_of, stream_on, NoneCloses}, Pieces.start_holds}
 use Rattle.nfs_promises.proofs.Calls.CutsAnywhere.{still_long}
 
 -- entries one after the other

@@ -4,8 +4,7 @@ use Rattle.nfs_rpc.specs.Stream.{End, Open, TooLong, IsReading}
 use Rattle.nfs_rpc.proofs.Readings.{one_reading, reading_then}
 use Rattle.nfs_serve.specs.{Run.{Brings, Arrives, overflow}}
 use Rattle.nfs_promises.specs.Calls.Streams.{CutsAnywhere, BringsOnce}
-use Rattle.nfs_serve.proofs.Terms.{events_of}
-use Rattle.nfs_serve.proofs.Pieces.{AreRecords-behind}
+use Rattle.nfs_serve.proofs.{Terms.events_of, Pieces.AreRecords-behind}
 
 events_of-then : (conn moment : ℕ) (a b : List (List ℕ)) (rest : List ℕ) (end : End)
     → events_of conn moment a (Open rest) ++ events_of conn moment b end ≡ events_of conn moment (a ++ b) end

@@ -4,17 +4,15 @@ use Rattle.std.specs.Io.KnownBytes.{Consumes}
 use Rattle.nfs_rpc.specs.{RecordMarking.{Gathered, start}, Stream.{End, Open, TooLong, IsUnfinished, EndsAs, IsReading}}
 use Rattle.nfs_rpc.proofs.Readings.{one_reading, part_unfinished}
 use Rattle.nfs_names.specs.{declared.start.Start.Start}
-use Rattle.nfs_serve.specs.{declared.fault.Stop.Stop, declared.fault.ReplayFault.ReplayFault, declared.form.Form.Form, declared.form.Flow.Flow}
-use Rattle.nfs_serve.specs.{declared.moving.WriteFailed.WriteFailed, declared.form.Form.TheVariants.{Tagged, Plain}, declared.talking.Talk.Talk}
-use Rattle.nfs_serve.specs.{Script.{Entry, spell_entry}, Step.{ServerState, step}}
-use Rattle.nfs_serve.specs.Run.{Streams, with_stream, all_closed, Brings, TakesPiece, TakesAll, StreamEvent, Arrives, Overflows, Move, events, after, after_event, output, Runs, RunsInto}
-use Rattle.nfs_serve.specs.{Server.{Stands, FeedsOr}, Replay.{Replayed, ReplaysFault}, Talk.SpeaksUntil, Hub.at}
+use Rattle.nfs_serve.specs.declared.{fault.{Stop.Stop, ReplayFault.ReplayFault}, form.{Form.Form, Flow.Flow}, moving.WriteFailed.WriteFailed}
+use Rattle.nfs_serve.specs.{declared.{form.Form.TheVariants.{Tagged, Plain}, talking.Talk.Talk}, Script.{Entry, spell_entry}, Step.{ServerState, step}}
+use Rattle.nfs_serve.specs.Run.{Streams, with_stream, all_closed, Brings, TakesPiece, TakesAll, StreamEvent, Arrives, Overflows, Move, events, after}
+use Rattle.nfs_serve.specs.{Run.{after_event, output, Runs, RunsInto}, Server.{Stands, FeedsOr}, Replay.{Replayed, ReplaysFault}, Talk.SpeaksUntil, Hub.at}
 use Rattle.nfs_promises.specs.{Network.{Endpoint.{Answer, Server, Arrival, stepped, ran}, ThisServer.server}, Runs.Points.state_after_all}
 use Rattle.nfs_promises.specs.Calls.EachForm.{record_of, records_of, LeavesOf, AllRun, FrontRuns, RunUpTo, EachFormRunsRecords}
 use Rattle.nfs_serve.specs.declared.fault.Stop.TheVariants as stops
 use Rattle.nfs_serve.specs.declared.talking.Talk.TheVariants as talks
-use Rattle.nfs_serve.proofs.Terms.{events_of}
-use Rattle.nfs_serve.proofs.{Moves.{events-append, after-append, output-last, TakesAll-more}, Pieces.start_holds, Runs.takes_piece}
+use Rattle.nfs_serve.proofs.{Terms.events_of, Moves.{events-append, after-append, output-last, TakesAll-more}, Pieces.start_holds, Runs.takes_piece}
 use Rattle.nfs_promises.proofs.Calls.WholeRuns.{runs_script}
 
 -- the state behind moves is that of their records

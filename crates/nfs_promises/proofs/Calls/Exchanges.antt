@@ -6,9 +6,8 @@ use Rattle.nfs_rpc.specs.{CallHead.{call_of, behind_header, caller_of}, Reply.sp
 use Rattle.nfs_rpc.proofs.Readings.{part_unfinished}
 use Rattle.nfs_compound.specs.{ReadRequest.{request_at, items_at, item_at}, OpCodec.{op_at, fault_at}, ArgCodecs.{exchange_id_args, protected, impl_id}}
 use Rattle.nfs_results.specs.Items as results
-use Rattle.nfs_serve.specs.{declared.form.Form.TheVariants.Tagged, Script.{Entry, head, Fits, IsWhole}, Step.{new_state, step}}
-use Rattle.nfs_serve.specs.Run.{Streams, all_closed, with_stream, TakesAll, StreamEvent, Arrives, Move, events, output}
-use Rattle.nfs_promises.specs.{Runs.{Requests.words, Started.usual}, Calls.Exchanges.{RunsTo, null_call, null_script, null_output, exchange_call}}
+use Rattle.nfs_serve.specs.{Script.{Entry, head, Fits}, Step.step, Run.{Streams, all_closed, with_stream, StreamEvent, Arrives, Move, output}}
+use Rattle.nfs_promises.specs.{Runs.Requests.words, Calls.Exchanges.{RunsTo, null_call, null_script, null_output, exchange_call}}
 use Rattle.nfs_promises.specs.Calls.Exchanges.{exchange_script, exchange_output}
 use Rattle.nfs_serve.proofs.Pieces.{start_holds}
 
@@ -26,38 +25,26 @@ null_record = record { before = []; final = null_call; stands = refl; holds = re
 null_move : Move
 null_move = record { event = Arrives 0 100 null_call; choice = None }
 
-null_output_is : null_output ≡ output Tagged (new_state usual) (null_move ∷ [])
-unfolding null_move number step call_of header opaque_auth opaque_at fixed_at behind_header spell_head
-null_output_is = refl
-
 null_entry : Entry
 null_entry = record { moment = 100; conn = 0; piece = null_piece }
 
-null_whole : IsWhole null_script (null_entry ∷ [])
-unfolding null_entry null_piece head number hyper
-null_whole = record { spelled = refl; fits = All-push Fits [] null_entry (All-nil Fits) (omega arith, omega arith, omega arith); few = omega arith }
-
-null_reads : TakesAll all_closed (null_entry ∷ []) (events (null_move ∷ [])) (with_stream all_closed 0 (Open []))
-unfolding null_entry null_move null_piece number
-null_reads = (
-  Arrives 0 100 null_call ∷ [],
-  [],
-  with_stream all_closed 0 (Open []),
-  refl,
-  (Open [], (null_call ∷ [], one_record null_piece null_call null_record, refl), refl),
-  (refl, refl),
-)
-
 pub null_runs : RunsTo null_script null_output
-unfolding null_move
+unfolding null_move null_entry null_piece head number hyper step call_of header opaque_auth opaque_at fixed_at behind_header spell_head
 null_runs = record {
   entries = null_entry ∷ [];
   moves = null_move ∷ [];
   streams = with_stream all_closed 0 (Open []);
-  whole = null_whole;
-  reads = null_reads;
+  whole = record { spelled = refl; fits = All-push Fits [] null_entry (All-nil Fits) (omega arith, omega arith, omega arith); few = omega arith };
+  reads = (
+    Arrives 0 100 null_call ∷ [],
+    [],
+    with_stream all_closed 0 (Open []),
+    refl,
+    (Open [], (null_call ∷ [], one_record null_piece null_call null_record, refl), refl),
+    (refl, refl),
+  );
   granted = All-push (λ m. m.choice ≡ None) [] null_move (All-nil _) refl;
-  output = null_output_is;
+  output = refl;
 }
 
 exchange_piece : List ℕ
@@ -70,53 +57,40 @@ exchange_record = record { before = []; final = exchange_call; stands = refl; ho
 exchange_move : Move
 exchange_move = record { event = Arrives 0 100 exchange_call; choice = None }
 
-exchange_output_is : exchange_output ≡ output Tagged (new_state usual) (exchange_move ∷ exchange_move ∷ [])
-unfolding exchange_move number hyper step call_of header opaque_auth opaque_at fixed_at behind_header caller_of auth_sys spell_head
-    request_at items_at item_at op_at fault_at exchange_id_args protected impl_id pieces_at flag_at results.exchange_id
-exchange_output_is = refl
-
 exchange_one : Entry
 exchange_one = record { moment = 100; conn = 0; piece = exchange_piece }
-
-exchange_whole : IsWhole exchange_script (exchange_one ∷ exchange_one ∷ [])
-unfolding exchange_one exchange_piece head number hyper
-exchange_whole = record {
-  spelled = refl;
-  fits = All-push Fits (exchange_one ∷ []) exchange_one
-      (All-push Fits [] exchange_one (All-nil Fits) (omega arith, omega arith, omega arith)) (omega arith, omega arith, omega arith);
-  few = omega arith;
-}
 
 once : Streams
 once = with_stream all_closed 0 (Open [])
 
-exchange_reads : TakesAll all_closed (exchange_one ∷ exchange_one ∷ []) (events (exchange_move ∷ exchange_move ∷ [])) (with_stream once 0 (Open []))
-unfolding exchange_one exchange_move exchange_piece once number
-exchange_reads =
-    let e : StreamEvent = Arrives 0 100 exchange_call in (
-      e ∷ [],
-      e ∷ [],
-      once,
-      refl,
-      (Open [], (exchange_call ∷ [], one_record exchange_piece exchange_call exchange_record, refl), refl),
-      (
-        e ∷ [],
-        [],
-        with_stream once 0 (Open []),
-        refl,
-        (Open [], (exchange_call ∷ [], one_record exchange_piece exchange_call exchange_record, refl), refl),
-        (refl, refl),
-      ),
-    )
-
 pub exchange_runs : RunsTo exchange_script exchange_output
-unfolding exchange_move
+unfolding exchange_move exchange_one exchange_piece head number hyper once step call_of header opaque_auth opaque_at fixed_at behind_header caller_of auth_sys
+    spell_head request_at items_at item_at op_at fault_at exchange_id_args protected impl_id pieces_at flag_at results.exchange_id
 exchange_runs = record {
   entries = exchange_one ∷ exchange_one ∷ [];
   moves = exchange_move ∷ exchange_move ∷ [];
   streams = with_stream once 0 (Open []);
-  whole = exchange_whole;
-  reads = exchange_reads;
+  whole = record {
+    spelled = refl;
+    fits = All-push Fits (exchange_one ∷ []) exchange_one
+        (All-push Fits [] exchange_one (All-nil Fits) (omega arith, omega arith, omega arith)) (omega arith, omega arith, omega arith);
+    few = omega arith;
+  };
+  reads = (let e : StreamEvent = Arrives 0 100 exchange_call in (
+    e ∷ [],
+    e ∷ [],
+    once,
+    refl,
+    (Open [], (exchange_call ∷ [], one_record exchange_piece exchange_call exchange_record, refl), refl),
+    (
+      e ∷ [],
+      [],
+      with_stream once 0 (Open []),
+      refl,
+      (Open [], (exchange_call ∷ [], one_record exchange_piece exchange_call exchange_record, refl), refl),
+      (refl, refl),
+    ),
+  ));
   granted = All-push (λ m. m.choice ≡ None) (exchange_move ∷ []) exchange_move (All-push (λ m. m.choice ≡ None) [] exchange_move (All-nil _) refl) refl;
-  output = exchange_output_is;
+  output = refl;
 }

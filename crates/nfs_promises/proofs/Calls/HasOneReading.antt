@@ -1,12 +1,10 @@
 -- Which fault a script has, and its whole entries, are decided by its bytes.
-use Rattle.std.proofs.Common.{◌≡◌, ℕ, suc, ◌+◌, ◌<◌, ◌≤◌, List, [], ◌∷◌, ◌++◌, length, flat_map, take, drop, All, ◌⊎◌, inl, inr, Option, Some, None, refl}
-use Rattle.std.proofs.Common.{sym, ap, subst, ◌∙◌, arith, append_assoc, append-nil, length-append}
-use Rattle.std.proofs.lemmas.List.{take_at, drop_at, Elements.{All-head, All-tail}}
+use Rattle.std.proofs.Common.{◌≡◌, ℕ, suc, ◌+◌, ◌<◌, ◌≤◌, List, [], ◌∷◌, ◌++◌, length, flat_map, take, drop, All, ◌⊎◌, inl, inr, Option, Some, None, refl, sym}
+use Rattle.std.proofs.{Common.{ap, subst, ◌∙◌, arith, append_assoc, append-nil, length-append}, lemmas.List.{take_at, drop_at, Elements.{All-head, All-tail}}}
 use Rattle.nfs_serve.specs.{declared.fault.Stop.Stop, declared.fault.Stop.TheVariants.{Cut, Connection, Long, Late, Many, ReadFailed, WriteFailed}}
 use Rattle.nfs_serve.specs.Script.{Entry, head, spell_entry, Fits, max_entries, refusal, BeginsRefused, IsPartial, StopsAt, IsRead}
 use Rattle.nfs_promises.specs.Calls.Streams.{HasOneReading}
-use Rattle.nfs_serve.proofs.Entries.{length-head}
-use Rattle.nfs_serve.proofs.OneReading.{head_same, small, behind_head, granted}
+use Rattle.nfs_serve.proofs.{Entries.length-head, OneReading.{head_same, small, behind_head, granted}}
 
 -- an entry is read in one way
 entry_same : (e f : Entry) (xs ys : List ℕ) → Fits e → Fits f → spell_entry e ++ xs ≡ spell_entry f ++ ys → (e ≡ f) × (xs ≡ ys)

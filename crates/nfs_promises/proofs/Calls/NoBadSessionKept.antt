@@ -1,18 +1,15 @@
 -- No slot keeps a reply that says NFS4ERR_BADSESSION of its SEQUENCE: what a slot keeps was answered to a request that ran.
 use Rattle.std.proofs.Common.{◌≡◌, ◌⊎◌, inl, inr, ℕ, ◌<◌, ◌^◌, zero, suc, Bool, true, false, cond, List, [], ◌∷◌, ◌++◌, set, replicate, length, Option, Some}
-use Rattle.std.proofs.Common.{None, refl, sym, ◌∙◌, ap, subst}
-use Rattle.std.proofs.lemmas.Option.{get_or_from_slice_get, slice_get_within}
+use Rattle.std.proofs.{Common.{None, refl, sym, ◌∙◌, ap, subst}, lemmas.Option.{get_or_from_slice_get, slice_get_within}}
 use Rattle.std.specs.{Prelude.{not, slice_get}, Option.option_map_or}
-use Rattle.nfs_xdr.specs.{Spelling.number, Tables.In, Caller.Caller, Status.status_number}
-use Rattle.nfs_xdr.specs.declared.status.Status.TheVariants.{BadSession}
+use Rattle.nfs_xdr.specs.{Spelling.number, Tables.In, Caller.Caller, Status.status_number, declared.status.Status.TheVariants.BadSession}
 use Rattle.nfs_xdr.proofs.Lists.{in_at, in_filter, in_push, in_map}
 use Rattle.nfs_compound.specs.{declared.session_args.Sequence.Sequence, Request.Request}
 use Rattle.nfs_names.specs.{declared.start.Start.Start}
 use Rattle.nfs_lease.specs.Renewals.{has_run_out}
 use Rattle.nfs_slots.specs.Slot.{SlotState, kept, unused_slot}
 use Rattle.nfs_slots.specs.Slot as slots
-use Rattle.nfs_sessions.specs.{declared.id.SessionId.SessionId, Channel.granted, Id.id_of}
-use Rattle.nfs_sessions.specs.Sessions.{Session, SessionTable, is_session, keep}
+use Rattle.nfs_sessions.specs.{declared.id.SessionId.SessionId, Channel.granted, Id.id_of, Sessions.{Session, SessionTable, is_session, keep}}
 use Rattle.nfs_exec.specs.{Step.Machine.Machine, Step.Sequence.compared, Step.Compound.compound}
 use Rattle.nfs_exec.proofs.{Runs.SlotNumbers.IsHeld, Runs.SessionsBehind.{ran_in, quiet_compound, told_compound}}
 use Rattle.nfs_serve.specs.{Step.{ServerState, new_state}}

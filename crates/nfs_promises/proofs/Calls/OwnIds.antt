@@ -6,8 +6,7 @@ use Rattle.nfs_xdr.specs.{Caller.Caller, Spelling.hyper, Tables.In, Numbers.next
 use Rattle.nfs_xdr.specs.declared.status.Status.TheVariants.{Nfs4Ok, Delay, MinorVersMismatch}
 use Rattle.nfs_xdr.proofs.{Lists.{in_filter, in_push, in_map, find_in}, Putting.length_hyper, CodecLaws.is_hyper, Tables.{in_bounds, in_once}}
 use Rattle.nfs_compound.specs.declared.op_num.OpNum.TheVariants as Num
-use Rattle.nfs_compound.specs.{OpNum.op_number, declared.op.Item.Item, declared.op.Item.TheVariants.Operation, Request.Request}
-use Rattle.nfs_compound.specs.declared.session_args.ExchangeId.{ExchangeId}
+use Rattle.nfs_compound.specs.{OpNum.op_number, declared.{op.Item.{Item, TheVariants.Operation}, session_args.ExchangeId.ExchangeId}, Request.Request}
 use Rattle.nfs_compound.specs.declared.op.Op.TheVariants as Op
 use Rattle.nfs_results.specs.Results.{spell_result, done_head, spell_compound_head}
 use Rattle.nfs_results.specs.declared.res.Res.TheVariants as Res
@@ -20,9 +19,8 @@ use Rattle.nfs_clients.specs.declared.exchange_id.ClientFault.TheVariants.{Inval
 use Rattle.nfs_clients.specs.{CreateSession.{uses_up, keeps}, declared.created.CreateResult.CreateResult}
 use Rattle.nfs_clients.proofs.{Terms.new_client, Members.the_id}
 use Rattle.nfs_names.specs.{declared.start.Start.Start, Outcome.is_ok}
-use Rattle.nfs_exec.specs.Step.{Machine.{Machine, MachineOutcome, IsMachine, with_refusal}, Place.place_fault, Run.is_here}
-use Rattle.nfs_exec.specs.Step.{ExchangeId.{exchange_id, granted}, Compound.{Answered, bare, carried_out, first_item, by_first, compound}}
-use Rattle.nfs_exec.specs.Step.Parts.{ask_of, did_exchange}
+use Rattle.nfs_exec.specs.Step.{Machine.{Machine, MachineOutcome, IsMachine, with_refusal}, Place.place_fault, Run.is_here, ExchangeId.{exchange_id, granted}}
+use Rattle.nfs_exec.specs.Step.{Compound.{Answered, bare, carried_out, first_item, by_first, compound}, Parts.{ask_of, did_exchange}}
 use Rattle.nfs_exec.specs.{Step.Laws.{MachineEvent, Expires, Asks, stepped}, Runs.OneSession.{asks_of, asks_session, MakesOne}}
 use Rattle.nfs_exec.proofs.Step.{InSteps.exchange_id_is, Terms.by_fault, Invariant.of_start, Exchanging.adds_below}
 use Rattle.nfs_exec.proofs.Runs.{SessionNumbers.{IsCarried, quiet_at}, OneSession.{event_carried, behind_head}}

@@ -11,17 +11,15 @@ use Rattle.nfs_clients.specs.declared.created.CreateResult.TheVariants as result
 use Rattle.nfs_lease.specs.Renewals.{Book, with_renewal}
 use Rattle.nfs_names.specs.{declared.start.Start.Start, Outcome.is_ok}
 use Rattle.nfs_sessions.specs.{declared.id.SessionId.SessionId, declared.sessions.SessionFault.SessionFault, Sessions.{SessionTable, session_at, create}}
-use Rattle.nfs_exec.specs.{Runs.OneSession.MakesOne, Step.{Compound.{bare, by_first, carried_out, compound, first_item}, Parts.{without_any_lease, wish_of}}}
-use Rattle.nfs_exec.specs.Step.{Laws.Asks, Place.place_fault}
+use Rattle.nfs_exec.specs.{Runs.OneSession.MakesOne, Step.Compound.{bare, by_first, carried_out, compound, first_item}}
+use Rattle.nfs_exec.specs.Step.{Parts.{without_any_lease, wish_of, by_created, by_number, creates}, Laws.Asks, Place.place_fault}
 use Rattle.nfs_exec.specs.Step.{Machine.{Machine, MachineOutcome, with_refusal}, Run.is_here}
 use Rattle.nfs_exec.proofs.Step.{InSteps.create_session_is, Terms.by_fault}
-use Rattle.nfs_exec.specs.Step.Parts.{by_created, by_number, creates}
-use Rattle.nfs_promises.proofs.Runs.Renewing.{AtLeast}
+use Rattle.nfs_promises.proofs.Runs.{Renewing.AtLeast, Points.{left, for_asked, next_is, IsSound, sound_next, sound_all, sound_new}}
+use Rattle.nfs_promises.proofs.{Runs.StayingInTime.{lease_next, lease_all}, Calls.SessionStays.stays}
 use Rattle.nfs_serve.specs.{Step.{ServerState, new_state}}
 use Rattle.nfs_promises.specs.{Network.Endpoint.Arrival, Runs.Points.{state_after, reached, taken, before, asked_by}, Calls.SessionStays.HasSession}
 use Rattle.nfs_promises.specs.Calls.{SessionStays.StaysThere, SessionsOnce.GivesIn}
-use Rattle.nfs_promises.proofs.Runs.{Points.{left, for_asked, next_is, IsSound, sound_next, sound_all, sound_new}, StayingInTime.{lease_next, lease_all}}
-use Rattle.nfs_promises.proofs.Calls.SessionStays.{stays}
 
 mapped_now : (now r : ℕ) (o : Option ℕ) → option_map (λ (moment : ℕ). now) o ≡ Some r → now ≤ r
 mapped_now now r None e = (let bad : None ≡ Some r = e in absurd cc)

@@ -6,15 +6,13 @@ use Rattle.nfs_xdr.specs.{Caller.Caller, Spelling.number, Status.status_number, 
 use Rattle.nfs_xdr.specs.declared.status.Status.TheVariants as S
 use Rattle.nfs_xdr.proofs.Lists.{find_in}
 use Rattle.nfs_rpc.specs.{CallHead.{Call, Accepted, call_of}, Reply.spell_head}
-use Rattle.nfs_compound.specs.{Request.{Request, item_number}, declared.op.Item.Item, declared.op.Item.TheVariants.Operation}
-use Rattle.nfs_compound.specs.{OpNum.op_number, declared.op_num.OpNum.OpNum}
+use Rattle.nfs_compound.specs.{Request.{Request, item_number}, declared.{op.Item.{Item, TheVariants.Operation}, op_num.OpNum.OpNum}, OpNum.op_number}
 use Rattle.nfs_compound.specs.declared.op.Op.TheVariants as Op
 use Rattle.nfs_compound.specs.declared.op_num.OpNum.TheVariants as Num
 use Rattle.nfs_results.specs.Results.{done_head, refusal, spell_compound_head, spell_result}
 use Rattle.nfs_names.specs.{declared.start.Start.Start}
 use Rattle.nfs_slots.specs.Slot.{SlotState}
-use Rattle.nfs_sessions.specs.{declared.id.SessionId.SessionId, Id.id_of}
-use Rattle.nfs_sessions.specs.Sessions.{Session, is_session, session_at}
+use Rattle.nfs_sessions.specs.{declared.id.SessionId.SessionId, Id.id_of, Sessions.{Session, is_session, session_at}}
 use Rattle.nfs_exec.specs.Step.{Compound.{bare, by_first, compound}, Machine.Machine, Run.is_here}
 use Rattle.nfs_serve.specs.{Step.{ServerState, Stepped, asked_of}}
 use Rattle.nfs_promises.specs.{Network.{Endpoint.{Arrival, Heading}, ThisServer.ticked}, Locks.LockKept.{renews_by, replaces_by}, Runs.Points.state_after}

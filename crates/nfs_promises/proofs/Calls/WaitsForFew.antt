@@ -1,8 +1,6 @@
 -- A sweep, port after port; who begins before it; and how few others have their turn between two turns of a port.
 use Rattle.std.proofs.Common.{◌≡◌, ℕ, suc, ◌+◌, ◌*◌, ◌≤◌, List, [], ◌∷◌, ◌++◌, refl, ap, subst, arith, inl, inr}
-use Rattle.nfs_serve.specs.Step.{ServerState}
-use Rattle.nfs_serve.specs.Desk.{Act, most_steps, step_count}
-use Rattle.nfs_serve.specs.Hub.{Desks, Round, Opens, Turns, Turning, InOrder, IsOf, IsServed, steps_in}
+use Rattle.nfs_serve.specs.{Step.ServerState, Desk.{Act, most_steps, step_count}, Hub.{Desks, Round, Opens, Turns, Turning, InOrder, IsOf, IsServed, steps_in}}
 use Rattle.nfs_promises.specs.Calls.WaitsForFew.{WaitsForFew}
 
 -- How many parts are stepped.

@@ -9,8 +9,7 @@ use Rattle.nfs_serve.specs.Run.{Streams, with_stream, all_closed, TakesAll, Stre
 use Rattle.nfs_serve.specs.{Desk.{most_ports, opened, Act, Goes}, Hub.{Desks, none_live, Round, Opens, Turns, OthersStay, Turning}}
 use Rattle.nfs_promises.specs.Calls.{Streams.call_on, NothingIsLost.{came, taken, part_of}, WholeRuns.{close, IsEntry, entries_of, script, RunsScript, HubRunsScript}}
 use Rattle.nfs_promises.specs.Calls.WholeRuns.{acts_on, port_of, output_on, LosesNothing, NothingIsLostInARun, TurningInto, NothingIsLostInATurn}
-use Rattle.nfs_serve.proofs.Terms.{NoneCloses}
-use Rattle.nfs_serve.proofs.{Moves.{after-append, events-append}, Pieces.{start_holds, no_bytes}}
+use Rattle.nfs_serve.proofs.{Terms.NoneCloses, Moves.{after-append, events-append}, Pieces.{start_holds, no_bytes}}
 use Rattle.nfs_promises.proofs.Calls.{ConnectionsAreStreams.stretch, PortScripts.{others_open, stream_script}, TurnActs.{not_served, output_own, output_other}}
 use Rattle.nfs_promises.proofs.Calls.TurnActs.{stream_same, stream_other, Holds, flows_on, Flow, Ran, ran}
 

@@ -1,146 +1,79 @@
 -- A LOCK or a LOCKT that is answered NFS4ERR_DENIED found a lock that is in its way, and reports it.
-use Rattle.std.proofs.{Common.{◌≡◌, ℕ, Bool, true, false, cond, not, List, Option, Some, None, refl, sym, ◌∙◌, ap, subst}, lemmas.Bool.{false≢true}}
-use Rattle.std.specs.Prelude.{◌==◌, ◌&&◌, Result, Ok, Err, ok_or}
-use Rattle.nfs_xdr.specs.{Checks.first_fault, Status.status_number, declared.time.Time.Time, declared.status.Status.Status}
+use Rattle.std.proofs.{Common.{◌≡◌, ℕ, Bool, true, false, Option, Some, None, refl, sym, ◌∙◌, ap}, lemmas.Bool.false≢true}
+use Rattle.std.specs.{Prelude.{◌==◌, ◌&&◌, not, Result, Ok, Err}, Option.option_map_or}
+use Rattle.nfs_xdr.specs.{Status.status_number, declared.time.Time.Time, declared.status.Status.Status}
 use Rattle.nfs_xdr.specs.declared.status.Status.TheVariants as S
-use Rattle.nfs_compound.specs.{OpNum.op_number, declared.lock_args.Lock.Lock, declared.lock_args.LockT.LockT, declared.lock_args.LockType.LockType}
-use Rattle.nfs_compound.specs.{declared.lock_args.Locker.Locker, declared.lock_args.Locker.TheVariants.{LockOwner, OpenOwner}}
+use Rattle.nfs_compound.specs.{OpNum.op_number, declared.lock_args.{Lock.Lock, LockT.LockT, LockType.LockType, Locker.{Locker, TheVariants.{LockOwner, OpenOwner}}}}
+use Rattle.nfs_compound.specs.{declared.op.{Item.Item, Item.TheVariants.Operation}, declared.op_num.OpNum.OpNum, declared.stateid.Stateid.Stateid}
 use Rattle.nfs_compound.specs.declared.op_num.OpNum.TheVariants as Num
+use Rattle.nfs_compound.specs.declared.lock_args.LockType.TheVariants as LockTypes
 use Rattle.nfs_compound.specs.declared.op.Op.TheVariants as Op
 use Rattle.nfs_results.specs.declared.res.Denied as result
-use Rattle.nfs_results.specs.{declared.res.Res.Res, Results.{status_of_result, refusal}}
+use Rattle.nfs_results.specs.{declared.res.Res.Res, Results.status_of_result}
 use Rattle.nfs_ranges.specs.declared.Held.{Held}
-use Rattle.nfs_opens.specs.{declared.judging.Seat.Seat, declared.judging.Sort.Sort}
-use Rattle.nfs_opens.specs.{declared.judging.Sort.TheVariants.{OpenOnly, LockOnly}, declared.locking.Wish.Wish, declared.locking.OpenFault.OpenFault}
-use Rattle.nfs_opens.specs.{declared.records.LockState.LockState, declared.share.Share.Share}
-use Rattle.nfs_opens.specs.{declared.stateid.CurrentSeqid.TheVariants.Any, declared.stateid.StateId.StateId}
-use Rattle.nfs_opens.specs.Judging.{judge}
-use Rattle.nfs_opens.specs.{StateId.last_number, Steps.{◌>>=◌, require, map_err}}
-use Rattle.nfs_opens.specs.Table.{Table, lock_at}
-use Rattle.nfs_opens.specs.declared.locking.OpenFault.TheVariants as F
+use Rattle.nfs_opens.specs.{declared.judging.Seat.Seat, declared.judging.Seat.TheVariants.{Anonymous, ReadBypass}, declared.judging.Sort.{Sort, TheVariants.{Either, OpenOnly, LockOnly}}}
+use Rattle.nfs_opens.specs.declared.{locking.{OpenFault.TheVariants.{Denied, Memory, Refused}, Wish.Wish}, records.LockState.LockState}
+use Rattle.nfs_opens.specs.{declared.stateid.{CurrentSeqid.TheVariants.Any, StateId.StateId}, Judging.{judge, judge_checks, special, state_named}, StateId.{is_anonymous, is_bypass}, Steps.require}
 use Rattle.nfs_opens.specs.Locking as locking
-use Rattle.nfs_opens.proofs.{CallLaws.came, Terms.{lock_by_owner, number_of, unless_told}}
-use Rattle.nfs_names.specs.{declared.context.Context.Context, Checks.{node_at, current}, Outcome.{Outcome, checked, mapped, answers}}
-use Rattle.nfs_names.specs.State.{State}
+use Rattle.nfs_opens.specs.{Locking.{access_in, clash, lock_as, lock_first, state_of, test_lock}, Table.Table}
+use Rattle.nfs_opens.proofs.Terms.{judge_named, number_of}
+use Rattle.nfs_names.specs.{declared.context.Context.Context, Context.anonymous, Outcome.{Outcome, done, refuses}, State.State}
 use Rattle.nfs_names.proofs.{Faulted.status_of_refusal, Ones.by_delay}
-use Rattle.nfs_files.specs.{Bytes.file_checks, Denied.{lock_denied, open_fault_status}, LockT.lock_t, Operation.grows}
-use Rattle.nfs_files.specs.{Ranges.{range, wished}, StateIds.meant, Target.the_file, Parts.wish}
-use Rattle.nfs_files.specs.Parts as parts
-use Rattle.nfs_files.specs.Lock as of_lock
-use Rattle.nfs_files.proofs.{Outcomes.one_or_delay, Wishes.lock_wish}
-use Rattle.nfs_files.proofs.InSteps as in_steps
-use Rattle.nfs_files.proofs.Terms.{range_checks, last_of, tested}
-use Rattle.nfs_promises.proofs.Runs.RefusedOtherwise.{IsWithout, are_good, passed_without, checked_without, then_without, mapped_without, at_without, meant_without}
-use Rattle.nfs_promises.proofs.Runs.RefusedOtherwise.{judge_without}
-
--- What is checked first answers other statuses.
+use Rattle.nfs_files.specs.{Denied.lock_denied, Lock.{lock, locked, locks_as, stateid_in}, LockT.lock_t, Operation.grows, Ranges.wished, StateIds.meant}
+use Rattle.nfs_files.proofs.{Outcomes.one_or_delay, TreeFiles.IsWhole}
+use Rattle.nfs_promises.specs.Answers.{Asked.locked as asked_range, Reasons.Reason}
+use Rattle.nfs_promises.proofs.Answers.Blaming.{Blames, answers_blame, bool_blames, ends_then, held_blames, then_checks}
+use Rattle.nfs_promises.proofs.Answers.{FileReasons.wished_blames, HoldReasons.{Faults, seat_faults, as_faults, first_faults}, StateReasons.meant_blames}
 
 abbrev pub is_denied : Status → Bool
 is_denied status = status_number status == status_number S.Denied
 
-abbrev IsClear : {A : Type 0} → Result A Status → Type 0
-IsClear v = IsWithout is_denied v
+abbrev Clear : Status → Type 0
+Clear f = is_denied f ≡ false
 
-file_clear : (s : State) (x : Context) → IsClear (the_file s x)
-unfolding current
-file_clear s x =
-    rw (in_steps.file_is s x)
-    (checked_without is_denied (node_at s x.current) file_checks (at_without is_denied refl refl s x.current) (λ d e. are_good is_denied (file_checks d) refl))
-
-range_clear : (offset size : ℕ) → IsClear (range offset size)
-range_clear offset size =
-    rw (in_steps.range_is offset size)
-    (passed_without is_denied (last_of offset size) (first_fault (range_checks offset size)) (are_good is_denied (range_checks offset size) refl))
-
-wished_clear : (s : State) (x : Context) (how : LockType) (offset size : ℕ) → IsClear (wished s x how offset size)
-wished_clear s x how offset size =
-    rw (in_steps.wished_is s x how offset size)
-    (then_without is_denied (the_file s x) _ (file_clear s x) (λ d e. mapped_without is_denied _ (range offset size) (range_clear offset size)))
-
-locking_clear : (s : State) (x : Context) (a : Lock) → IsClear (parts.locking s x a)
-locking_clear s x a =
-    let w = wished s x a.locktype a.offset a.length in
-    then_without is_denied (checked w (parts.reclaim_checks a)) _
-    (checked_without is_denied w (parts.reclaim_checks a) (wished_clear s x a.locktype a.offset a.length) (λ v e. are_good is_denied (parts.reclaim_checks a v) refl))
-    (λ v e. mapped_without is_denied _ (meant x Any (of_lock.stateid_in a.locker)) (meant_without is_denied refl refl x Any (of_lock.stateid_in a.locker)))
-
-judge_clear : (t : Table) (id : StateId) (client : ℕ) (file : Option ℕ) (sort : Sort) → IsClear (judge t id client file sort)
-judge_clear t id client file sort = judge_without is_denied refl refl t id client file sort
-
--- What the table of opens denies.
-
--- a fault that is answered NFS4ERR_DENIED is a clash, which lock state n met
-record IsClash (t : Table) (w : Wish) (n : ℕ) (fault : OpenFault) : Type 0 where
-  pub held : Held
-  pub is : fault ≡ F.Denied held
-  pub clash : locking.clash t n w ≡ Some held
-
-abbrev IsFair : {A : Type 0} → Table → Wish → ℕ → Result A OpenFault → Type 0
-IsFair t w n v = (fault : OpenFault) → v ≡ Err fault → is_denied (open_fault_status fault) ≡ true → IsClash t w n fault
-
-ok_fair : {A : Type 0} (t : Table) (w : Wish) (n : ℕ) (a : A) → IsFair t w n (Ok a)
-ok_fair t w n a fault e is = absurd cc
-
-refused_fair : {A : Type 0} (t : Table) (w : Wish) (n : ℕ) (status : Status) → is_denied status ≡ false → IsFair {A = A} t w n (Err (F.Refused status))
-refused_fair t w n status other fault e is =
-    let same : F.Refused status ≡ fault = cc in
-    absurd (false≢true (sym other ∙ subst (λ f. is_denied (open_fault_status f) ≡ true) (sym same) is))
-
-next_fair : {A B : Type 0} (t : Table) (w : Wish) (n : ℕ) (v : Result A OpenFault) (next : A → Result B OpenFault) → IsFair t w n v → ((a : A) → IsFair t w n (next a))
-    → IsFair t w n (v >>= next)
-next_fair t w n (Err fault) next is more = λ f e denied. let same : fault ≡ f = cc in is f (ap Err same) denied
-next_fair t w n (Ok a) next is more = more a
-
-there_fair : {A : Type 0} (t : Table) (w : Wish) (n : ℕ) (o : Option A) → IsFair t w n (ok_or o (F.Refused S.BadStateId))
-there_fair t w n None = refused_fair t w n S.BadStateId refl
-there_fair t w n (Some a) = ok_fair t w n a
-
-room_fair : (t : Table) (w : Wish) (n : ℕ) (b : Bool) → IsFair t w n (require b (F.Refused S.ServerFault))
-room_fair t w n true = ok_fair t w n tt
-room_fair t w n false = refused_fair t w n S.ServerFault refl
-
-seat_fair : (t : Table) (w : Wish) (n : ℕ) (v : Result Seat Status) → IsClear v → IsFair t w n (map_err F.Refused v)
-seat_fair t w n (Err status) is = refused_fair t w n status (is status refl)
-seat_fair t w n (Ok seat) is = ok_fair t w n seat
-
-told_fair : (t : Table) (w : Wish) (n : ℕ) (o : Option Held) → locking.clash t n w ≡ o → IsFair t w n (unless_told o)
-told_fair t w n None e = ok_fair t w n tt
-told_fair t w n (Some h) e = λ fault same is. record { held = h; is = (let one : F.Denied h ≡ fault = cc in sym one); clash = e }
-
-judged_fair : (t : Table) (w : Wish) (n : ℕ) (access : Share) → IsFair t w n (locking.lock_judged t n access w)
-judged_fair t w n access = go (locking.permits access w.kind)
+-- Of a status that has a reason only where bytes are asked for, there is none elsewhere.
+clear : {A : Type 0} (s : State) (x : Context) (i : Item) → asked_range i ≡ None → (v : Result A Status) → Blames (Reason s x i) v → Blames Clear v
+clear s x i none (Ok a) is = tt
+clear s x i none (Err f) is = by f is
   where
-    go : (b : Bool) → IsFair t w n (cond b (unless_told (locking.clash t n w)) (Err (F.Refused S.OpenMode)))
-    go true = told_fair t w n (locking.clash t n w) refl
-    go false = refused_fair t w n S.OpenMode refl
+    by : (f : Status) → Reason s x i f → Clear f
+    by S.Denied why = absurd (let bad : None ≡ Some why.range = sym none ∙ why.is in cc)
+    by f why = refl
 
-as_fair : (t : Table) (w : Wish) (n : ℕ) (access : Share) → IsFair t w n (locking.lock_as t w n access)
-as_fair t w n access =
-    next_fair t w n (locking.lock_judged t n access w) _ (judged_fair t w n access) (λ u.
-    next_fair t w n (ok_or (lock_at t n) (F.Refused S.BadStateId)) _ (there_fair t w n (lock_at t n)) (λ l. ok_fair t w n _))
+judge_clear : (t : Table) (id : StateId) (client : ℕ) (file : Option ℕ) (sort : Sort) → Blames Clear (judge t id client file sort)
+judge_clear t id client file sort =
+    bool_blames Clear (is_anonymous id) _ _ (λ a. special_clear Anonymous sort) (λ a. bool_blames Clear (is_bypass id) _ _ (λ b. special_clear ReadBypass sort) (λ b. named_clear))
+  where
+    special_clear : (k : Seat) (sort : Sort) → Blames Clear (special sort k)
+    special_clear k Either = tt
+    special_clear k OpenOnly = refl
+    special_clear k LockOnly = refl
 
-owner_fair : (t : Table) (w : Wish) (opened : ℕ) (owner : List ℕ) (access : Share) (o : Option LockState)
-    → IsFair t w (number_of o) (lock_by_owner t w opened owner access o)
-owner_fair t w opened owner access (Some l) = as_fair t w l.number access
-owner_fair t w opened owner access None =
-    next_fair t w 0 (locking.lock_judged t 0 access w) _ (judged_fair t w 0 access) (λ u.
-    next_fair t w 0 (require (not (t.last == last_number)) (F.Refused S.ServerFault)) _ (room_fair t w 0 _) (λ u. ok_fair t w 0 _))
+    named_clear : Blames Clear (judge_named client file sort id.seqid (state_named t id))
+    named_clear = elim (state_named t id) as (λ k. Blames Clear (judge_named client file sort id.seqid k)) [
+      | None ↦ refl
+      | Some n ↦ then_checks Clear (judge_checks client file sort id.seqid n) (Ok n.seat)
+          (λ u. refl, λ u. (λ u. refl, λ u. (λ u. refl, λ u. (λ u. refl, λ u. (λ u. refl, λ u. tt))))) (λ u. tt)
+    ]
 
 -- the lock state of whoever asks, 0 where there is none
 abbrev pub asker : Table → Locker → StateId → Wish → ℕ
-asker t (OpenOwner o) id w = number_of (locking.state_of t w.client o.lock_owner.owner w.file)
+asker t (OpenOwner o) id w = number_of (state_of t w.client o.lock_owner.owner w.file)
 asker t (LockOwner o) id w = id.number
 
-locks_fair : (t : Table) (who : Locker) (id : StateId) (w : Wish) → IsFair t w (asker t who id w) (of_lock.locks_as t who id w)
-locks_fair t (OpenOwner o) id w =
-    let n = number_of (locking.state_of t w.client o.lock_owner.owner w.file) in
-    next_fair t w n (map_err F.Refused (judge t id w.client (Some w.file) OpenOnly)) _
-    (seat_fair t w n (judge t id w.client (Some w.file) OpenOnly) (judge_clear t id w.client (Some w.file) OpenOnly))
-    (λ seat. owner_fair t w id.number o.lock_owner.owner (locking.access_in seat) (locking.state_of t w.client o.lock_owner.owner w.file))
-locks_fair t (LockOwner o) id w =
-    next_fair t w id.number (map_err F.Refused (judge t id w.client (Some w.file) LockOnly)) _
-    (seat_fair t w id.number (judge t id w.client (Some w.file) LockOnly) (judge_clear t id w.client (Some w.file) LockOnly))
-    (λ seat. as_fair t w id.number (locking.access_in seat))
+-- what the table of opens denies is a clash with another lock state
+locks_clash : (t : Table) (who : Locker) (id : StateId) (w : Wish) → Faults Clear (λ h. clash t (asker t who id w) w ≡ Some h) (locks_as t who id w)
+locks_clash t (LockOwner o) id w =
+    seat_faults Clear (λ h. clash t id.number w ≡ Some h) (judge t id w.client (Some w.file) LockOnly) _ (judge_clear t id w.client (Some w.file) LockOnly) (λ n e.
+    as_faults Clear (λ h. clash t id.number w ≡ Some h) t w (access_in n) (λ off. refl) (λ last. refl) id.number (λ none. refl) (λ h is. is))
+locks_clash t (OpenOwner o) id w =
+    seat_faults Clear (λ h. clash t (asker t (OpenOwner o) id w) w ≡ Some h) (judge t id w.client (Some w.file) OpenOnly) _ (judge_clear t id w.client (Some w.file) OpenOnly)
+    (λ n e. by n (state_of t w.client o.lock_owner.owner w.file))
+  where
+    by : (n : Seat) (k : Option LockState) → Faults Clear (λ h. clash t (number_of k) w ≡ Some h)
+        (option_map_or (λ (l : LockState). lock_as t w l.number (access_in n)) k (lock_first t w id.number o.lock_owner.owner (access_in n)))
+    by n None = first_faults Clear (λ h. clash t 0 w ≡ Some h) t w (access_in n) (λ off. refl) (λ last. refl) id.number o.lock_owner.owner (λ h is. is)
+    by n (Some l) = as_faults Clear (λ h. clash t l.number w ≡ Some h) t w (access_in n) (λ off. refl) (λ last. refl) l.number (λ none. refl) (λ h is. is)
 
 -- One operation.
 
@@ -154,74 +87,74 @@ pub record WasDenied (s : State) (x : Context) (how : LockType) (offset size : �
   pub clash : locking.clash s.opens number wish ≡ Some held
   pub answers : r ≡ reports (lock_denied s.opens held)
 
-refused_not : {A : Type 0} (v : Result A Status) (status : Status) (n : ℕ) → IsClear v → v ≡ Err status → is_denied (status_of_result (refusal n status)) ≡ true → ⊥
-refused_not v status n clear e is = false≢true (sym (clear status e) ∙ (ap is_denied (sym (status_of_refusal n status)) ∙ is))
-
--- which stateid was given
-mapped_at : {A B C : Type 0} (b : B) (part : B → C) (f : A → B) (v : Result A Status) → mapped f v ≡ Ok b → (a : A) × (v ≡ Ok a) × (part (f a) ≡ part b)
-mapped_at b part f (Err status) e = absurd cc
-mapped_at b part f (Ok a) e = let same : f a ≡ b = cc in (a, refl, ap part same)
-
-locking_id : (s : State) (x : Context) (a : Lock) (m : _) → parts.locking s x a ≡ Ok m → meant x Any (of_lock.stateid_in a.locker) ≡ Ok m.id
-locking_id s x a m e =
-    let f = came (checked (wished s x a.locktype a.offset a.length) (parts.reclaim_checks a)) _ m e in
-    let id = mapped_at m (λ k. k.id) _ (meant x Any (of_lock.stateid_in a.locker)) f.then in id.1 ∙ ap Ok id.2
-
 module _ (s : State) (x : Context) where
   -- a LOCK asks for the lock state that it names, or for the one of its new lock owner
   abbrev pub IsLocker : Lock → Wish → ℕ → Type 0
-  IsLocker a w n = (id : StateId) × (meant x Any (of_lock.stateid_in a.locker) ≡ Ok id) × (n ≡ asker s.opens a.locker id w)
+  IsLocker a w n = (id : StateId) × (meant x Any (stateid_in a.locker) ≡ Ok id) × (n ≡ asker s.opens a.locker id w)
 
   abbrev pub IsTester : LockT → Wish → ℕ → Type 0
-  IsTester a w n = n ≡ number_of (locking.state_of s.opens w.client a.owner.owner w.file)
+  IsTester a w n = n ≡ number_of (state_of s.opens w.client a.owner.owner w.file)
 
   abbrev IsDenied : Lock → Outcome → Type 0
   IsDenied a o = is_denied (status_of_result o.result) ≡ true → WasDenied s x a.locktype a.offset a.length o.result Res.LockDenied (IsLocker a)
 
-  by_fault : (a : Lock) (m : _) → parts.locking s x a ≡ Ok m → (v : Result (StateId × Table) OpenFault) → of_lock.locks_as s.opens a.locker m.id m.wish ≡ v
-      → IsDenied a (of_lock.locked s x v)
-  by_fault a m judged (Ok did) e is = absurd (false≢true is)
-  by_fault a m judged (Err (F.Refused status)) e is = absurd (
-      let same : is_denied status ≡ true = ap is_denied (sym (status_of_refusal 12 status)) ∙ is in
-      let one : F.Refused status ≡ F.Denied _ = (locks_fair s.opens a.locker m.id m.wish (F.Refused status) e same).is in cc)
-  by_fault a m judged (Err (F.Denied h)) e is =
-      let c = locks_fair s.opens a.locker m.id m.wish (F.Denied h) e refl in
-      let one : F.Denied h ≡ F.Denied c.held = c.is in
-      let same : h ≡ c.held = cc in
-      record {
-        wish = m.wish;
-        asks = lock_wish s x a m judged;
-        held = c.held;
-        number = asker s.opens a.locker m.id m.wish;
-        whose = (m.id, locking_id s x a m judged, refl);
-        clash = c.clash;
-        answers = ap (λ h. Res.LockDenied (lock_denied s.opens h)) same;
-      }
-  by_fault a m judged (Err F.Memory) e is = absurd (false≢true is)
-
-  by_wished : (a : Lock) (v : _) → parts.locking s x a ≡ v → IsDenied a (answers s x Num.Lock v (parts.locks s x a.locker))
-  by_wished a (Err status) e is = absurd (refused_not (parts.locking s x a) status (op_number Num.Lock) (locking_clear s x a) e is)
-  by_wished a (Ok m) e is = by_fault a m e (of_lock.locks_as s.opens a.locker m.id m.wish) refl is
-
-  pub lock_was_denied : (now : Time) (refused : Bool) (a : Lock) → IsDenied a (one_or_delay refused s x now (Op.Lock a))
-  lock_was_denied now refused a = by_delay (IsDenied a) (grows s x (Op.Lock a) && refused) s x Num.Lock (of_lock.lock s x a) (λ is. absurd (false≢true is))
-      (rw (in_steps.lock_is s x a) (by_wished a (parts.locking s x a) refl))
-
   abbrev IsTestDenied : LockT → Outcome → Type 0
   IsTestDenied a o = is_denied (status_of_result o.result) ≡ true → WasDenied s x a.locktype a.offset a.length o.result Res.LockTDenied (IsTester a)
 
-  by_test : (a : LockT) (w : Wish) (n : ℕ) → wished s x a.locktype a.offset a.length ≡ Ok w → IsTester a w n → (o : Option Held) → locking.clash s.opens n w ≡ o
-      → IsTestDenied a (tested s x o)
-  by_test a w n asks whose None e is = absurd (false≢true is)
-  by_test a w n asks whose (Some h) e is = record { wish = w; asks = asks; held = h; number = n; whose = whose; clash = e; answers = refl }
+  not_refused : (op : OpNum) (f : Status) → Clear f → is_denied (status_of_result (refuses s x op f).result) ≡ true → ⊥
+  not_refused op f other is = false≢true (sym other ∙ (ap is_denied (sym (status_of_refusal (op_number op) f)) ∙ is))
 
-  by_wish : (a : LockT) (v : Result Wish Status) → wished s x a.locktype a.offset a.length ≡ v
-      → IsTestDenied a (answers s x Num.LockT v (λ w. tested s x (locking.test_lock s.opens a.owner.owner w)))
-  by_wish a (Err status) e is =
-      absurd (refused_not (wished s x a.locktype a.offset a.length) status (op_number Num.LockT) (wished_clear s x a.locktype a.offset a.length) e is)
-  by_wish a (Ok w) e is =
-      by_test a w (number_of (locking.state_of s.opens w.client a.owner.owner w.file)) e refl (locking.test_lock s.opens a.owner.owner w) refl is
+module _ (s : State) (whole : IsWhole s) (x : Context) where
+  -- a LOCKU of the same bytes is refused alike
+  abbrev unlocks : Stateid → LockType → (offset size : ℕ) → Item
+  unlocks given how offset size = Operation (Op.LockU (record { locktype = how; seqid = 0; lock_stateid = given; offset = offset; length = size }))
 
-  pub test_denied : (now : Time) (refused : Bool) (a : LockT) → IsTestDenied a (one_or_delay refused s x now (Op.LockT a))
-  test_denied now refused a = by_delay (IsTestDenied a) (grows s x (Op.LockT a) && refused) s x Num.LockT (lock_t s x a) (λ is. absurd (false≢true is))
-      (rw (in_steps.test_is s x a) (by_wish a (wished s x a.locktype a.offset a.length) refl))
+  wished_clear : (given : Stateid) (how : LockType) (offset size : ℕ) → Blames Clear (wished s x how offset size)
+  wished_clear given how offset size = (let i = unlocks given how offset size in clear s x i refl (wished s x how offset size) (wished_blames s whole x i refl refl how offset size refl))
+
+  meant_clear : (given : Stateid) → Blames Clear (meant x Any given)
+  meant_clear given = (let i = unlocks given LockTypes.Read 0 0 in
+      clear s x i refl (meant x Any given) (meant_blames s x i (record { given = given; sort = LockOnly; form = Any; here = true }) refl))
+
+  by_fault : (a : Lock) (w : Wish) (id : StateId) → wished s x a.locktype a.offset a.length ≡ Ok w → meant x Any (stateid_in a.locker) ≡ Ok id
+      → (v : _) → Faults Clear (λ h. clash s.opens (asker s.opens a.locker id w) w ≡ Some h) v → IsDenied s x a (locked s x v)
+  by_fault a w id asks means (Ok did) fair is = absurd (false≢true is)
+  by_fault a w id asks means (Err (Denied h)) fair is =
+      record { wish = w; asks = asks; held = h; number = asker s.opens a.locker id w; whose = (id, means, refl); clash = fair; answers = refl }
+  by_fault a w id asks means (Err (Refused f)) fair is = absurd (not_refused s x Num.Lock f fair is)
+  by_fault a w id asks means (Err Memory) fair is = absurd fair
+
+  lock_denies : (a : Lock) → IsDenied s x a (lock s x a)
+  unfolding lock
+  lock_denies a = answers_blame Clear (IsDenied s x a) s x Num.Lock _ (λ f other is. absurd (not_refused s x Num.Lock f other is))
+      (ends_then Clear (IsDenied s x a) (wished s x a.locktype a.offset a.length) _ (wished_clear (stateid_in a.locker) a.locktype a.offset a.length) (λ w asks.
+      ends_then Clear (IsDenied s x a) (require (not a.reclaim) S.NoGrace) _ (held_blames Clear (not a.reclaim) S.NoGrace (λ off. refl)) (λ u e.
+      ends_then Clear (IsDenied s x a) (meant x Any (stateid_in a.locker)) _ (meant_clear (stateid_in a.locker)) (λ id means.
+      by_fault a w id asks means (locks_as s.opens a.locker id w) (locks_clash s.opens a.locker id w)))))
+
+  pub lock_was_denied : (now : Time) (refused : Bool) (a : Lock) → IsDenied s x a (one_or_delay refused s x now (Op.Lock a))
+  lock_was_denied now refused a =
+      by_delay (IsDenied s x a) (grows s x (Op.Lock a) && refused) s x Num.Lock (lock s x a) (λ is. absurd (false≢true is)) (lock_denies a)
+
+  test_denies : (a : LockT) → IsTestDenied s x a (lock_t s x a)
+  unfolding lock_t
+  test_denies a = answers_blame Clear (IsTestDenied s x a) s x Num.LockT _ (λ f other is. absurd (not_refused s x Num.LockT f other is))
+      (ends_then Clear (IsTestDenied s x a) (wished s x a.locktype a.offset a.length) _ (wished_clear anonymous a.locktype a.offset a.length) (λ w asks.
+      by w asks (test_lock s.opens a.owner.owner w) refl))
+    where
+      by : (w : Wish) → wished s x a.locktype a.offset a.length ≡ Ok w → (o : Option Held) → test_lock s.opens a.owner.owner w ≡ o
+          → IsTestDenied s x a (done s x (option_map_or (λ h. Res.LockTDenied (lock_denied s.opens h)) o Res.LockT))
+      by w asks None e is = absurd (false≢true is)
+      by w asks (Some h) e is = record {
+        wish = w;
+        asks = asks;
+        held = h;
+        number = number_of (state_of s.opens w.client a.owner.owner w.file);
+        whose = refl;
+        clash = e;
+        answers = refl;
+      }
+
+  pub test_denied : (now : Time) (refused : Bool) (a : LockT) → IsTestDenied s x a (one_or_delay refused s x now (Op.LockT a))
+  test_denied now refused a =
+      by_delay (IsTestDenied s x a) (grows s x (Op.LockT a) && refused) s x Num.LockT (lock_t s x a) (λ is. absurd (false≢true is)) (test_denies a)

@@ -12,7 +12,7 @@ use Rattle.nfs_opens.specs.{declared.records.LockState.LockState, declared.recor
 use Rattle.nfs_opens.specs.{declared.locking.Wish.Wish, Holding.{FileHolders, on_file}, Table.{Table, Asked, lock_at, with_open}, TableInvariants.IsTable}
 use Rattle.nfs_opens.specs.{Closing.{held_within, without_open, without_lock}, Locking.raised}
 use Rattle.nfs_opens.specs.Opening as opening
-use Rattle.nfs_opens.proofs.CallLaws.{IsLocked, first_state}
+use Rattle.nfs_opens.proofs.{CallLaws.{IsLocked, first_state}, Terms.{not_under, stands}}
 use Rattle.nfs_names.specs.{declared.context.Context.Context, Outcome.is_ok, State.{State, time_at}}
 use Rattle.nfs_names.proofs.Untouched.{leaves_each}
 use Rattle.nfs_files.specs.LockTold.{LockTold}
@@ -20,11 +20,9 @@ use Rattle.nfs_files.proofs.Inside as inside
 use Rattle.nfs_files.proofs.{Effects.{Effect, Opens, Narrows, Closes, Locks, Begins, Unlocks, Frees, Caused, table_behind}, Effected.caused_opens}
 use Rattle.nfs_files.proofs.{OpensMoved.lock_is, Outcomes.comes_to, ToldGrants.{IsTold, lock_tells}, ToldLocks.left_by}
 use Rattle.nfs_exec.specs.{Runs.LockHeld.LocksFor, Runs.Ops.RanOp}
-use Rattle.nfs_exec.proofs.{Runs.KeptByRuns.Is, Runs.OneRun.{IsRun, by_ok, by_run}}
+use Rattle.nfs_exec.proofs.Runs.{KeptByRuns.Is, OneRun.{IsRun, by_ok, by_run}, WhatWasDone.did_lock}
 use Rattle.nfs_promises.proofs.Runs.{LockOwners.owned_behind, LockStates.changed_from}
-use Rattle.nfs_exec.proofs.Runs.WhatWasDone.{did_lock}
 use Rattle.nfs_promises.specs.Locks.Denials.{Grants}
-use Rattle.nfs_opens.proofs.Terms.{not_under, stands}
 
 -- The lock state stands, with its client, its owner and its open, and holds the first byte.
 pub record Holds (k : LockTold) (name : List ℕ) (t : Table) : Type 0 where

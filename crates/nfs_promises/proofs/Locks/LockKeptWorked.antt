@@ -4,8 +4,7 @@ use Rattle.std.proofs.lemmas.Bool.{and_parts, leb-true, true≢false}
 use Rattle.std.specs.{Prelude.{◌&&◌, not, nat_le, bytes_eq, if◌then◌else◌, Ok}, Int.{w64, from_be_bytes}}
 use Rattle.std.specs.List.{list_all}
 use Rattle.nfs_xdr.specs.Spelling.{number}
-use Rattle.nfs_compound.specs.{declared.op_num.OpNum.OpNum, declared.op.Item.Item, declared.op.Item.TheVariants.Operation, declared.lock_args.Lock.Lock}
-use Rattle.nfs_compound.specs.declared.lock_args.Locker.TheVariants.{OpenOwner}
+use Rattle.nfs_compound.specs.declared.{op_num.OpNum.OpNum, op.Item.{Item, TheVariants.Operation}, lock_args.{Lock.Lock, Locker.TheVariants.OpenOwner}}
 use Rattle.nfs_compound.specs.declared.op_num.OpNum.TheVariants as Num
 use Rattle.nfs_results.specs.Results.{done_head}
 use Rattle.nfs_compound.specs.declared.op.Op.TheVariants as Op

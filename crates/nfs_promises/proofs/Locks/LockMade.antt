@@ -1,18 +1,15 @@
 -- Each lock state is under the open that a LOCK named which was told it.
-use Rattle.std.proofs.Common.{◌≡◌, ℕ, [], ◌∷◌, ◌++◌, Option, Some, None, refl, subst, inl, inr}
-use Rattle.std.proofs.lemmas.Bool.{eqb-true}
+use Rattle.std.proofs.{Common.{◌≡◌, ℕ, [], ◌∷◌, ◌++◌, Option, Some, None, refl, subst, inl, inr}, lemmas.Bool.eqb-true}
 use Rattle.std.specs.Prelude.{◌⊎◌, ◌==◌, option_map}
 use Rattle.nfs_xdr.specs.Tables.{In}
 use Rattle.nfs_xdr.proofs.Lists.{find_in}
-use Rattle.nfs_opens.specs.Table.{lock_at}
-use Rattle.nfs_opens.specs.declared.records.LockState.{LockState}
+use Rattle.nfs_opens.specs.{Table.lock_at, declared.records.LockState.LockState}
 use Rattle.nfs_exec.specs.Runs.Ops.{RanOp}
 use Rattle.nfs_exec.proofs.Runs.OneWalk.{in_back}
 use Rattle.nfs_serve.specs.Step.{new_state}
 use Rattle.nfs_promises.specs.{Bytes.ChangeTells.RunsIn, Locks.LockMade.{MakesUnder, EachLockWasMade}, Runs.Points.reached}
-use Rattle.nfs_promises.proofs.Locks.LockKept.{each_is_told}
-use Rattle.nfs_promises.proofs.Locks.StatesBegun.{MakesState, Was, begun, begun_by}
-use Rattle.nfs_promises.proofs.{Locks.Traced.in_front, Runs.LaterRecords.{ran_in, first_there}}
+use Rattle.nfs_promises.proofs.Locks.{LockKept.each_is_told, StatesBegun.{MakesState, Was, begun, begun_by}, Traced.in_front}
+use Rattle.nfs_promises.proofs.Runs.LaterRecords.{ran_in, first_there}
 
 lock_there : (o : Option LockState) (n : ℕ) → option_map (λ (l : LockState). l.opened) o ≡ Some n → (l : LockState) × (o ≡ Some l) × (l.opened ≡ n)
 lock_there None n e = absurd cc

@@ -4,20 +4,18 @@ use Rattle.std.proofs.{lemmas.Bool.{cases_lt, eqb-true, eq-eqb}, lemmas.List.{dr
 use Rattle.std.specs.{Prelude.{◌==◌, ◌&&◌, Result, Ok}, Int.{w64, from_be_bytes}}
 use Rattle.nfs_xdr.specs.{Tables.In, declared.time.Time.Time, declared.status.Status.Status, declared.status.Status.TheVariants.{Nfs4Ok, RepTooBig, Delay}}
 use Rattle.nfs_xdr.proofs.{Lists.{find_in, in_filter}, Tables.in_once}
-use Rattle.nfs_compound.specs.{declared.lock_args.LockU.LockU, declared.open_args.Close.Close, declared.op_num.OpNum.OpNum, OpNum.op_number}
-use Rattle.nfs_compound.specs.declared.op.Item.TheVariants.{Operation}
+use Rattle.nfs_compound.specs.{declared.{lock_args.LockU.LockU, open_args.Close.Close, op_num.OpNum.OpNum, op.Item.TheVariants.Operation}, OpNum.op_number}
 use Rattle.nfs_compound.specs.declared.op_num.OpNum.TheVariants as Num
 use Rattle.nfs_compound.specs.declared.op.Op.TheVariants as Op
 use Rattle.nfs_results.specs.{declared.res.Res.Res, Results.{spell_result, done_head, status_of_result}}
 use Rattle.nfs_results.proofs.Lengths.{length_head, length_spelled}
 use Rattle.nfs_ranges.specs.{declared.Kind.Kind, Holders.{cleared, is_within}}
 use Rattle.nfs_ranges.proofs.CanonicalLemmas.{within_is}
-use Rattle.nfs_opens.specs.{declared.records.LockState.LockState, declared.records.OpenState.OpenState, declared.stateid.StateId.StateId}
-use Rattle.nfs_opens.specs.declared.stateid.CurrentSeqid.TheVariants.{Own}
-use Rattle.nfs_opens.specs.{declared.locking.Wish.Wish, Holding.{FileHolders, on_file}, Table.Table, TableInvariants.IsTable, Closing.{without_open}}
+use Rattle.nfs_opens.specs.declared.{records.{LockState.LockState, OpenState.OpenState}, stateid.{StateId.StateId, CurrentSeqid.TheVariants.Own}}
+use Rattle.nfs_opens.specs.{declared.locking.Wish.Wish, Holding.{FileHolders, on_file}, Table.Table, TableInvariants.IsTable, Closing.without_open}
 use Rattle.nfs_opens.specs.Locking.{unlock}
 use Rattle.nfs_opens.specs.Closing as closing
-use Rattle.nfs_opens.proofs.CallLaws.{IsUnlocked}
+use Rattle.nfs_opens.proofs.{CallLaws.IsUnlocked, Terms.not_under}
 use Rattle.nfs_names.specs.{declared.context.Context.Context, Ending.with_opens, Outcome.{Outcome, is_ok}, State.{State, time_at}}
 use Rattle.nfs_names.proofs.{Ones.by_delay, Untouched.unused_opens}
 use Rattle.nfs_files.specs.{Close.close, LockTold.{Names, LockTold, IsBeside}, LockU.lock_u, Operation.grows, Ranges.wished, StateIds.meant, Parts.unlocking}
@@ -27,7 +25,6 @@ use Rattle.nfs_files.proofs.ToldGrants.{lock_refused, told_held, unlock_tells, c
 use Rattle.nfs_exec.specs.{Runs.LockHeld.{LocksFor, UnlocksFor, ClosesOf, Spares}, Runs.Ops.RanOp}
 use Rattle.nfs_exec.proofs.{Runs.KeptByRuns.Is, Runs.OneRun.{IsRun, by_item}}
 use Rattle.nfs_promises.proofs.{Runs.LockStates.changed_from, Locks.LockBeforeStep.Holds}
-use Rattle.nfs_opens.proofs.Terms.{not_under}
 
 -- A lock state holds bytes of one file.
 

@@ -6,8 +6,7 @@ use Rattle.nfs_xdr.specs.{Limits.opaque_limit, Tables.In, declared.status.Status
 use Rattle.nfs_xdr.proofs.Tables.{in_once}
 use Rattle.nfs_compound.specs.declared.lock_args.Lock as lock_args
 use Rattle.nfs_compound.specs.declared.lock_args.LockT as test_args
-use Rattle.nfs_compound.specs.{declared.lock_args.Locker.TheVariants.{LockOwner, OpenOwner}, declared.op.Item.Item, declared.op.Item.TheVariants.Operation}
-use Rattle.nfs_compound.specs.declared.lock_args.LockType.{LockType}
+use Rattle.nfs_compound.specs.declared.{lock_args.{Locker.TheVariants.{LockOwner, OpenOwner}, LockType.LockType}, op.Item.{Item, TheVariants.Operation}}
 use Rattle.nfs_compound.specs.declared.op.Op.TheVariants as Op
 use Rattle.nfs_results.specs.declared.res.Denied as result
 use Rattle.nfs_results.specs.{declared.res.Res.Res, Results.spell_result}
@@ -21,17 +20,14 @@ use Rattle.nfs_files.specs.{Denied.{lock_denied, type_of, size_of}, Lock.stateid
 use Rattle.nfs_files.proofs.Wishes.{IsRange, wish_is, wish_range}
 use Rattle.nfs_exec.specs.Runs.Ops.{RanOp}
 use Rattle.nfs_exec.proofs.Runs.OneRun.{IsRun, by_item}
-use Rattle.nfs_serve.specs.{Step.{ServerState, new_state}}
-use Rattle.nfs_promises.specs.{Network.Endpoint.Arrival, Locks.{Denials.{IsRefusedFor, ByLock, ByTest, IsBegunBy, IsOthers, asks_for_lock}, NoIsTrue.IsInLease}}
-use Rattle.nfs_promises.specs.Locks.NoIsTrue.{Passes, AllPass, IsGrantedIn, IsGranted, Before, Within, NoIsTrue}
-use Rattle.nfs_promises.specs.{Locks.NoneOutlives.last_renewal, Runs.Points.{reached, before}}
-use Rattle.nfs_promises.specs.Runs.Points.{asked_by, ops_of}
-use Rattle.nfs_promises.proofs.Locks.{DenialsCaused.{WasDenied, IsLocker, IsTester, asker, is_denied, lock_was_denied, test_denied}, LockBeforeStep.Holds}
-use Rattle.nfs_promises.proofs.Locks.{LockBeforeStep.found_at, ReplacedByRepeat.{lock_had, is_alone_by}, Traced.{Stood, Given, asked_traced, asked_until}}
-use Rattle.nfs_promises.proofs.Locks.{LockTraced.{held_staying, lock_trace, lock_traced}, OneStateEach.{HasOneEach, found_one, each_in}, StatesBegun.same_lock}
-use Rattle.nfs_promises.proofs.Locks.{StatesBegun.begun_by, NoneOutlives.none_outlives}
-use Rattle.nfs_promises.proofs.Runs.{LaterRecords.{reached_more, whole_at, op_done, first_there}, Points.{left, next_is, IsSound, sound_all}}
-use Rattle.nfs_promises.proofs.Runs.Points.{sound_new}
+use Rattle.nfs_serve.specs.Step.{new_state}
+use Rattle.nfs_promises.specs.{Network.Endpoint.Arrival, Locks.Denials.{IsRefusedFor, ByLock, ByTest, IsBegunBy, IsOthers, asks_for_lock}}
+use Rattle.nfs_promises.specs.Locks.{NoIsTrue.{IsInLease, Passes, AllPass, IsGrantedIn, IsGranted, Before, Within, NoIsTrue}, NoneOutlives.last_renewal}
+use Rattle.nfs_promises.specs.Runs.Points.{reached, before, asked_by, ops_of}
+use Rattle.nfs_promises.proofs.Locks.DenialsCaused.{WasDenied, IsLocker, IsTester, asker, is_denied, lock_was_denied, test_denied}
+use Rattle.nfs_promises.proofs.Locks.{LockBeforeStep.{Holds, found_at}, ReplacedByRepeat.{lock_had, is_alone_by}, Traced.{Stood, Given, asked_until, so_before}}
+use Rattle.nfs_promises.proofs.Locks.{LockTraced.{lock_trace, lock_traced}, OneStateEach.{HasOneEach, found_one, each_in}, StatesBegun.{same_lock, begun_by}}
+use Rattle.nfs_promises.proofs.{Locks.NoneOutlives.none_outlives, Runs.{LaterRecords.{whole_at, op_done, first_there}, Points.{IsSound, sound_all, sound_new}}}
 
 -- Records.
 
@@ -74,43 +70,26 @@ module _ (start : Start) (small : start.instance < 2 ^ 32) where
         (subst (λ rs. Passes start k rs c) (g.all ∙ sym (append_assoc g.earlier (g.arrival ∷ []) g.between)) passes);
   }
 
-  -- each byte that is held behind records was granted in one of them
-  abbrev Known : List Arrival → Type 0
-  Known records = (k : LockTold) (owner : List ℕ) → k.last ≡ k.first → Holds k owner (reached start records).machine.store.opens
+  -- each byte that is held before a record was granted in one before
+  granted_before : (k : LockTold) (owner : List ℕ) → k.last ≡ k.first → (records : List Arrival) (c : Arrival) → Holds k owner (before (reached start records) c).store.opens
       → IsGrantedIn start k owner records
-
-  unexpired : (k : LockTold) (owner : List ℕ) → k.last ≡ k.first → (s : ServerState) (c : Arrival) → Holds k owner (before s c).store.opens → Holds k owner s.machine.store.opens
-  unexpired k owner one s c is = held_staying k owner s.machine.store.opens _ is
-
-  known_next : (records : List Arrival) (c : Arrival) → Known records → Known (records ++ c ∷ [])
-  known_next records c known k owner one is =
-      let s = reached start records in
-      let here : Holds k owner (left (before s c) (asked_by s c)).store.opens =
-      subst (λ (s : ServerState). Holds k owner s.machine.store.opens) (reached_more (new_state start) records c ∙ next_is s c) is in
-      elim (asked_traced (lock_trace k owner) (lock_traced k owner one) tt (before s c) (asked_by s c) (whole_at start records c) here) [
-        | Given front lock back asked same grants spared leads ↦ record {
-          earlier = records;
-          arrival = c;
-          between = [];
-          all = refl;
-          front = front;
-          lock = lock;
-          back = back;
-          ops = same;
-          grants = grants;
-          spared = spared;
-          passed = tt;
-        }
-        | Stood had holds spared leads ↦ one_more k owner records c (known k owner one (unexpired k owner one s c holds))
-            (record { lasts = in_lease k owner records c holds; spared = spared; alone = is_alone_by k.client (Holds k owner) (lock_had k owner one) start small records c here })
-      ]
-
-  known_all : (done more : List Arrival) → Known done → Known (done ++ more)
-  known_all done [] known = subst Known (sym (append-nil done)) known
-  known_all done (c ∷ more) known = subst Known (append_assoc done (c ∷ []) more) (known_all (done ++ c ∷ []) more (known_next done c known))
-
-  known_new : Known []
-  known_new k owner one is = absurd is.there
+  granted_before k owner one records c = so_before (lock_trace k owner) (lock_traced k owner one) start (λ w is. absurd is.there) (λ records w. IsGrantedIn start k owner records)
+      (λ records c front lock back asked w same grants spared leads. record {
+        earlier = records;
+        arrival = c;
+        between = [];
+        all = refl;
+        front = front;
+        lock = lock;
+        back = back;
+        ops = same;
+        grants = grants;
+        spared = spared;
+        passed = tt;
+      })
+      (λ records c had w since holds spared leads here. one_more k owner records c since
+      (record { lasts = in_lease k owner records c holds; spared = spared; alone = is_alone_by k.client (Holds k owner) (lock_had k owner one) start small records c here }))
+      records c tt
 
   -- and so was each that is held before an operation
   granted : (k : LockTold) (owner : List ℕ) → k.last ≡ k.first → (records : List Arrival) (c : Arrival) (until : List RanOp) (d : RanOp) (behind : List RanOp)
@@ -119,7 +98,7 @@ module _ (start : Start) (small : start.instance < 2 ^ 32) where
       let s = reached start records in
       elim (asked_until (lock_trace k owner) (lock_traced k owner one) tt (before s c) (asked_by s c) until d behind (whole_at start records c) same is) [
         | Given front lock back asked at grants spared leads ↦ Within front lock back at grants spared
-        | Stood had holds spared leads ↦ Before (known_all [] records known_new k owner one (unexpired k owner one s c holds)) (in_lease k owner records c holds) spared
+        | Stood had holds spared leads ↦ Before (granted_before k owner one records c holds) (in_lease k owner records c holds) spared
       ]
 
 -- What was told of the clash.
@@ -168,8 +147,7 @@ lock_others : (d : RanOp) (a : lock_args.Lock) (w : Wish) (n : ℕ) → d.item �
 lock_others d a w n is asks whose each l there on other = record {
   named = λ b o id item locker means same.
       (let at : a.locker ≡ LockOwner o = ap (λ (a : lock_args.Lock). a.locker) (same_lock d.item a b is item) ∙ locker in
-      let found : Ok whose.0 ≡ Ok id = sym whose.1 ∙ (ap (λ k. meant d.context Any (stateid_in k)) at ∙ means) in
-      let one : whose.0 ≡ id = cc in
+      let one : whose.0 ≡ id = (let found : Ok whose.0 ≡ Ok id = sym whose.1 ∙ (ap (λ k. meant d.context Any (stateid_in k)) at ∙ means) in cc) in
       other (sym same ∙ (ap (λ (i : StateId). i.number) (sym one) ∙ sym (whose.2 ∙ ap (λ k. asker d.before.store.opens k whose.0 w) at))));
   new = λ b o item locker mine its.
       (let at : a.locker ≡ OpenOwner o = ap (λ (a : lock_args.Lock). a.locker) (same_lock d.item a b is item) ∙ locker in
@@ -202,7 +180,7 @@ lock_found d r a is status =
     let x = d.context in
     let (answer, text, did) = (by_item (λ status text u. status ≡ Denied → Reported s x a.locktype a.offset a.length text Res.LockDenied (IsLocker s x a)) d r (Operation (Op.Lock a)) is
     (λ e. let bad : RepTooBig ≡ Denied = e in absurd cc)
-    (λ e. record { was = (_, refl, lock_was_denied s x (time_at s r.now) r.refused a (ap is_denied e)) }) status).was in
+    (λ e. record { was = (_, refl, lock_was_denied s r.whole x (time_at s r.now) r.refused a (ap is_denied e)) }) status).was in
     record {
       wish = did.wish;
       held = did.held;
@@ -219,7 +197,7 @@ test_found d r a is status =
     let x = d.context in
     let (answer, text, did) = (by_item (λ status text u. status ≡ Denied → Reported s x a.locktype a.offset a.length text Res.LockTDenied (IsTester s x a)) d r (Operation (Op.LockT a)) is
     (λ e. let bad : RepTooBig ≡ Denied = e in absurd cc)
-    (λ e. record { was = (_, refl, test_denied s x (time_at s r.now) r.refused a (ap is_denied e)) }) status).was in
+    (λ e. record { was = (_, refl, test_denied s r.whole x (time_at s r.now) r.refused a (ap is_denied e)) }) status).was in
     record {
       wish = did.wish;
       held = did.held;

@@ -97,8 +97,7 @@ by_one k owner records c until client one its here (Within front lock back same 
 pub late : (records : List Arrival) (c : Arrival) (client moment last : ℕ) → last_renewal client None (new_state usual) records ≡ Some last → taken (reached usual records) c ≡ moment
     → last + 91 ≤ moment → IsInLease usual client records c → ⊥
 late records c client moment last renewed now past is =
-    let same : Some last ≡ Some is.0 = sym renewed ∙ is.1 in
-    let one : last ≡ is.0 = cc in
+    let one : last ≡ is.0 = (let same : Some last ≡ Some is.0 = sym renewed ∙ is.1 in cc) in
     let within = is.2 in absurd (omega (arith, now, past, within, one))
 
 -- the client in the report of a LOCK

@@ -10,15 +10,12 @@ use Rattle.nfs_clients.specs.Roster.{Roster, ClientRecord, client_at}
 use Rattle.nfs_opens.specs.declared.records.OpenState.{OpenState}
 use Rattle.nfs_names.specs.{declared.start.Start.Start, Ending.has_open}
 use Rattle.nfs_exec.specs.{Step.Machine.{IsMachine, is_confirmed}, Step.Laws.Asks}
-use Rattle.nfs_promises.specs.Runs.Renewing.{renews_or_begins}
-use Rattle.nfs_exec.proofs.Step.{Invariant.{of_start, of_expired, of_compound}, LeaseMoments.{expired_all, latest_compound}, Terms.is_client}
-use Rattle.nfs_promises.proofs.Runs.Outlasting.{IsStill, compound_still}
-use Rattle.nfs_serve.specs.{Step.{ServerState, new_state}}
-use Rattle.nfs_promises.specs.{Network.Endpoint.Arrival, Runs.Points.{state_after, state_after_all, reached, taken, before}, Locks.NoneOutlives.renewed_by}
-use Rattle.nfs_promises.specs.Locks.NoneOutlives.{last_renewal, NoneOutlives}
+use Rattle.nfs_promises.specs.{Runs.{Renewing.renews_or_begins, Points.{state_after, state_after_all, reached, taken, before}}, Network.Endpoint.Arrival}
+use Rattle.nfs_promises.specs.Locks.NoneOutlives.{renewed_by, last_renewal, NoneOutlives}
+use Rattle.nfs_exec.proofs.Step.{Invariant.{of_start, of_expired, of_compound}, LeaseMoments.{expired_all, latest_compound}, Terms.{is_client, leases_kept}}
+use Rattle.nfs_promises.proofs.Runs.{Outlasting.{IsStill, compound_still}, StayingInTime.lease_all}
 use Rattle.nfs_promises.proofs.Runs.Points.{left, for_asked, next_is, IsSound, whole_before, latest_before, sound_next, sound_all, sound_new}
-use Rattle.nfs_promises.proofs.Runs.StayingInTime.{lease_all}
-use Rattle.nfs_exec.proofs.Step.Terms.{leases_kept}
+use Rattle.nfs_serve.specs.{Step.{ServerState, new_state}}
 
 -- What holds of every machine.
 

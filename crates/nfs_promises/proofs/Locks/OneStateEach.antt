@@ -4,16 +4,14 @@ use Rattle.std.proofs.{lemmas.Bool.{and_parts, eq-eqb, eqb-true, false≢true}, 
 use Rattle.std.specs.{Prelude.{◌==◌, if◌then◌else◌, Ok, filter, ok_or}, Option.option_map_or}
 use Rattle.nfs_xdr.specs.{Tables.In, declared.time.Time.Time, declared.status.Status.TheVariants.{BadStateId, ServerFault}}
 use Rattle.nfs_xdr.proofs.Lists.{find_in, in_filter, in_map, in_push, none_in}
-use Rattle.nfs_compound.specs.{declared.lock_args.Locker.Locker, declared.lock_args.Locker.TheVariants.{LockOwner, OpenOwner}, declared.op.Item.Item}
-use Rattle.nfs_compound.specs.{declared.op.Item.TheVariants.Operation, declared.op.Op.Op}
+use Rattle.nfs_compound.specs.declared.{lock_args.Locker.{Locker, TheVariants.{LockOwner, OpenOwner}}, op.{Item.{Item, TheVariants.Operation}, Op.Op}}
 use Rattle.nfs_results.specs.{declared.res.Res.Res, Results.status_of_result}
-use Rattle.nfs_opens.specs.{declared.judging.Sort.TheVariants.{LockOnly, OpenOnly}, declared.locking.OpenFault.TheVariants.Refused, declared.locking.Wish.Wish}
-use Rattle.nfs_opens.specs.{declared.records.LockState.LockState, declared.records.OpenState.OpenState, declared.share.Share.Share}
-use Rattle.nfs_opens.specs.{declared.stateid.StateId.StateId, Judging.judge}
-use Rattle.nfs_opens.specs.{Locking.{is_locker, state_of, raised, access_in, lock_judged, lock_as, lock_first}, StateId.last_number}
-use Rattle.nfs_opens.specs.{Steps.{map_err, require}, Table.{Table, Asked, lock_at}}
+use Rattle.nfs_opens.specs.declared.{judging.Sort.TheVariants.{LockOnly, OpenOnly}, locking.{OpenFault.TheVariants.Refused, Wish.Wish}}
+use Rattle.nfs_opens.specs.{declared.{records.{LockState.LockState, OpenState.OpenState}, share.Share.Share, stateid.StateId.StateId}, Judging.judge}
+use Rattle.nfs_opens.specs.{Locking.{is_locker, state_of, raised, access_in, lock_judged, lock_as, lock_first}, StateId.last_number, Steps.{map_err, require}}
+use Rattle.nfs_opens.specs.Table.{Table, Asked, lock_at}
 use Rattle.nfs_opens.specs.Opening as opening
-use Rattle.nfs_opens.proofs.CallLaws.{first_state, came, ok_is}
+use Rattle.nfs_opens.proofs.{CallLaws.{first_state, came, ok_is}, Terms.{lock_by_owner, not_under}}
 use Rattle.nfs_names.specs.{declared.{context.Context.Context, start.Start.Start}, Ending.table_staying, Outcome.is_ok, State.{State, time_at}}
 use Rattle.nfs_names.proofs.Untouched.{leaves_each}
 use Rattle.nfs_files.specs.Lock.{locks_as}
@@ -24,7 +22,6 @@ use Rattle.nfs_exec.proofs.{Runs.OneRun.{IsRun, by_ok, by_run}, Runs.OneWalk.IsK
 use Rattle.nfs_serve.specs.Step.{new_state}
 use Rattle.nfs_promises.specs.{Network.Endpoint.Arrival, Runs.Points.{reached, ops_of}}
 use Rattle.nfs_promises.proofs.{Locks.LockBeforeStep.{IsGranting, Granting}, Runs.{LaterRecords.{runs_keep, runs_last}, Points.sound_new}}
-use Rattle.nfs_opens.proofs.Terms.{lock_by_owner, not_under}
 
 -- Tables.
 

@@ -40,8 +40,7 @@ lock_on start low records c front lock back h n w same known locks =
     let at = held_back start.instance low (starts names) front (lock ∷ back) (subst (AllHold start.instance low (starts names)) same (one_record start.instance low names s c here).0) in
     let seat = at.0.holds.seated.at_current h known in
     let on = wished_on lock.before.store lock.context locks.asked.locktype locks.asked.offset locks.asked.length w locks.wish in
-    let number : ◌≡◌ {A = Option ℕ} (Some seat.0) (Some w.file) = sym seat.2 ∙ on in
-    let is : seat.0 ≡ w.file = cc in
+    let is : seat.0 ≡ w.file = (let number : ◌≡◌ {A = Option ℕ} (Some seat.0) (Some w.file) = sym seat.2 ∙ on in cc) in
     subst (IsHandleOf start.instance h) is seat.1
 
 pub after_both : (s : ServerState) (records more : List Arrival) → state_after_all s (records ++ more) ≡ state_after_all (state_after_all s records) more

@@ -16,15 +16,12 @@ use Rattle.nfs_files.specs.{Open.{access_of, deny_of}, OpenTold.{names_open, Ope
 use Rattle.nfs_files.specs.OpenParts as open_parts
 use Rattle.nfs_files.specs.Open as of_open
 use Rattle.nfs_files.proofs.{Effected.caused_opens, OpensMoved.answered, Opened.shared_free, Outcomes.{one_or_delay, comes_to}, Steady.Few}
-use Rattle.nfs_files.proofs.Effects.{Effect, Opens, Narrows, Closes, Caused, table_behind}
-use Rattle.nfs_files.proofs.ToldOpens.{same_opens, asked_leads}
+use Rattle.nfs_files.proofs.{Effects.{Effect, Opens, Narrows, Closes, Caused, table_behind}, ToldOpens.{same_opens, asked_leads, hyper_read}}
 use Rattle.nfs_files.proofs.InSteps as in_steps
-use Rattle.nfs_files.proofs.ToldOpens.{hyper_read}
 use Rattle.nfs_exec.specs.{Runs.LockHeld.ClosesOf, Runs.Ops.RanOp}
 use Rattle.nfs_exec.proofs.{Runs.KeptByRuns.Is, Runs.OneRun.{IsRun, by_item, by_run}}
-use Rattle.nfs_promises.proofs.Runs.OpenHeld.{open_stays}
+use Rattle.nfs_promises.proofs.{Runs.OpenHeld.open_stays, Locks.LockNotEnded.closes_leave_no_open}
 use Rattle.nfs_promises.specs.Locks.OpenGranted.{GrantsOpen}
-use Rattle.nfs_promises.proofs.Locks.LockNotEnded.{closes_leave_no_open}
 
 -- The number in what OPEN answers.
 

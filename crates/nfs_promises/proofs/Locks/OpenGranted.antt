@@ -8,14 +8,12 @@ use Rattle.nfs_names.specs.{declared.start.Start.Start, Ending.has_open}
 use Rattle.nfs_names.specs.State as of_store
 use Rattle.nfs_files.specs.OpenTold.{OpenTold, Bits, IsOpenWith}
 use Rattle.nfs_exec.specs.Runs.Ops.{RanOp}
-use Rattle.nfs_promises.specs.Runs.OpenHeld.{bits_left}
+use Rattle.nfs_promises.specs.Locks.{NoIsTrue.IsInLease, OpenGranted.{LeavesOpen, AllLeaveOpen, bits_through, IsOpenSince, IsGrantedOpen, Before, Within}}
+use Rattle.nfs_promises.specs.{Network.Endpoint.Arrival, Runs.{OpenHeld.bits_left, Points.{state_after, state_after_all, reached, before, asked_by, ops_of}}}
 use Rattle.nfs_serve.specs.{Step.{ServerState, new_state}}
-use Rattle.nfs_promises.specs.{Network.Endpoint.Arrival, Locks.{NoIsTrue.IsInLease, OpenGranted.{LeavesOpen, AllLeaveOpen, bits_through}}}
-use Rattle.nfs_promises.specs.{Locks.OpenGranted.{IsOpenSince, IsGrantedOpen, Before, Within}, Runs.Points.{state_after, state_after_all, reached}}
-use Rattle.nfs_promises.specs.Runs.Points.{before, asked_by, ops_of}
-use Rattle.nfs_promises.proofs.Locks.{ReplacedByRepeat.{IsHad, is_alone_by}, Traced.{Stood, Given, asked_traced, asked_until}}
+use Rattle.nfs_promises.proofs.Locks.{ReplacedByRepeat.{IsHad, is_alone_by}, Traced.{Stood, Given, asked_until, so_before}}
 use Rattle.nfs_promises.proofs.Locks.{OpenTraced.{open_staying, open_trace, open_traced}, NoneOutlives.renewed_in_time}
-use Rattle.nfs_promises.proofs.{Locks.OneWriterByHandle.after_both, Runs.{LaterRecords.{reached_more, whole_at}, Points.{left, next_is}}}
+use Rattle.nfs_promises.proofs.{Locks.OneWriterByHandle.after_both, Runs.{LaterRecords.whole_at, Points.left}}
 
 -- Records.
 
@@ -81,44 +79,26 @@ module _ (start : Start) (small : start.instance < 2 ^ 32) (k : OpenTold) where
             ∙ (ap (λ s. bits_left k.number had (ops_of s c)) there ∙ bits));
       }
 
-  -- each open that stands behind records was granted in one of them
-  abbrev Known : List Arrival → Type 0
-  Known records = (b : Bits) → IsOpenWith k b (reached start records).machine.store.opens → IsOpenSince start k b records
-
-  unexpired : (b : Bits) (s : ServerState) (c : Arrival) → IsOpenWith k b (before s c).store.opens → IsOpenWith k b s.machine.store.opens
-  unexpired b s c is = open_staying k b s.machine.store.opens _ is
-
-  known_next : (records : List Arrival) (c : Arrival) → Known records → Known (records ++ c ∷ [])
-  known_next records c known b is =
-      let s = reached start records in
-      let here : IsOpenWith k b (left (before s c) (asked_by s c)).store.opens =
-      subst (λ (s : ServerState). IsOpenWith k b s.machine.store.opens) (reached_more (new_state start) records c ∙ next_is s c) is in
-      elim (asked_traced (open_trace k) (open_traced k) b (before s c) (asked_by s c) (whole_at start records c) here) [
-        | Given front first back asked same grants unclosed bits ↦ record {
-          earlier = records;
-          arrival = c;
-          between = [];
-          all = refl;
-          front = front;
-          first = first;
-          back = back;
-          ops = same;
-          asked = asked;
-          grants = grants;
-          unclosed = unclosed;
-          left = tt;
-          bits = bits;
-        }
-        | Stood had stood unclosed bits ↦ one_more had b records c (known had (unexpired had s c stood))
-            (record { lasts = in_lease had records c stood; unclosed = unclosed; alone = is_alone_by k.client (IsSome k) (open_had k) start small records c (b, here) }) bits
-      ]
-
-  known_all : (done more : List Arrival) → Known done → Known (done ++ more)
-  known_all done [] known = subst Known (sym (append-nil done)) known
-  known_all done (c ∷ more) known = subst Known (append_assoc done (c ∷ []) more) (known_all (done ++ c ∷ []) more (known_next done c known))
-
-  known_new : Known []
-  known_new b is = absurd is.there
+  -- each open that stands before a record was granted in one before
+  granted_before : (records : List Arrival) (c : Arrival) (b : Bits) → IsOpenWith k b (before (reached start records) c).store.opens → IsOpenSince start k b records
+  granted_before = so_before (open_trace k) (open_traced k) start (λ b is. absurd is.there) (λ records b. IsOpenSince start k b records)
+      (λ records c front first back asked b same grants unclosed bits. record {
+        earlier = records;
+        arrival = c;
+        between = [];
+        all = refl;
+        front = front;
+        first = first;
+        back = back;
+        ops = same;
+        asked = asked;
+        grants = grants;
+        unclosed = unclosed;
+        left = tt;
+        bits = bits;
+      })
+      (λ records c had b since stood unclosed bits here. one_more had b records c since
+      (record { lasts = in_lease had records c stood; unclosed = unclosed; alone = is_alone_by k.client (IsSome k) (open_had k) start small records c (b, here) }) bits)
 
   -- and so was each that stands before an operation
   pub open_granted : (b : Bits) (records : List Arrival) (c : Arrival) (until : List RanOp) (d : RanOp) (behind : List RanOp)
@@ -127,5 +107,5 @@ module _ (start : Start) (small : start.instance < 2 ^ 32) (k : OpenTold) where
       let s = reached start records in
       elim (asked_until (open_trace k) (open_traced k) b (before s c) (asked_by s c) until d behind (whole_at start records c) same is) [
         | Given front first back asked at grants unclosed bits ↦ Within front first back asked at grants unclosed bits
-        | Stood had stood unclosed bits ↦ Before had (known_all [] records known_new had (unexpired had s c stood)) (in_lease had records c stood) unclosed bits
+        | Stood had stood unclosed bits ↦ Before had (granted_before records c had stood) (in_lease had records c stood) unclosed bits
       ]

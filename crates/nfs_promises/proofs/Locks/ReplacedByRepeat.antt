@@ -4,8 +4,7 @@ use Rattle.std.proofs.{lemmas.Bool.{cases_Bool, and_parts, eq-eqb, eqb-true, eqb
 use Rattle.std.specs.{Prelude.{◌==◌, ◌&&◌, find, option_map, bytes_eq}, Option.option_map_or}
 use Rattle.nfs_xdr.specs.{Caller.Caller, Tables.In, declared.status.Status.Status, declared.status.Status.TheVariants.{Delay, MinorVersMismatch}}
 use Rattle.nfs_xdr.proofs.{Lists.{in_filter, in_any, any_in, find_in, none_in}, Tables.in_once}
-use Rattle.nfs_compound.specs.{Request.{Request, item_number}, declared.op.Item.Item, declared.op.Item.TheVariants.Operation}
-use Rattle.nfs_compound.specs.declared.session_args.CreateSession.{CreateSession}
+use Rattle.nfs_compound.specs.{Request.{Request, item_number}, declared.{op.Item.{Item, TheVariants.Operation}, session_args.CreateSession.CreateSession}}
 use Rattle.nfs_compound.specs.declared.op.Op.TheVariants as Op
 use Rattle.nfs_sessions.specs.{declared.id.SessionId.SessionId, declared.sessions.SessionFault.SessionFault, Sessions.{SessionTable, create}}
 use Rattle.nfs_sessions.specs.declared.sessions.SessionFault.TheVariants as F
@@ -16,22 +15,16 @@ use Rattle.nfs_opens.specs.{declared.records.LockState.LockState, declared.recor
 use Rattle.nfs_names.specs.{declared.start.Start.Start, Ending.{has_open, table_staying}, Outcome.is_ok}
 use Rattle.nfs_names.specs.State as of_store
 use Rattle.nfs_files.specs.LockTold.{LockTold}
-use Rattle.nfs_exec.specs.Step.{Machine.{Machine, IsMachine, MachineOutcome, with_refusal}, Place.place_fault, Parts.{without_any_opens, wish_of}}
-use Rattle.nfs_exec.specs.Step.Run.{is_here}
-use Rattle.nfs_exec.specs.{Step.Compound.{carried_out, first_item, bare, by_first, compound}, Step.Laws.Asks}
-use Rattle.nfs_exec.specs.Runs.LockHeld.{is_of_owner, takes_place, replaces_in, replaces}
-use Rattle.nfs_exec.proofs.Step.{InSteps.create_session_is, Terms.by_fault}
-use Rattle.nfs_exec.proofs.Step.Invariant.{not_true, of_start}
-use Rattle.nfs_exec.specs.Step.Parts.{by_created, creates, by_number}
+use Rattle.nfs_exec.specs.{Runs.LockHeld.{is_of_owner, takes_place, replaces_in, replaces}, Step.Compound.{carried_out, first_item, bare, by_first, compound}}
+use Rattle.nfs_exec.specs.Step.{Laws.Asks, Machine.{Machine, IsMachine, MachineOutcome, with_refusal}, Place.place_fault, Run.is_here}
+use Rattle.nfs_exec.specs.Step.Parts.{without_any_opens, wish_of, by_created, creates, by_number}
+use Rattle.nfs_exec.proofs.Step.{InSteps.create_session_is, Terms.by_fault, Invariant.{not_true, of_start}}
 use Rattle.nfs_serve.specs.Step.{ServerState, new_state}
 use Rattle.nfs_promises.specs.{Network.Endpoint.Arrival, Locks.LockKept.replaces_by, Runs.Points.{reached, state_after, taken, before, asked_by}}
 use Rattle.nfs_promises.proofs.Locks.{LockBeforeStep.Holds, LockTraced.held_staying, NoneOutlives.{machine_before, machine_all}}
 use Rattle.nfs_promises.proofs.Runs.Points.{left, for_asked, next_is}
 use Rattle.nfs_clients.proofs.Members.{leaving_by}
-
-never_both : (b : Bool) → b && false ≡ true → ⊥
-never_both true e = false≢true e
-never_both false e = false≢true e
+use Rattle.std.proofs.lemmas.Bool.{and_right}
 
 -- What a client has in the table of opens shows that it has an open; it was there before clients ended, and goes with its own client.
 pub record IsHad (client : ℕ) (P : Table → Type 0) : Type 0 where
@@ -144,7 +137,7 @@ module _ (client : ℕ) (P : Table → Type 0) (had : IsHad client P) (m : Machi
       by_items : (items : List Item) → replaces_in client m r who now choice items ≡ true → P (by_first m r who size now choice items).machine.store.opens
           → (by_first m r who size now choice items).machine ≡ m
       by_items [] e holds = absurd (false≢true e)
-      by_items (Operation (Op.Sequence s) ∷ more) e holds = absurd (never_both (is_ok (first_item m r.declared who now (is_here choice) (Operation (Op.Sequence s))).status) e)
+      by_items (Operation (Op.Sequence s) ∷ more) e holds = absurd (false≢true (sym (and_right (is_ok (first_item m r.declared who now (is_here choice) (Operation (Op.Sequence s))).status) false refl) ∙ e))
       by_items (item ∷ more) e holds = (let parts = and_parts (is_ok (first_item m r.declared who now (is_here choice) item).status) (takes_place client m.clients item) e in
           first_same r.declared who now (is_here choice) item parts.1 parts.0 holds)
 

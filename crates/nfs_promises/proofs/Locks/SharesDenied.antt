@@ -1,22 +1,19 @@
 -- What is refused by NFS4ERR_SHARE_DENIED or by NFS4ERR_LOCKED is forbidden by an open that was granted and has not ended: that of which its reason speaks.
 use Rattle.std.proofs.Common.{◌≡◌, ◌⊎◌, Bool, true, false, cond, not, Some, None, refl, sym, ◌∙◌, ap, subst, arith, inl, inr}
-use Rattle.std.proofs.lemmas.{Bool.{and_parts, eq-eqb, eqb-true, false≢true}, Option.same_Some, Slice.Eq.bytes_eq-Decides}
+use Rattle.std.proofs.lemmas.{Bool.{and_parts, eq-eqb, eqb-true, false≢true, or_left, or_right}, Option.same_Some, Slice.Eq.bytes_eq-Decides}
 use Rattle.std.specs.Prelude.{◌==◌, ◌&&◌, ◌||◌, bytes_eq, is_some, Result, Ok, Err}
 use Rattle.nfs_xdr.specs.{Tables.In, declared.status.Status.Status}
 use Rattle.nfs_xdr.specs.declared.status.Status.TheVariants as S
-use Rattle.nfs_compound.specs.{declared.file_args.SetAttr.SetAttr, declared.open_args.Open.Open, declared.stateid.Stateid.Stateid}
-use Rattle.nfs_compound.specs.declared.op.{Item.{Item, TheVariants.Operation}, Op.Op}
+use Rattle.nfs_compound.specs.declared.{file_args.SetAttr.SetAttr, open_args.Open.Open, stateid.Stateid.Stateid, op.{Item.{Item, TheVariants.Operation}, Op.Op}}
 use Rattle.nfs_attrs.specs.declared.wanted.Wanted.{Wanted}
 use Rattle.nfs_opens.specs.{declared.judging.Sort.TheVariants.Either, declared.records.OpenState.OpenState, declared.share.Share.Share, Share.meets}
 use Rattle.nfs_opens.specs.{declared.stateid.{CurrentSeqid.TheVariants.Any, StateId.StateId}, StateId.{is_current, is_anonymous, is_bypass, has_zeros, has_ones, with_seqid}}
 use Rattle.nfs_opens.specs.Table.{Table}
 use Rattle.nfs_names.specs.{declared.context.Context.Context, Create.attributes_in, State.State}
 use Rattle.nfs_files.specs.{Bytes.{reading, writing}, Open.{access_of, deny_of}, OpenTold.{OpenTold, Bits, IsOpenWith, claimed, forbids}, StateIds.{state_id, meant}}
-use Rattle.nfs_promises.specs.Runs.Points.{reached}
-use Rattle.nfs_promises.specs.Answers.Asked.{StateGiven, by_state, used, size_in, sets_size, IsCurrent, IsSpecial, AllZeros, AllOnes, StandsFor, Itself, TheCurrent}
-use Rattle.nfs_promises.specs.Answers.Reasons.{IsLockedOut}
-use Rattle.nfs_promises.specs.Permission.Permitted.{Right, Reads, Writes, has_right, is_special}
-use Rattle.nfs_promises.specs.Locks.SharesDenied.{ShareDenialsAreTrue, by_stateid, LockedIsTrue}
+use Rattle.nfs_promises.specs.Answers.Asked.{StateGiven, by_state, used, size_in, sets_size, IsCurrent, IsSpecial, AllZeros, AllOnes, StandsFor, Itself}
+use Rattle.nfs_promises.specs.{Answers.{Asked.TheCurrent, Reasons.IsLockedOut}, Locks.SharesDenied.{ShareDenialsAreTrue, by_stateid, LockedIsTrue}}
+use Rattle.nfs_promises.specs.{Permission.Permitted.{Right, Reads, Writes, has_right, is_special}, Runs.Points.reached}
 use Rattle.nfs_promises.proofs.Answers.{ReasonOf.reason_of, StateReasons.{current_so, current_not, none_so, special_not, with_as}}
 use Rattle.nfs_promises.proofs.{Locks.{OneStateEach.each_in, OpenGranted.open_granted}, Runs.LaterRecords.{ran_in, first_there}}
 
@@ -32,11 +29,6 @@ its_open t o there = record { state = o; there = there; number = refl; client = 
 
 -- OPEN
 
-either : (p q : Bool) → (p ≡ true) ⊎ (q ≡ true) → p || q ≡ true
-either true q e = refl
-either false q (inl e) = absurd (false≢true e)
-either false q (inr e) = e
-
 forbidden : (x : Context) (o : OpenState) (a : Open) → ((o.client ≡ x.client) × (o.owner ≡ a.owner.owner) → ⊥)
     → (meets (access_of a) o.deny ≡ true) ⊎ (meets (deny_of a) o.access ≡ true) → forbids (told_of o) (bits_of o) x a ≡ true
 forbidden x o a other clash = go ((o.client == x.client) && bytes_eq o.owner a.owner.owner) refl
@@ -44,7 +36,7 @@ forbidden x o a other clash = go ((o.client == x.client) && bytes_eq o.owner a.o
     go : (own : Bool) → (o.client == x.client) && bytes_eq o.owner a.owner.owner ≡ own → not own && (meets (access_of a) o.deny || meets (deny_of a) o.access) ≡ true
     go true own = (let p = and_parts (o.client == x.client) (bytes_eq o.owner a.owner.owner) own in
         absurd (other (eqb-true o.client x.client p.0, (bytes_eq-Decides o.owner a.owner.owner).0 p.1)))
-    go false own = either (meets (access_of a) o.deny) (meets (deny_of a) o.access) clash
+    go false own = elim clash [ inl reads ↦ or_left (meets (access_of a) o.deny) _ reads | inr denies ↦ or_right (meets (access_of a) o.deny) _ denies ]
 
 same_open : (a b : Open) → Operation (Op.Open a) ≡ Operation (Op.Open b) → b ≡ a
 same_open a b e = cc

@@ -14,11 +14,10 @@ use Rattle.nfs_files.specs.{OpenTold.{OpenTold, Bits, forbids, names_open}, Stat
 use Rattle.nfs_exec.specs.Runs.Ops.{RanOp}
 use Rattle.nfs_exec.proofs.Runs.OneWalk.{in_back}
 use Rattle.nfs_serve.specs.{Step.new_state}
-use Rattle.nfs_promises.specs.{Runs.{Started.usual, Points.{reached, ops_of}}, Network.Endpoint.Arrival, Locks.OpenKeptWorked.{opens, asks}}
-use Rattle.nfs_promises.specs.Locks.{LockKeptWorked.{earlier, outset, last_of}, NoIsTrue.IsInLease, OpenGranted.{GrantsOpen, IsOpenSince, IsGrantedOpen}}
-use Rattle.nfs_promises.specs.Locks.{OpenGranted.{Before, Within}, WrongOpens.reads_too, SharesDeniedWorked.{before_asks, writes, before_writes, to_write}}
-use Rattle.nfs_promises.specs.Locks.SharesDeniedWorked.{AreRefusedTruly, silence, asks_late, writes_late, asks_again, of_open, SharesRefused}
-use Rattle.nfs_promises.specs.Permission.Permitted.{is_special}
+use Rattle.nfs_promises.specs.Locks.{LockKeptWorked.{earlier, outset, last_of}, NoIsTrue.IsInLease, OpenKeptWorked.{opens, asks}, WrongOpens.reads_too}
+use Rattle.nfs_promises.specs.{Locks.OpenGranted.{GrantsOpen, IsOpenSince, IsGrantedOpen, Before, Within}, Network.Endpoint.Arrival, Runs.Started.usual}
+use Rattle.nfs_promises.specs.Locks.SharesDeniedWorked.{before_asks, writes, before_writes, to_write, AreRefusedTruly, silence, asks_late, writes_late}
+use Rattle.nfs_promises.specs.{Locks.SharesDeniedWorked.{asks_again, of_open, SharesRefused}, Permission.Permitted.is_special, Runs.Points.{reached, ops_of}}
 use Rattle.nfs_promises.proofs.{Runs.{Computing.computing, LastOperation.{nothing, three, two}}, Locks.NoIsTrueWorked.{all_ops, in_records, none_in, one_in}}
 use Rattle.nfs_promises.proofs.Locks.NoIsTrueWorked.{late}
 
@@ -95,8 +94,7 @@ wanted = record reads_too { share_access = 3; share_deny = 2 }
 not_special : (x : Context) (id : StateId) → meant x Any of_open ≡ Ok id → is_special id ≡ true → ⊥
 unfolding computing
 not_special x id means special =
-    let same : Ok (state_id of_open) ≡ Ok id = means in
-    let one : state_id of_open ≡ id = cc in
+    let one : state_id of_open ≡ id = (let same : Ok (state_id of_open) ≡ Ok id = means in cc) in
     let none : is_special (state_id of_open) ≡ false = refl in
     false≢true (sym none ∙ (ap is_special one ∙ special))
 

@@ -4,21 +4,16 @@ use Rattle.std.proofs.lemmas.Bool.{cases_Bool, true≢false, false≢true}
 use Rattle.std.specs.Prelude.{◌⊎◌, ◌==◌, ◌&&◌, ok_or, Result, Ok, Err}
 use Rattle.nfs_xdr.specs.{declared.time.Time.Time, declared.status.Status.Status, declared.status.Status.TheVariants.{BadStateId, ServerFault}, Tables.In}
 use Rattle.nfs_xdr.proofs.Lists.{in_filter, in_push}
-use Rattle.nfs_compound.specs.{declared.lock_args.Lock.Lock, declared.lock_args.Locker.Locker, declared.lock_args.Locker.TheVariants.{OpenOwner, LockOwner}}
-use Rattle.nfs_compound.specs.{declared.lock_args.OpenToLockOwner.OpenToLockOwner, declared.op.Op.Op, declared.op.Item.Item}
-use Rattle.nfs_compound.specs.{declared.op.Item.TheVariants.{Operation, Fault}, declared.stateid.Stateid.Stateid}
+use Rattle.nfs_compound.specs.declared.{lock_args.{Lock.Lock, Locker.{Locker, TheVariants.{OpenOwner, LockOwner}}, OpenToLockOwner.OpenToLockOwner}, op.Op.Op}
+use Rattle.nfs_compound.specs.declared.{op.Item.{Item, TheVariants.{Operation, Fault}}, stateid.Stateid.Stateid}
 use Rattle.nfs_compound.specs.declared.op_num.OpNum.TheVariants as Num
 use Rattle.nfs_results.specs.{declared.res.Res.Res, Results.status_of_result}
-use Rattle.nfs_opens.specs.{Judging.judge}
-use Rattle.nfs_opens.specs.Locking.{lock_judged, lock_as, access_in, state_of}
-use Rattle.nfs_opens.specs.{Opening.{own_open, opens_by}, Steps.{map_err, require}, StateId.last_number, Table.{Table, Asked, lock_at}}
-use Rattle.nfs_opens.specs.declared.judging.Sort.TheVariants.{OpenOnly, LockOnly}
-use Rattle.nfs_opens.specs.{declared.locking.OpenFault.TheVariants.Refused, declared.locking.Wish.Wish, declared.records.LockState.LockState}
-use Rattle.nfs_opens.specs.{declared.records.OpenState.OpenState, declared.share.Share.Share, declared.stateid.CurrentSeqid.TheVariants.Any}
-use Rattle.nfs_opens.specs.declared.stateid.StateId.{StateId}
-use Rattle.nfs_opens.proofs.CallLaws.{came, ok_is}
-use Rattle.nfs_names.specs.{declared.context.Context.Context, Outcome.{mapped, checked, is_ok}, State.time_at}
-use Rattle.nfs_names.specs.declared.start.Start.{Start}
+use Rattle.nfs_opens.specs.{Judging.judge, Locking.{lock_judged, lock_as, access_in, state_of}, Opening.{own_open, opens_by}, Steps.{map_err, require}}
+use Rattle.nfs_opens.specs.{StateId.last_number, Table.{Table, Asked, lock_at}, declared.judging.Sort.TheVariants.{OpenOnly, LockOnly}}
+use Rattle.nfs_opens.specs.declared.{locking.{OpenFault.TheVariants.Refused, Wish.Wish}, records.{LockState.LockState, OpenState.OpenState}, share.Share.Share}
+use Rattle.nfs_opens.specs.declared.stateid.{CurrentSeqid.TheVariants.Any, StateId.StateId}
+use Rattle.nfs_opens.proofs.{CallLaws.{came, ok_is}, Terms.{lock_by_owner, not_under}}
+use Rattle.nfs_names.specs.{declared.{context.Context.Context, start.Start.Start}, Outcome.{mapped, checked, is_ok}, State.time_at}
 use Rattle.nfs_names.specs.State as store
 use Rattle.nfs_names.proofs.{Ones.by_delay, Untouched.leaves_each}
 use Rattle.nfs_files.specs.Parts as parts
@@ -32,9 +27,7 @@ use Rattle.nfs_exec.specs.Runs.Ops.{RanOp}
 use Rattle.nfs_exec.proofs.Runs.OneRun.{IsRun, by_item, by_ok, by_run}
 use Rattle.nfs_promises.proofs.Runs.LockStates.{IsAs, as_itself, as_both, changed_from}
 use Rattle.nfs_serve.specs.Step.{new_state}
-use Rattle.nfs_promises.specs.{Bytes.ChangeTells.RunsIn, Network.Endpoint.Arrival, Locks.LockMade.MakesUnder}
-use Rattle.nfs_promises.specs.Runs.Points.{reached, ops_of}
-use Rattle.nfs_opens.proofs.Terms.{lock_by_owner, not_under}
+use Rattle.nfs_promises.specs.{Bytes.ChangeTells.RunsIn, Network.Endpoint.Arrival, Locks.LockMade.MakesUnder, Runs.Points.{reached, ops_of}}
 use Rattle.nfs_promises.specs.Locks.Denials.{IsBegunBy}
 use Rattle.nfs_promises.proofs.{Locks.Traced.{Trace, IsTrace, granted_in}, Runs.LockOwners.{owned_behind, owned_client}}
 

@@ -97,33 +97,43 @@ module _ (k : Trace) (is : IsTrace k) where
   asked_until w m None until d back whole same on = absurd (none_at until d back same)
   asked_until w m (Some e) until d back whole same on = event_until w m e until d back whole same on
 
+-- Where something is said of what a record granted, and of what stood before a record and was spared by it, it is said of all that stands.
+module _ (k : Trace) (is : IsTrace k) (start : Start) (empty : (w : k.Way) → k.On w (new_state start).machine.store.opens → ⊥) (Since : List Arrival → k.Way → Type 0)
+    (given : (records : List Arrival) (c : Arrival) (front : List RanOp) (first : RanOp) (back : List RanOp) (asked w : k.Way) → ops_of (reached start records) c ≡ front ++ first ∷ back
+    → k.Grants asked first → AllSpare k back → k.Leads asked back w → Since (records ++ c ∷ []) w)
+    (stood : (records : List Arrival) (c : Arrival) (had w : k.Way) → Since records had → k.On had (before (reached start records) c).store.opens → AllSpare k (ops_of (reached start records) c)
+    → k.Leads had (ops_of (reached start records) c) w → k.On w (left (before (reached start records) c) (asked_by (reached start records) c)).store.opens → Since (records ++ c ∷ []) w) where
+  abbrev AreSo : List Arrival → Type 0
+  AreSo records = (w : k.Way) → k.On w (reached start records).machine.store.opens → Since records w
+
+  so_next : (records : List Arrival) (c : Arrival) → AreSo records → AreSo (records ++ c ∷ [])
+  so_next records c all w on =
+      let s = reached start records in
+      let here : k.On w (left (before s c) (asked_by s c)).store.opens =
+      subst (λ (s : ServerState). k.On w s.machine.store.opens) (reached_more (new_state start) records c ∙ next_is s c) on in
+      elim (asked_traced k is w (before s c) (asked_by s c) (whole_at start records c) here) [
+        | Given front first back asked same grants spared leads ↦ given records c front first back asked w same grants spared leads
+        | Stood had there spared leads ↦ stood records c had w (all had (is.staying had s.machine.store.opens _ there)) there spared leads here
+      ]
+
+  so_all : (done more : List Arrival) → AreSo done → AreSo (done ++ more)
+  so_all done [] all = subst AreSo (sym (append-nil done)) all
+  so_all done (c ∷ more) all = subst AreSo (append_assoc done (c ∷ []) more) (so_all (done ++ c ∷ []) more (so_next done c all))
+
+  pub so_before : (records : List Arrival) (c : Arrival) (w : k.Way) → k.On w (before (reached start records) c).store.opens → Since records w
+  so_before records c w on = so_all [] records (λ w on. absurd (empty w on)) w (is.staying w (reached start records).machine.store.opens _ on)
+
 -- Where what grants a way grants what it leads to, and none is there at the start, each was granted in some record, or in the same compound.
 module _ (k : Trace) (is : IsTrace k) (carry : (d : RanOp) (had w : k.Way) (ds : List RanOp) → k.Leads had ds w → k.Grants had d → k.Grants w d) (start : Start)
     (empty : (w : k.Way) → k.On w (new_state start).machine.store.opens → ⊥) where
   abbrev WasGranted : List Arrival → k.Way → Type 0
   WasGranted records w = (first : RanOp) × RunsIn (new_state start) records first × k.Grants w first
 
-  abbrev AreGranted : List Arrival → Type 0
-  AreGranted records = (w : k.Way) → k.On w (reached start records).machine.store.opens → WasGranted records w
-
-  granted_before : (records : List Arrival) (c : Arrival) → AreGranted records → (w : k.Way) → k.On w (before (reached start records) c).store.opens → WasGranted records w
-  granted_before records c all w on = all w (is.staying w (reached start records).machine.store.opens _ on)
-
-  granted_next : (records : List Arrival) (c : Arrival) → AreGranted records → AreGranted (records ++ c ∷ [])
-  granted_next records c all w on =
-      let s = reached start records in
-      let here : k.On w (left (before s c) (asked_by s c)).store.opens =
-      subst (λ (s : ServerState). k.On w s.machine.store.opens) (reached_more (new_state start) records c ∙ next_is s c) on in
-      elim (asked_traced k is w (before s c) (asked_by s c) (whole_at start records c) here) [
-        | Given front first back asked same grants spared leads ↦
-            (first, runs_last (new_state start) records c first (first_there s c front first back same), carry first asked w back leads grants)
-        | Stood had stood spared leads ↦ (let b = granted_before records c all had stood in
-            (b.0, runs_before (new_state start) records (c ∷ []) b.0 b.1, carry b.0 had w (ops_of s c) leads b.2))
-      ]
-
-  granted_all : (done more : List Arrival) → AreGranted done → AreGranted (done ++ more)
-  granted_all done [] all = subst AreGranted (sym (append-nil done)) all
-  granted_all done (c ∷ more) all = subst AreGranted (append_assoc done (c ∷ []) more) (granted_all (done ++ c ∷ []) more (granted_next done c all))
+  granted_before : (records : List Arrival) (c : Arrival) (w : k.Way) → k.On w (before (reached start records) c).store.opens → WasGranted records w
+  granted_before = so_before k is start empty WasGranted
+      (λ records c front first back asked w same grants spared leads.
+      (first, runs_last (new_state start) records c first (first_there (reached start records) c front first back same), carry first asked w back leads grants))
+      (λ records c had w b on spared leads here. (b.0, runs_before (new_state start) records (c ∷ []) b.0 b.1, carry b.0 had w (ops_of (reached start records) c) leads b.2))
 
   pub granted_in : (records : List Arrival) (c : Arrival) (until : List RanOp) (d : RanOp) (behind : List RanOp) → ops_of (reached start records) c ≡ until ++ d ∷ behind
       → (w : k.Way) → k.On w d.before.store.opens → (first : RanOp) × (RunsIn (new_state start) records first ⊎ In first until) × k.Grants w first
@@ -132,6 +142,6 @@ module _ (k : Trace) (is : IsTrace k) (carry : (d : RanOp) (had w : k.Way) (ds :
       elim (asked_until k is w (before s c) (asked_by s c) until d behind (whole_at start records c) same on) [
         | Given front first back asked at grants spared leads ↦
             (first, inr (subst (In first) (sym at) (in_back first front (first ∷ back) (inl refl))), carry first asked w back leads grants)
-        | Stood had stood spared leads ↦ (let b = granted_before records c (granted_all [] records (λ w on. absurd (empty w on))) had stood in
+        | Stood had stood spared leads ↦ (let b = granted_before records c had stood in
             (b.0, inl b.1, carry b.0 had w until leads b.2))
       ]

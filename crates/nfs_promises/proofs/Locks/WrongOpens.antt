@@ -1,8 +1,7 @@
 -- Wrong steps that the promise of opens refuses, computed.
 use Rattle.std.proofs.{Common.{◌≡◌, Bool, true, false, [], ◌∷◌, refl, sym, ◌∙◌, ap, subst, inl, inr}, lemmas.Bool.{true≢false}}
 use Rattle.nfs_xdr.specs.Tables.{In}
-use Rattle.nfs_compound.specs.{declared.op.Op.Op, declared.op.Item.TheVariants.Operation, declared.open_args.Open.Open, declared.open_args.Close.Close}
-use Rattle.nfs_compound.specs.declared.open_args.OpenDowngrade.{OpenDowngrade}
+use Rattle.nfs_compound.specs.declared.{op.{Op.Op, Item.TheVariants.Operation}, open_args.{Open.Open, Close.Close, OpenDowngrade.OpenDowngrade}}
 use Rattle.nfs_opens.specs.{declared.share.Share.Share, declared.records.OpenState.OpenState, Share.neither, Table.Table}
 use Rattle.nfs_files.specs.OpenTold.{Bits, IsOpenWith}
 use Rattle.nfs_promises.specs.{Runs.Points.ops_of, Locks.{LockKeptWorked.last_of, WrongLocks.closes_another, WrongOpens.{reads_too, reading, puts_in_place}}}

@@ -1,6 +1,5 @@
 -- A file that is open stays, whatever becomes of its names; and an object that no name leads to is not named again.
-use Rattle.std.proofs.Common.{◌≡◌, ◌⊎◌, ℕ, ◌<◌, ◌^◌, Bool, true, false, List, Some, refl, sym, ◌∙◌, ap, inl, inr}
-use Rattle.std.proofs.lemmas.Bool.{eq-eqb, false≢true}
+use Rattle.std.proofs.{Common.{◌≡◌, ◌⊎◌, ℕ, ◌<◌, ◌^◌, Bool, true, false, List, Some, refl, sym, ◌∙◌, ap, inl, inr}, lemmas.Bool.{eq-eqb, false≢true}}
 use Rattle.std.specs.Prelude.{◌==◌, ◌||◌}
 use Rattle.nfs_xdr.proofs.Lists.{any_in}
 use Rattle.nfs_compound.specs.declared.op.{Item.{Item, TheVariants.Operation}, Op.Op}
@@ -9,14 +8,11 @@ use Rattle.nfs_tree.specs.Files.{root, has_row}
 use Rattle.nfs_names.specs.State.{is_used, is_open}
 use Rattle.nfs_names.specs.State as store
 use Rattle.nfs_files.specs.OpenTold.{OpenTold, Bits, IsOpenWith}
-use Rattle.nfs_promises.specs.Runs.OpenHeld.{the_open}
+use Rattle.nfs_promises.specs.{Runs.OpenHeld.the_open, Names.FileStays.{is_on_current, is_on_saved, IsThere, FilesStay}}
 use Rattle.nfs_exec.specs.Runs.Ops.{RanOp}
-use Rattle.nfs_exec.proofs.Step.Instances.{instance_kept}
-use Rattle.nfs_promises.proofs.Runs.{ToldOtherwise.from_other, Handles.{handle_in, handle_read}}
-use Rattle.nfs_exec.proofs.Runs.{OneRun.IsRun, WrittenRun.used_there}
-use Rattle.nfs_promises.specs.Names.FileStays.{is_on_current, is_on_saved, IsThere, FilesStay}
-use Rattle.nfs_promises.proofs.Names.{Handles.given_at, StaleTruly.{stale_for, put_found, at_current, at_saved}}
-use Rattle.nfs_promises.proofs.Locks.{OneStateEach.{HasOneEach, each_kept}, OpenKept.open_kept}
+use Rattle.nfs_exec.proofs.{Step.Instances.instance_kept, Runs.{OneRun.IsRun, WrittenRun.used_there}}
+use Rattle.nfs_promises.proofs.{Runs.{ToldOtherwise.from_other, Handles.{handle_in, handle_read}}, Names.Handles.given_at}
+use Rattle.nfs_promises.proofs.{Names.StaleTruly.{stale_for, put_found, at_current, at_saved}, Locks.{OneStateEach.{HasOneEach, each_kept}, OpenKept.open_kept}}
 
 -- The file of an open is there.
 

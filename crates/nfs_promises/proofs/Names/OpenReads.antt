@@ -1,30 +1,25 @@
 -- What is open can be had, in every run.
-use Rattle.std.proofs.Common.{◌≡◌, ◌⊎◌, ℕ, Bool, true, false, List, Option, Some, None, refl, sym, ◌∙◌, ap, arith, inl, inr}
-use Rattle.std.proofs.lemmas.Bool.{cases_Bool, eq-eqb, ne_eqb, ltb-true, false≢true}
-use Rattle.std.specs.{Prelude.{◌==◌, ◌&&◌, nat_lt, Ok}, Option.option_map_or}
+use Rattle.std.proofs.Common.{◌≡◌, ◌⊎◌, ℕ, true, false, List, Option, Some, None, refl, sym, ◌∙◌, ap, arith, inl, inr}
+use Rattle.std.proofs.lemmas.Bool.{cases_Bool, eq-eqb, ne_eqb, ltb-true, false≢true, and_left, and_right}
+use Rattle.std.specs.{Prelude.{◌==◌, nat_lt, Ok}, Option.option_map_or}
 use Rattle.nfs_xdr.specs.{Checks.first_fault, declared.status.Status.{Status, TheVariants.RepTooBig}}
 use Rattle.nfs_xdr.proofs.{Lists.any_in, Tables.{in_bounds, at_of_in}}
-use Rattle.nfs_compound.specs.{Request.item_number, declared.file_args.Read.Read, declared.op.Item.Item, declared.op.Item.TheVariants.Operation}
-use Rattle.nfs_compound.specs.declared.stateid.Stateid.{Stateid}
+use Rattle.nfs_compound.specs.{Request.item_number, declared.{file_args.Read.Read, op.Item.{Item, TheVariants.Operation}, stateid.Stateid.Stateid}}
 use Rattle.nfs_compound.specs.declared.op.Op.TheVariants as Op
 use Rattle.nfs_results.specs.Results.{status_of_result}
 use Rattle.nfs_tree.specs.{declared.object.FileType.FileType, declared.object.FileType.TheVariants.{Regular, Directory, Link}, declared.stored.Stored.Stored}
 use Rattle.nfs_tree.specs.{Files.stored_in, Object.{is_directory, is_regular, is_link}}
 use Rattle.nfs_attrs.specs.Mask.{mask_of, asks_set_only}
-use Rattle.nfs_opens.specs.{declared.judging.Seat.Seat, declared.judging.Seat.TheVariants.Open, declared.judging.Sort.TheVariants.Either}
-use Rattle.nfs_opens.specs.{declared.records.OpenState.OpenState, declared.share.Share.Share, declared.stateid.CurrentSeqid.TheVariants.Any}
-use Rattle.nfs_opens.specs.{declared.stateid.StateId.StateId, Judging.judge, Share.is_part, StateId.{last_seqid, has_ones, is_anonymous, is_bypass}}
-use Rattle.nfs_opens.specs.{Table.{Table, open_at}, TableInvariants.IsTable}
-use Rattle.nfs_names.specs.{declared.context.Context.Context, declared.node.Node.Node, Checks.current, GetAttr.get_attr, Outcome.is_ok}
-use Rattle.nfs_names.specs.State.{State, is_open}
-use Rattle.nfs_files.specs.{Bytes.{file_checks, seat, reading, seat_checks, may_use}, OpenTold.{OpenTold, Bits, IsOpenWith}, Parts.readable}
-use Rattle.nfs_files.specs.StateIds.{meant}
+use Rattle.nfs_opens.specs.declared.{judging.{Seat.{Seat, TheVariants.Open}, Sort.TheVariants.Either}, records.OpenState.OpenState, share.Share.Share}
+use Rattle.nfs_opens.specs.{declared.stateid.{CurrentSeqid.TheVariants.Any, StateId.StateId}, Judging.judge, Share.is_part}
+use Rattle.nfs_opens.specs.{StateId.{last_seqid, has_ones, is_anonymous, is_bypass}, Table.{Table, open_at}, TableInvariants.IsTable}
+use Rattle.nfs_names.specs.{declared.{context.Context.Context, node.Node.Node}, Checks.current, GetAttr.get_attr, Outcome.is_ok, State.{State, is_open}}
+use Rattle.nfs_files.specs.{Bytes.{file_checks, seat, reading, seat_checks, may_use}, OpenTold.{OpenTold, Bits, IsOpenWith}, Parts.readable, StateIds.meant}
 use Rattle.nfs_files.specs.Read as of_read
 use Rattle.nfs_files.proofs.TreeFiles.{IsWhole}
 use Rattle.nfs_exec.specs.{Step.Behind.refused_step, Runs.Ops.RanOp}
-use Rattle.nfs_promises.specs.Runs.OpenHeld.{the_open}
+use Rattle.nfs_promises.specs.{Runs.OpenHeld.the_open, Names.OpenReads.{IsAnswered, CanBeHad, OpensCanRead}}
 use Rattle.nfs_exec.proofs.Runs.OneRun.{IsRun, by_item}
-use Rattle.nfs_promises.specs.Names.OpenReads.{IsAnswered, CanBeHad, OpensCanRead}
 use Rattle.nfs_promises.proofs.{Runs.ToldOtherwise.from_other, Bytes.ChangeTells.node_there, Locks.OpenKept.open_kept}
 use Rattle.nfs_files.proofs.InSteps as in_steps
 use Rattle.nfs_names.proofs.Faulted.{status_of_refusal}
@@ -55,15 +50,6 @@ its_node k b s x whole stands at =
 
 -- The stateid means the open.
 
-last_false : (p q r : Bool) → r ≡ false → p && (q && r) ≡ false
-last_false true true r e = e
-last_false true false r e = refl
-last_false false q r e = refl
-
-first_false : (p q : Bool) → p ≡ false → p && q ≡ false
-first_false false q e = refl
-first_false true q e = absurd (false≢true (sym e))
-
 none_below : (m n : ℕ) → n ≡ 0 → nat_lt m n ≡ false
 none_below m n e = elim (cases_Bool (nat_lt m n)) [
   | inl less ↦ (let below = ltb-true m n less in absurd (omega (arith, below, e)))
@@ -77,8 +63,8 @@ judged t k b id client file table is seqid instance number mine its =
     let low = bounds.0 in
     let named = is.number in
     let some : (id.number == 0) ≡ false = ne_eqb id.number 0 (λ none. absurd (omega (arith, low, named, number, none))) in
-    let no_zero : is_anonymous id ≡ false = last_false (id.seqid == 0) (id.instance == 0) (id.number == 0) some in
-    let no_ones : is_bypass id ≡ false = first_false (id.seqid == last_seqid) (has_ones id) (ap (λ n. n == last_seqid) seqid) in
+    let no_zero : is_anonymous id ≡ false = and_right (id.seqid == 0) _ (and_right (id.instance == 0) _ some) in
+    let no_ones : is_bypass id ≡ false = and_left (id.seqid == last_seqid) (has_ones id) (ap (λ n. n == last_seqid) seqid) in
     let found : open_at t id.number ≡ Some is.state =
     ap (open_at t) (number ∙ sym is.number) ∙ at_of_in (λ (o : OpenState). o.number) 1 _ t.opens is.state table.opens is.there in
     let own : (id.instance == t.instance) ≡ true = eq-eqb id.instance t.instance instance in

@@ -1,7 +1,6 @@
 -- A page of a listing has one reading.
 use Rattle.std.proofs.Common.{◌≡◌, ℕ, ◌<◌, ◌^◌, Bool, true, false, List, [], ◌∷◌, ◌++◌, length, replicate, refl, sym, ◌∙◌, ap, subst, arith, append_assoc, inl}
-use Rattle.std.proofs.Common.{inr}
-use Rattle.std.proofs.lemmas.{List.length-append, Nat.from_be_bytes-to_be_bytes_8}
+use Rattle.std.proofs.{Common.inr, lemmas.{List.length-append, Nat.from_be_bytes-to_be_bytes_8}}
 use Rattle.std.specs.{Int.{w32, w64, from_be_bytes}, List.{flat_map, AllByRecursion}}
 use Rattle.nfs_xdr.specs.{Spelling.{number, hyper, flag, padding, fixed, opaque}, Tables.In}
 use Rattle.nfs_xdr.proofs.Putting.{length_number, length_hyper}

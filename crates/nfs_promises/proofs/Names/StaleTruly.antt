@@ -31,8 +31,7 @@ module _ (d : RanOp) (n : ℕ) (used : is_used d.before.store n ≡ true) where
   put_found h reads is (OfCurrent k on at gone) = false≢true (ap is_on_current (sym is) ∙ on)
   put_found h reads is (OfSaved saved on at gone) = false≢true (ap is_on_saved (sym is) ∙ on)
   put_found h reads is (OfGiven given g item says gone) =
-      let same : Operation (Op.PutFh h) ≡ Operation (Op.PutFh given) = sym is ∙ item in
-      let one : h ≡ given = cc in
+      let one : h ≡ given = (let same : Operation (Op.PutFh h) ≡ Operation (Op.PutFh given) = sym is ∙ item in cc) in
       let its : record { instance = d.before.store.opens.instance; number = n } ≡ g = same_Some _ g (sym reads ∙ (ap handle_of one ∙ says)) in
       elim gone [ inl other ↦ other (sym (ap (λ (g : Handle). g.instance) its)) | inr lost ↦ still g.number (ap (λ (g : Handle). g.number) its) lost ]
 

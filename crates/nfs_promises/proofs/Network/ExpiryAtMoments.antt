@@ -1,7 +1,7 @@
 -- Expiry at two moments, and steps that do nothing but take their moment.
-use Rattle.std.proofs.Common.{◌≡◌, ℕ, max, Bool, true, false, List, [], ◌∷◌, length, Option, Some, None, refl, sym, ◌∙◌, ap, arith, inl, inr}
-use Rattle.std.proofs.lemmas.Bool.{cases_Bool}
-use Rattle.std.specs.{Prelude.{◌==◌, ◌&&◌, ◌||◌, not, nat_lt, is_some}, Option.option_map_or}
+use Rattle.std.proofs.Common.{◌≡◌, ℕ, max, Bool, false, List, [], ◌∷◌, length, Option, Some, None, refl, sym, ◌∙◌, ap, arith, inl, inr}
+use Rattle.std.proofs.lemmas.Bool.{cases_Bool, not-false}
+use Rattle.std.specs.{Prelude.{◌==◌, ◌||◌, nat_lt, is_some}, Option.option_map_or}
 use Rattle.nfs_xdr.specs.{Caller.Caller, declared.status.Status.Status}
 use Rattle.nfs_rpc.specs.{declared.refusal.Refusal.TheVariants.Silent, declared.call.Procedure.Procedure}
 use Rattle.nfs_rpc.specs.CallHead.{Called, Accepted, Refused, call_of}
@@ -10,15 +10,13 @@ use Rattle.nfs_compound.specs.{declared.op.Item.Item, declared.op.Item.TheVarian
 use Rattle.nfs_compound.specs.declared.session_args.Sequence.{Sequence}
 use Rattle.nfs_compound.specs.declared.op.Op.TheVariants as Op
 use Rattle.nfs_names.specs.{declared.start.Start.Start}
-use Rattle.nfs_exec.specs.Step.{Machine.{Machine, MachineOutcome}, Place.place_fault, Sequence.{Sequenced, sequenced}, Run.is_here}
-use Rattle.nfs_exec.specs.{Step.Compound.{carried_out, first_item, in_session, by_first, compound}, Step.Expiry.expired}
-use Rattle.nfs_exec.specs.{Step.Laws.{if_runs, first_runs}, Step.Executing.{is_alone, executes}}
+use Rattle.nfs_exec.specs.Step.{Compound.{carried_out, first_item, in_session, by_first, compound}, Executing.{is_alone, executes}, Expiry.expired, Run.is_here}
+use Rattle.nfs_exec.specs.Step.{Laws.{if_runs, first_runs}, Machine.{Machine, MachineOutcome}, Place.place_fault, Sequence.{Sequenced, sequenced}}
 use Rattle.nfs_exec.specs.Step.Sequence as sequence
 use Rattle.nfs_exec.proofs.Step.{Repeating.expires, Terms.by_fault}
 use Rattle.nfs_promises.proofs.Network.{StepLaws.KeepsTime, NothingLeftToExpire.{IsSettled, settled_new, settled_step, ticks_nothing}}
-use Rattle.nfs_promises.specs.Network.Endpoint.{Answer}
+use Rattle.nfs_promises.specs.Network.{Endpoint.Answer, ThisServer.{ticked, executes_by, seen, server}}
 use Rattle.nfs_serve.specs.{Step.{asked_of, ServerState, Stepped, with_arguments, by_procedure, reply_to, step}}
-use Rattle.nfs_promises.specs.Network.ThisServer.{ticked, executes_by, seen, server}
 
 -- A compound that does not execute changes nothing.
 
@@ -26,17 +24,13 @@ faulted : (m : Machine) (n : ℕ) (f : Option Status) (o : MachineOutcome) → o
 faulted m n None o same = same
 faulted m n (Some status) o same = refl
 
-beyond : (b : Bool) → (true && not b) ≡ false → b ≡ true
-beyond true e = refl
-beyond false e = absurd cc
-
 first_idle : (m : Machine) (declared : ℕ) (who : Caller) (now : ℕ) (b : Bool) (i : Item) (more : List Item) → is_alone declared (i ∷ more) ≡ false
     → (first_item m declared who now b i).machine ≡ m
 first_idle m declared who now b (Fault n status) more e = refl
-first_idle m declared who now b (Operation (Op.ExchangeId a)) more e = rw (beyond (nat_lt 1 declared) e) refl
-first_idle m declared who now b (Operation (Op.CreateSession a)) more e = rw (beyond (nat_lt 1 declared) e) refl
-first_idle m declared who now b (Operation (Op.DestroySession a)) more e = rw (beyond (nat_lt 1 declared) e) refl
-first_idle m declared who now b (Operation (Op.DestroyClientId a)) more e = rw (beyond (nat_lt 1 declared) e) refl
+first_idle m declared who now b (Operation (Op.ExchangeId a)) more e = rw (not-false (nat_lt 1 declared) e) refl
+first_idle m declared who now b (Operation (Op.CreateSession a)) more e = rw (not-false (nat_lt 1 declared) e) refl
+first_idle m declared who now b (Operation (Op.DestroySession a)) more e = rw (not-false (nat_lt 1 declared) e) refl
+first_idle m declared who now b (Operation (Op.DestroyClientId a)) more e = rw (not-false (nat_lt 1 declared) e) refl
 first_idle m declared who now b (Operation op) more e =
     faulted m (item_number (Operation op)) (place_fault declared (Operation op)) (carried_out m who now b (Operation op)) refl
 

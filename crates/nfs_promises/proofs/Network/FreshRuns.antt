@@ -2,15 +2,13 @@
 use Rattle.std.proofs.{Common.{◌≡◌, ℕ, ◌≤◌, true, List, ◌∷◌, length, Some, refl, sym, ◌∙◌, ap, subst, arith}, lemmas.Bool.{lt-leb, le-ltb, eq-eqb}}
 use Rattle.std.proofs.lemmas.Option.{same_Some, slice_get_within}
 use Rattle.std.specs.Prelude.{◌==◌, ◌&&◌, ◌||◌, is_some, slice_get}
-use Rattle.nfs_xdr.specs.{Caller.Caller, Text.IsBytes}
-use Rattle.nfs_xdr.specs.Numbers.{next_number}
+use Rattle.nfs_xdr.specs.{Caller.Caller, Text.IsBytes, Numbers.next_number}
 use Rattle.nfs_compound.specs.{declared.op.Item.Item, declared.op.Item.TheVariants.Operation, declared.session_args.Sequence.Sequence, Request.Request}
 use Rattle.nfs_compound.specs.declared.op.Op.TheVariants as Op
 use Rattle.nfs_names.specs.{declared.start.Start.Start}
 use Rattle.nfs_slots.specs.Slot.{SlotState}
 use Rattle.nfs_sessions.specs.{Id.id_of, Sessions.{Session, session_at}}
-use Rattle.nfs_exec.specs.{Step.Executing.{executes, is_alone}, Step.Laws.{first_runs, if_runs}, Step.Machine.Machine}
-use Rattle.nfs_exec.specs.{Step.Parts.by_session, Step.Sequence.Runs}
+use Rattle.nfs_exec.specs.Step.{Executing.{executes, is_alone}, Laws.{first_runs, if_runs}, Machine.Machine, Parts.by_session, Sequence.Runs}
 use Rattle.nfs_exec.specs.Step.Sequence as sequence
 use Rattle.nfs_rpc.specs.CallHead.{call_of}
 use Rattle.nfs_serve.specs.{Step.ServerState}

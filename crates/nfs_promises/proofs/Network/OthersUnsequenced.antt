@@ -11,23 +11,17 @@ use Rattle.nfs_compound.specs.{declared.op.Op.Op, declared.op.Item.Item, declare
 use Rattle.nfs_compound.specs.{Request.{Request, item_number}, declared.session_args.CreateSession.CreateSession}
 use Rattle.nfs_results.specs.declared.res.Res.TheVariants as Res
 use Rattle.nfs_results.specs.{Results.{refusal, spell_result}, Refusals.{may_return, can_refuse}, Parts.is_legal}
-use Rattle.nfs_clients.specs.{declared.exchange_id.Exchanged.Exchanged}
-use Rattle.nfs_clients.specs.{declared.exchange_id.ClientFault.ClientFault, ExchangeId.exchange}
+use Rattle.nfs_clients.specs.{declared.exchange_id.{Exchanged.Exchanged, ClientFault.ClientFault}, ExchangeId.exchange}
 use Rattle.nfs_clients.specs.declared.created.CreateResult.TheVariants as result
 use Rattle.nfs_clients.specs.CreateSession as clients
 use Rattle.nfs_sessions.specs.{declared.id.SessionId.SessionId, declared.sessions.SessionFault.SessionFault, Id.id_of}
 use Rattle.nfs_sessions.specs.Sessions.{SessionTable, create, session_at, session_fault_status}
 use Rattle.nfs_names.specs.Outcome.{is_ok}
-use Rattle.nfs_exec.specs.Step.{Machine.{Machine, MachineOutcome, or_with_delay}, Place.{stands_alone, is_sequence}, Parts.wish_of}
-use Rattle.nfs_exec.specs.Step.View.{CanBear, IsOpened}
-use Rattle.nfs_exec.specs.Step.ExchangeId.{exchange_id}
-use Rattle.nfs_exec.specs.{Step.Destroy.{destroy_session, client_fault}, Step.Run.is_here}
-use Rattle.nfs_exec.specs.{Step.Compound.{carried_out, first_item, by_first, compound}, Step.Executing.{first_sequence, sequence_of}}
-use Rattle.nfs_exec.proofs.Step.{InSteps.{exchange_id_is, create_session_is}, Terms.by_fault}
-use Rattle.nfs_exec.specs.Step.Parts.{answered, ask_of, by_number, by_created}
-use Rattle.nfs_exec.proofs.Step.RefusalsFit.{opened_bears}
+use Rattle.nfs_exec.specs.Step.{Compound.{carried_out, first_item, by_first, compound}, Destroy.{destroy_session, client_fault}, ExchangeId.exchange_id}
+use Rattle.nfs_exec.specs.Step.{Executing.{first_sequence, sequence_of}, Machine.{Machine, MachineOutcome, or_with_delay}, Place.{stands_alone, is_sequence}}
+use Rattle.nfs_exec.specs.Step.{Parts.{wish_of, answered, ask_of, by_number, by_created}, Run.is_here, View.{CanBear, IsOpened}}
+use Rattle.nfs_exec.proofs.Step.{InSteps.{exchange_id_is, create_session_is}, Terms.{by_fault, client_ended}, RefusalsFit.opened_bears}
 use Rattle.nfs_promises.proofs.Network.{ReplyReading.sequenced, RepliesSpelled.{IsBad, IsMute, mute_spelled, bare_spelled}}
-use Rattle.nfs_exec.proofs.Step.Terms.{client_ended}
 
 small : (s : Status) → status_number s < 2 ^ 32
 small s = is_status_listing.small s

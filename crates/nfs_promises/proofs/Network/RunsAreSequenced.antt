@@ -10,14 +10,12 @@ use Rattle.nfs_compound.specs.declared.session_args.Sequence.{Sequence}
 use Rattle.nfs_compound.specs.declared.op.Op.TheVariants as Op
 use Rattle.nfs_results.specs.Items as results
 use Rattle.nfs_sessions.specs.Id.{id_of}
-use Rattle.nfs_exec.specs.{Step.Machine.Machine, Step.Sequence.{Sequenced, Refuses, Repeats, Runs, sequence_ok}, Step.Run.behind_here}
-use Rattle.nfs_exec.specs.{Step.Compound.{renewed, in_session, by_first, compound}, Step.Laws.{if_runs, first_runs}}
-use Rattle.nfs_exec.specs.Step.Executing.{first_sequence, sequence_of}
+use Rattle.nfs_exec.specs.Step.{Machine.Machine, Sequence.{Sequenced, Refuses, Repeats, Runs, sequence_ok}, Run.behind_here}
+use Rattle.nfs_exec.specs.Step.{Compound.{renewed, in_session, by_first, compound}, Laws.{if_runs, first_runs}, Executing.{first_sequence, sequence_of}}
 use Rattle.nfs_exec.specs.Step.Sequence as sequence
 use Rattle.nfs_promises.specs.Network.ThisServer.{Bears}
 use Rattle.nfs_promises.proofs.Network.{ReplyReading.sequence_front, ThisServer.bears_spelled}
-use Rattle.nfs_exec.proofs.Runs.SessionsBehind.{ran_in}
-use Rattle.nfs_exec.proofs.Step.Terms.{run_in}
+use Rattle.nfs_exec.proofs.{Runs.SessionsBehind.ran_in, Step.Terms.run_in}
 
 nested_sequence : (id n slot more rest : List ℕ) → (id ++ (n ++ (slot ++ more))) ++ rest ≡ id ++ (n ++ (slot ++ (more ++ rest)))
 nested_sequence id n slot more rest =

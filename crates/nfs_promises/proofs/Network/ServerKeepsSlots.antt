@@ -2,13 +2,11 @@
 use Rattle.std.proofs.Common.{◌≡◌, inl, inr, ℕ, ◌<◌, ◌^◌, Bool, true, false, List, [], ◌∷◌, length, Option, Some, None, refl, sym, ◌∙◌, ap, subst, arith}
 use Rattle.std.proofs.{lemmas.Bool.{cases_Bool, false≢true}, lemmas.Option.same_Some, lemmas.List.append-nil}
 use Rattle.std.specs.{Prelude.{Result, Ok, ◌==◌, ◌||◌, not, nat_le, nat_lt, is_some, slice_get, option_map, option_and_then}, Option.option_map_or}
-use Rattle.nfs_xdr.specs.{Limits.opaque_limit, Codec.{number, opaque}, Text.IsBytes, Caller.Caller, Checks.first_fault, declared.status.Status.Status}
-use Rattle.nfs_xdr.specs.declared.status.Status.TheVariants.{BadSession, BadSlot, BadHighSlot, SeqMisordered, SeqFalseRetry, ReqTooBig, TooManyOps}
-use Rattle.nfs_xdr.specs.Status.{status_number}
+use Rattle.nfs_xdr.specs.{Caller.Caller, Checks.first_fault, Codec.{number, opaque}, Limits.opaque_limit, Status.status_number, Text.IsBytes}
+use Rattle.nfs_xdr.specs.declared.status.Status.{Status, TheVariants.{BadSession, BadSlot, BadHighSlot, SeqMisordered, SeqFalseRetry, ReqTooBig, TooManyOps}}
 use Rattle.nfs_xdr.proofs.StatusLaws.{is_status_listing}
-use Rattle.nfs_rpc.specs.{declared.refusal.Refusal.Refusal, declared.refusal.Refusal.TheVariants.{Silent, Mismatch, Auth, Accept}}
-use Rattle.nfs_rpc.specs.{declared.refusal.AcceptStat.TheVariants.GarbageArgs, declared.call.Procedure.Procedure, HeadCodec.header}
-use Rattle.nfs_rpc.specs.{CallHead.{Call, Called, Accepted, Refused, call_of}, Reply.spell_head}
+use Rattle.nfs_rpc.specs.declared.refusal.{Refusal.{Refusal, TheVariants.{Silent, Mismatch, Auth, Accept}}, AcceptStat.TheVariants.GarbageArgs}
+use Rattle.nfs_rpc.specs.{declared.call.Procedure.Procedure, HeadCodec.header, CallHead.{Call, Called, Accepted, Refused, call_of}, Reply.spell_head}
 use Rattle.nfs_rpc.specs.declared.call.Procedure.TheVariants as Procedures
 use Rattle.nfs_rpc.proofs.{Fragments.bytes_behind_front, HeadLaws.call_taken}
 use Rattle.nfs_compound.specs.{declared.op.Item.Item, declared.op.Item.TheVariants.Operation, Request.{Request, IsRequest}, ReadRequest.request_at}
@@ -22,11 +20,9 @@ use Rattle.nfs_slots.specs.declared.slot.Verdict.TheVariants as slot
 use Rattle.nfs_slots.specs.Slot as slots
 use Rattle.nfs_sessions.specs.{Id.id_of, Sessions.{Session, SessionTable, session_at, keep}, SessionTables.IsSessions}
 use Rattle.nfs_sessions.proofs.TableLemmas.{slots_changed, sessions_filtered}
-use Rattle.nfs_exec.specs.Step.Machine.{Machine}
-use Rattle.nfs_exec.specs.Step.Sequence.{compared, Sequenced, Refuses, Repeats, Runs as RunsIn, by_slot}
-use Rattle.nfs_exec.specs.Step.Parts.{past, slot_says, slot_fault, fresh_fault, by_session}
-use Rattle.nfs_exec.specs.{Step.Compound.{in_session, by_first, compound}, Step.Laws.{if_runs, first_runs}}
-use Rattle.nfs_exec.specs.Step.Executing.{first_sequence, sequence_of, is_alone, executes}
+use Rattle.nfs_exec.specs.Step.{Machine.Machine, Sequence.{compared, Sequenced, Refuses, Repeats, Runs as RunsIn, by_slot}}
+use Rattle.nfs_exec.specs.Step.{Parts.{past, slot_says, slot_fault, fresh_fault, by_session}, Compound.{in_session, by_first, compound}}
+use Rattle.nfs_exec.specs.Step.{Laws.{if_runs, first_runs}, Executing.{first_sequence, sequence_of, is_alone, executes}}
 use Rattle.nfs_exec.specs.Step.Sequence as sequence
 use Rattle.nfs_exec.proofs.{Runs.{SlotNumbers.IsHeld, SessionsBehind.{ran_in, quiet_compound, told_compound}}, Step.Terms.or_refuses}
 use Rattle.nfs_promises.specs.Network.Endpoint.{Place, Heading, Answer}

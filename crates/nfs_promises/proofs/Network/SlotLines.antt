@@ -2,8 +2,7 @@
 use Rattle.std.proofs.Common.{◌≡◌, ◌⊎◌, inl, inr, ℕ, ◌+◌, ◌-◌, ◌%◌, ◌^◌, ◌<◌, ◌≤◌, Bool, true, false, List, [], ◌∷◌, ◌++◌, map, length, Option, Some, None, refl, sym, ◌∙◌, ap, subst, arith}
 use Rattle.std.proofs.lemmas.Bool.{eqb-true, eq-eqb, and_parts, and_from, false≢true}
 use Rattle.std.specs.Prelude.{◌==◌, ◌&&◌, not, if◌then◌else◌, bytes_eq}
-use Rattle.nfs_xdr.specs.Tables.{In}
-use Rattle.nfs_xdr.specs.Numbers.{next_number}
+use Rattle.nfs_xdr.specs.{Tables.In, Numbers.next_number}
 use Rattle.nfs_slots.specs.{Slot.{SlotState, judge_slot}, declared.slot.Verdict.TheVariants.{Fresh, Again, FalseRetry, Misordered}}
 use Rattle.nfs_slots.proofs.TableLemmas.{fresh_number}
 use Rattle.nfs_sessions.specs.{declared.id.SessionId.SessionId, Laws.is_id}
@@ -13,8 +12,7 @@ use Rattle.nfs_promises.specs.Network.ExactlyOnce.{executing, result_of}
 use Rattle.nfs_promises.proofs.Network.{StepLaws.{Runs, Repeats}, CountedLists.{In-front, In-last, In-push, In-map, In-map-back, append_none, length_append}}
 use Rattle.nfs_promises.proofs.Network.CountedLists.{length_push, map_push, map_length, last_one, CountUp-push, CountUp-front, CountUp-last, CountUp-bounds}
 use Rattle.nfs_promises.proofs.Network.CountedLists.{CountUp-within, CountUp-top, top_bounds, top_within, top_push, IsPart-in, IsPart-more, IsPart-push}
-use Rattle.nfs_exec.proofs.Runs.SlotNumbers.{same_id}
-use Rattle.nfs_exec.proofs.Step.Sequencing.{kept_when}
+use Rattle.nfs_exec.proofs.{Runs.SlotNumbers.same_id, Step.Sequencing.kept_when}
 use Rattle.nfs_opens.proofs.ShareLemmas.{owner_bytes}
 
 -- the two verdicts

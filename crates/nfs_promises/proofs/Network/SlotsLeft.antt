@@ -10,8 +10,7 @@ use Rattle.nfs_slots.proofs.TableLemmas.{slice_get-set_same, slice_get-set_other
 use Rattle.nfs_sessions.specs.{declared.id.SessionId.SessionId, declared.channel.Wish.Wish, Channel.granted}
 use Rattle.nfs_sessions.specs.{Sessions.{Session, SessionTable, new_session, is_session, session_at, with_session, keep}, SessionTables.IsSessions, Laws.is_id}
 use Rattle.nfs_sessions.proofs.{LawLemmas.sessions_are_a_map, TableLemmas.{sessions_filtered, sessions_with, slots_changed, is_counter}}
-use Rattle.nfs_exec.proofs.Runs.SlotNumbers.{IsHeld}
-use Rattle.nfs_exec.proofs.Runs.SlotNumbers.{same_id}
+use Rattle.nfs_exec.proofs.Runs.SlotNumbers.{IsHeld, same_id}
 use Rattle.nfs_promises.specs.Network.ThisServer.{slot_in}
 use Rattle.nfs_promises.proofs.Network.SlotLines.{is_id_self}
 

@@ -6,9 +6,8 @@ use Rattle.nfs_names.specs.{declared.start.Start.Start}
 use Rattle.nfs_lease.specs.Renewals.{has_run_out}
 use Rattle.nfs_slots.specs.Slot.{SlotState, unused_slot}
 use Rattle.nfs_slots.specs.Slot as slots
-use Rattle.nfs_sessions.specs.{declared.id.SessionId.SessionId, declared.channel.Wish.Wish, Channel.granted, Id.id_of, Laws.is_id}
-use Rattle.nfs_sessions.specs.Sessions.{Session, SessionTable, new_session, is_session, session_at, with_session, keep}
-use Rattle.nfs_sessions.specs.SessionTables.{IsSessions}
+use Rattle.nfs_sessions.specs.{declared.{id.SessionId.SessionId, channel.Wish.Wish}, Channel.granted, Id.id_of, Laws.is_id}
+use Rattle.nfs_sessions.specs.{Sessions.{Session, SessionTable, new_session, is_session, session_at, with_session, keep}, SessionTables.IsSessions}
 use Rattle.nfs_sessions.proofs.{LawLemmas.sessions_are_a_map, TableLemmas.{sessions_filtered, sessions_with, slots_changed, is_counter}}
 use Rattle.nfs_exec.specs.Step.Sequence.{compared}
 use Rattle.nfs_exec.proofs.Runs.SlotNumbers.{IsHeld}

@@ -1,6 +1,6 @@
 -- What the permission bits let a user do is what the mode, owner and group give.
 use Rattle.std.proofs.Common.{◌≡◌, ℕ, ◌/◌, ◌%◌, Bool, true, false, cond, not, Option, Some, None, refl, sym, ◌∙◌, ap, subst, inl, inr}
-use Rattle.std.proofs.lemmas.Bool.{cases_Bool, cases_eq, and_parts, eqb-true, eq-eqb, ne_eqb, false≢true}
+use Rattle.std.proofs.lemmas.Bool.{cases_Bool, cases_eq, and_parts, eqb-true, eq-eqb, ne_eqb, false≢true, and_from}
 use Rattle.std.specs.{Prelude.{◌==◌, ◌&&◌, ◌||◌, option_map, Ok}, Int.bit_at, List.list_any}
 use Rattle.nfs_xdr.specs.{Caller.Caller, Tables.In}
 use Rattle.nfs_xdr.proofs.Lists.{any_in, in_any}
@@ -181,14 +181,9 @@ module _ (x : Context) (d : Node) where
   unfolding permits
   may_execute gets = has_granted d.object x.who Executes gets
 
-  both_bits : (p q : Bool) → p ≡ true → q ≡ true → p && q ≡ true
-  both_bits true true e f = refl
-  both_bits true false e f = absurd (false≢true f)
-  both_bits false q e f = absurd (false≢true e)
-
   pub may_change : Gets Writes → Gets Executes → permits x d change_entries ≡ true
   unfolding permits
-  may_change write execute = both_bits (bit_of Writes) (bit_of Executes) (has_granted d.object x.who Writes write) (has_granted d.object x.who Executes execute)
+  may_change write execute = and_from (bit_of Writes) (bit_of Executes) (has_granted d.object x.who Writes write) (has_granted d.object x.who Executes execute)
 
   want_or : (want p : Bool) → (want ≡ true → p ≡ true) → not want || p ≡ true
   want_or true p holds = holds refl

@@ -1,6 +1,5 @@
 -- The run of a program that another user writes, and the wrong answers, computed.
-use Rattle.std.proofs.Common.{◌≡◌, ◌≢◌, ℕ, false, List, [], ◌∷◌, ◌++◌, take, refl, sym, ◌∙◌, ap, arith, inl, inr}
-use Rattle.std.proofs.lemmas.Bool.{false≢true}
+use Rattle.std.proofs.{Common.{◌≡◌, ◌≢◌, ℕ, false, List, [], ◌∷◌, take, refl, sym, ◌∙◌, ap, arith, inl, inr}, lemmas.Bool.false≢true}
 use Rattle.std.specs.List.{list_any}
 use Rattle.nfs_xdr.specs.Tables.{In}
 use Rattle.nfs_compound.specs.{ArgCodecs.set_attr_args, declared.file_args.StableHow.TheVariants.Unstable}
@@ -16,10 +15,6 @@ use Rattle.nfs_promises.proofs.{Bytes.Dated.sets, Runs.{NotNamed.neither, LastOp
 abbrev write : RanOp
 write = last_of nothing (ops_of given other_writes)
 
-write_ops : ops_of given other_writes ≡ take 2 (ops_of given other_writes) ++ write ∷ []
-unfolding computing set_attr_args of_set.set_attr
-write_ops = three nothing (ops_of given other_writes) refl
-
 none_sets : (ds : List RanOp) → list_any (λ (d : RanOp). sets d.item) ds ≡ false → (d : RanOp) → In d ds → sets d.item ≡ false
 none_sets [] e d there = absurd there
 none_sets (x ∷ more) e d (inl same) = ap (λ (d : RanOp). sets d.item) same ∙ (neither (sets x.item) (list_any (λ (d : RanOp). sets d.item) more) e).0
@@ -30,7 +25,7 @@ unfolding computing set_attr_args of_set.set_attr get_attr values results.fattr
 is_cleared = record {
   front = take 2 (ops_of given other_writes);
   write = write;
-  ops = write_ops;
+  ops = three nothing (ops_of given other_writes) refl;
   other = record {
     asked = record { stateid = anonymous; offset = 0; stable = Unstable; bytes = words (0x7365_656e ∷ []) };
     is = refl;

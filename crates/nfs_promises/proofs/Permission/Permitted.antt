@@ -1,18 +1,16 @@
 -- Permissions hold, in every run: what is refused by NFS4ERR_ACCESS has its reason, which grants of all that is needed would refute.
 use Rattle.std.proofs.{Common.{◌≡◌, ℕ, Bool, true, false, List, [], ◌∷◌, Some, None, refl, sym, ◌∙◌, ap, subst, inl, inr}, lemmas.Option.same_Some}
 use Rattle.nfs_xdr.specs.{Caller.Caller, Tables.In, declared.status.Status.TheVariants.Access}
-use Rattle.nfs_compound.specs.{declared.op.{Item.{Item, TheVariants.Operation}, Op.Op}, declared.open_args.Open.Open}
-use Rattle.nfs_compound.specs.declared.open_args.OpenClaim.TheVariants.{Null, Fh}
+use Rattle.nfs_compound.specs.declared.{op.{Item.{Item, TheVariants.Operation}, Op.Op}, open_args.{Open.Open, OpenClaim.TheVariants.{Null, Fh}}}
 use Rattle.nfs_tree.specs.{declared.profile.Profile.Profile, Files.object_named}
 use Rattle.nfs_opens.specs.declared.share.Share.{Share}
 use Rattle.nfs_names.specs.{declared.context.Context.Context, State.State}
 use Rattle.nfs_files.specs.{Open.access_of, OpenTold.{named_in, claimed}}
 use Rattle.nfs_exec.specs.Runs.Ops.{RanOp}
 use Rattle.nfs_exec.proofs.Runs.OneRun.{IsRun}
-use Rattle.nfs_promises.specs.Permission.Permitted.{Right, Reads, Writes, Executes, Rights, Grants, GrantsBytes, GrantsUse, rights_at, wants, has_right, IsAt, IsGranted, IsRefused}
-use Rattle.nfs_promises.specs.{Answers.Reasons.MayDo, Permission.Permitted.PermissionsHold}
-use Rattle.nfs_promises.specs.Answers.Asked.{named, made, named_by, shared, Needs, ToFind, ToList, ToLeave, ToTouch, ToSize, ToAdd, ToRemove, ToTake, ToPut, ToMake, ToOpen}
-use Rattle.nfs_promises.specs.Answers.Asked.{ToRead, ToWrite}
+use Rattle.nfs_promises.specs.Permission.Permitted.{Right, Reads, Writes, Executes, Rights, Grants, GrantsBytes, GrantsUse, rights_at, wants, has_right, IsAt}
+use Rattle.nfs_promises.specs.{Permission.Permitted.{IsGranted, IsRefused, PermissionsHold}, Answers.{Reasons.MayDo, Asked.{named, made, named_by, shared}}}
+use Rattle.nfs_promises.specs.Answers.Asked.{Needs, ToFind, ToList, ToLeave, ToTouch, ToSize, ToAdd, ToRemove, ToTake, ToPut, ToMake, ToOpen, ToRead, ToWrite}
 use Rattle.nfs_promises.proofs.{Answers.ReasonOf.reason_of, Locks.OneStateEach.{HasOneEach, each_in}, Runs.LaterRecords.ran_in, Permission.PermittedBytes.{read_granted, write_granted}}
 use Rattle.nfs_promises.proofs.Permission.{PermittedNames.{named_granted, one_of, two_of}, PermittedOpens.{open_granted, enter_granted}, RightsTold.profile_here}
 

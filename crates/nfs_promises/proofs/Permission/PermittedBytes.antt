@@ -1,23 +1,21 @@
 -- A READ and a WRITE that were answered NFS4_OK were granted by the file, or by an open of the client that stands; and one that was refused by NFS4ERR_ACCESS was not granted
 -- by the file.
 use Rattle.std.proofs.Common.{◌≡◌, ◌≢◌, ℕ, Bool, true, false, cond, not, Option, Some, None, refl, sym, ◌∙◌, ap, subst}
-use Rattle.std.proofs.lemmas.Bool.{eqb-true, not-false, false≢true}
-use Rattle.std.specs.Prelude.{◌==◌, ◌&&◌, ◌||◌, nat_lt, Result, Ok, Err}
-use Rattle.nfs_xdr.specs.{Checks.first_fault, Tables.In, declared.status.Status.Status}
-use Rattle.nfs_xdr.specs.declared.status.Status.TheVariants.{BadStateId, OldStateId}
-use Rattle.nfs_xdr.proofs.{Checks.all_passed, Lists.find_in, Tables.in_once}
+use Rattle.std.proofs.lemmas.{Bool.{eqb-true, not-false, false≢true, and_parts}, Option.same_Some}
+use Rattle.std.specs.{Prelude.{◌==◌, ◌&&◌, ◌||◌, Result, Ok, Err}, Option.option_map_or}
+use Rattle.nfs_xdr.specs.{Checks.first_fault, declared.status.Status.Status}
+use Rattle.nfs_xdr.proofs.{Checks.all_passed, Lists.find_in}
 use Rattle.nfs_compound.specs.{OpNum.op_number, declared.file_args.Read.Read, declared.file_args.Write.Write, declared.op.Item.TheVariants.Operation}
 use Rattle.nfs_compound.specs.{declared.op_num.OpNum.OpNum, declared.stateid.Stateid.Stateid}
 use Rattle.nfs_compound.specs.declared.op.Op.TheVariants as Op
 use Rattle.nfs_compound.specs.declared.op_num.OpNum.TheVariants as Num
 use Rattle.nfs_results.specs.Results.{status_of_result}
 use Rattle.nfs_tree.specs.Bytes.{has_bytes}
-use Rattle.nfs_opens.specs.{declared.judging.Seat.Seat, declared.judging.Seat.TheVariants.{Anonymous, ReadBypass, Open, Lock}}
-use Rattle.nfs_opens.specs.{declared.judging.Sort.TheVariants.Either, declared.records.LockState.LockState, declared.records.OpenState.OpenState}
-use Rattle.nfs_opens.specs.{declared.share.Share.Share, declared.stateid.CurrentSeqid.TheVariants.Any, declared.stateid.StateId.StateId}
-use Rattle.nfs_opens.specs.{Judging.{judge, special, named_by}, Share.is_part, StateId.{is_anonymous, is_bypass}}
-use Rattle.nfs_opens.specs.{Table.{Table, open_at, lock_at}, TableInvariants.IsTable}
-use Rattle.nfs_opens.proofs.Terms.{access_of, judge_named, seated}
+use Rattle.nfs_opens.specs.{Judging.{judge, special, named_by, judge_checks, open_named, lock_named}, Locking.access_in, Share.{is_part, neither}}
+use Rattle.nfs_opens.specs.{StateId.{is_anonymous, is_bypass}, Steps.in_order, Table.{Table, open_at, lock_at}, TableInvariants.IsTable}
+use Rattle.nfs_opens.specs.declared.{judging.{Seat.{Seat, TheVariants.{Anonymous, ReadBypass, Open, Lock}}, Sort.TheVariants.Either}, share.Share.Share}
+use Rattle.nfs_opens.specs.declared.{records.{LockState.LockState, OpenState.OpenState}, stateid.{CurrentSeqid.TheVariants.Any, StateId.StateId}}
+use Rattle.nfs_opens.proofs.Terms.{judge_named}
 use Rattle.nfs_names.specs.{declared.context.Context.Context, declared.node.Node.Node, Checks.current, Outcome.{Outcome, is_ok, checked, answers}}
 use Rattle.nfs_names.specs.State.{State, time_at}
 use Rattle.nfs_names.proofs.{Faulted.status_of_refusal, Found.{came, ok_is, checked_ok}, NameLaws.current_refuses, Ones.by_delay}
@@ -29,120 +27,10 @@ use Rattle.nfs_exec.specs.Runs.Ops.{RanOp}
 use Rattle.nfs_exec.proofs.Runs.OneRun.{IsRun, by_ok}
 use Rattle.nfs_promises.specs.Permission.Permitted.{Rights, Right, Reads, Writes, Executes, GrantsUse, rights_of, has_right, HasOpen, IsAt, is_special}
 use Rattle.nfs_promises.specs.Permission.Permitted.{ByStateid}
-use Rattle.nfs_promises.proofs.Permission.{Granting.uses, PermittedNames.here}
+use Rattle.nfs_promises.proofs.{Permission.{Granting.uses, PermittedNames.here}, Answers.{Blaming.passed_all, StateReasons.{is_state, open_under}}}
 use Rattle.nfs_files.proofs.InSteps as in_steps
 
 -- Bytes: by the stateid.
-
-is_seated : (k given : Seat) (f : Option Status) → seated k f ≡ Ok given → k ≡ given
-is_seated k given None e = cc
-is_seated k given (Some status) e = absurd cc
-
-abbrev seat_access : Seat → Share
-seat_access Anonymous = reading
-seat_access ReadBypass = reading
-seat_access (Open number access) = access
-seat_access (Lock number access) = access
-
-abbrev pub is_state : Seat → Bool
-is_state Anonymous = false
-is_state ReadBypass = false
-is_state (Open number access) = true
-is_state (Lock number access) = true
-
-not_not : (v : Bool) → not v ≡ false → v ≡ true
-not_not true e = refl
-not_not false e = absurd (false≢true (sym e))
-
-first_checks : (a b : Bool) (k given : Seat) (rest : Option Status) → seated k (cond a (Some BadStateId) (cond b (Some BadStateId) rest)) ≡ Ok given → (a ≡ false) × (b ≡ false)
-first_checks false false k given rest e = (refl, refl)
-first_checks false true k given rest e = absurd cc
-first_checks true b k given rest e = absurd cc
-
--- an open of the client and of the file has what the seat has
-record HasSeat (t : Table) (client file : ℕ) (k : Seat) : Type 0 where
-  pub state : OpenState
-  pub stands : In state t.opens
-  pub client_is : state.client ≡ client
-  pub file_is : state.file ≡ file
-  pub access : seat_access k ≡ state.access
-
-abbrev rest_of : ℕ → ℕ → Bool → Option Status
-rest_of seqid mine sort =
-    cond (not sort) (Some BadStateId) (cond (not (seqid == 0) && nat_lt seqid mine) (Some OldStateId) (cond (nat_lt mine seqid) (Some BadStateId) None))
-
-open_seat : (t : Table) (client file seqid : ℕ) (k : Seat) (o : OpenState) (n : ℕ) → open_at t n ≡ Some o → judge_named client (Some file) Either seqid (named_by t (Some o) None) ≡ Ok k
-    → HasSeat t client file k
-open_seat t client file seqid k o n found e =
-    let checks = first_checks (not (o.client == client)) (not (o.file == file)) (Open o.number o.access) k (rest_of seqid o.seqid true) e in
-    record {
-      state = o;
-      stands = (find_in (λ (o : OpenState). o.number == n) t.opens o found).0;
-      client_is = eqb-true o.client client (not_not _ checks.0);
-      file_is = eqb-true o.file file (not_not _ checks.1);
-      access = ap seat_access (sym (is_seated (Open o.number o.access) k _ e));
-    }
-
-lock_seat : (t : Table) (client file seqid : ℕ) (k : Seat) (l : LockState) (n : ℕ) → IsTable t → (right : Right) → lock_at t n ≡ Some l
-    → judge_named client (Some file) Either seqid (named_by t None (Some l)) ≡ Ok k → has_right (seat_access k) right ≡ true → HasOpen t client file right
-lock_seat t client file seqid k l n table right found e has = go (open_at t l.opened) refl
-  where
-    at : In l t.locks
-    at = (find_in (λ (l : LockState). l.number == n) t.locks l found).0
-
-    mine : Seat
-    mine = Lock l.number (access_of (open_at t l.opened))
-
-    seat_is : mine ≡ k
-    seat_is = is_seated mine k _ e
-
-    judged : (not (l.client == client) ≡ false) × (not (l.file == file) ≡ false)
-    judged = first_checks (not (l.client == client)) (not (l.file == file)) mine k (rest_of seqid l.seqid true) e
-
-    none : (right : Right) → has_right (access_of None) right ≡ true → ⊥
-    none Reads is = absurd (false≢true is)
-    none Writes is = absurd (false≢true is)
-    none Executes is = absurd (false≢true is)
-
-    go : (o : Option OpenState) → open_at t l.opened ≡ o → HasOpen t client file right
-    go None there =
-        absurd (none right (ap (λ (o : Option OpenState). has_right (access_of o) right) (sym there) ∙ (ap (λ (k : Seat). has_right (seat_access k) right) seat_is ∙ has)))
-    go (Some o) there =
-        let it = find_in (λ (o : OpenState). o.number == l.opened) t.opens o there in
-        let under = table.under l at in
-        let same : o ≡ under.0 = in_once (λ (o : OpenState). o.number) 1 _ t.opens o under.0 table.opens it.0 under.1.stands
-        (eqb-true o.number l.opened it.1 ∙ sym under.1.number) in
-        record {
-          state = o;
-          stands = it.0;
-          client_is = ap (λ (o : OpenState). o.client) same ∙ (under.1.client ∙ eqb-true l.client client (not_not _ judged.0));
-          file_is = ap (λ (o : OpenState). o.file) same ∙ (under.1.file ∙ eqb-true l.file file (not_not _ judged.1));
-          has = ap (λ (o : Option OpenState). has_right (access_of o) right) (sym there) ∙ (ap (λ (k : Seat). has_right (seat_access k) right) seat_is ∙ has);
-        }
-
--- a state's seat
-state_seat : (t : Table) (client file seqid n : ℕ) (k : Seat) (right : Right) → IsTable t → (same : Bool) (o : Option OpenState) (l : Option LockState)
-    → open_at t n ≡ o → lock_at t n ≡ l → judge_named client (Some file) Either seqid (cond same (named_by t o l) None) ≡ Ok k → has_right (seat_access k) right ≡ true
-    → HasOpen t client file right
-state_seat t client file seqid n k right table false o l there held e has = absurd cc
-state_seat t client file seqid n k right table true (Some o) l there held e has =
-    let its = open_seat t client file seqid k o n there e in record {
-      state = its.state;
-      stands = its.stands;
-      client_is = its.client_is;
-      file_is = its.file_is;
-      has = ap (λ a. has_right a right) (sym its.access) ∙ has;
-    }
-state_seat t client file seqid n k right table true None (Some l) there held e has = lock_seat t client file seqid k l n table right held e has
-state_seat t client file seqid n k right table true None None there held e has = absurd cc
-
--- it is a state's
-named_state : (t : Table) (client file seqid : ℕ) (k : Seat) (same : Bool) (o : Option OpenState) (l : Option LockState)
-    → judge_named client (Some file) Either seqid (cond same (named_by t o l) None) ≡ Ok k → is_state k ≡ true
-named_state t client file seqid k false o l e = absurd cc
-named_state t client file seqid k true (Some o) l e = ap is_state (sym (is_seated (Open o.number o.access) k _ e))
-named_state t client file seqid k true None (Some l) e = ap is_state (sym (is_seated (Lock l.number (access_of (open_at t l.opened))) k _ e))
-named_state t client file seqid k true None None e = absurd cc
 
 not_special : (a b : Bool) (v : Result Seat Status) (k : Seat) → a || b ≡ false → cond a (special Either Anonymous) (cond b (special Either ReadBypass) v) ≡ Ok k → v ≡ Ok k
 not_special false false v k none e = e
@@ -155,24 +43,45 @@ is_special_seat true b v k some e = ap is_state (sym (ok_is refl e))
 is_special_seat false true v k some e = ap is_state (sym (ok_is refl e))
 is_special_seat false false v k some e = absurd (false≢true some)
 
-judged_named : (t : Table) (id : StateId) (client file : ℕ) (k : Seat) → is_special id ≡ false → judge t id client (Some file) Either ≡ Ok k
-    → judge_named client (Some file) Either id.seqid (cond (id.instance == t.instance) (named_by t (open_at t id.number) (lock_at t id.number)) None) ≡ Ok k
-judged_named t id client file k none e = not_special (is_anonymous id) (is_bypass id) _ k none e
+-- the access of a state's seat is that of an open of the client and of the file
+module _ (t : Table) (table : IsTable t) (id : StateId) (client file : ℕ) (k : Seat) (right : Right) (has : is_state k ≡ true → has_right (access_in k) right ≡ true) where
+  from_seat : (j : Seat) → j ≡ k → is_state j ≡ true → has_right (access_in j) right ≡ true
+  from_seat j same state = subst (λ k. has_right (access_in k) right ≡ true) (sym same) (has (ap is_state (sym same) ∙ state))
 
-judged_special : (t : Table) (id : StateId) (client file : ℕ) (k : Seat) → is_special id ≡ true → judge t id client (Some file) Either ≡ Ok k → is_state k ≡ false
-judged_special t id client file k some e =
-    is_special_seat (is_anonymous id) (is_bypass id) (judge_named client (Some file) Either id.seqid (cond (id.instance == t.instance) (named_by t (open_at t id.number) (lock_at t id.number)) None))
-    k some e
+  of_state : (o : Option OpenState) (l : Option LockState) → open_at t id.number ≡ o → lock_at t id.number ≡ l → judge_named client (Some file) Either id.seqid (named_by t o l) ≡ Ok k
+      → HasOpen t client file right
+  of_state None None there held e = absurd cc
+  of_state (Some o) l there held e =
+      let checks = judge_checks client (Some file) Either id.seqid (open_named o) in
+      let c = came (in_order checks) _ k e in
+      let passed = all_passed checks (passed_all checks c.is) in
+      record {
+        state = o;
+        stands = (find_in (λ (o : OpenState). o.number == id.number) t.opens o there).0;
+        client_is = eqb-true _ _ (not-false _ passed.0);
+        file_is = eqb-true _ _ (not-false _ passed.1.0);
+        has = from_seat (Open o.number o.access) (ok_is refl c.then) refl;
+      }
+  of_state None (Some l) there held e =
+      let checks = judge_checks client (Some file) Either id.seqid (lock_named t l) in
+      let c = came (in_order checks) _ k e in
+      let passed = all_passed checks (passed_all checks c.is) in
+      let under = table.under l (find_in (λ (l : LockState). l.number == id.number) t.locks l held).0 in
+      record {
+        state = under.0;
+        stands = under.1.stands;
+        client_is = under.1.client ∙ eqb-true _ _ (not-false _ passed.0);
+        file_is = under.1.file ∙ eqb-true _ _ (not-false _ passed.1.0);
+        has = ap (λ (o : Option OpenState). has_right (option_map_or (λ (o : OpenState). o.access) o neither) right) (sym (open_under t table l under.0 under.1))
+            ∙ from_seat (lock_named t l).seat (ok_is refl c.then) refl;
+      }
 
-pub judged_state : (t : Table) (id : StateId) (client file : ℕ) (k : Seat) → is_special id ≡ false → judge t id client (Some file) Either ≡ Ok k → is_state k ≡ true
-judged_state t id client file k none e =
-    named_state t client file id.seqid k (id.instance == t.instance) (open_at t id.number) (lock_at t id.number) (judged_named t id client file k none e)
-
-judged_seat : (t : Table) (id : StateId) (client file : ℕ) (k : Seat) (right : Right) → IsTable t → is_special id ≡ false → judge t id client (Some file) Either ≡ Ok k
-    → has_right (seat_access k) right ≡ true → HasOpen t client file right
-judged_seat t id client file k right table none e has =
-    state_seat t client file id.seqid id.number k right table (id.instance == t.instance) (open_at t id.number) (lock_at t id.number) refl refl
-    (judged_named t id client file k none e) has
+  judged_has : is_special id ≡ false → judge t id client (Some file) Either ≡ Ok k → HasOpen t client file right
+  judged_has none e = by (id.instance == t.instance) (not_special (is_anonymous id) (is_bypass id) _ k none e)
+    where
+      by : (same : Bool) → judge_named client (Some file) Either id.seqid (cond same (named_by t (open_at t id.number) (lock_at t id.number)) None) ≡ Ok k → HasOpen t client file right
+      by false e = absurd cc
+      by true e = of_state (open_at t id.number) (lock_at t id.number) refl refl e
 
 -- reading, or writing
 abbrev wanted_by : Right → Share
@@ -181,16 +90,8 @@ wanted_by Writes = writing
 wanted_by Executes = reading
 
 part_has : (right : Right) (access : Share) → not (is_part (wanted_by right) access) ≡ false → right ≢ Executes → has_right access right ≡ true
-part_has Reads access e other = go access.reads access.writes (not_not _ e)
-  where
-    go : (p q : Bool) → (not true || p) && (not false || q) ≡ true → p ≡ true
-    go true q is = refl
-    go false q is = absurd (false≢true is)
-part_has Writes access e other = go access.reads access.writes (not_not _ e)
-  where
-    go : (p q : Bool) → (not false || p) && (not true || q) ≡ true → q ≡ true
-    go p true is = refl
-    go p false is = absurd (false≢true is)
+part_has Reads access e other = (and_parts access.reads true (not-false _ e)).0
+part_has Writes access e other = not-false _ e
 part_has Executes access e other = absurd (other refl)
 
 record Used (s : State) (x : Context) (given : Stateid) (right : Right) (d : Node) : Type 0 where
@@ -207,7 +108,7 @@ special_grants s x right d (Open number access) is passed = absurd (false≢true
 special_grants s x right d (Lock number access) is passed = absurd (false≢true (sym is))
 
 state_has : (s : State) (x : Context) (right : Right) (d : Node) (k : Seat) → right ≢ Executes → is_state k ≡ true
-    → first_fault (seat_checks s x (wanted_by right) d k) ≡ None → has_right (seat_access k) right ≡ true
+    → first_fault (seat_checks s x (wanted_by right) d k) ≡ None → has_right (access_in k) right ≡ true
 state_has s x right d Anonymous other is passed = absurd (false≢true is)
 state_has s x right d ReadBypass other is passed = absurd (false≢true is)
 state_has s x right d (Open number access) other is passed = (let checks = all_passed (seat_checks s x (wanted_by right) d (Open number access)) passed in part_has right access checks.0 other)
@@ -226,10 +127,8 @@ used_by s x given d right k table other there grants e =
     let its = checked_ok (seat s x given d) (seat_checks s x (wanted_by right) d) k (sym (in_steps.may_use_is s x (wanted_by right) given d) ∙ e) in
     record {
       there = there;
-      special = λ id means some. grants (special_grants s x right d k (judged_special s.opens id x.client d.number k some (seat_came s x given d k its.0 id means)) its.1);
-      state = λ id means none. (let judged = seat_came s x given d k its.0 id means in
-          judged_seat s.opens id x.client d.number k right table none judged
-          (state_has s x right d k other (judged_state s.opens id x.client d.number k none judged) its.1));
+      special = λ id means some. grants (special_grants s x right d k (is_special_seat (is_anonymous id) (is_bypass id) _ k some (seat_came s x given d k its.0 id means)) its.1);
+      state = λ id means none. judged_has s.opens table id x.client d.number k right (λ state. state_has s x right d k other state its.1) none (seat_came s x given d k its.0 id means);
     }
 
 reads_no_more : ◌≢◌ {A = Right} Reads Executes
@@ -252,16 +151,13 @@ writable_used s x given d table e =
 
 -- Of an operation that was run.
 
-some_number : (n m : ℕ) → Some n ≡ Some m → n ≡ m
-some_number n m e = cc
-
 used_here : (d : RanOp) (n : ℕ) (r : Rights) (k : Node) (given : Stateid) (right : Right) → IsAt n r d → Used d.before.store d.context given right k
     → ByStateid d.before.store.tree.profile n r d given right
 used_here d n r k given right at used = record {
   special = λ id means some. subst (λ r. GrantsUse right d.before.store.tree.profile r d.context.who)
       (here d.before.store d.context n r k at.at at.is used.there) (used.special id means some);
   state = λ id means none. subst (λ n. HasOpen d.before.store.opens d.context.client n right)
-      (some_number k.number n (sym (current_number d.before.store d.context k used.there) ∙ at.at)) (used.state id means none);
+      (same_Some k.number n (sym (current_number d.before.store d.context k used.there) ∙ at.at)) (used.state id means none);
 }
 
 pub done_by : {A : Type 0} (s : State) (x : Context) (op : OpNum) (v : Result A Status) (f : A → Outcome) → Refuses v

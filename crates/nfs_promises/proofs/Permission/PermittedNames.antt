@@ -1,22 +1,17 @@
 -- An operation on names that was answered NFS4_OK was granted what it wants of the directory.
-use Rattle.std.proofs.Common.{◌≡◌, ℕ, true, List, [], ◌∷◌, Some, refl, sym, ◌∙◌, ap, subst, inl, inr}
-use Rattle.std.proofs.lemmas.Bool.{not-false, false≢true}
+use Rattle.std.proofs.{Common.{◌≡◌, ℕ, true, List, [], ◌∷◌, Some, refl, sym, ◌∙◌, ap, subst, inl, inr}, lemmas.Bool.{not-false, false≢true}}
 use Rattle.std.specs.Prelude.{Ok}
-use Rattle.nfs_xdr.specs.{Tables.In, declared.time.Time.Time}
-use Rattle.nfs_xdr.specs.declared.status.Status.TheVariants.{Symlink}
+use Rattle.nfs_xdr.specs.{Tables.In, declared.{time.Time.Time, status.Status.TheVariants.Symlink}}
 use Rattle.nfs_xdr.proofs.Checks.{all_passed}
-use Rattle.nfs_compound.specs.{declared.name_args.Create.Create}
-use Rattle.nfs_compound.specs.{declared.name_args.ReadDir.ReadDir, declared.op.Item.Item, declared.op.Item.TheVariants.Operation}
+use Rattle.nfs_compound.specs.declared.{name_args.{Create.Create, ReadDir.ReadDir}, op.Item.{Item, TheVariants.Operation}}
 use Rattle.nfs_compound.specs.declared.op.Op.TheVariants as Op
 use Rattle.nfs_compound.specs.declared.op_num.OpNum.TheVariants as Num
 use Rattle.nfs_results.specs.Results.{status_of_result}
 use Rattle.nfs_tree.specs.Object.{is_link}
 use Rattle.nfs_attrs.specs.Permissions.{execute as to_execute, change_entries as to_change}
-use Rattle.nfs_names.specs.{declared.context.Context.Context, declared.node.Node.Node}
-use Rattle.nfs_names.specs.Checks.{node_at, saved_object, no_directory, no_access, permits, name_checks, current, both}
-use Rattle.nfs_names.specs.{Create.{place_checks, create}, Link.link}
-use Rattle.nfs_names.specs.{Lookup.lookup, LookupP.lookup_p, Outcome.{Outcome, is_ok}}
-use Rattle.nfs_names.specs.{ReadDir.{listing_checks, read_dir}, Remove.remove, State.{State, time_at}}
+use Rattle.nfs_names.specs.{Checks.{node_at, saved_object, no_directory, no_access, permits, name_checks, current, both}, Create.{place_checks, create}}
+use Rattle.nfs_names.specs.{Link.link, Lookup.lookup, LookupP.lookup_p, Outcome.{Outcome, is_ok}, ReadDir.{listing_checks, read_dir}, Remove.remove}
+use Rattle.nfs_names.specs.{State.{State, time_at}, declared.{context.Context.Context, node.Node.Node}}
 use Rattle.nfs_names.proofs.{Found.{came, ok_is}, NameLaws.{by_lookup, by_lookup_p, by_read_dir, by_create, by_link, by_remove, link_places, remove_places}}
 use Rattle.nfs_names.proofs.Ones.{by_delay}
 use Rattle.nfs_exec.specs.{Runs.Ops.RanOp}

@@ -29,9 +29,8 @@ use Rattle.nfs_files.specs.Parts as parts
 use Rattle.nfs_files.specs.SetAttrParts as set_parts
 use Rattle.nfs_files.specs.SetAttr as of_set
 use Rattle.nfs_files.specs.Write as of_write
-use Rattle.nfs_files.proofs.{ChangesTold.some_same, FileOps.setting_is, OpenAnswers.open_refuses, Seats.writable_refuses}
-use Rattle.nfs_files.proofs.OpenedTrees.{LeftBy, Same, Emptied, Made, opened_tree, set_held}
-use Rattle.nfs_files.proofs.{SetAnswers.asked_refuses, WrittenOps.{by_found, current_number, writable_at}}
+use Rattle.nfs_files.proofs.{ChangesTold.some_same, FileOps.setting_is, OpenAnswers.open_refuses, Seats.writable_refuses, SetAnswers.asked_refuses}
+use Rattle.nfs_files.proofs.{OpenedTrees.{LeftBy, Same, Emptied, Made, opened_tree, set_held}, WrittenOps.{by_found, current_number, writable_at}}
 use Rattle.nfs_exec.specs.{Step.Behind.refused_step, Runs.Ops.RanOp}
 use Rattle.nfs_exec.proofs.Runs.OneRun.{IsRun, by_item, by_run}
 use Rattle.nfs_serve.specs.Step.{new_state}
@@ -58,8 +57,7 @@ node_known n r t d is held at = go (stored_in t.objects n) refl (subst (λ j. ob
     go : (o : Option Stored) → stored_in t.objects n ≡ o → option_map (λ (s : Stored). s.object) (stored_in t.objects n) ≡ Some d.object → known_of r.profile d.object ≡ r
     go None none there = absurd (let bad : None ≡ Some d.object = sym (ap (option_map (λ (s : Stored). s.object)) none) ∙ there in cc)
     go (Some s) some there =
-        let one : Some s.object ≡ Some d.object = sym (ap (option_map (λ (s : Stored). s.object)) some) ∙ there in
-        let same : s.object ≡ d.object = cc in
+        let same : s.object ≡ d.object = (let one : Some s.object ≡ Some d.object = sym (ap (option_map (λ (s : Stored). s.object)) some) ∙ there in cc) in
         ap (λ (o : Object). known_of r.profile o) (sym same) ∙ is.rights s some
 
 settled_same : (k : Subject) (r : Rights) (t : Files) (d : Node) (who : Caller) (w : Wanted) → Holds k r t → IsHeld t d → d.number ≡ k.number

@@ -12,12 +12,11 @@ use Rattle.nfs_attrs.specs.{declared.mask.Mask.Mask, Mask.{mask_of, has}, Attrib
 use Rattle.nfs_names.specs.{declared.node.Node.Node, Attributes.about, Outcome.is_ok, ReadDir.{attributes_at, entry_of, left, longest, fitting, listed}}
 use Rattle.nfs_names.specs.State.{State}
 use Rattle.nfs_names.specs.Outcome as of_store
-use Rattle.nfs_names.proofs.{Entering.listed_there, NameLaws.by_read_dir}
+use Rattle.nfs_names.proofs.{Entering.listed_there, NameLaws.by_read_dir, Terms.fits}
 use Rattle.nfs_promises.specs.Runs.AttributesTold.{HasValue, EntriesTell}
 use Rattle.nfs_exec.specs.{Runs.Ops.RanOp}
 use Rattle.nfs_exec.proofs.{Runs.OneRun.{IsRun, by_ok}}
 use Rattle.nfs_promises.proofs.Runs.AttributesTold.{lease_long, lease_cut, values_in}
-use Rattle.nfs_names.proofs.Terms.{fits}
 
 lease_at : (s : State) (asked : Mask) (n : ℕ) (o : Option Object) → has asked 10 ≡ true → is_some o ≡ true → HasValue s.tree.profile 10 (number s.lease) asked (attributes_at s asked n o)
 lease_at s asked n None is there = absurd (false≢true there)

@@ -1,8 +1,7 @@
 -- GETATTR tells the change, the size and the lease in their places, whatever else is asked for.
 use Rattle.std.proofs.Common.{◌≡◌, ℕ, ◌+◌, Bool, true, false, cond, List, [], ◌∷◌, ◌++◌, length, take, drop, Option, Some, None, refl, sym, ◌∙◌, ap, arith}
 use Rattle.std.proofs.{lemmas.Bool.{false≢true}, lemmas.List.length-append, lemmas.Grind.flat_map-append}
-use Rattle.std.specs.{List.flat_map, Prelude.if◌then◌else◌}
-use Rattle.std.specs.{Option.option_map_or, Prelude.{option_map, is_some, Ok}}
+use Rattle.std.specs.{List.flat_map, Prelude.{if◌then◌else◌, option_map, is_some, Ok}, Option.option_map_or}
 use Rattle.nfs_xdr.specs.{Spelling.{number, hyper}, Text.{uint32, uint64}}
 use Rattle.nfs_xdr.proofs.Putting.{length_number, length_hyper}
 use Rattle.nfs_compound.specs.declared.op.Item.TheVariants.{Operation}

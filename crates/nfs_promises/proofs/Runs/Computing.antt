@@ -1,10 +1,9 @@
 -- What a run that is worked by hand computes with: how calls are read, what their operations do and how results are spelled.
 use Rattle.nfs_xdr.specs.{Spelling.{number, hyper}, Reading.{opaque_at, fixed_at, pieces_at, flag_at}, AuthSys.auth_sys}
 use Rattle.nfs_rpc.specs.{HeadCodec.{header, opaque_auth}, CallHead.{call_of, behind_header, caller_of}, Reply.spell_head}
-use Rattle.nfs_compound.specs.{ReadRequest.{request_at, items_at, item_at}, OpCodec.{op_at, fault_at}}
-use Rattle.nfs_compound.specs.ArgCodecs.{exchange_id_args, create_session_args, sequence_args, sec_parms, protected, impl_id, lock_type, open_to_lock_owner, exist_lock_owner}
-use Rattle.nfs_compound.specs.{ArgCodecs.{locker, lock_args, lock_u_args, read_args, write_args, stable_how}, ChannelAttrs.channel_attrs, Stateid.stateid}
-use Rattle.nfs_compound.specs.StateOwner.{state_owner}
+use Rattle.nfs_compound.specs.{ReadRequest.{request_at, items_at, item_at}, OpCodec.{op_at, fault_at}, ArgCodecs.{exchange_id_args, create_session_args}}
+use Rattle.nfs_compound.specs.ArgCodecs.{sequence_args, sec_parms, protected, impl_id, lock_type, open_to_lock_owner, exist_lock_owner, locker, lock_args}
+use Rattle.nfs_compound.specs.{ArgCodecs.{lock_u_args, read_args, write_args, stable_how}, ChannelAttrs.channel_attrs, Stateid.stateid, StateOwner.state_owner}
 use Rattle.nfs_compound.specs.OpenCodecs.{create_how, open_how, delegation_type, open_claim, open_args, open_downgrade_args, close_args}
 use Rattle.nfs_compound.specs.ArgCodecs as compound_attributes
 use Rattle.nfs_results.specs.Items as results

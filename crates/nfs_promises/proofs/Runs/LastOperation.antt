@@ -51,3 +51,11 @@ each_of P test one (x ∷ ds) e d there = (let p = and_parts (test x) (list_all 
   | inl here ↦ subst P (sym here) (one x p.0)
   | inr later ↦ each_of P test one ds p.1 d later
 ])
+
+-- what is so of the only one
+pub only : {X : Type 0} (P : X → Type 0) (xs : List X) (x : X) → xs ≡ x ∷ [] → P x → (y : X) → In y xs → P y
+only P xs x is holds y there = by (subst (In y) is there)
+  where
+    by : In y (x ∷ []) → P y
+    by (inl same) = subst P (sym same) holds
+    by (inr none) = absurd none

@@ -3,8 +3,7 @@ use Rattle.std.proofs.Common.{◌≡◌, ◌⊎◌, ℕ, ◌<◌, ◌≤◌, Boo
 use Rattle.std.specs.Prelude.{◌==◌, not, if◌then◌else◌}
 use Rattle.nfs_xdr.specs.Tables.{In}
 use Rattle.nfs_xdr.proofs.Lists.{in_filter, in_map, in_push}
-use Rattle.nfs_opens.specs.{declared.records.LockState.LockState, declared.records.OpenState.OpenState, Locking.raised}
-use Rattle.nfs_opens.specs.{Opening.{own_open, opens_by}, Table.{Table, Asked}}
+use Rattle.nfs_opens.specs.{declared.records.{LockState.LockState, OpenState.OpenState}, Locking.raised, Opening.{own_open, opens_by}, Table.{Table, Asked}}
 use Rattle.nfs_names.specs.{Ending.table_staying, State.time_at}
 use Rattle.nfs_names.proofs.Untouched.{leaves_each}
 use Rattle.nfs_files.proofs.{Effected.kept_opens, Effects.{Effect, Opens, Closes, Locks, Begins, Unlocks, Frees, table_behind}}

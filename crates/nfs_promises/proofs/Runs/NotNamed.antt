@@ -4,8 +4,7 @@ use Rattle.std.proofs.lemmas.Bool.{cases_Bool, eqb-true, ne_eqb, eqb-false, and_
 use Rattle.std.specs.{Prelude.{◌==◌, ◌&&◌, ◌||◌, filter, find, bytes_eq, is_some, option_map}, Option.option_map_or}
 use Rattle.nfs_xdr.specs.{Caller.Caller, Tables.In, declared.status.Status.Status, declared.status.Status.TheVariants.Delay}
 use Rattle.nfs_xdr.proofs.{Lists.{find_in, find_kept, find_push_some, filter_past}, Tables.{at_without, in_bounds, in_once}}
-use Rattle.nfs_compound.specs.{declared.op.Item.Item, declared.op.Item.TheVariants.Operation, Request.{Request, item_number}}
-use Rattle.nfs_compound.specs.declared.session_args.CreateSession.{CreateSession}
+use Rattle.nfs_compound.specs.{declared.{op.Item.{Item, TheVariants.Operation}, session_args.CreateSession.CreateSession}, Request.{Request, item_number}}
 use Rattle.nfs_compound.specs.declared.op.Op.TheVariants as Op
 use Rattle.nfs_clients.specs.Roster.{ClientRecord, Roster, IsRoster, first_id, next_id, client_at, is_unconfirmed_of, unconfirmed_of}
 use Rattle.nfs_clients.specs.ExchangeId.{Ask, Case, Refuses, Stays, Adds, case_of, does}
@@ -18,18 +17,14 @@ use Rattle.nfs_sessions.specs.{Id.id_of, declared.{channel.Wish.Wish, id.Session
 use Rattle.nfs_sessions.specs.Sessions.{Session, SessionTable, is_session, session_at, create, create_unless, create_fault}
 use Rattle.nfs_lease.specs.Renewals.{Book, has_run_out, with_lease, with_renewal, without_lease}
 use Rattle.nfs_names.specs.{Context.begins, Outcome.is_ok}
-use Rattle.nfs_exec.specs.Step.{Machine.{Machine, IsMachine, MachineOutcome, or_with_delay, with_refusal}, Place.place_fault, Parts.without_any_lease}
-use Rattle.nfs_exec.specs.Step.{ExchangeId.exchange_id, Parts.{wish_of, without_any_sessions}}
-use Rattle.nfs_exec.specs.Step.CreateSession.{made_body}
-use Rattle.nfs_exec.specs.{Step.Destroy.{destroy_session, client_fault}, Step.Run.{run, is_here, behind_here}}
-use Rattle.nfs_exec.specs.{Step.Compound.{carried_out, first_item, renewed, begun, compound}, Step.Expiry.expired}
-use Rattle.nfs_exec.specs.Runs.Own.{sessions_of, IsAsBefore, has_owner, is_named_in}
-use Rattle.nfs_exec.proofs.Step.{InSteps.{exchange_id_is, create_session_is}, Terms.by_fault}
-use Rattle.nfs_exec.specs.Step.Parts.{did_exchange, ask_of, by_number, creates, by_created}
-use Rattle.nfs_exec.proofs.{Runs.ByEvent.by_answered, Step.Behind.{run_leases, run_sessions}, Runs.KeptByRuns.Is}
+use Rattle.nfs_exec.specs.{Runs.Own.{sessions_of, IsAsBefore, has_owner, is_named_in}, Step.Compound.{carried_out, first_item, renewed, begun, compound}}
+use Rattle.nfs_exec.specs.Step.{CreateSession.made_body, Destroy.{destroy_session, client_fault}, ExchangeId.exchange_id, Expiry.expired, Place.place_fault}
+use Rattle.nfs_exec.specs.Step.{Machine.{Machine, IsMachine, MachineOutcome, or_with_delay, with_refusal}, Run.{run, is_here, behind_here}}
+use Rattle.nfs_exec.specs.Step.Parts.{without_any_lease, wish_of, without_any_sessions, did_exchange, ask_of, by_number, creates, by_created}
+use Rattle.nfs_exec.proofs.{Step.{InSteps.{exchange_id_is, create_session_is}, Terms.{by_fault, client_ended}}, Runs.ByEvent.by_answered}
+use Rattle.nfs_exec.proofs.{Step.Behind.{run_leases, run_sessions}, Runs.KeptByRuns.Is}
 use Rattle.nfs_promises.proofs.Runs.{OthersByOps.{known_apart_from, run_apart}, OthersByRuns.alone_apart}
 use Rattle.nfs_files.proofs.OthersTables.{same, both, clients_gone, filter_changed, filter_pushed}
-use Rattle.nfs_exec.proofs.Step.Terms.{client_ended}
 
 pub as_it_was : (client : ℕ) (m : Machine) → IsAsBefore client m m
 as_it_was client m = record { known = refl; sessions = refl; lease = refl; own = same client m.store.opens }

@@ -3,8 +3,7 @@ use Rattle.std.proofs.Common.{◌≡◌, suc, sym, ◌∙◌, arith, inl, inr}
 use Rattle.nfs_xdr.proofs.Tables.{in_bounds}
 use Rattle.nfs_opens.specs.{declared.records.LockState.LockState, Table.Table}
 use Rattle.nfs_promises.proofs.Runs.{LockStates.Descends, LockOwners.{owned_behind, owned_client}}
-use Rattle.nfs_exec.proofs.{Runs.WhatWasDone.told_there, Runs.OneRun.IsRun}
-use Rattle.nfs_exec.proofs.Runs.KeptByRuns.{Is}
+use Rattle.nfs_exec.proofs.Runs.{WhatWasDone.told_there, OneRun.IsRun, KeptByRuns.Is}
 use Rattle.nfs_exec.specs.{Runs.Ops.RanOp}
 use Rattle.nfs_promises.specs.Runs.LockOwners.{AreOne}
 

@@ -4,8 +4,7 @@ use Rattle.std.proofs.lemmas.Option.{none-some}
 use Rattle.std.specs.{Prelude.{◌==◌, filter}, Option.option_map_or}
 use Rattle.nfs_xdr.specs.{Tables.In, declared.status.Status.Status, declared.status.Status.TheVariants.RepTooBig, declared.time.Time.Time}
 use Rattle.nfs_xdr.proofs.Lists.{in_filter, stays_in}
-use Rattle.nfs_compound.specs.{declared.open_args.Open.Open, OpNum.op_number, declared.op.Op.Op, declared.op.Item.Item, declared.op.Item.TheVariants.Operation}
-use Rattle.nfs_compound.specs.Request.{item_number}
+use Rattle.nfs_compound.specs.{declared.{open_args.Open.Open, op.{Op.Op, Item.{Item, TheVariants.Operation}}}, OpNum.op_number, Request.item_number}
 use Rattle.nfs_compound.specs.declared.op_num.OpNum.TheVariants as Num
 use Rattle.nfs_results.specs.Results.{spell_result, refusal}
 use Rattle.nfs_opens.specs.{declared.records.OpenState.OpenState, Opening.own_open, Table.Table}
@@ -18,9 +17,8 @@ use Rattle.nfs_files.specs.{OpenTold.{names_open, OpenTold, Bits, bits_with, bit
 use Rattle.nfs_files.proofs.{Inside.Closes, ToldOpens.{same_opens, short_names_none, told_open_left, told_opens, opens_refused}}
 use Rattle.nfs_exec.specs.{Step.Machine.Machine, Step.Laws.{MachineEvent, stepped}, Runs.Ops.{RanOp, ops_by}, Runs.LockHeld.{ClosesOf, is_of}}
 use Rattle.nfs_promises.specs.Runs.OpenHeld.{IsOpenBefore, the_open, TellsOpen}
-use Rattle.nfs_exec.proofs.{Runs.KeptByRuns.Is, Runs.OneRun.{IsRun, by_item, by_run}, Runs.WhatWasDone.{told_close, event_run}}
+use Rattle.nfs_exec.proofs.Runs.{KeptByRuns.Is, OneRun.{IsRun, by_item, by_run}, WhatWasDone.{told_close, event_run}, OneWalk.{Stays, IsTold, told_walked}}
 use Rattle.nfs_promises.proofs.Runs.OthersByRuns.{SparesClient, event_apart}
-use Rattle.nfs_exec.proofs.{Runs.OneWalk.{Stays, IsTold, told_walked}}
 
 -- what others leave
 open_frame : (k : OpenTold) (b : Bits) (t u : Table) → HasAsBefore k.client t u → IsOpenWith k b t → IsOpenWith k b u

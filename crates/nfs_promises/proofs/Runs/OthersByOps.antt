@@ -11,8 +11,7 @@ use Rattle.nfs_names.specs.{declared.context.Context.Context, declared.node.Node
 use Rattle.nfs_names.proofs.Untouched.{leaves_each}
 use Rattle.nfs_files.proofs.{Outcomes.for_each, Effected.same_client, OthersTables.{same, both}, OthersOps.{is_other, item_apart}}
 use Rattle.nfs_results.specs.Largest.{largest}
-use Rattle.nfs_exec.specs.{Step.Machine.Machine, Step.Behind.{step, otherwise}}
-use Rattle.nfs_exec.specs.Step.{ReclaimComplete.reclaim_complete, Run.{run, in_room, reserve, is_here, behind_here}}
+use Rattle.nfs_exec.specs.Step.{Machine.Machine, Behind.{step, otherwise}, ReclaimComplete.reclaim_complete, Run.{run, in_room, reserve, is_here, behind_here}}
 use Rattle.nfs_files.specs.Own.{HasAsBefore}
 use Rattle.nfs_exec.proofs.{Step.{Behind.{by_step, follow_kept, other_context}, Terms.{of_one, of_all}}, Runs.KeptByRuns.{Is, whole_room, otherwise_store}}
 

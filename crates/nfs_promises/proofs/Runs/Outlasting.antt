@@ -3,11 +3,9 @@ use Rattle.std.proofs.Common.{◌≡◌, ◌⊎◌, ℕ, Bool, true, false, cond
 use Rattle.std.proofs.lemmas.Bool.{cases_Bool, eqb-false, ne_eqb}
 use Rattle.std.specs.{Prelude.{◌&&◌, ◌||◌, ◌==◌, bit_and, is_some, option_map, ok_or}, Option.option_map_or}
 use Rattle.nfs_xdr.specs.{Caller.Caller, Checks.{first_fault, judged}, declared.status.Status.Status}
-use Rattle.nfs_xdr.specs.declared.status.Status.TheVariants.{Delay, Inval, StaleClientId, MinorVersMismatch}
-use Rattle.nfs_xdr.specs.Numbers.{next_number}
-use Rattle.nfs_compound.specs.{declared.op.Item.Item, declared.op.Item.TheVariants.Operation, Request.{Request, item_number}}
-use Rattle.nfs_compound.specs.{declared.session_args.CreateSession.CreateSession, declared.session_args.ExchangeId.ExchangeId}
-use Rattle.nfs_compound.specs.declared.session_args.Sequence.{Sequence}
+use Rattle.nfs_xdr.specs.{declared.status.Status.TheVariants.{Delay, Inval, StaleClientId, MinorVersMismatch}, Numbers.next_number}
+use Rattle.nfs_compound.specs.{declared.{op.Item.{Item, TheVariants.Operation}, session_args.CreateSession.CreateSession}, Request.{Request, item_number}}
+use Rattle.nfs_compound.specs.declared.session_args.{ExchangeId.ExchangeId, Sequence.Sequence}
 use Rattle.nfs_compound.specs.declared.op.Op.TheVariants as Op
 use Rattle.nfs_clients.specs.{declared.created.CreateResult.CreateResult, declared.created.CreateResult.TheVariants.{Done, Refused}, ExchangeId.has_room}
 use Rattle.nfs_clients.specs.{Roster.{ClientRecord, client_at, confirmed_of, unconfirmed_of, next_id}, CreateSession.leaving}
@@ -15,16 +13,13 @@ use Rattle.nfs_sessions.specs.{Id.id_of, Sessions.session_at}
 use Rattle.nfs_opens.specs.Steps.{require, ◌>>=◌, ◌>>◌}
 use Rattle.nfs_lease.specs.Renewals.{Book, with_lease, with_renewal, without_lease}
 use Rattle.nfs_names.specs.{Context.begins, Outcome.is_ok}
-use Rattle.nfs_exec.specs.Step.{Machine.{Machine, MachineOutcome, or_with_delay, with_refusal}, Place.place_fault, Parts.without_any_lease}
-use Rattle.nfs_exec.specs.Step.ExchangeId.{exchange_id, exchanged, standing}
-use Rattle.nfs_exec.specs.Step.CreateSession.{create_session, kept_again, made}
-use Rattle.nfs_exec.specs.{Step.Destroy.{destroy_session, client_fault}, Step.Sequence.{Sequenced, sequenced}, Step.Run.{is_here, behind_here}}
-use Rattle.nfs_exec.specs.Step.Compound.{carried_out, first_item, renewed, begun, bare, in_session, by_first, compound}
-use Rattle.nfs_exec.specs.{Step.Laws.{Asks, first_runs, if_runs}, Runs.LockHeld.is_of}
+use Rattle.nfs_exec.specs.{Runs.LockHeld.is_of, Step.Compound.{carried_out, first_item, renewed, begun, bare, in_session, by_first, compound}}
+use Rattle.nfs_exec.specs.Step.{CreateSession.{create_session, kept_again, made}, Destroy.{destroy_session, client_fault}, Laws.{Asks, first_runs, if_runs}}
+use Rattle.nfs_exec.specs.Step.{ExchangeId.{exchange_id, exchanged, standing}, Machine.{Machine, MachineOutcome, or_with_delay, with_refusal}}
+use Rattle.nfs_exec.specs.Step.{Parts.without_any_lease, Place.place_fault, Run.{is_here, behind_here}, Sequence.{Sequenced, sequenced}}
 use Rattle.nfs_promises.specs.Runs.Renewing.{adds, is_for, renews_alone, renews_or_begins}
 use Rattle.nfs_exec.specs.Step.Sequence as sequence
-use Rattle.nfs_exec.proofs.Step.{Behind.run_leases, InSteps.for_client, Terms.{by_fault, or_with_refusal, session_checks, or_kept_refusal}}
-use Rattle.nfs_exec.proofs.Step.Terms.{client_ended}
+use Rattle.nfs_exec.proofs.Step.{Behind.run_leases, InSteps.for_client, Terms.{by_fault, or_with_refusal, session_checks, or_kept_refusal, client_ended}}
 use Rattle.nfs_promises.proofs.Runs.NotNamed.{neither}
 
 abbrev pub IsStill : ℕ → Book → Book → Type 0

@@ -7,10 +7,8 @@ use Rattle.nfs_compound.specs.{Request.Request, declared.session_args.Sequence.S
 use Rattle.nfs_sessions.specs.Id.{id_of}
 use Rattle.nfs_lease.specs.Renewals.{Book, is_out, has_run_out}
 use Rattle.nfs_names.specs.Context.{begins}
-use Rattle.nfs_exec.specs.{Step.Machine.Machine, Step.Run.behind_here, Step.Compound.{renewed, begun, compound}, Step.Laws.Asks}
-use Rattle.nfs_exec.specs.Runs.LockHeld.{is_of, renews}
-use Rattle.nfs_exec.proofs.{Step.Behind.run_leases, Runs.ByEvent.by_compound, Step.LeaseMoments.{IsHeld, compound_held}}
-use Rattle.nfs_exec.proofs.Step.Terms.{leases_kept}
+use Rattle.nfs_exec.specs.{Step.{Machine.Machine, Run.behind_here, Compound.{renewed, begun, compound}, Laws.Asks}, Runs.LockHeld.{is_of, renews}}
+use Rattle.nfs_exec.proofs.{Step.{Behind.run_leases, LeaseMoments.{IsHeld, compound_held}, Terms.leases_kept}, Runs.ByEvent.by_compound}
 
 -- a lease of the client that stands was renewed no earlier
 abbrev pub AtLeast : ℕ → ℕ → Book → Type 0

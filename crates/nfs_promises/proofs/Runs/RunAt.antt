@@ -5,8 +5,7 @@ use Rattle.nfs_xdr.specs.{Tables.In, Caller.Caller}
 use Rattle.nfs_compound.specs.{declared.op.Item.Item, Request.Request}
 use Rattle.nfs_sessions.specs.Id.{id_of}
 use Rattle.nfs_names.specs.{declared.context.Context.Context, Context.begins, Outcome.is_ok}
-use Rattle.nfs_exec.specs.Step.{Machine.Machine, Run.{in_room, is_here, behind_here}, Compound.{renewed, begun}, Laws.Asks}
-use Rattle.nfs_exec.specs.Runs.Ops.{RanOp, ops, ops_by}
+use Rattle.nfs_exec.specs.{Step.{Machine.Machine, Run.{in_room, is_here, behind_here}, Compound.{renewed, begun}, Laws.Asks}, Runs.Ops.{RanOp, ops, ops_by}}
 use Rattle.nfs_exec.proofs.Runs.{OneRun.IsRun, ByEvent.by_compound, KeptByRuns.{Is, whole_room, in_more}, OneWalk.in_back}
 use Rattle.nfs_serve.specs.Step.{ServerState}
 use Rattle.nfs_promises.specs.{Network.Endpoint.Arrival, Runs.Points.{state_after, taken, before, ops_of}, Bytes.ChangeTells.RunsIn}

@@ -4,8 +4,7 @@ use Rattle.std.proofs.lemmas.Bool.{eqb-true, ne_eqb, eq-eqb, and_parts, and_from
 use Rattle.std.specs.Prelude.{◌==◌, ◌&&◌, filter, is_some, option_map}
 use Rattle.nfs_xdr.specs.Caller.{Caller}
 use Rattle.nfs_xdr.proofs.Lists.{find_past, find_push_some, find_map, some_or_none}
-use Rattle.nfs_compound.specs.{declared.op.Item.Item, declared.op.Item.TheVariants.Operation, Request.Request}
-use Rattle.nfs_compound.specs.{declared.session_args.CreateSession.CreateSession, declared.session_args.Sequence.Sequence}
+use Rattle.nfs_compound.specs.{declared.{op.Item.{Item, TheVariants.Operation}, session_args.{CreateSession.CreateSession, Sequence.Sequence}}, Request.Request}
 use Rattle.nfs_compound.specs.declared.op.Op.TheVariants as Op
 use Rattle.nfs_clients.specs.CreateSession as clients
 use Rattle.nfs_slots.specs.Slot.{SlotState}
@@ -13,14 +12,12 @@ use Rattle.nfs_slots.specs.Slot as slots
 use Rattle.nfs_sessions.specs.{Id.id_of, Laws.{is_id, with_slots}, declared.{channel.Wish.Wish, id.SessionId.SessionId, sessions.SessionFault.SessionFault}}
 use Rattle.nfs_sessions.specs.Sessions.{Session, SessionTable, is_session, session_at, create_unless, create_fault, with_session}
 use Rattle.nfs_names.specs.{Context.begins, Outcome.is_ok}
-use Rattle.nfs_exec.specs.Step.{Machine.{Machine, MachineOutcome}, Run.{is_here, behind_here}, Parts.{wish_of, without_any_sessions}}
-use Rattle.nfs_exec.specs.{Step.Sequence.compared, Step.Compound.{first_item, renewed, begun, in_session, compound}, Step.Laws.Asks}
-use Rattle.nfs_exec.specs.{Runs.LockHeld.{takes_place, replaces}}
+use Rattle.nfs_exec.specs.Step.{Machine.{Machine, MachineOutcome}, Run.{is_here, behind_here}, Parts.{wish_of, without_any_sessions, by_created}}
+use Rattle.nfs_exec.specs.Step.{Sequence.compared, Compound.{first_item, renewed, begun, in_session, compound}, Laws.Asks}
+use Rattle.nfs_exec.specs.Runs.LockHeld.{takes_place, replaces}
 use Rattle.nfs_promises.specs.Runs.SessionLasts.{is_end, ends_session}
 use Rattle.nfs_exec.specs.Step.Sequence as sequence
-use Rattle.nfs_exec.specs.Step.Parts.{by_created}
-use Rattle.nfs_exec.proofs.{Step.Behind.run_sessions, Runs.ByEvent.{by_answered, by_alone}, Step.AloneKeeps.not_leaving}
-use Rattle.nfs_exec.proofs.Runs.SessionsBehind.{ran_in, told_compound}
+use Rattle.nfs_exec.proofs.{Step.{Behind.run_sessions, AloneKeeps.not_leaving}, Runs.{ByEvent.{by_answered, by_alone}, SessionsBehind.{ran_in, told_compound}}}
 
 -- the session stands
 abbrev pub Has : SessionId → SessionTable → Type 0

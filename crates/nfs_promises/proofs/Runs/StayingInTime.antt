@@ -4,15 +4,13 @@ use Rattle.std.specs.Option.{option_map_or}
 use Rattle.nfs_xdr.specs.Caller.{Caller}
 use Rattle.nfs_compound.specs.Request.{Request}
 use Rattle.nfs_opens.specs.Table.{Table}
-use Rattle.nfs_names.specs.{declared.start.Start.Start}
-use Rattle.nfs_names.specs.State.{State as Store}
+use Rattle.nfs_names.specs.{declared.start.Start.Start, State.State as Store}
 use Rattle.nfs_files.specs.Own.{HasAsBefore}
 use Rattle.nfs_exec.specs.{Step.Machine.Machine, Runs.Kept.{Kept, While, AreSpared, after_all}, Step.Laws.{MachineEvent, Expires, Asks}}
 use Rattle.nfs_exec.specs.{Runs.LockHeld.{renews, replaces}, Runs.Ops.{RanOp, ops_by}}
 use Rattle.nfs_exec.proofs.Runs.OneWalk as walk
-use Rattle.nfs_exec.proofs.{Runs.OneWalk.{IsTold, event_walked, none_at}}
+use Rattle.nfs_exec.proofs.{Runs.{OneWalk.{IsTold, event_walked, none_at}, KeptByRuns.Is}, Step.LeaseMoments.compound_lease}
 use Rattle.nfs_promises.proofs.Runs.{OthersByRuns.{SparesClient, event_apart}, Renewing.{AtLeast, in_time, least_expired, least_behind}}
-use Rattle.nfs_exec.proofs.{Step.LeaseMoments.compound_lease, Runs.KeptByRuns.Is}
 use Rattle.nfs_serve.specs.{Step.{ServerState, new_state}}
 use Rattle.nfs_promises.specs.{Network.Endpoint.Arrival, Runs.Points.{state_after, state_after_all, reached, taken, before, asked_by, ops_of}}
 use Rattle.nfs_promises.specs.Locks.LockKept.{renews_by, replaces_by, StaysFor, InTimeFor}

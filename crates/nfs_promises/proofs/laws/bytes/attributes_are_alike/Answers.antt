@@ -1,4 +1,4 @@
-use Rattle.nfs_promises.proofs.Bytes.ChangeAttributes.{attributes_are_alike}
+use Rattle.nfs_promises.proofs.Bytes.EntriesAlike.{attributes_are_alike}
 use Rattle.nfs_promises.proofs.laws.bytes.attributes_are_alike.Goals as goal
 
 pub returns : goal.returns
