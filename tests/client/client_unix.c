@@ -291,7 +291,16 @@ static void removed(const char *at, const char *name) {
     nftw(path, drops, 8, FTW_DEPTH | FTW_PHYS);
 }
 
-/* The kinds of what differs: the operation, and what it came to there and here, or that something was different behind it. */
+/* The kinds of what differs that docs/OPERATING.md has: the operation, and what it came to there and here. Linux's client leaves it to the server to ask
+   for write permission of a directory, and looks at what is removed before. */
+static const char *const KNOWN[] = {"rmdir 20 for 13", "unlink 21 for 13", NULL};
+
+static int is_known(const char *kind) {
+    for (int i = 0; KNOWN[i]; i++)
+        if (!strcmp(KNOWN[i], kind)) return 1;
+    return 0;
+}
+
 static char kinds[KINDS][64];
 static int counts[KINDS], many;
 
@@ -305,7 +314,7 @@ static void counted(const char *kind) {
 
 void random_calls(unsigned seed) {
     const char *const there = AT "random", *const here = "/beside";
-    int differ = 0;
+    int differ = 0, unknown = 0;
     char one[96], two[96], kind[64];
     srandom(seed);
     mkdir(here, 0777);
@@ -323,11 +332,14 @@ void random_calls(unsigned seed) {
         if (far != near) snprintf(kind, sizeof kind, "%s %d for %d", OPS[c.op], far, near);
         else snprintf(kind, sizeof kind, "%s behind", OPS[c.op]);
         counted(kind);
-        printf("note: call %d: %s of %s (%s, %o, %ld) by %d: %d for %d; '%s' for '%s'\n", i, OPS[c.op], c.path, c.other, c.mode, c.number,
-               c.who->uid, far, near, one, two);
+        if (!is_known(kind)) {
+            unknown++;
+            printf("note: call %d: %s of %s (%s, %o, %ld) by %d: %d for %d; '%s' for '%s'\n", i, OPS[c.op], c.path, c.other, c.mode, c.number,
+                   c.who->uid, far, near, one, two);
+        }
         removed(there, c.path), removed(here, c.path), removed(there, c.other), removed(here, c.other);
     }
     for (int i = 0; i < many; i++) printf("note: %s: %d\n", kinds[i], counts[i]);
     umask(022);
-    step("calls come to what they come to in a local file system", !differ, "%d of %d differ", differ, CALLS);
+    step("calls differ from a local file system's in known ways alone", !unknown, "%d of %d, %d differ", unknown, CALLS, differ);
 }

@@ -1,4 +1,4 @@
--- Two GETATTRs of an object are answered the same while its change is the same.
+-- What a GETATTR puts is the text of the object's attributes, which is the same of objects that are alike.
 use Rattle.std.proofs.Common.{◌≡◌, ℕ, true, List, [], length, Option, Some, None, refl, sym, ◌∙◌, ap, inl, inr}
 use Rattle.std.specs.{Prelude.{option_map, is_some, if◌then◌else◌, Ok}, Option.option_map_or}
 use Rattle.nfs_results.specs.declared.res.Res.TheVariants as Res
