@@ -1,5 +1,5 @@
 -- The wrong changes at 2^64, computed.
-use Rattle.std.proofs.{Common.{◌≡◌, ◌+◌, ◌-◌, ◌^◌, true, [], ◌∷◌, refl, arith}, lemmas.Bool.{ltb-true, true≢false}}
+use Rattle.std.proofs.{Common.{◌≡◌, ◌+◌, ◌^◌, [], ◌∷◌, refl, arith}, lemmas.Bool.{ltb-true, true≢false}}
 use Rattle.nfs_compound.specs.declared.file_args.StableHow.TheVariants.{Unstable}
 use Rattle.nfs_results.specs.Items as results
 use Rattle.nfs_tree.specs.Files.{change_of}

@@ -1,5 +1,5 @@
 -- The run of a file that is open and loses its name, and the wrong answers, computed.
-use Rattle.std.proofs.Common.{◌≡◌, ◌⊎◌, ℕ, true, false, List, [], ◌∷◌, ◌++◌, get_or, take, refl, sym, ap, subst, arith, inl, inr}
+use Rattle.std.proofs.Common.{◌≡◌, ◌⊎◌, ℕ, true, List, [], ◌∷◌, ◌++◌, get_or, take, refl, sym, ap, subst, arith, inl, inr}
 use Rattle.std.proofs.lemmas.Bool.{true≢false, false≢true}
 use Rattle.nfs_xdr.specs.{declared.status.Status.Status, declared.status.Status.TheVariants.{NoEnt, RepTooBig}, Tables.In}
 use Rattle.nfs_compound.specs.{declared.file_args.Read.Read, declared.stateid.Stateid.Stateid}

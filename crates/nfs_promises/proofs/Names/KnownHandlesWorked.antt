@@ -7,7 +7,7 @@ use Rattle.nfs_results.specs.declared.res.Res.TheVariants as Res
 use Rattle.nfs_results.specs.Results.{spell_result}
 use Rattle.nfs_names.specs.{Checks.both, GetFh.get_fh, Link.link, Rename.rename, RestoreFh.restore_fh, SaveFh.save_fh}
 use Rattle.nfs_promises.specs.Names.{HandlesWorked.given, KnownHandles.{starts, Follow}, KnownHandlesWorked.{finds, links, renames, found, linked}}
-use Rattle.nfs_promises.specs.Names.KnownHandlesWorked.{root, another, f, g, h, IsKnown, but_for, answering, no_handle, giving, HandlesRefused}
+use Rattle.nfs_promises.specs.Names.KnownHandlesWorked.{root, another, f, g, IsKnown, but_for, answering, no_handle, giving, HandlesRefused}
 use Rattle.nfs_promises.specs.{Names.NameStays.finds_none, Runs.Points.ops_of, Bytes.WrittenStaysWorked.made}
 use Rattle.nfs_promises.proofs.Runs.Computing.{computing}
 

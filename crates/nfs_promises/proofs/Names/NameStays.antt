@@ -30,7 +30,7 @@ use Rattle.nfs_promises.specs.Answers.{Asked.{Seeks, InCurrent, InSaved, NamedOf
 use Rattle.nfs_promises.proofs.{Answers.NameReasons.lookup_blames, Runs.StatusTold.{is_told, done_ok, names_ok}}
 use Rattle.nfs_promises.proofs.{Runs.Points.{left, next_is, IsSound, whole_before, sound_next, sound_all, sound_new}, Names.NameRows.{run_rows, kept_rows, gone_rows, entry_at}}
 use Rattle.nfs_promises.proofs.Runs.Seats.{LedTo, OpenedTo, led_on, by_name, did}
-pub use Rattle.nfs_promises.proofs.Runs.Seats.{ran_as, as_step}
+pub use Rattle.nfs_promises.proofs.Runs.Seats.{ran_as}
 
 -- Operations that were run one after the other: each hands its context on to the next one.
 
