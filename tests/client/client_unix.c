@@ -293,7 +293,7 @@ static void removed(const char *at, const char *name) {
 
 /* The kinds of what differs that docs/OPERATING.md has: the operation, and what it came to there and here. Linux's client leaves it to the server to ask
    for write permission of a directory, and looks at what is removed before. */
-static const char *const KNOWN[] = {"rmdir 20 for 13", "unlink 21 for 13", NULL};
+static const char *const KNOWN[] = {"rmdir 20 for 13", NULL};
 
 static int is_known(const char *kind) {
     for (int i = 0; KNOWN[i]; i++)
