@@ -183,6 +183,17 @@ static void room(void) {
     comes_to("of which fewer are left when some were made", a.f_ffree - b.f_ffree, MORE, 0);
 }
 
+/* A file takes all pages that files may have: its writer hears of it, and what is removed makes room. */
+static void fills(void) {
+    static char part[1 << 20];
+    int file = open(AT "full", O_CREAT | O_WRONLY, 0644), came = file < 0 ? errno : 0;
+    for (int n = 0; n < 100 && !came; n++) came = write(file, part, sizeof part) != sizeof part || fsync(file) ? errno : 0;
+    comes_to("a file that outgrows the setting memory is told so", came, ENOSPC, 0);
+    close(file);
+    step("it is removed", !unlink(AT "full"), "errno %d", errno);
+    step("and there is room", put(AT "small", O_CREAT, part, sizeof part) == sizeof part, "errno %d", errno);
+}
+
 /* An open file that lost its name, while its client's lease runs out. */
 static void open_without_a_name(void) {
     char bytes[8] = {0};
@@ -208,6 +219,7 @@ void by_profile(int profile_is_unix) {
     times();
     renames();
     room();
+    fills();
     open_without_a_name();
 }
 

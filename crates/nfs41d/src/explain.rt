@@ -12,9 +12,10 @@ use crate::shown::{Grouped, Shown};
 use crate::words::order;
 use crate::{MOST_OF_SETTINGS, start_of};
 use nfs_tree::Profile;
+use std::fmt;
 use std::io::{ErrorKind, Write};
 use std::net::{SocketAddr, SocketAddrV4, TcpListener};
-use toml::Value;
+use toml::{Table, Value};
 
 /// The number of a start of the server; each start has a default of its own.
 const INSTANCE: Number = Number {
@@ -29,6 +30,22 @@ const OBJECTS: Number = Number {
     high: MOST_OBJECTS,
     default: 1,
 };
+
+/// The numbers that may stand at a key, and the greatest in octal where it is written so.
+#[derive(Clone, Copy)]
+struct Range {
+    number: Number,
+    octal: &'static str,
+}
+
+impl fmt::Display for Range {
+    fn fmt<W: fmt::Write>(&self, f: &mut fmt::Formatter<W>) -> fmt::Result {
+        let Number { low, high, .. } = self.number;
+        let (low, high) = (Grouped(u64::from(low)), Grouped(u64::from(high)));
+        let octal = self.octal;
+        write!(f, "{low} to {high}{octal}")
+    }
+}
 
 /// Writes why the words of a command line, the program's name first, came to a fault, where they ask to serve without a
 /// number of connections. A failure to write is passed over.
@@ -107,43 +124,70 @@ fn explain_file<W: Write>(rt: &HostRuntime, path: &str, w: &mut W) {
 
 /// Writes what is wrong with the text of a settings file.
 fn explain_text<W: Write>(rt: &HostRuntime, path: &str, text: &str, w: &mut W) {
-    let shown = Shown(path);
-    let table = match toml::table_from_str(rt.alloc(), text) {
-        Ok(table) => table,
+    match toml::table_from_str(rt.alloc(), text) {
+        Ok(table) => explain_table(table, path, text, w),
+        Err(e) if e.is_memory() => {}
         Err(e) => {
-            if !e.is_memory() {
-                let why = Shown(e.message());
-                let _ = writeln!(w, "nfs41d: {shown} is no TOML: {why}");
-            }
-            return;
+            let (shown, why) = (Shown(path), Shown(e.message()));
+            let _ = writeln!(w, "nfs41d: {shown} is no TOML: {why}");
         }
-    };
+    }
+}
+
+/// Writes what is wrong with the table that a text is.
+fn explain_table<W: Write>(table: Table, path: &str, text: &str, w: &mut W) {
+    let is_strange = explain_keys(&table, path, w);
+    let root = Value::Table(table);
+    let is_told = is_strange || explain_values(&root, path, w);
+    if !is_told {
+        explain_mode(text, path, w);
+    }
+}
+
+/// Writes which key there is not, and answers whether there is one.
+fn explain_keys<W: Write>(table: &Table, path: &str, w: &mut W) -> bool {
     for key in table.keys() {
         if !is_known(key.as_str()) {
-            let key = Shown(key.as_str());
+            let (shown, key) = (Shown(path), Shown(key.as_str()));
             let _ = writeln!(
                 w,
                 "nfs41d: {shown}: there is no key '{key}': the keys are {KEYS}"
             );
-            return;
+            return true;
         }
     }
-    let root = Value::Table(table);
-    let is_told = explain_number(&root, "lease", LEASE, path, w)
-        || explain_number(&root, "root_mode", ROOT_MODE, path, w)
-        || explain_number(&root, "instance", INSTANCE, path, w)
-        || explain_owner(&root, path, w)
-        || explain_bytes(&root, path, w)
-        || explain_number(&root, "objects", OBJECTS, path, w)
-        || explain_memory(&root, path, w)
-        || explain_number(&root, "connections", CONNECTIONS, path, w)
-        || explain_number(&root, "clients", CLIENTS, path, w)
-        || explain_number(&root, "sessions", CONNECTIONS, path, w)
-        || explain_sessions(&root, path, w)
-        || explain_profile(&root, path, w);
-    if let (false, Some(mode)) = (is_told, decimal_mode(text)) {
-        explain_mode(mode, path, w);
-    }
+    false
+}
+
+/// Writes what is wrong with the first value that may not be, and answers whether there is one.
+fn explain_values<W: Write>(root: &Value, path: &str, w: &mut W) -> bool {
+    explain_start(root, path, w)
+        || explain_sizes(root, path, w)
+        || explain_crowd(root, path, w)
+        || explain_profile(root, path, w)
+}
+
+/// The same of what stays as it is for as long as a server runs.
+fn explain_start<W: Write>(root: &Value, path: &str, w: &mut W) -> bool {
+    explain_number(root, "lease", LEASE, path, w)
+        || explain_number(root, "root_mode", ROOT_MODE, path, w)
+        || explain_number(root, "instance", INSTANCE, path, w)
+        || explain_owner(root, path, w)
+}
+
+/// The same of how much there may be.
+fn explain_sizes<W: Write>(root: &Value, path: &str, w: &mut W) -> bool {
+    explain_bytes(root, path, w)
+        || explain_number(root, "objects", OBJECTS, path, w)
+        || explain_memory(root, path, w)
+}
+
+/// The same of how many may come.
+fn explain_crowd<W: Write>(root: &Value, path: &str, w: &mut W) -> bool {
+    explain_number(root, "connections", CONNECTIONS, path, w)
+        || explain_number(root, "clients", CLIENTS, path, w)
+        || explain_number(root, "sessions", CONNECTIONS, path, w)
+        || explain_sessions(root, path, w)
 }
 
 /// Writes what is wrong with the name of the server, and answers whether something is.
@@ -190,7 +234,7 @@ fn explain_bytes<W: Write>(root: &Value, path: &str, w: &mut W) -> bool {
     if bytes_at(root, "file_bytes", 1).is_some() {
         return false;
     }
-    explain_wide(root, "file_bytes", "1 to 1,099,511,627,776", path, w);
+    explain_wide(root, "file_bytes", &"1 to 1,099,511,627,776", path, w);
     true
 }
 
@@ -199,18 +243,25 @@ fn explain_memory<W: Write>(root: &Value, path: &str, w: &mut W) -> bool {
     if memory_at(root, "memory", 0).is_some() {
         return false;
     }
-    explain_wide(root, "memory", "0 to 70,368,744,177,664", path, w);
+    explain_wide(root, "memory", &"0 to 70,368,744,177,664", path, w);
     true
 }
 
 /// Writes that what stands at a key is no number of a range.
-fn explain_wide<W: Write>(root: &Value, key: &str, range: &str, path: &str, w: &mut W) {
+fn explain_wide<R: fmt::Display, W: Write>(
+    root: &Value,
+    key: &str,
+    range: &R,
+    path: &str,
+    w: &mut W,
+) {
     let shown = Shown(path);
-    if let Some(Value::Integer(n)) = root.get(key) {
-        let _ = writeln!(w, "nfs41d: {shown}: {key} is {n}, and not from {range}");
-    } else {
-        let _ = writeln!(w, "nfs41d: {shown}: {key} is no number from {range}");
-    }
+    let _ = match root.get(key) {
+        Some(Value::Integer(n)) => {
+            writeln!(w, "nfs41d: {shown}: {key} is {n}, and not from {range}")
+        }
+        _ => writeln!(w, "nfs41d: {shown}: {key} is no number from {range}"),
+    };
 }
 
 /// Writes what is wrong with the profile, and answers whether something is.
@@ -226,20 +277,22 @@ fn explain_profile<W: Write>(root: &Value, path: &str, w: &mut W) -> bool {
     true
 }
 
-/// Writes how permission bits are to be written.
-fn explain_mode<W: Write>(mode: &str, path: &str, w: &mut W) {
-    let (shown, number) = (Shown(path), Shown(mode));
-    let _ = if is_octal(mode) {
-        writeln!(
-            w,
-            "nfs41d: {shown}: root_mode is {number} without 0o: write 0o{number}"
-        )
-    } else {
-        writeln!(
-            w,
-            "nfs41d: {shown}: root_mode is {number} without 0o: write it in octal, as 0o755"
-        )
-    };
+/// Writes how permission bits are to be written, where a text writes them otherwise.
+fn explain_mode<W: Write>(text: &str, path: &str, w: &mut W) {
+    if let Some(mode) = decimal_mode(text) {
+        let (shown, number) = (Shown(path), Shown(mode));
+        let _ = if is_octal(mode) {
+            writeln!(
+                w,
+                "nfs41d: {shown}: root_mode is {number} without 0o: write 0o{number}"
+            )
+        } else {
+            writeln!(
+                w,
+                "nfs41d: {shown}: root_mode is {number} without 0o: write it in octal, as 0o755"
+            )
+        };
+    }
 }
 
 /// Whether each sign of a number is a digit below 8.
@@ -263,19 +316,8 @@ fn explain_number<W: Write>(
     if number_at(root, key, number).is_some() {
         return false;
     }
-    let (shown, low, high) = (Shown(path), Grouped(number.low), Grouped(number.high));
     let octal = if key == "root_mode" { " (0o7777)" } else { "" };
-    if let Some(Value::Integer(n)) = root.get(key) {
-        let _ = writeln!(
-            w,
-            "nfs41d: {shown}: {key} is {n}, and not from {low} to {high}{octal}"
-        );
-    } else {
-        let _ = writeln!(
-            w,
-            "nfs41d: {shown}: {key} is no number from {low} to {high}{octal}"
-        );
-    }
+    explain_wide(root, key, &Range { number, octal }, path, w);
     true
 }
 

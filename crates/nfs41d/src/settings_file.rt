@@ -1,10 +1,10 @@
 //! The settings of a server, as a TOML document gives them.
 
 ghost use Rattle.std.specs.Prelude.{◌≡◌, ◌≢◌, IfOk, Some, None, Err, true, false, codes, option_and_then};
-ghost use Rattle.toml.specs.Data.{get};
+ghost use Rattle.toml.specs.Data.{Members, get, get_member, table};
 ghost use Rattle.toml.specs.Errors.{IsBlank};
 ghost use Rattle.toml.specs.View.{view, table_view};
-ghost use Rattle.nfs41d.specs.SettingsFile.{settings_in, number_of, owner_of, is_owner, lasts, default_bytes, default_objects, default_memory, default_profile, profile_of, profile_named, all_known, is_known};
+ghost use Rattle.nfs41d.specs.SettingsFile.{settings_in, settings_of, given, lease, root_mode, instance, file_bytes, objects, memory, connections, profile, clients, sessions, number_of, owner_of, is_owner, lasts, default_bytes, default_objects, default_memory, default_profile, profile_of, profile_named, all_known, is_known};
 
 use nfs_names::{Crowd, ServerOwner};
 use nfs_serve::Settings;
@@ -159,48 +159,135 @@ pub fn settings(
     ensures text { result ≡ Err Bad.Text → settings_in start half endless text.now ≡ None }
     ensures memory { result ≡ Err Bad.Memory → ¬ IsBlank text.now }
 {
-    let table = match toml::table_from_str(alloc, text) {
-        Ok(table) => table,
-        Err(e) if e.is_memory() => return Err(Bad::Memory),
-        Err(_) => return Err(Bad::Text),
-    };
-    if !only_known(&table) {
-        return Err(Bad::Text);
+    match toml::table_from_str(alloc, text) {
+        Ok(table) => given_by(alloc, table, start, half, endless),
+        Err(e) if e.is_memory() => Err(Bad::Memory),
+        Err(_) => Err(Bad::Text),
     }
+}
+
+/// What a table gives to a server, as [`settings`] says. `Memory` where memory for its name was refused.
+fn given_by(alloc: Global, table: Table, start: u32, half: u64, endless: bool) -> Result<Given, Bad>
+    ensures given { IfOk result (λ found. settings_of start half endless (table_view table) ≡ Some found) }
+    ensures text { result ≡ Err Bad.Text → settings_of start half endless (table_view table) ≡ None }
+    ensures memory { result ≡ Err Bad.Memory → get_member (codes "server_owner") (table_view table) ≢ None }
+{
+    let is_known = only_known(&table);
+    let root = Value::Table(table);
+    if is_known {
+        let lasting = lasts(endless, root.get("instance").is_some());
+        match asked_at(&root, start, half, lasting).given(lasting) {
+            Some(given) => named_by(alloc, &root, given),
+            None => Err(Bad::Text),
+        }
+    } else {
+        Err(Bad::Text)
+    }
+}
+
+/// What is given, with the name at its key.
+fn named_by(alloc: Global, root: &Value, given: Given) -> Result<Given, Bad>
+    ensures given { IfOk result (λ found. (found ≡ record given { owner = found.owner })
+        × (owner_of (get (codes "server_owner") (view root.now)) ≡ Some found.owner)) }
+    ensures text { result ≡ Err Bad.Text → owner_of (get (codes "server_owner") (view root.now)) ≡ None }
+    ensures memory { result ≡ Err Bad.Memory → get (codes "server_owner") (view root.now) ≢ None }
+{
+    match owner_at(alloc, root, "server_owner") {
+        Ok(owner) => Ok(Given { owner, ..given }),
+        Err(bad) => Err(bad),
+    }
+}
+
+/// What stands at each key but the server's name, where it may stand there.
+#[derive(Clone, Copy)]
+struct Asked {
+    lease: Option<u32>,
+    root_mode: Option<u32>,
+    instance: Option<u32>,
+    bytes: Option<u64>,
+    objects: Option<u32>,
+    memory: Option<u64>,
+    seats: Option<u32>,
+    profile: Option<Profile>,
+    clients: Option<u32>,
+    sessions: Option<u32>,
+}
+
+/// What a table asks for. Nothing is refused before all keys were read, so that one path leads through them.
+fn asked_at(root: &Value, start: u32, half: u64, lasting: bool) -> Asked
+    ensures { (t : Members) → view root.now ≡ table t → result ≡ record {
+      lease = lease t;
+      root_mode = root_mode t;
+      instance = instance start t;
+      bytes = file_bytes lasting t;
+      objects = objects lasting t;
+      memory = memory half lasting t;
+      seats = connections t;
+      profile = profile lasting t;
+      clients = clients t;
+      sessions = sessions t;
+    } }
+{
     let instances = Number {
         low: 1,
         high: u32::MAX - 1,
         default: start,
     };
-    let root = Value::Table(table);
-    let lasting = lasts(endless, root.get("instance").is_some());
     let counts = Number {
         low: 1,
         high: MOST_OBJECTS,
         default: default_objects(lasting),
     };
-    let lease = number_at(&root, "lease", LEASE).ok_or(Bad::Text)?;
-    let root_mode = number_at(&root, "root_mode", ROOT_MODE).ok_or(Bad::Text)?;
-    let instance = number_at(&root, "instance", instances).ok_or(Bad::Text)?;
-    let bytes = bytes_at(&root, "file_bytes", default_bytes(lasting)).ok_or(Bad::Text)?;
-    let objects = number_at(&root, "objects", counts).ok_or(Bad::Text)?;
-    let memory = memory_at(&root, "memory", default_memory(lasting, half)).ok_or(Bad::Text)?;
-    let seats = seats_at(&root).ok_or(Bad::Text)?;
-    let profile = profile_at(&root, "profile", default_profile(lasting)).ok_or(Bad::Text)?;
-    let clients = number_at(&root, "clients", CLIENTS).ok_or(Bad::Text)?;
-    let sessions = number_at(&root, "sessions", up_to(seats)).ok_or(Bad::Text)?;
-    let owner = owner_at(alloc, &root, "server_owner")?;
-    Ok(Given {
-        settings: Settings { lease, root_mode },
-        instance,
-        owner,
-        lasting,
-        limits: Limits { objects, bytes },
-        memory,
-        seats,
-        profile,
-        crowd: Crowd { clients, sessions },
-    })
+    Asked {
+        lease: number_at(root, "lease", LEASE),
+        root_mode: number_at(root, "root_mode", ROOT_MODE),
+        instance: number_at(root, "instance", instances),
+        bytes: bytes_at(root, "file_bytes", default_bytes(lasting)),
+        objects: number_at(root, "objects", counts),
+        memory: memory_at(root, "memory", default_memory(lasting, half)),
+        seats: seats_at(root),
+        profile: profile_at(root, "profile", default_profile(lasting)),
+        clients: number_at(root, "clients", CLIENTS),
+        sessions: sessions_at(root),
+    }
+}
+
+impl Asked {
+    /// What is given, without a name, if all may be given.
+    fn given(&self, lasting: bool) -> Option<Given>
+        ensures { let asked = self.now in result ≡ given asked.lease asked.root_mode asked.instance (Some None)
+            asked.bytes asked.objects asked.memory asked.seats asked.profile asked.clients asked.sessions lasting }
+    {
+        let lease = self.lease?;
+        let root_mode = self.root_mode?;
+        let instance = self.instance?;
+        let bytes = self.bytes?;
+        let objects = self.objects?;
+        let memory = self.memory?;
+        let seats = self.seats?;
+        let profile = self.profile?;
+        let clients = self.clients?;
+        let sessions = self.sessions?;
+        Some(Given {
+            settings: Settings { lease, root_mode },
+            instance,
+            owner: None,
+            lasting,
+            limits: Limits { objects, bytes },
+            memory,
+            seats,
+            profile,
+            crowd: Crowd { clients, sessions },
+        })
+    }
+}
+
+/// The most sessions: as many as seats, where they are left out.
+fn sessions_at(root: &Value) -> Option<u32>
+    ensures { (t : Members) → view root.now ≡ table t → result ≡ sessions t }
+{
+    let seats = seats_at(root)?;
+    number_at(root, "sessions", up_to(seats))
 }
 
 /// A number from 1 to this, and this where the key is left out.
@@ -243,17 +330,20 @@ fn only_known(table: &Table) -> bool
 pub fn is_known(key: &str) -> bool
     ensures { result ≡ is_known key.now }
 {
-    key == "lease"
-        || key == "root_mode"
-        || key == "instance"
-        || key == "server_owner"
-        || key == "file_bytes"
-        || key == "objects"
-        || key == "memory"
-        || key == "connections"
-        || key == "profile"
-        || key == "clients"
-        || key == "sessions"
+    matches!(
+        key,
+        "lease"
+            | "root_mode"
+            | "instance"
+            | "server_owner"
+            | "file_bytes"
+            | "objects"
+            | "connections"
+            | "profile"
+            | "clients"
+            | "sessions"
+            | "memory"
+    )
 }
 
 /// The number at a key, where it is an integer that may stand there, or the default where the key is left out.

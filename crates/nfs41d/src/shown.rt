@@ -18,20 +18,26 @@ impl fmt::Display for Shown<'_> {
 
 /// A number in groups of three digits.
 #[derive(Clone, Copy)]
-pub struct Grouped(pub u32);
+pub struct Grouped(pub u64);
 
 impl fmt::Display for Grouped {
     fn fmt<W: fmt::Write>(&self, f: &mut fmt::Formatter<W>) -> fmt::Result {
-        let (units, thousands) = (self.0 % 1_000, self.0 / 1_000 % 1_000);
-        let (millions, billions) = (self.0 / 1_000_000 % 1_000, self.0 / 1_000_000_000);
-        if self.0 < 1_000 {
-            write!(f, "{units}")
-        } else if self.0 < 1_000_000 {
-            write!(f, "{thousands},{units:03}")
-        } else if self.0 < 1_000_000_000 {
-            write!(f, "{millions},{thousands:03},{units:03}")
-        } else {
-            write!(f, "{billions},{millions:03},{thousands:03},{units:03}")
+        let groups = [
+            self.0 / 1_000_000_000_000,
+            self.0 / 1_000_000_000 % 1_000,
+            self.0 / 1_000_000 % 1_000,
+            self.0 / 1_000 % 1_000,
+            self.0 % 1_000,
+        ];
+        let mut is_begun = false;
+        for (at, group) in groups.iter().enumerate() {
+            if is_begun {
+                write!(f, ",{group:03}")?;
+            } else if *group > 0 || at == 4 {
+                write!(f, "{group}")?;
+                is_begun = true;
+            }
         }
+        Ok(())
     }
 }

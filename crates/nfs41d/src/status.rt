@@ -3,7 +3,7 @@
 ghost use Rattle.std.specs.Prelude.{◌≡◌, ◌<◌, ◌*◌, ◌/◌, min, option_map};
 
 use crate::clock::{PacedClock, SystemReadings};
-use crate::shown::Shown;
+use crate::shown::{Grouped, Shown};
 use crate::sockets::Sockets;
 use crate::tally::{DELAY, FBIG, MLINK, NOSPC, SERVERFAULT, Tally};
 use crate::told::Told;
@@ -12,39 +12,13 @@ use nfs_names::Crowd;
 use nfs_pace::MICROS;
 use nfs_serve::Watch;
 use nfs_tree::Limits;
+use std::fs;
 use std::io::Write;
-use std::{fmt, fs};
 
 /// Where Linux says how much memory of a process is resident, and the word before the number of kilobytes.
 const OWN_STATUS: &str = "/proc/self/status";
 
 const RESIDENT: &str = "VmRSS:";
-
-/// A number below 10^15 that is written in groups of three digits.
-#[derive(Clone, Copy)]
-struct Grouped(u64);
-
-impl fmt::Display for Grouped {
-    fn fmt<W: fmt::Write>(&self, f: &mut fmt::Formatter<W>) -> fmt::Result {
-        let (units, thousands) = (self.0 % 1_000, self.0 / 1_000 % 1_000);
-        let (millions, billions) = (self.0 / 1_000_000 % 1_000, self.0 / 1_000_000_000 % 1_000);
-        if self.0 < 1_000 {
-            write!(f, "{units}")
-        } else if self.0 < 1_000_000 {
-            write!(f, "{thousands},{units:03}")
-        } else if self.0 < 1_000_000_000 {
-            write!(f, "{millions},{thousands:03},{units:03}")
-        } else if self.0 < 1_000_000_000_000 {
-            write!(f, "{billions},{millions:03},{thousands:03},{units:03}")
-        } else {
-            let most = self.0 / 1_000_000_000_000;
-            write!(
-                f,
-                "{most},{billions:03},{millions:03},{thousands:03},{units:03}"
-            )
-        }
-    }
-}
 
 /// The limits that are told, each once.
 #[derive(Clone, Copy)]
@@ -178,7 +152,8 @@ impl<'a, W: Write + Drop> Status<'a, W> {
                 "client records; those of clients that are gone end a lease after their last renewal",
             );
         }
-        if full == NOSPC && held.sessions >= self.crowd.sessions as usize && !self.met.sessions {
+        let most_sessions = held.sessions >= self.crowd.sessions as usize;
+        if full == NOSPC && most_sessions && !self.met.sessions {
             self.met.sessions = true;
             let most = u64::from(self.crowd.sessions);
             self.say_most(
@@ -186,16 +161,19 @@ impl<'a, W: Write + Drop> Status<'a, W> {
                 "sessions; unmount where nobody works, or wait a lease for clients that are gone",
             );
         }
-        if full == NOSPC && held.objects >= self.limits.objects as usize && !self.met.objects {
+        let most_objects = held.objects >= self.limits.objects as usize;
+        if full == NOSPC && most_objects && !self.met.objects {
             self.met.objects = true;
             let most = u64::from(self.limits.objects);
             self.say_most(most, "files, directories and links; remove some");
         }
-        self.say_sizes(full);
+        // (no other NFS4ERR_NOSPC is left than that of a WRITE that found no memory)
+        let memory = full == DELAY || full == NOSPC && !most_sessions && !most_objects;
+        self.say_sizes(full, memory);
     }
 
     /// The same of the limits of a file and of memory.
-    fn say_sizes(&mut self, full: u32) {
+    fn say_sizes(&mut self, full: u32, memory: bool) {
         if full == FBIG && !self.met.bytes {
             self.met.bytes = true;
             let most = self.limits.bytes;
@@ -205,7 +183,7 @@ impl<'a, W: Write + Drop> Status<'a, W> {
             self.met.names = true;
             self.say("limit: 1,024 names of one object; copy it");
         }
-        if full == DELAY && !self.met.memory {
+        if memory && !self.met.memory {
             self.met.memory = true;
             self.say(
                 "limit: memory; end what else takes some, or raise what this process may have",

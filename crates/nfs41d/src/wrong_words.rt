@@ -47,7 +47,7 @@ impl fmt::Display for Why<'_> {
                 )
             }
             Why::NoCount(name, value, most) => {
-                let (value, most) = (Shown(value), Grouped(most));
+                let (value, most) = (Shown(value), Grouped(u64::from(most)));
                 write!(f, "{name} is '{value}', and not a number from 1 to {most}")
             }
             Why::NoAddress => f.write_str("serve wants --listen ADDR:PORT"),

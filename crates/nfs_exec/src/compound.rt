@@ -10,7 +10,7 @@ ghost use Rattle.nfs_compound.specs.declared.op.Op.TheVariants as Op;
 ghost use Rattle.nfs_lease.specs.Queue.{IsLatest};
 ghost use Rattle.nfs_sessions.specs.SessionTables.{IsGranted};
 ghost use Rattle.nfs_names.specs.StoreInvariants.{IsStore};
-ghost use Rattle.nfs_names.specs.Outcome.{is_delay};
+ghost use Rattle.nfs_names.specs.Outcome.{is_lack};
 ghost use Rattle.nfs_exec.specs.Step.Machine.{IsMachine, machine_of};
 ghost use Rattle.nfs_exec.specs.Step.Sequence.{Runs, sequenced};
 ghost use Rattle.nfs_exec.specs.Step.Compound.{compound, first_item, by_first};
@@ -90,7 +90,7 @@ impl Tables {
         requires store { IsStore (machine_of self.old).store }
         requires latest { IsLatest (machine_of self.old).leases now }
         requires room { HasLoneRoom out.old }
-        ensures { Does (first_item (machine_of self.old) declared (caller who.now) now (is_delay result) item.now) result (machine_of self.new) out.old out.new }
+        ensures { Does (first_item (machine_of self.old) declared (caller who.now) now (is_lack result) item.now) result (machine_of self.new) out.old out.new }
     {
         match item {
             Item::Operation(op) => self.alone_as(alloc, op, declared, who, now, out),
@@ -117,7 +117,7 @@ impl Tables {
         requires store { IsStore (machine_of self.old).store }
         requires latest { IsLatest (machine_of self.old).leases now }
         requires room { HasLoneRoom out.old }
-        ensures { Does (first_item (machine_of self.old) declared (caller who.now) now (is_delay result) (Operation op.now)) result (machine_of self.new) out.old out.new }
+        ensures { Does (first_item (machine_of self.old) declared (caller who.now) now (is_lack result) (Operation op.now)) result (machine_of self.new) out.old out.new }
     {
         let res = match place_fault(op, declared) {
             Some(status) => Res::refusal(op.number(), status),

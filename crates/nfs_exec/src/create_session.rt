@@ -8,7 +8,7 @@ ghost use Rattle.nfs_clients.specs.CreateSession as clients;
 ghost use Rattle.nfs_compound.specs.declared.op_num.OpNum.TheVariants as Num;
 ghost use Rattle.nfs_results.specs.Results.{done_head};
 ghost use Rattle.nfs_lease.specs.Queue.{IsLatest};
-ghost use Rattle.nfs_names.specs.Outcome.{is_delay};
+ghost use Rattle.nfs_names.specs.Outcome.{is_lack};
 ghost use Rattle.nfs_exec.specs.Step.Machine.{Machine, with_refusal, machine_of};
 ghost use Rattle.nfs_names.specs.StoreInvariants.{IsStore};
 ghost use Rattle.nfs_exec.specs.Step.CreateSession.{create_session, session_made, made_body, confirmed};
@@ -42,7 +42,7 @@ impl Tables {
         requires latest { IsLatest (machine_of self.old).leases now }
         requires store { IsStore (machine_of self.old).store }
         requires room { HasLoneRoom out.old }
-        ensures { Does (create_session (machine_of self.old) (caller who.now) now (is_delay result) asked.now) result (machine_of self.new) out.old out.new }
+        ensures { Does (create_session (machine_of self.old) (caller who.now) now (is_lack result) asked.now) result (machine_of self.new) out.old out.new }
     {
         let status = match self
             .clients
@@ -68,7 +68,7 @@ impl Tables {
         requires latest { IsLatest (machine_of self.old).leases now }
         requires store { IsStore (machine_of self.old).store }
         requires room { HasLoneRoom out.old }
-        ensures { Does (by_number (machine_of self.old) now (is_delay result) asked.now clients.Runs) result (machine_of self.new) out.old out.new }
+        ensures { Does (by_number (machine_of self.old) now (is_lack result) asked.now clients.Runs) result (machine_of self.new) out.old out.new }
     {
         let client = asked.clientid;
         let leaving = self.clients.leaving(client);

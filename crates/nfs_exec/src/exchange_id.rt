@@ -10,7 +10,7 @@ ghost use Rattle.nfs_lease.specs.Renewals.{leases_of};
 ghost use Rattle.nfs_lease.specs.Queue.{IsLatest};
 ghost use Rattle.nfs_results.specs.declared.res.Res.TheVariants as Res;
 ghost use Rattle.nfs_results.specs.Results.{status_of_result, spell_result};
-ghost use Rattle.nfs_names.specs.Outcome.{is_delay};
+ghost use Rattle.nfs_names.specs.Outcome.{is_lack};
 ghost use Rattle.nfs_exec.specs.Step.Machine.{IsMachine, with_result, or_with_delay, machine_of};
 ghost use Rattle.nfs_exec.specs.Step.ExchangeId.{exchange_id};
 ghost use Rattle.nfs_exec.specs.Step.View.{settled, Does, HasLoneRoom};
@@ -41,7 +41,7 @@ impl Tables {
         requires machine { IsMachine (machine_of self.old) }
         requires latest { IsLatest (machine_of self.old).leases now }
         requires room { HasLoneRoom out.old }
-        ensures { Does (or_with_delay (is_delay result) (machine_of self.old) (op_number Num.ExchangeId)
+        ensures { Does (or_with_delay (is_lack result) (machine_of self.old) (op_number Num.ExchangeId)
             (exchange_id (machine_of self.old) (caller who.now) now asked.now)) result (machine_of self.new) out.old out.new }
     {
         let exchanged = self.exchange(alloc, asked, who, now);
@@ -60,7 +60,7 @@ impl Tables {
         requires machine { IsMachine (machine_of self.old) }
         requires latest { IsLatest (machine_of self.old).leases now }
         ensures outcome { with_result (machine_of self.new) (answered self.old.owner result)
-            ≡ or_with_delay (is_delay (status_of_result (answered self.old.owner result))) (machine_of self.old) (op_number Num.ExchangeId)
+            ≡ or_with_delay (is_lack (status_of_result (answered self.old.owner result))) (machine_of self.old) (op_number Num.ExchangeId)
             (exchange_id (machine_of self.old) (caller who.now) now asked.now) }
         ensures owner { self.new.owner ≡ self.old.owner }
     {

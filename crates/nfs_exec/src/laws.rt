@@ -59,8 +59,9 @@ pub fn expiry_finds_nothing()
     ensures { ExpiryFindsNothing }
 {}
 
-/// Memory refused at a place of a compound makes no difference, or the operation there answers NFS4ERR_DELAY: then its results and the machine behind it are
-/// those of the same compound cut in front of that operation, but for the last result and for what its slot keeps.
+/// Memory refused at a place of a compound makes no difference, or the operation there answers NFS4ERR_DELAY, a WRITE in the profile `unix`
+/// NFS4ERR_NOSPC: then its results and the machine behind it are those of the same compound cut in front of that operation, but for the last
+/// result and for what its slot keeps.
 #[tactic(auto, using(crate::proofs::Step::Delayed::is_a_cut))]
 pub fn delay_is_a_cut()
     ensures { DelayIsACut }

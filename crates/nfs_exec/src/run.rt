@@ -9,7 +9,7 @@ ghost use Rattle.nfs_results.specs.Largest.{largest};
 ghost use Rattle.nfs_results.specs.Results.{spell_result};
 ghost use Rattle.nfs_results.specs.ResultCodec.{IsBounded};
 ghost use Rattle.nfs_names.specs.StoreInvariants.{IsStore};
-ghost use Rattle.nfs_names.specs.Outcome.{is_delay};
+ghost use Rattle.nfs_names.specs.Outcome.{is_lack};
 ghost use Rattle.nfs_exec.specs.Step.Machine.{with_result, machine_of};
 ghost use Rattle.nfs_exec.specs.Step.Place.{status_behind};
 ghost use Rattle.nfs_exec.specs.Step.Behind.{step, otherwise};
@@ -101,7 +101,7 @@ impl Tables {
         requires store { IsStore (machine_of self.old).store }
         requires reserve { reply.sofar + reserve ≤ reply.limit }
         requires room { length out.old.bytes + reply.limit ≤ out.old.room + reply.sofar }
-        ensures steps { Steps (in_room reply.limit reply.sofar now (is_delay result) (machine_of self.old) context.old item.now) result (machine_of self.new) context.new out.old out.new }
+        ensures steps { Steps (in_room reply.limit reply.sofar now (is_lack result) (machine_of self.old) context.old item.now) result (machine_of self.new) context.new out.old out.new }
         ensures fits { length out.new.bytes + reply.sofar ≤ length out.old.bytes + reply.limit }
         ensures more { result ≡ Nfs4Ok → length out.new.bytes + reply.sofar + reserve ≤ length out.old.bytes + reply.limit }
         ensures store { IsStore (machine_of self.new).store }
@@ -126,7 +126,7 @@ impl Tables {
         requires moment { now < 2 ^ 63 }
         requires store { IsStore (machine_of self.old).store }
         requires room { length out.old.bytes + largest item.now + reserve ≤ out.old.room }
-        ensures steps { Steps (step (machine_of self.old) context.old now (is_delay result) item.now) result (machine_of self.new) context.new out.old out.new }
+        ensures steps { Steps (step (machine_of self.old) context.old now (is_lack result) item.now) result (machine_of self.new) context.new out.old out.new }
         ensures fits { length out.new.bytes ≤ length out.old.bytes + largest item.now + reserve }
         ensures more { result ≡ Nfs4Ok → length out.new.bytes ≤ length out.old.bytes + largest item.now }
         ensures store { IsStore (machine_of self.new).store }
@@ -153,7 +153,7 @@ impl Tables {
         requires moment { now < 2 ^ 63 }
         requires store { IsStore (machine_of self.old).store }
         requires room { length out.old.bytes + largest (Operation op.now) + reserve ≤ out.old.room }
-        ensures steps { Steps (step (machine_of self.old) context.old now (is_delay result) (Operation op.now)) result (machine_of self.new) context.new out.old out.new }
+        ensures steps { Steps (step (machine_of self.old) context.old now (is_lack result) (Operation op.now)) result (machine_of self.new) context.new out.old out.new }
         ensures fits { length out.new.bytes ≤ length out.old.bytes + largest (Operation op.now) + reserve }
         ensures more { result ≡ Nfs4Ok → length out.new.bytes ≤ length out.old.bytes + largest (Operation op.now) }
         ensures store { IsStore (machine_of self.new).store }

@@ -52,7 +52,7 @@ impl World {
     ///
     /// Each refusal is an answer on the sheet. Where memory is refused, the nine operations that grow a table answer
     /// NFS4ERR_DELAY as their last check and change nothing: EXCHANGE_ID, CREATE_SESSION, CREATE, LINK, RENAME, OPEN, WRITE of
-    /// bytes, LOCK and LOCKU. No other answer wants memory.
+    /// bytes, LOCK and LOCKU; WRITE answers NFS4ERR_NOSPC in the profile `unix`. No other answer wants memory.
     pub fn compound(
         &mut self,
         alloc: Global,

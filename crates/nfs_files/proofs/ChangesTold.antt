@@ -25,7 +25,7 @@ use Rattle.nfs_names.specs.{declared.context.Context.Context, declared.context.S
 use Rattle.nfs_names.specs.{Checks.{node_at, current, both, saved_object}, Create.{attributes_in, change_info, new_of, made_sets, create}, Link.link}
 use Rattle.nfs_names.specs.{Outcome.{Outcome, checked, is_ok}, Remove.remove, Rename.{move_of, rename, without_replaced}}
 use Rattle.nfs_names.specs.State as store
-use Rattle.nfs_names.proofs.{Found.{came, ok_is, checked_ok, current_is}, NameLaws.{current_refuses, by_create, by_link, by_remove, by_rename}, Ones.by_delay}
+use Rattle.nfs_names.proofs.{Found.{came, ok_is, checked_ok, current_is}, NameLaws.{current_refuses, by_create, by_link, by_remove, by_rename}, Ones.by_delay, Faulted.lacks_fail}
 use Rattle.nfs_names.proofs.Refusing.{refuses_checked}
 use Rattle.nfs_files.specs.{declared.opening.Found.Found, declared.opening.Found.TheVariants.{There, Absent}, Operation.grows, StateIds.wire_id, Parts.writable}
 use Rattle.nfs_files.specs.{FileImage.{claimed, is_number, asks_empty}, Bytes.behind_sets}
@@ -295,7 +295,8 @@ written_raises n s x now w d same there some =
 pub write_raises : (n : ℕ) (refused : Bool) (s : store.State) (x : Context) (now : Time) (w : Write) → x.current ≡ Some n → is_there s.tree n ≡ true → has_bytes w.bytes ≡ true
     → Done (λ o. Raises n s.tree o.state.tree) (one_or_delay refused s x now (Op.Write w))
 write_raises n refused s x now w at there some =
-    by_delay (Done (λ o. Raises n s.tree o.state.tree)) (grows s x (Op.Write w) && refused) s x Num.Write (of_write.write s x now w) (λ ok. absurd (false≢true ok))
+    by_delay (Done (λ o. Raises n s.tree o.state.tree)) (grows s x (Op.Write w) && refused) s x Num.Write (of_write.write s x now w)
+    (λ ok. absurd (false≢true (sym (lacks_fail s Num.Write) ∙ ok)))
     (rw (write_is s x now w) (by_granted (Done (λ o. Raises n s.tree o.state.tree)) s x Num.Write (checked (writable s x w.stateid (current s x)) (of_write.last_checks s w)) (parts.was_written s x now w)
     (refuses_checked (writable s x w.stateid (current s x)) (of_write.last_checks s w) (writable_refuses s x w.stateid (current s x) (current_refuses s x)) (λ d. refl))
     (λ status refuses ok. absurd (false≢true (sym refuses.done ∙ ok)))

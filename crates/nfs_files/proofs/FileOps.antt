@@ -2,7 +2,7 @@
 use Rattle.std.proofs.Common.{◌≡◌, ℕ, ◌+◌, Bool, true, false, cond, List, [], Option, Some, None, refl, sym, ◌∙◌, ap, subst, arith, inl, inr}
 use Rattle.std.proofs.lemmas.Bool.{cases_Bool, cases_eq, eq-eqb, ne_eqb, not-false, false≢true}
 use Rattle.std.specs.{Prelude.{◌==◌, ◌&&◌, Result, Ok, Err, is_some, option_map, unwrap_or, map, replicate, if◌then◌else◌}, Option.{option_map_or, ForSome}}
-use Rattle.nfs_xdr.specs.{declared.time.Time.Time, declared.status.Status.Status, declared.status.Status.TheVariants.{Inval, Delay}}
+use Rattle.nfs_xdr.specs.{declared.time.Time.Time, declared.status.Status.Status, declared.status.Status.TheVariants.{Inval, NoSpc, Delay}}
 use Rattle.nfs_xdr.proofs.{Checks.all_passed, Lists.{find_push_none, find_push_other}}
 use Rattle.nfs_compound.specs.{Arguments.arguments, declared.lock_args.LockU.LockU, declared.file_args.Write.Write, declared.file_args.SetAttr.SetAttr}
 use Rattle.nfs_compound.specs.{declared.open_args.Open.Open, declared.open_args.Close.Close, declared.open_args.OpenHow.OpenHow}
@@ -25,7 +25,7 @@ use Rattle.nfs_opens.specs.Locking as locking
 use Rattle.nfs_names.specs.{declared.context.Context.Context, declared.node.Node.Node, declared.making.Making.Making, State.State, Ending.with_opens}
 use Rattle.nfs_names.specs.{Outcome.{Outcome, answers, checked, refuses, is_ok}, Checks.{node_as, node_at, current}, Create.attributes_in}
 use Rattle.nfs_names.specs.Operation as names
-use Rattle.nfs_names.proofs.{Found.{IsHeld, came, ok_is, checked_ok, current_is}, NameLaws.current_refuses, Ones.{by_delay, each_of}}
+use Rattle.nfs_names.proofs.{Found.{IsHeld, came, ok_is, checked_ok, current_is}, NameLaws.current_refuses, Ones.{by_delay, is_lacked, each_of}}
 use Rattle.nfs_names.proofs.{Refusing.{IsRefusal, Refuses, refuses_checked}, Effected.kept_item}
 use Rattle.nfs_names.proofs.Effects as names_effects
 use Rattle.nfs_names.proofs.Faulted.{status_of_refusal}
@@ -359,7 +359,8 @@ one_left n img s x now op is = same_if n img s.tree (is_ok (status_of_result (on
 pub file_left : (n : ℕ) (img : Image) (refused : Bool) (s : State) (x : Context) (now : Time) (i : Item) → Has n img s.tree → LeftBy n img s x i (comes_to refused s x now i)
 file_left n img refused s x now (Operation op) is =
     by_delay (LeftBy n img s x (Operation op)) (grows s x op && refused) s x (arguments op).op (one s x now op)
-    (refused_left n img s x (Operation op) (arguments op).op Delay refl is) (one_left n img s x now op is)
+    (is_lacked (λ f. LeftBy n img s x (Operation op) (refuses s x (arguments op).op f)) s (arguments op).op
+    (refused_left n img s x (Operation op) (arguments op).op Delay refl is) (refused_left n img s x (Operation op) (arguments op).op NoSpc refl is)) (one_left n img s x now op is)
 file_left n img refused s x now (Fault k status) is =
     same_if n img s.tree (is_ok (status_of_result (comes_to refused s x now (Fault k status)).result)) is
 

@@ -5,7 +5,7 @@ use Rattle.std.specs.{Prelude.{◌&&◌}, Option.{ForSome, option_map, unwrap_or
 use Rattle.nfs_xdr.specs.{declared.time.Time.Time, declared.status.Status.TheVariants.NotSupp}
 use Rattle.nfs_compound.specs.{Arguments.arguments, declared.op.Op.Op, declared.op.Item.Item, declared.op.Item.TheVariants.{Operation, Fault}}
 use Rattle.nfs_results.specs.declared.res.Res.TheVariants as Res
-use Rattle.nfs_names.specs.{declared.context.Context.Context, State.State, Outcome.{Outcome, refuses, or_delay}}
+use Rattle.nfs_names.specs.{declared.context.Context.Context, State.State, Outcome.{Outcome, refuses, or_lack}}
 use Rattle.nfs_files.specs.Operation as table
 pub use Rattle.nfs_files.specs.Operation.{grows}
 
@@ -13,7 +13,7 @@ abbrev pub one : State → Context → Time → Op → Outcome
 one s x now op = unwrap_or (table.one s x now op) (refuses s x (arguments op).op NotSupp)
 
 abbrev pub one_or_delay : Bool → State → Context → Time → Op → Outcome
-one_or_delay refused s x now op = or_delay (grows s x op && refused) s x (arguments op).op (one s x now op)
+one_or_delay refused s x now op = or_lack (grows s x op && refused) s x (arguments op).op (one s x now op)
 
 abbrev pub comes_to : Bool → State → Context → Time → Item → Outcome
 comes_to refused s x now (Operation op) = one_or_delay refused s x now op
@@ -27,7 +27,7 @@ mapped_is f (Some found) none o e = cc
 pub comes_is : (refused : Bool) (s : State) (x : Context) (now : Time) (i : Item) (o : Outcome)
     → table.comes_to refused s x now i ≡ Some o → comes_to refused s x now i ≡ o
 comes_is refused s x now (Operation op) o e =
-    mapped_is (or_delay (grows s x op && refused) s x (arguments op).op) (table.one s x now op) (refuses s x (arguments op).op NotSupp) o e
+    mapped_is (or_lack (grows s x op && refused) s x (arguments op).op) (table.one s x now op) (refuses s x (arguments op).op NotSupp) o e
 comes_is refused s x now (Fault number status) o e = absurd cc
 
 -- what holds of all outcomes holds of it

@@ -11,7 +11,7 @@ use Rattle.nfs_results.specs.{Largest.{largest, largest_of, number_of, asked}, M
 use Rattle.nfs_results.proofs.Lengths.{behind_within, length_spelled}
 use Rattle.nfs_ranges.specs.declared.Held.{Held}
 use Rattle.nfs_opens.specs.Locking.{test_lock}
-use Rattle.nfs_names.specs.{declared.context.Context.Context, State.State, Outcome.{Outcome, refuses, answers, or_delay, is_ok}}
+use Rattle.nfs_names.specs.{declared.context.Context.Context, State.State, Outcome.{Outcome, refuses, answers, or_lack, is_ok}}
 use Rattle.nfs_files.specs.{Ranges.wished, Lock.lock, LockT.lock_t, TestStateid.{code, test_stateid}}
 use Rattle.nfs_files.proofs.Terms.{tested}
 use Rattle.nfs_files.proofs.{Fitting.few_denied, OpensMoved.by_lock}
@@ -45,7 +45,7 @@ lock_short s x a = by_lock (λ o. IsShort (Op.Lock a) o.result) s x a
     (λ h. record { number = refl; sizes = few_denied s.opens h; arrays = tt })
     (λ m did judged granted locked. record { number = refl; sizes = tt; arrays = wire_length did.0 })
 
-pub short_lock : (b : Bool) (s : State) (x : Context) (a : Lock) → IsShort (Op.Lock a) (or_delay b s x Num.Lock (lock s x a)).result
+pub short_lock : (b : Bool) (s : State) (x : Context) (a : Lock) → IsShort (Op.Lock a) (or_lack b s x Num.Lock (lock s x a)).result
 short_lock b s x a =
     elim (b && is_ok (status_of_result (lock s x a).result)) as (λ k. IsShort (Op.Lock a) (cond k (refuses s x Num.Lock Delay) (lock s x a)).result) [
       | true ↦ record { number = refl; sizes = tt; arrays = tt }

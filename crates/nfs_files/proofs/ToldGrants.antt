@@ -22,7 +22,7 @@ use Rattle.nfs_opens.specs.Locking as locking
 use Rattle.nfs_opens.proofs.CallLaws.{first_state, IsLocked, IsUnlocked, unlocked_is}
 use Rattle.nfs_files.proofs.{OpensMoved.lock_is, Wishes.{wish_is, lock_wish, unlock_wish}, Outcomes.{one, one_or_delay}}
 use Rattle.nfs_files.proofs.{Inside.{Locks, Unlocks, Closes}, KeptOps.{lock_ok, clashing}, ToldLocks.{granted_held, left_by}, Steady.Few}
-use Rattle.nfs_names.specs.{declared.context.Context.Context, State.State, Outcome.{Outcome, answers, mapped, is_ok, or_delay}}
+use Rattle.nfs_names.specs.{declared.context.Context.Context, State.State, Outcome.{Outcome, answers, mapped, is_ok, or_lack, lacks}}
 use Rattle.nfs_names.proofs.Found.{came, ok_is}
 use Rattle.nfs_files.specs.{declared.ranges.Wished.Wished, declared.target.Target.Target, StateIds.{wire_id, meant}, Target.the_file, Parts.target}
 use Rattle.nfs_files.specs.{Ranges.wished, Operation.grows, Close.{spent}, Parts.{wish, closes, closed, unlocking, unlocked, unlocks}}
@@ -84,19 +84,19 @@ denied_names d m names = let bad : ◌≡◌ {A = ℕ} 39 0 = ap (λ (text : Lis
 
 -- or the operation came to what it comes to
 delay_or_not : (b : Bool) (s : State) (x : Context) (op : OpNum) (o : Outcome)
-    → ((or_delay b s x op o).result ≡ refusal (op_number op) Delay) ⊎ ((or_delay b s x op o).result ≡ o.result)
+    → ((or_lack b s x op o).result ≡ refusal (op_number op) (lacks s op)) ⊎ ((or_lack b s x op o).result ≡ o.result)
 delay_or_not b s x op o = elim (cases_Bool (b && is_ok (status_of_result o.result))) [ inl here ↦ inl (rw here refl) | inr other ↦ inr (rw other refl) ]
 
 undelayed : (op : OpNum) (b : Bool) (s : State) (x : Context) (o : Outcome) (m : ℕ)
-    → (Names op (spell_result (refusal (op_number op) Delay)) m → ⊥)
-    → Names op (spell_result (or_delay b s x op o).result) m → Names op (spell_result o.result) m
+    → (Names op (spell_result (refusal (op_number op) (lacks s op))) m → ⊥)
+    → Names op (spell_result (or_lack b s x op o).result) m → Names op (spell_result o.result) m
 undelayed op b s x o m never names = elim (delay_or_not b s x op o) [
   | inl delayed ↦ absurd (never (subst (λ r. Names op (spell_result r) m) delayed names))
   | inr same ↦ subst (λ r. Names op (spell_result r) m) same names
 ]
 
-ok_same : (b : Bool) (s : State) (x : Context) (op : OpNum) (o : Outcome) → is_ok (status_of_result (refusal (op_number op) Delay)) ≡ false
-    → is_ok (status_of_result (or_delay b s x op o).result) ≡ true → (or_delay b s x op o).result ≡ o.result
+ok_same : (b : Bool) (s : State) (x : Context) (op : OpNum) (o : Outcome) → is_ok (status_of_result (refusal (op_number op) (lacks s op))) ≡ false
+    → is_ok (status_of_result (or_lack b s x op o).result) ≡ true → (or_lack b s x op o).result ≡ o.result
 ok_same b s x op o never ok = elim (delay_or_not b s x op o) [
   | inl delayed ↦ absurd (let bad : true ≡ false = sym ok ∙ (ap (λ (r : Res). is_ok (status_of_result r)) delayed ∙ never) in cc)
   | inr same ↦ same

@@ -12,7 +12,7 @@ use Rattle.nfs_ranges.proofs.CanonicalLemmas.{within_is}
 use Rattle.nfs_opens.specs.{declared.stateid.StateId.StateId, declared.records.LockState.LockState, declared.locking.Wish.Wish, Holding.{FileHolders, on_file}}
 use Rattle.nfs_opens.specs.Table.{Table}
 use Rattle.nfs_results.specs.Results.{status_of_result}
-use Rattle.nfs_names.specs.{declared.context.Context.Context, State.State, Outcome.{is_ok, or_delay, answers}}
+use Rattle.nfs_names.specs.{declared.context.Context.Context, State.State, Outcome.{is_ok, or_lack, answers}}
 use Rattle.nfs_files.specs.{Operation.grows, LockTold.{LockTold, IsHeld}}
 use Rattle.nfs_files.proofs.{Outcomes.{one, one_or_delay}, Inside.ToldLocksStand, OpensMoved.lock_is, KeptOps.lock_ok}
 use Rattle.nfs_files.specs.Parts as parts
@@ -51,8 +51,8 @@ pub left_by : (s : State) (x : Context) (now : Time) (refused : Bool) (a : args.
     → (one_or_delay refused s x now (Op.Lock a)).state.opens ≡ did.1
 left_by s x now refused a m did judged granted ok = go (grows s x (Op.Lock a) && refused) ok
   where
-    go : (b : Bool) → is_ok (status_of_result (or_delay b s x (arguments (Op.Lock a)).op (one s x now (Op.Lock a))).result) ≡ true
-        → (or_delay b s x (arguments (Op.Lock a)).op (one s x now (Op.Lock a))).state.opens ≡ did.1
+    go : (b : Bool) → is_ok (status_of_result (or_lack b s x (arguments (Op.Lock a)).op (one s x now (Op.Lock a))).result) ≡ true
+        → (or_lack b s x (arguments (Op.Lock a)).op (one s x now (Op.Lock a))).state.opens ≡ did.1
     go false ok = lock_left s x now a m did judged granted
     go true ok = absurd (let bad = (rw (lock_ok s x now a m did judged granted) at ok) in cc)
 

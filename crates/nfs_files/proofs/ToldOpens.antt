@@ -22,7 +22,7 @@ use Rattle.nfs_opens.specs.TableInvariants.{IsTable}
 use Rattle.nfs_opens.specs.Closing as closing
 use Rattle.nfs_opens.specs.Opening as opening
 use Rattle.nfs_names.specs.{declared.context.Context.Context, declared.node.Node.Node, declared.making.Making.Making, State.State}
-use Rattle.nfs_names.specs.{Checks.{node_as, node_at, current}, Create.attributes_in, Outcome.{Outcome, refuses, checked, mapped, or_delay, is_ok}}
+use Rattle.nfs_names.specs.{Checks.{node_as, node_at, current}, Create.attributes_in, Outcome.{Outcome, refuses, checked, mapped, or_lack, is_ok}}
 use Rattle.nfs_names.proofs.Found.{came, checked_ok, ok_is}
 use Rattle.nfs_files.specs.{declared.target.Target.Target, declared.opening.Found.Found, declared.opening.Found.TheVariants.{There, Absent}, StateIds.wire_id}
 use Rattle.nfs_files.specs.{Open.{access_of, deny_of}, OpenDowngrade.{bits, open_downgrade}, Parts.narrowed}
@@ -302,7 +302,7 @@ open_left k b s x now a table few is =
     opened_left k b s x now a f table few (free_of s.opens (asking s x a f) (shared_free s x a f p.1)) is)))
 
 delayed_left : (k : OpenTold) (b : Bits) (v : Bool) (s : State) (x : Context) (a : Open) (o : Outcome) → IsOpenWith k b s.opens → LeftBy k b (Operation (Op.Open a)) o
-    → LeftBy k b (Operation (Op.Open a)) (or_delay v s x Num.Open o)
+    → LeftBy k b (Operation (Op.Open a)) (or_lack v s x Num.Open o)
 delayed_left k b v s x a o is left = elim (cases_Bool (v && is_ok (status_of_result o.result))) [
   | inl delayed ↦ rw delayed (open_refused k b s x a is Delay)
   | inr other ↦ rw other left
@@ -349,7 +349,7 @@ did_open refused s x now a n table few = by_delayed (of_open.open_file s x now a
       state = refl;
     }))))
   where
-    by_delayed : (o : Outcome) → DidIf s x now a n o → DidIf s x now a n (or_delay refused s x Num.Open o)
+    by_delayed : (o : Outcome) → DidIf s x now a n o → DidIf s x now a n (or_lack refused s x Num.Open o)
     by_delayed o did = elim (cases_Bool (refused && is_ok (status_of_result o.result))) [
       | inl delayed ↦ rw delayed (λ named. absurd (never_named Num.Open (op_number Num.Open) Delay n named))
       | inr other ↦ rw other did

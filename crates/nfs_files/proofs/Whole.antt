@@ -1,23 +1,23 @@
 -- What every operation keeps: its result is one that it may have, and the store stays one.
 use Rattle.std.proofs.Common.{◌≡◌, Bool, true, false, cond, Option, refl, subst, arith}
 use Rattle.std.specs.{Prelude.{◌&&◌, IfSome}, Option.ForSome}
-use Rattle.nfs_xdr.specs.{declared.time.Time.Time, declared.status.Status.TheVariants.Delay}
+use Rattle.nfs_xdr.specs.declared.time.Time.{Time}
 use Rattle.nfs_compound.specs.{declared.op_num.OpNum.OpNum, OpNum.op_number, declared.op.Op.Op, declared.op.Item.Item}
 use Rattle.nfs_compound.specs.declared.op.Item.TheVariants.{Operation, Fault}
 use Rattle.nfs_compound.specs.declared.op_num.OpNum.TheVariants as Num
 use Rattle.nfs_results.specs.{declared.res.Res.Res, Results.{refusal, status_of_result}}
-use Rattle.nfs_names.specs.{declared.context.Context.Context, State.State, StoreInvariants.IsStore, Outcome.{Outcome, refuses, or_delay, is_ok}}
+use Rattle.nfs_names.specs.{declared.context.Context.Context, State.State, StoreInvariants.IsStore, Outcome.{Outcome, refuses, or_lack, is_ok, lacks}}
 use Rattle.nfs_opens.specs.TableInvariants.{IsTable}
 use Rattle.nfs_tree.specs.{TreeInvariants.IsTree, Bytes.has_bytes}
-use Rattle.nfs_names.proofs.Bounds.{IsAnswer}
+use Rattle.nfs_names.proofs.{Bounds.IsAnswer, Ones.is_lacked}
 use Rattle.nfs_files.specs.Operation as table
 use Rattle.nfs_files.specs.{Operation.grows, Open.open_file, Write.write, LockU.{lock_u, wants_memory}, SetAttr.set_attr}
 use Rattle.nfs_files.proofs.{Outcomes.for_each, SetAnswers.may_set_attr, StateAnswers.{may_close, may_free, may_lock_u, may_downgrade}}
 use Rattle.nfs_files.proofs.{ByteAnswers.{may_commit, may_write_bytes}, OpenAnswers.may_open, Sound.sound_item}
 
 delay_may : (b : Bool) (s : State) (x : Context) (op : OpNum) (o : Outcome) (P : Res → Type 0)
-    → P o.result → P (refusal (op_number op) Delay) → P (or_delay b s x op o).result
-delay_may b s x op o P done delayed = elim (b && is_ok (status_of_result o.result)) as (λ k. P (cond k (refuses s x op Delay) o).result) [ true ↦ delayed | false ↦ done ]
+    → P o.result → P (refusal (op_number op) (lacks s op)) → P (or_lack b s x op o).result
+delay_may b s x op o P done delayed = elim (b && is_ok (status_of_result o.result)) as (λ k. P (cond k (refuses s x op (lacks s op)) o).result) [ true ↦ delayed | false ↦ done ]
 
 -- LOCK, LOCKT, READ and TEST_STATEID put their results themselves.
 abbrev pub is_plain : Item → Bool
@@ -48,7 +48,8 @@ may_come b s x now (Op.SetAttr a) e =
 may_come b s x now (Op.TestStateid given) e = absurd cc
 may_come b s x now (Op.Write a) e =
     delay_may (has_bytes a.bytes && b) s x Num.Write (write s x now a) (IsAnswer (Operation (Op.Write a)))
-    (may_write_bytes s x now a) (record { may = (refl, refl, tt); arrays = tt })
+    (may_write_bytes s x now a)
+    (is_lacked (λ f. IsAnswer (Operation (Op.Write a)) (refusal 38 f)) s Num.Write (record { may = (refl, refl, tt); arrays = tt }) (record { may = (refl, refl, tt); arrays = tt }))
 may_come b s x now op e = tt
 
 may_item : (b : Bool) (s : State) (x : Context) (now : Time) (i : Item) → is_plain i ≡ true

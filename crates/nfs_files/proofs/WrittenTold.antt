@@ -4,7 +4,7 @@ use Rattle.std.proofs.Common.{subst, arith, inl, inr}
 use Rattle.std.proofs.{lemmas.Bool.{cases_Bool, ltb-false}, lemmas.List.{take_at, drop_at, length-append, length-take, length-drop, get_or-take, get_or-drop}}
 use Rattle.std.specs.{Prelude.{◌&&◌, nat_lt, Ok}, Int.{w32, from_be_bytes}}
 use Rattle.nfs_xdr.specs.{Checks.first_fault, Spelling.{number, flag, fixed, opaque}, declared.time.Time.Time, declared.status.Status.Status}
-use Rattle.nfs_xdr.specs.declared.status.Status.TheVariants.{Nfs4Ok, Delay}
+use Rattle.nfs_xdr.specs.declared.status.Status.TheVariants.{Nfs4Ok}
 use Rattle.nfs_xdr.proofs.Putting.{length_number}
 use Rattle.nfs_compound.specs.{declared.file_args.Write.Write, declared.file_args.Read.Read, declared.op_num.OpNum.OpNum, OpNum.op_number}
 use Rattle.nfs_compound.specs.declared.op.Item.{Item}
@@ -15,7 +15,7 @@ use Rattle.nfs_results.specs.{Largest.given, declared.res.Res.Res, declared.res.
 use Rattle.nfs_results.proofs.Lengths.{length_head, length_spelled}
 use Rattle.nfs_tree.specs.{Files.{root, is_there, data_at}, TreeInvariants.IsTree, Bytes.has_bytes}
 use Rattle.nfs_tree.proofs.Objects.{stored_within}
-use Rattle.nfs_names.specs.{declared.context.Context.Context, declared.node.Node.Node, State.State, Outcome.{Outcome, checked}, Checks.current}
+use Rattle.nfs_names.specs.{declared.context.Context.Context, declared.node.Node.Node, State.State, Outcome.{Outcome, checked, lacks}, Checks.current}
 use Rattle.nfs_names.proofs.{Found.{checked_ok, current_is}, Ones.by_delay}
 use Rattle.nfs_files.specs.{Bytes.{file_checks, reading, may_use, behind_sets}, Written.{Byte, StandsIn, Lasts, Writes, bytes_in, Reads, GivesIt}}
 use Rattle.nfs_files.specs.Parts.{readable, writable}
@@ -95,7 +95,7 @@ write_leaves : (b : Byte) (refused : Bool) (s : State) (x : Context) (now : Time
     → LeavesTold b x w count more (one_or_delay refused s x now (Op.Write w))
 write_leaves b refused s x now w count more tree =
     by_delay (LeavesTold b x w count more) (has_bytes w.bytes && refused) s x Num.Write (of_write.write s x now w)
-    (λ told. absurd (short Num.Write Delay count more told.long told.answers))
+    (λ told. absurd (short Num.Write (lacks s Num.Write) count more told.long told.answers))
     (rw (write_is s x now w) (by_found (LeavesTold b x w count more) s x Num.Write (checked (writable s x w.stateid (current s x)) (of_write.last_checks s w)) (parts.was_written s x now w)
     (λ status told. absurd (short Num.Write status count more told.long told.answers))
     (λ d granted. (let p = checked_ok (writable s x w.stateid (current s x)) (of_write.last_checks s w) d granted in

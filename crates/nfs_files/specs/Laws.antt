@@ -7,7 +7,7 @@ use Rattle.nfs_compound.specs.declared.op_num.OpNum.TheVariants as Num
 use Rattle.nfs_results.specs.Results.{spell_result}
 use Rattle.nfs_tree.specs.TreeInvariants.{IsTree}
 use Rattle.nfs_opens.specs.{declared.locking.Wish.Wish, TableInvariants.IsTable, StateId.last_number}
-use Rattle.nfs_names.specs.{declared.context.Context.Context, Outcome.or_delay, State.State, StoreInvariants.IsStore}
+use Rattle.nfs_names.specs.{declared.context.Context.Context, Outcome.or_lack, State.State, StoreInvariants.IsStore}
 use Rattle.nfs_files.specs.{Open.open_file, Lock.lock, Operation.comes_to, Ranges.wished, Own.HasAsBefore, LockTold.{Names, LockTold, Stands, Clashes}}
 
 -- OPEN leaves a tree that is one.
@@ -18,14 +18,14 @@ OpensLeaveTrees = (s : State) (x : Context) (now : Time) (a : Open) → IsTree s
 abbrev pub ClashesAreRefused : Type 0
 ClashesAreRefused = (k : LockTold) (s : State) (x : Context) (now : Time) (refused : Bool) (a : args.Lock) (n : ℕ) (w : Wish)
     → IsTable s.opens → s.opens.last ≤ last_number → k.first ≤ k.last → Stands k s.opens → wished s x a.locktype a.offset a.length ≡ Ok w
-    → Names Num.Lock (spell_result (or_delay refused s x Num.Lock (lock s x a)).result) n → Clashes k n w → ⊥
+    → Names Num.Lock (spell_result (or_lack refused s x Num.Lock (lock s x a)).result) n → Clashes k n w → ⊥
 
 -- Behind a LOCK that answers NFS4_OK and the stateid of a lock state, this holds each byte that was asked for.
 abbrev pub ToldLocksAreHeld : Type 0
 ToldLocksAreHeld = (s : State) (x : Context) (now : Time) (refused : Bool) (a : args.Lock) (n : ℕ) (w : Wish)
     → IsTable s.opens → s.opens.last ≤ last_number → wished s x a.locktype a.offset a.length ≡ Ok w
-    → Names Num.Lock (spell_result (or_delay refused s x Num.Lock (lock s x a)).result) n
-    → (b : ℕ) → w.first ≤ b → b ≤ w.last → (or_delay refused s x Num.Lock (lock s x a)).state.opens.held w.file n b ≡ Some w.kind
+    → Names Num.Lock (spell_result (or_lack refused s x Num.Lock (lock s x a)).result) n
+    → (b : ℕ) → w.first ≤ b → b ≤ w.last → (or_lack refused s x Num.Lock (lock s x a)).state.opens.held w.file n b ≡ Some w.kind
 
 -- Whatever an operation of one client comes to, another has what it had.
 abbrev pub OthersKeepTheirs : Type 0

@@ -10,7 +10,7 @@ ghost use Rattle.nfs_results.specs.Results.{spell_result};
 ghost use Rattle.nfs_tree.specs.Bytes.{has_bytes};
 ghost use Rattle.nfs_names.specs.State.{state_of};
 ghost use Rattle.nfs_names.specs.Comes.{Comes};
-ghost use Rattle.nfs_names.specs.Outcome.{checked};
+ghost use Rattle.nfs_names.specs.Outcome.{checked, lacks};
 ghost use Rattle.nfs_names.specs.View.{outcome_of, MayWant};
 ghost use Rattle.nfs_names.specs.Checks as check;
 ghost use Rattle.nfs_files.specs.Parts as parts;
@@ -23,6 +23,7 @@ use crate::access::{behind_sets, judge_file, readable, writable};
 use nfs_compound::{OpNum, Read, StableHow, Write};
 use nfs_names::{Context, Node, Store, current, put_refusal, refuse, status_of};
 use nfs_results::{Res, WriteOk, given, write_done_head};
+use nfs_tree::TreeFault;
 use nfs_xdr::{Sheet, Status, Time};
 use std::alloc::Global;
 
@@ -74,6 +75,27 @@ fn write_ok(store: &Store, asked: &Write<'_>) -> WriteOk
     }
 }
 
+/// The status of bytes that find no memory, by the profile (docs/PROTOCOL.md).
+fn lack_of(store: &Store) -> Status
+    ensures { result ≡ lacks (state_of store.now) Num.Write }
+{
+    if store.tree.profile().is_unix() {
+        Status::NoSpc
+    } else {
+        Status::Delay
+    }
+}
+
+/// The status of what the tree refuses of a WRITE; that of lack of memory is given.
+fn refused_as(fault: TreeFault, lack: Status) -> Status
+    ensures { result ≡ of_write.refused_as lack fault }
+{
+    match fault {
+        TreeFault::Memory => lack,
+        _ => status_of(fault),
+    }
+}
+
 /// WRITE.
 pub(crate) fn write_bytes(
     alloc: Global,
@@ -89,9 +111,10 @@ pub(crate) fn write_bytes(
         Ok(node) => {
             let sets = behind_sets(&store.tree, context, &node);
             let offset = asked.offset;
+            let lack = lack_of(store);
             match store.tree.write(alloc, node.number, offset, asked.bytes.bytes(), &sets, now) {
                 Ok(()) => Res::Write(write_ok(store, asked)),
-                Err(fault) => refuse(OpNum::Write, status_of(fault)),
+                Err(fault) => refuse(OpNum::Write, refused_as(fault, lack)),
             }
         }
         Err(status) => refuse(OpNum::Write, status),

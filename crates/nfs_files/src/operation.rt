@@ -24,7 +24,8 @@ use std::alloc::Global;
 /// answers its status. Of the other operations it does nothing, and answers `None`.
 ///
 /// LOCK, LOCKU of a part of a file, OPEN and WRITE of bytes may want memory: where it is refused, they answer
-/// NFS4ERR_DELAY as their last check and change nothing. No other operation does.
+/// NFS4ERR_DELAY as their last check and change nothing; WRITE answers NFS4ERR_NOSPC in the profile `unix`. No other
+/// operation does.
 pub fn file_op(
     alloc: Global,
     store: &mut Store,

@@ -2,15 +2,16 @@
 use Rattle.std.proofs.Common.{◌≡◌, ◌⊎◌, ℕ, Bool, true, false, cond, eqb, List, [], Option, Some, None, refl, sym, subst, ◌∙◌, ap, inl, inr}
 use Rattle.std.proofs.lemmas.Bool.{and_right}
 use Rattle.std.specs.Prelude.{Result, Ok, Err, IsOk, ◌&&◌}
-use Rattle.nfs_xdr.specs.{Checks.first_fault, Status.status_number, declared.status.Status.Status, declared.status.Status.TheVariants.Delay}
+use Rattle.nfs_xdr.specs.{Checks.first_fault, declared.status.Status.Status}
 use Rattle.nfs_compound.specs.{declared.op_num.OpNum.OpNum, OpNum.op_number}
 use Rattle.nfs_results.specs.{declared.res.Res.Res, Results.{status_of_result, refusal}}
 use Rattle.nfs_tree.specs.declared.fault.TreeFault.{TreeFault}
 use Rattle.nfs_tree.specs.declared.fault.TreeFault.TheVariants.{NoEnt, Exist, NotDir, IsDir, NotEmpty, Inval, Fbig, NoSpc, Mlink, Counter, Memory}
 use Rattle.nfs_tree.specs.{Files.Files, Calls.{Did, does_unless, DoesOrWants}}
 use Rattle.nfs_names.specs.{declared.context.Context.Context, State.{State, with_tree}, Faults.tree_fault_status}
-use Rattle.nfs_names.specs.Outcome.{Outcome, refuses, passed, checked, answers, or_delay, is_ok, is_delay}
-use Rattle.nfs_names.proofs.Refusing.{IsRefusal, Refuses}
+use Rattle.nfs_names.specs.Outcome.{Outcome, refuses, passed, checked, answers, or_lack, is_ok, lacks, is_delay, is_lack}
+use Rattle.nfs_names.proofs.{Refusing.{IsRefusal, Refuses}, Ones.is_lacked}
+use Rattle.nfs_xdr.specs.declared.status.Status.TheVariants.{Delay}
 
 pub does_ok : {A : Type 0} (t : Files) (fault : Option TreeFault) (answer a : A) (after : Files)
     → Ok a ≡ (does_unless t fault answer after).answer → (fault ≡ None) × (a ≡ answer)
@@ -49,29 +50,34 @@ status_of_refusal n status =
     elim (eqb n 34) as (λ b. status_of_result (cond b (Res.SetAttr status []) (Res.Refused n status)) ≡ status) [ true ↦ refl | false ↦ refl ]
 
 -- where nothing wants memory
-pub not_delayed : (refused : Bool) (s : State) (x : Context) (op : OpNum) (o : Outcome) → refused ≡ false → or_delay refused s x op o ≡ o
-not_delayed refused s x op o e = ap (λ b. or_delay b s x op o) e
+pub not_delayed : (refused : Bool) (s : State) (x : Context) (op : OpNum) (o : Outcome) → refused ≡ false → or_lack refused s x op o ≡ o
+not_delayed refused s x op o e = ap (λ b. or_lack b s x op o) e
 
-pub delayed : (s : State) (x : Context) (op : OpNum) (o : Outcome) → is_ok (status_of_result o.result) ≡ true → or_delay true s x op o ≡ refuses s x op Delay
-delayed s x op o ok = ap (λ b. cond b (refuses s x op Delay) o) ok
+pub delayed : (s : State) (x : Context) (op : OpNum) (o : Outcome) → is_ok (status_of_result o.result) ≡ true → or_lack true s x op o ≡ refuses s x op (lacks s op)
+delayed s x op o ok = ap (λ b. cond b (refuses s x op (lacks s op)) o) ok
 
--- the refusal of a check is answered whether memory was refused or not
+-- a refusal of its own is answered whether memory was refused or not
+pub own_refused : (b : Bool) (s : State) (x : Context) (op : OpNum) (status : Status)
+    → is_ok status ≡ false → or_lack b s x op (refuses s x op status) ≡ refuses s x op status
+own_refused b s x op status fails =
+    let bad : is_ok (status_of_result (refusal (op_number op) status)) ≡ false = ap is_ok (status_of_refusal (op_number op) status) ∙ fails in
+    ap (λ k. cond k (refuses s x op (lacks s op)) (refuses s x op status)) (and_right b (is_ok (status_of_result (refusal (op_number op) status))) bad)
+
+-- the refusal of a check is one
 pub judged_refusal : (b : Bool) (s : State) (x : Context) (op : OpNum) (status : Status)
-    → IsRefusal status → or_delay b s x op (refuses s x op status) ≡ refuses s x op status
-judged_refusal b s x op status h =
-    let bad : is_ok (status_of_result (refusal (op_number op) status)) ≡ false = ap (λ r. eqb (status_number r) 0) (status_of_refusal (op_number op) status) ∙ h.done in
-    ap (λ k. cond k (refuses s x op Delay) (refuses s x op status)) (and_right b (is_ok (status_of_result (refusal (op_number op) status))) bad)
+    → IsRefusal status → or_lack b s x op (refuses s x op status) ≡ refuses s x op status
+judged_refusal b s x op status h = own_refused b s x op status h.done
 
 -- the outcome of a refusal that the code made, where an operation wants memory only if it grows
 pub told_refusal_by : (g : Bool) (s : State) (t : Files) (x : Context) (op : OpNum) (o : Outcome) (r : Res) (status : Status)
     → r ≡ refusal (op_number op) status → t ≡ s.tree
-    → refuses s x op status ≡ or_delay (g && is_delay status) s x op o
-    → record { result = r; state = with_tree s t; context = x } ≡ or_delay (g && is_delay (status_of_result r)) s x op o
+    → refuses s x op status ≡ or_lack (g && is_lack status) s x op o
+    → record { result = r; state = with_tree s t; context = x } ≡ or_lack (g && is_lack (status_of_result r)) s x op o
 told_refusal_by g s t x op o r status is same e =
     let with_result : Res → Files → Outcome = λ r t. record { result = r; state = with_tree s t; context = x } in
     ap (λ r. with_result r t) is ∙ ap (with_result (refusal (op_number op) status)) same ∙ e
-    ∙ sym (ap (λ r. or_delay (g && is_delay (status_of_result r)) s x op o) is
-    ∙ ap (λ st. or_delay (g && is_delay st) s x op o) (status_of_refusal (op_number op) status))
+    ∙ sym (ap (λ r. or_lack (g && is_lack (status_of_result r)) s x op o) is
+    ∙ ap (λ st. or_lack (g && is_lack st) s x op o) (status_of_refusal (op_number op) status))
 
 -- what a refused tree reports, whatever it would have done
 abbrev Wanted : {A : Type 0} → Files → Bool → Did A → Files → TreeFault → Type 0
@@ -120,14 +126,46 @@ refused_tree t grows fault answer after new f d = elim (refused_by_did t grows (
   | inr told ↦ (let p = does_err t fault answer after new f told.1 told.2 in (p.1, inr (p.0, told.0)))
 ]
 
-refused_growing : (grows : Bool) (s : State) (x : Context) (op : OpNum) (o g : Outcome) (fault : Option TreeFault) (f : TreeFault)
-    → (fault ≡ None → o ≡ g) → (fault ≡ Some f → o ≡ refuses s x op (tree_fault_status f)) → is_ok (status_of_result g.result) ≡ true
-    → Wants grows f fault ⊎ Other f fault → refuses s x op (tree_fault_status f) ≡ or_delay (grows && is_delay (tree_fault_status f)) s x op o
-refused_growing grows s x op o g fault f goes stops ok (inl w) =
-    rw w.2 (ap (λ f. refuses s x op (tree_fault_status f)) w.0
-    ∙ sym (ap (λ f. or_delay (is_delay (tree_fault_status f)) s x op o) w.0 ∙ ap (or_delay true s x op) (goes w.1) ∙ delayed s x op g ok))
-refused_growing grows s x op o g fault f goes stops ok (inr other) =
-    sym (not_delayed (grows && is_delay (tree_fault_status f)) s x op o (and_right grows (is_delay (tree_fault_status f)) other.1) ∙ stops other.0)
+-- the status under which an operation refuses what its tree did: that of lacking memory where that was it, and one that refuses
+pub record IsFault (s : State) (op : OpNum) (f : TreeFault) (status : Status) : Type 0 where
+  pub memory : f ≡ Memory → status ≡ lacks s op
+  pub fails : is_ok status ≡ false
+
+pub fault_fails : (f : TreeFault) → is_ok (tree_fault_status f) ≡ false
+fault_fails f = elim f as (λ f. is_ok (tree_fault_status f) ≡ false) [
+  | NoEnt ↦ refl
+  | Exist ↦ refl
+  | NotDir ↦ refl
+  | IsDir ↦ refl
+  | NotEmpty ↦ refl
+  | Inval ↦ refl
+  | Fbig ↦ refl
+  | NoSpc ↦ refl
+  | Mlink ↦ refl
+  | Counter ↦ refl
+  | Memory ↦ refl
+]
+
+-- of an operation whose client tries again
+pub plain_fault : (s : State) (op : OpNum) (f : TreeFault) → lacks s op ≡ Delay → IsFault s op f (tree_fault_status f)
+plain_fault s op f again = record { memory = λ is. ap tree_fault_status is ∙ sym again; fails = fault_fails f }
+
+pub lacks_memory : (s : State) (op : OpNum) → is_lack (lacks s op) ≡ true
+lacks_memory s op = is_lacked (λ f. is_lack f ≡ true) s op refl refl
+
+pub lacks_fail : (s : State) (op : OpNum) → is_ok (lacks s op) ≡ false
+lacks_fail s op = is_lacked (λ f. is_ok f ≡ false) s op refl refl
+
+refused_growing : (grows : Bool) (s : State) (x : Context) (op : OpNum) (o g : Outcome) (fault : Option TreeFault) (f : TreeFault) (status : Status)
+    → (fault ≡ None → o ≡ g) → (Other f fault → o ≡ refuses s x op status) → is_ok (status_of_result g.result) ≡ true → IsFault s op f status
+    → Wants grows f fault ⊎ Other f fault → refuses s x op status ≡ or_lack (grows && is_lack status) s x op o
+refused_growing grows s x op o g fault f status goes stops ok is (inl w) =
+    let same = is.memory w.0 in
+    rw w.2 (ap (refuses s x op) same
+    ∙ sym (ap (λ f. or_lack (is_lack f) s x op o) same ∙ ap (λ b. or_lack b s x op o) (lacks_memory s op)
+    ∙ ap (or_lack true s x op) (goes w.1) ∙ delayed s x op g ok))
+refused_growing grows s x op o g fault f status goes stops ok is (inr other) =
+    sym (ap (or_lack (grows && is_lack status) s x op) (stops other) ∙ own_refused (grows && is_lack status) s x op status is.fails)
 
 -- An operation whose last check is the tree's. `may` says whether it may want memory, and `grows` whether its tree grows.
 
@@ -136,7 +174,7 @@ pub told_done : {A : Type 0} (may grows : Bool) (s : State) (x : Context) (op : 
     (fault : Option TreeFault) (answer a : A) (after new : Files)
     → (fault ≡ None → o ≡ record { result = result answer; state = with_tree s after; context = context answer })
     → DoesOrWants s.tree grows (does_unless s.tree fault answer after) (Ok a) new
-    → record { result = result a; state = with_tree s new; context = context a } ≡ or_delay (may && false) s x op o
+    → record { result = result a; state = with_tree s new; context = context a } ≡ or_lack (may && false) s x op o
 told_done may grows s x op o result context fault answer a after new goes d =
     let did = done_by_tree s.tree grows fault answer a after new d in
     ap (λ a. record { result = result a; state = with_tree s new; context = context a }) did.1
@@ -145,26 +183,26 @@ told_done may grows s x op o result context fault answer a after new goes d =
 
 -- what the tree refused
 pub told_fault : {A : Type 0} (may grows : Bool) (s : State) (x : Context) (op : OpNum) (o done : Outcome) (r : Res)
-    (fault : Option TreeFault) (answer : A) (after new : Files) (f : TreeFault)
-    → may ≡ grows → r ≡ refusal (op_number op) (tree_fault_status f)
-    → (fault ≡ None → o ≡ done) → (fault ≡ Some f → o ≡ refuses s x op (tree_fault_status f)) → is_ok (status_of_result done.result) ≡ true
+    (fault : Option TreeFault) (answer : A) (after new : Files) (f : TreeFault) (status : Status)
+    → may ≡ grows → IsFault s op f status → r ≡ refusal (op_number op) status
+    → (fault ≡ None → o ≡ done) → (Other f fault → o ≡ refuses s x op status) → is_ok (status_of_result done.result) ≡ true
     → DoesOrWants s.tree grows (does_unless s.tree fault answer after) (Err f) new
-    → record { result = r; state = with_tree s new; context = x } ≡ or_delay (may && is_delay (status_of_result r)) s x op o
-told_fault may grows s x op o done r fault answer after new f same is goes stops ok d =
+    → record { result = r; state = with_tree s new; context = x } ≡ or_lack (may && is_lack (status_of_result r)) s x op o
+told_fault may grows s x op o done r fault answer after new f status same by is goes stops ok d =
     let did = refused_tree s.tree grows fault answer after new f d in
-    told_refusal_by may s new x op o r (tree_fault_status f) is did.0
-    (subst (λ b. refuses s x op (tree_fault_status f) ≡ or_delay (b && is_delay (tree_fault_status f)) s x op o) (sym same)
-    (refused_growing grows s x op o done fault f goes stops ok did.1))
+    told_refusal_by may s new x op o r status is did.0
+    (subst (λ b. refuses s x op status ≡ or_lack (b && is_lack status) s x op o) (sym same)
+    (refused_growing grows s x op o done fault f status goes stops ok by did.1))
 
 -- what was refused before the tree was asked
 pub told_stop : (may : Bool) (s : State) (x : Context) (op : OpNum) (o : Outcome) (r : Res) (status : Status) → IsRefusal status → o ≡ refuses s x op status
-    → r ≡ refusal (op_number op) status → record { result = r; state = s; context = x } ≡ or_delay (may && is_delay (status_of_result r)) s x op o
+    → r ≡ refusal (op_number op) status → record { result = r; state = s; context = x } ≡ or_lack (may && is_lack (status_of_result r)) s x op o
 told_stop may s x op o r status own is told =
     told_refusal_by may s s.tree x op o r status told refl
-    (sym (ap (or_delay (may && is_delay status) s x op) is ∙ judged_refusal (may && is_delay status) s x op status own))
+    (sym (ap (or_lack (may && is_lack status) s x op) is ∙ judged_refusal (may && is_lack status) s x op status own))
 
 pub told_error : {A : Type 0} (may : Bool) (s : State) (x : Context) (op : OpNum) (v : Result A Status) (checks : A → List (Bool × Status)) (f : A → Outcome)
     (r : Res) (status : Status) → Refuses v → v ≡ Err status → r ≡ refusal (op_number op) status
-    → record { result = r; state = s; context = x } ≡ or_delay (may && is_delay (status_of_result r)) s x op (answers s x op (checked v checks) f)
+    → record { result = r; state = s; context = x } ≡ or_lack (may && is_lack (status_of_result r)) s x op (answers s x op (checked v checks) f)
 told_error may s x op v checks f r status all is told =
     told_stop may s x op (answers s x op (checked v checks) f) r status (all.each status is) (by_error s x op v checks f status is) told

@@ -1,6 +1,6 @@
 -- RENAME: the tree's own checks are its last ones, and what it leaves.
 use Rattle.std.proofs.Common.{◌≡◌, ℕ, List, ◌+◌, true, false, not, Option, Some, None, refl, sym, subst, ◌∙◌, ap, inl, inr}
-use Rattle.std.proofs.lemmas.Bool.{cases_Bool, and_right, or_parts, ne_eqb, and_from, false≢true}
+use Rattle.std.proofs.lemmas.Bool.{cases_Bool, or_parts, ne_eqb, and_from, false≢true}
 use Rattle.std.specs.Prelude.{Result, Ok, Err, IsOk, is_ok as is_right, option_map, ◌==◌, ◌&&◌, ◌||◌, if◌then◌else◌, is_some, unwrap_or}
 use Rattle.nfs_xdr.proofs.{Checks.all_passed, Lists.none_left}
 use Rattle.nfs_xdr.specs.declared.time.Time.{Time}
@@ -13,11 +13,11 @@ use Rattle.nfs_tree.specs.Names.{Move, move, moves, moved_object, replaced_objec
 use Rattle.nfs_tree.specs.Calls as tree
 use Rattle.nfs_tree.proofs.Trees.{has_one, apart}
 use Rattle.nfs_names.specs.{declared.context.Context.Context, declared.node.Pair.Pair, State.State, Faults.tree_fault_status}
-use Rattle.nfs_names.specs.Outcome.{refuses, or_delay, is_delay}
+use Rattle.nfs_names.specs.Outcome.{refuses, or_lack, is_lack}
 use Rattle.nfs_names.specs.{Checks.both, Operation.moves_in, Rename.{move_of, renamed}, Fronts.renaming}
 use Rattle.nfs_names.specs.Rename as of_rename
 use Rattle.nfs_opens.specs.Steps.{in_order}
-use Rattle.nfs_names.proofs.{Found.{came, ok_is}, Changing.{rename_asks, goes, stops}, Rows.none_pushed, Faulted.{refused_by_did, delayed, not_delayed}}
+use Rattle.nfs_names.proofs.{Found.{came, ok_is}, Changing.{rename_asks, goes, stops}, Rows.none_pushed, Faulted.{refused_by_did, delayed, own_refused, fault_fails}}
 
 -- what the tree did of two names, of the names that were asked for
 pub as_named : (t left : Files) (now : Time) (p : Pair) (a : args.Rename) (old new : List ℕ) (r : Result Renamed TreeFault) → old ≡ a.oldname → new ≡ a.newname
@@ -102,7 +102,7 @@ pub rename_refused : (s : State) (x : Context) (now : Time) (a : args.Rename) (p
     → renaming s x a ≡ Ok p
     → DoesOrWants s.tree (moves s.tree (move_of a p)) (tree.rename s.tree (move_of a p) now) (Err f) new
     → (new ≡ s.tree)
-    × (refuses s x Num.Rename (tree_fault_status f) ≡ or_delay (moves_in s a (both s x) && is_delay (tree_fault_status f)) s x Num.Rename (of_rename.rename s x now a))
+    × (refuses s x Num.Rename (tree_fault_status f) ≡ or_lack (moves_in s a (both s x) && is_lack (tree_fault_status f)) s x Num.Rename (of_rename.rename s x now a))
 rename_refused s x now a p f new v d =
     let t = s.tree in
     let m = move_of a p in
@@ -116,10 +116,10 @@ rename_refused s x now a p f new v d =
         w.3,
         (let none = unless_none t (rename_fault t m) (Goes t m now) w.2 in
             let is : o ≡ renamed s x now a p true = goes asks p v none ∙ ap (renamed s x now a p) w.1 in
-            let flag : moves_in s a (both s x) && is_delay (tree_fault_status f) ≡ true = and_from _ _ (grows ∙ w.1) (ap (λ f. is_delay (tree_fault_status f)) w.0) in
+            let flag : moves_in s a (both s x) && is_lack (tree_fault_status f) ≡ true = and_from _ _ (grows ∙ w.1) (ap (λ f. is_lack (tree_fault_status f)) w.0) in
             ap (λ f. refuses s x Num.Rename (tree_fault_status f)) w.0
-            ∙ sym (ap (λ b. or_delay b s x Num.Rename o) flag ∙ ap (or_delay true s x Num.Rename) is ∙ delayed s x Num.Rename (renamed s x now a p true) refl)),
+            ∙ sym (ap (λ b. or_lack b s x Num.Rename o) flag ∙ ap (or_lack true s x Num.Rename) is ∙ delayed s x Num.Rename (renamed s x now a p true) refl)),
       )
       | inr e ↦ (let err = unless_err t (rename_fault t m) (Goes t m now) f new (goes_ok t m now) e.1 e.2 in
-          (err.1, sym (not_delayed _ s x Num.Rename o (and_right (moves_in s a (both s x)) _ e.0) ∙ stops asks p f v err.0)))
+          (err.1, sym (ap (or_lack _ s x Num.Rename) (stops asks p f v err.0) ∙ own_refused _ s x Num.Rename (tree_fault_status f) (fault_fails f))))
     ]

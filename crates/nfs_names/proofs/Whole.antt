@@ -1,15 +1,15 @@
 -- What every operation keeps: its result is one that it may have, and its state is a store's.
 use Rattle.std.proofs.{Common.{◌≡◌, ◌+◌, ◌≤◌, Bool, true, Option, Some, None, length, refl, ◌∙◌, ap, arith}, lemmas.List.length-append}
 use Rattle.std.specs.Prelude.{IfSome}
-use Rattle.nfs_xdr.specs.{declared.time.Time.Time, declared.status.Status.TheVariants.Delay, SheetState.{SheetState, HasRoom, Puts}}
+use Rattle.nfs_xdr.specs.{declared.time.Time.Time, SheetState.{SheetState, HasRoom, Puts}}
 use Rattle.nfs_compound.specs.{Arguments.arguments, OpNum.op_number, declared.op.Op.Op, declared.op.Item.Item, declared.op.Item.TheVariants.{Operation, Fault}}
 use Rattle.nfs_results.specs.{declared.res.Res.Res, Results.{refusal, spell_result}, Largest.largest, ResultCodec.IsBounded}
 use Rattle.nfs_names.proofs.{Bounds.{IsAnswer, Answers, answers_one}, Ones.{if_both, if_grown}, Sound.sound_item}
 use Rattle.nfs_results.proofs.Lengths.{length_result}
 use Rattle.nfs_tree.specs.TreeInvariants.{IsTree}
-use Rattle.nfs_names.specs.{declared.context.Context.Context, State.State, StoreInvariants.IsStore, Outcome.Outcome, Operation.{one, grows, comes_to}}
+use Rattle.nfs_names.specs.{declared.context.Context.Context, State.State, StoreInvariants.IsStore, Outcome.{Outcome, lacks}, Operation.{one, grows, comes_to}}
 
-delay_may : (s : State) (x : Context) (op : Op) → grows s x op ≡ true → IsAnswer (Operation op) (refusal (op_number (arguments op).op) Delay)
+delay_may : (s : State) (x : Context) (op : Op) → grows s x op ≡ true → IsAnswer (Operation op) (refusal (op_number (arguments op).op) (lacks s (arguments op).op))
 delay_may s x (Op.Create c) e = record { may = (refl, refl, tt); arrays = tt }
 delay_may s x (Op.Link name) e = record { may = (refl, refl, tt); arrays = tt }
 delay_may s x (Op.Rename a) e = record { may = (refl, refl, tt); arrays = tt }

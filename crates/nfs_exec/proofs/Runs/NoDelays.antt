@@ -26,7 +26,7 @@ use Rattle.nfs_sessions.specs.Sessions.{session_fault_status as session_status}
 use Rattle.nfs_sessions.specs.{declared.channel.Wish.Wish, declared.id.SessionId.SessionId, declared.sessions.SessionFault.SessionFault}
 use Rattle.nfs_sessions.specs.declared.sessions.SessionFault.TheVariants as Sessions
 use Rattle.nfs_names.specs.{declared.context.Context.Context, Context.begins, State.{State, time_at}}
-use Rattle.nfs_names.specs.{Outcome.{Outcome as OfStore, or_delay as or_delay_there, is_delay, is_ok}, Checks.current, Ending.has_open}
+use Rattle.nfs_names.specs.{Outcome.{Outcome as OfStore, or_lack as or_lack_there, is_delay, is_ok}, Checks.current, Ending.has_open}
 use Rattle.nfs_names.specs.Operation as names
 use Rattle.nfs_names.proofs.{Faulted.status_of_refusal, Ones.each_of}
 use Rattle.nfs_files.proofs.Outcomes as files
@@ -51,7 +51,7 @@ use Rattle.nfs_clients.proofs.Terms.{new_client, without_any, confirms}
 -- One operation behind SEQUENCE.
 
 undelayed : (g : Bool) (s : State) (x : Context) (n : _) (o : OfStore) → is_delay (status_of_result o.result) ≡ false
-    → is_delay (status_of_result (or_delay_there (g && false) s x n o).result) ≡ false
+    → is_delay (status_of_result (or_lack_there (g && false) s x n o).result) ≡ false
 undelayed true s x n o fails = fails
 undelayed false s x n o fails = fails
 
@@ -78,7 +78,7 @@ otherwise_prompt m x (Op.ReclaimComplete one) = reclaim_prompt m x one
 otherwise_prompt m x op = refused_prompt (item_number (Operation op)) (status_behind (Operation op)) (behind_prompt op)
 
 undelayed_if : (g : Bool) (s : State) (x : Context) (n : _) (v : Option OfStore) → IfSome v (λ o. is_delay (status_of_result o.result) ≡ false)
-    → IfSome (option_map (or_delay_there (g && false) s x n) v) (λ o. is_delay (status_of_result o.result) ≡ false)
+    → IfSome (option_map (or_lack_there (g && false) s x n) v) (λ o. is_delay (status_of_result o.result) ≡ false)
 undelayed_if g s x n None prompt = tt
 undelayed_if g s x n (Some o) prompt = undelayed g s x n o prompt
 

@@ -3,7 +3,7 @@ use Rattle.std.proofs.Common.{◌≡◌, ℕ, ◌+◌, ◌≤◌, Bool, length, 
 use Rattle.nfs_xdr.specs.{Caller.Caller, SheetState.{SheetState, HasRoom, Puts}, declared.status.Status.Status, declared.status.Status.TheVariants.NotSupp}
 use Rattle.nfs_compound.specs.{declared.op.Item.Item, declared.op.Item.TheVariants.Operation, Request.item_number, declared.op.Op.Op}
 use Rattle.nfs_results.specs.{declared.res.Res.Res, Results.{spell_result, status_of_result, refusal}, ResultCodec.HasArrays}
-use Rattle.nfs_names.specs.Outcome.{is_delay}
+use Rattle.nfs_names.specs.Outcome.{is_lack}
 use Rattle.nfs_exec.specs.Step.{Machine.{Machine, MachineOutcome, with_result, with_refusal}, Place.place_fault}
 use Rattle.nfs_exec.specs.Step.Compound.{carried_out, first_item}
 use Rattle.nfs_exec.specs.Step.View.{Does, IsSmall}
@@ -14,17 +14,17 @@ small_fits sheet r room small arrays = (let long = small.1 arrays in omega (arit
 
 -- a result that was put
 pub put_does : (m left : Machine) (declared : ℕ) (who : Caller) (now : ℕ) (i : Item) (r : Res) (s : Status) (old new : SheetState) →
-    with_result left r ≡ first_item m declared who now (is_delay (status_of_result r)) i → s ≡ status_of_result r → Puts old new (spell_result r) →
-    Does (first_item m declared who now (is_delay s) i) s left old new
+    with_result left r ≡ first_item m declared who now (is_lack (status_of_result r)) i → s ≡ status_of_result r → Puts old new (spell_result r) →
+    Does (first_item m declared who now (is_lack s) i) s left old new
 put_does m left declared who now i r s old new is status put =
-    subst (λ (t : Status). Does (first_item m declared who now (is_delay t) i) t left old new) (sym status)
+    subst (λ (t : Status). Does (first_item m declared who now (is_lack t) i) t left old new) (sym status)
     (subst (λ (o : MachineOutcome). Does o (status_of_result r) left old new) is (record { status = refl; machine = refl; put = put }))
 
 -- the same of one operation, whatever its place
-pub result_does : (o : Bool → MachineOutcome) (left : Machine) (r : Res) (s : Status) (old new : SheetState) → with_result left r ≡ o (is_delay (status_of_result r))
-    → s ≡ status_of_result r → Puts old new (spell_result r) → Does (o (is_delay s)) s left old new
+pub result_does : (o : Bool → MachineOutcome) (left : Machine) (r : Res) (s : Status) (old new : SheetState) → with_result left r ≡ o (is_lack (status_of_result r))
+    → s ≡ status_of_result r → Puts old new (spell_result r) → Does (o (is_lack s)) s left old new
 result_does o left r s old new is status put =
-    subst (λ (t : Status). Does (o (is_delay t)) t left old new) (sym status)
+    subst (λ (t : Status). Does (o (is_lack t)) t left old new) (sym status)
     (subst (λ (u : MachineOutcome). Does u (status_of_result r) left old new) is (record { status = refl; machine = refl; put = put }))
 
 -- an item that cannot stand in the first place
@@ -43,10 +43,10 @@ not_carried m who now refused (Op.DestroyClientId x) e c s d = absurd (d x refl)
 not_carried m who now refused op e c s d = refl
 
 pub branch_done : (m left kept : Machine) (declared : ℕ) (who : Caller) (now : ℕ) (i j : Item) (r s : Res) → left ≡ kept →
-    r ≡ s → i ≡ j → place_fault declared i ≡ None → with_result kept s ≡ carried_out m who now (is_delay (status_of_result s)) j →
-    with_result left r ≡ first_item m declared who now (is_delay (status_of_result r)) i
+    r ≡ s → i ≡ j → place_fault declared i ≡ None → with_result kept s ≡ carried_out m who now (is_lack (status_of_result s)) j →
+    with_result left r ≡ first_item m declared who now (is_lack (status_of_result r)) i
 branch_done m left kept declared who now i j r s same told at none is =
     ap (λ (k : Machine). with_result k r) same ∙ ap (with_result kept) told ∙ is
-    ∙ ap (λ (t : Res). carried_out m who now (is_delay (status_of_result t)) j) (sym told)
-    ∙ ap (carried_out m who now (is_delay (status_of_result r))) (sym at)
-    ∙ ap (λ (f : Option Status). by_fault m (item_number i) f (carried_out m who now (is_delay (status_of_result r)) i)) (sym none)
+    ∙ ap (λ (t : Res). carried_out m who now (is_lack (status_of_result t)) j) (sym told)
+    ∙ ap (carried_out m who now (is_lack (status_of_result r))) (sym at)
+    ∙ ap (λ (f : Option Status). by_fault m (item_number i) f (carried_out m who now (is_lack (status_of_result r)) i)) (sym none)

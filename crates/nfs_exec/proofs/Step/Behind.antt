@@ -8,7 +8,7 @@ use Rattle.nfs_results.specs.{Largest.largest, declared.res.Res.Res, Results.{sp
 use Rattle.nfs_results.proofs.Lengths.{length_head}
 use Rattle.nfs_tree.specs.{declared.object.Object.Object, Files.object_at}
 use Rattle.nfs_names.specs.{State.{State, time_at}, declared.context.Context.Context, declared.node.Node.Node, Checks.{current, node_at, node_as}}
-use Rattle.nfs_names.specs.{Comes.{Comes, MayCome}, Outcome.{Outcome as OfStore, is_delay, is_ok}}
+use Rattle.nfs_names.specs.{Comes.{Comes, MayCome}, Outcome.{Outcome as OfStore, is_lack, is_ok}}
 use Rattle.nfs_names.specs.Operation as names
 use Rattle.nfs_files.specs.Operation as files
 use Rattle.nfs_clients.specs.Marks.{has_reclaimed}
@@ -158,11 +158,11 @@ some_and P (Some a) h = (a, refl, h)
 
 pub named_steps : (m : Machine) (x : Context) (now : ℕ) (i : Item) (old new : SheetState) (r : Option Status) (s : Status) (store : State) (behind : Context)
     → MayCome (λ refused. names.comes_to refused m.store x (time_at m.store now) i) m.store x old new r store behind → r ≡ Some s
-    → Steps (step m x now (is_delay s) i) s (record m { store = store }) behind old new
+    → Steps (step m x now (is_lack s) i) s (record m { store = store }) behind old new
 named_steps m x now i old new r s store behind came is =
-    let found = some_and (λ o. Comes o old new s store behind) (names.comes_to (is_delay s) m.store x (time_at m.store now) i)
+    let found = some_and (λ o. Comes o old new s store behind) (names.comes_to (is_lack s) m.store x (time_at m.store now) i)
     (subst (λ r. MayCome (λ refused. names.comes_to refused m.store x (time_at m.store now) i) m.store x old new r store behind) is came) in
-    subst (λ t. Steps t s (record m { store = store }) behind old new) (sym (step_of_names m x now (is_delay s) i found.0 found.1)) (record {
+    subst (λ t. Steps t s (record m { store = store }) behind old new) (sym (step_of_names m x now (is_lack s) i found.0 found.1)) (record {
       status = found.2.status;
       machine = ap (λ (t : State). record m { store = t }) found.2.state;
       context = found.2.context;
@@ -184,12 +184,12 @@ pub file_steps : (m : Machine) (x : Context) (now : ℕ) (i : Item) (old mid new
     (q : Option Status) (s : Status)
     → ((refused : Bool) → names.comes_to refused m.store x (time_at m.store now) i ≡ None) × (mid ≡ old) × (between ≡ m.store) × (y ≡ x)
     → MayCome (λ refused. files.comes_to refused between y (time_at between now) i) between y mid new q store behind → q ≡ Some s
-    → Steps (step m x now (is_delay s) i) s (record m { store = store }) behind old new
+    → Steps (step m x now (is_lack s) i) s (record m { store = store }) behind old new
 file_steps m x now i old mid new between store y behind q s none came is =
-    let found = some_and (λ o. Comes o old new s store behind) (files.comes_to (is_delay s) m.store x (time_at m.store now) i)
+    let found = some_and (λ o. Comes o old new s store behind) (files.comes_to (is_lack s) m.store x (time_at m.store now) i)
     (same_start m x now i old mid new between store y behind (Some s) none.1 none.2 none.3
     (subst (λ q. MayCome (λ refused. files.comes_to refused between y (time_at between now) i) between y mid new q store behind) is came)) in
-    subst (λ t. Steps t s (record m { store = store }) behind old new) (sym (step_of_files m x now (is_delay s) i found.0 (none.0 (is_delay s)) found.1)) (record {
+    subst (λ t. Steps t s (record m { store = store }) behind old new) (sym (step_of_files m x now (is_lack s) i found.0 (none.0 (is_lack s)) found.1)) (record {
       status = found.2.status;
       machine = ap (λ (t : State). record m { store = t }) found.2.state;
       context = found.2.context;
@@ -202,14 +202,14 @@ pub other_steps : (m before left : Machine) (x : Context) (now : ℕ) (i : Item)
     → ((refused : Bool) → names.comes_to refused m.store x (time_at m.store now) i ≡ None) × (mid ≡ old) × (between ≡ m.store) × (y ≡ x)
     → MayCome (λ refused. files.comes_to refused between y (time_at between now) i) between y mid late q store behind → q ≡ None
     → before ≡ record m { store = store } → with_result left r ≡ (otherwise before behind i).outcome → s ≡ status_of_result r
-    → Puts late new (spell_result r) → Steps (step m x now (is_delay s) i) s left behind old new
+    → Puts late new (spell_result r) → Steps (step m x now (is_lack s) i) s left behind old new
 other_steps m before left x now i old mid late new between store y behind q r s none came is start done status put =
     let other = same_start m x now i old mid late between store y behind None none.1 none.2 none.3
     (subst (λ q. MayCome (λ refused. files.comes_to refused between y (time_at between now) i) between y mid late q store behind) is came) in
     let same : before ≡ m = start ∙ ap (λ (t : State). record m { store = t }) other.2 in
     let out : with_result left r ≡ (otherwise m x i).outcome =
     done ∙ ap (λ (k : Machine). (otherwise k behind i).outcome) same ∙ ap (λ (z : Context). (otherwise m z i).outcome) other.3 in
-    subst (λ t. Steps t s left behind old new) (sym (step_of_none m x now (is_delay s) i (none.0 (is_delay s)) (other.0 (is_delay s)))) (record {
+    subst (λ t. Steps t s left behind old new) (sym (step_of_none m x now (is_lack s) i (none.0 (is_lack s)) (other.0 (is_lack s)))) (record {
       status = status ∙ ap (λ (o : MachineOutcome). o.status) out;
       machine = ap (λ (o : MachineOutcome). o.machine) out;
       context = other.3 ∙ other_context m x i;

@@ -6,7 +6,7 @@ use Rattle.nfs_compound.specs.declared.op.Op.TheVariants as Op
 use Rattle.nfs_results.specs.{Results.spell_compound_head, OpenHead.{HeadsAt, SetsHead}}
 use Rattle.nfs_slots.specs.{Slot.judge, declared.slot.Verdict.Verdict, declared.slot.Verdict.TheVariants.{Fresh, Again, FalseRetry, Misordered, NoSlot}}
 use Rattle.nfs_sessions.specs.{Sessions.{Session, session_at}, Id.id_of}
-use Rattle.nfs_names.specs.Outcome.{is_delay}
+use Rattle.nfs_names.specs.Outcome.{is_lack}
 use Rattle.nfs_exec.specs.Step.Machine.{Machine}
 use Rattle.nfs_exec.specs.{Step.Sequence.{compared, Sequenced, Refuses, Repeats, Runs, by_slot, sequenced}, Step.Parts.{past, by_session, slot_fault}}
 use Rattle.nfs_exec.specs.{Step.Run.{only, is_here}, Step.Compound.{Answered, answers, first_item, in_session, by_first, compound}, Step.View.{Does, Answers}}
@@ -55,15 +55,15 @@ pub for_other : (m : Machine) (r : Request) (who : Caller) (size now declared : 
     (tag : List ℕ) (before first second last : SheetState) (left : Machine) →
     r.minor ≡ 1 → r.left ≡ a ∷ more → ((x : _) → a ≡ Operation (Op.Sequence x) → ⊥) → declared ≡ r.declared → tag ≡ r.tag →
     HeadsAt status_at count_at before.bytes tag → Puts before first (spell_compound_head Nfs4Ok tag 0) →
-    Does (first_item m declared who now (is_delay status) a) status left first second → SetsHead status_at count_at status 1 second last →
+    Does (first_item m declared who now (is_lack status) a) status left first second → SetsHead status_at count_at status 1 second last →
     (choice : Option ℕ) × Answers (compound m r who size now choice) before last left
 for_other m r who size now declared a more status status_at count_at tag before first second last left one list other count named places put does sets =
-    let choice = choice_of (is_delay status) in
-    let o = first_item m declared who now (is_delay status) a in
+    let choice = choice_of (is_lack status) in
+    let o = first_item m declared who now (is_lack status) a in
     let whole : compound m r who size now choice ≡ answers r (only o) =
     rw (eq-eqb r.minor 1 one, list) (other_first m r who size now choice a more other)
-    ∙ ap (λ (refused : Bool). answers r (only (first_item m r.declared who now refused a))) (chosen (is_delay status))
-    ∙ ap (λ (n : ℕ). answers r (only (first_item m n who now (is_delay status) a))) (sym count) in
+    ∙ ap (λ (refused : Bool). answers r (only (first_item m r.declared who now refused a))) (chosen (is_lack status))
+    ∙ ap (λ (n : ℕ). answers r (only (first_item m n who now (is_lack status) a))) (sym count) in
     let text : Puts before last (spell_compound_head o.status r.tag 1 ++ o.result) =
     subst (λ (t : List ℕ). Puts before last (spell_compound_head o.status t 1 ++ o.result)) named
     (subst (λ (u : Status). Puts before last (spell_compound_head u tag 1 ++ o.result)) does.status

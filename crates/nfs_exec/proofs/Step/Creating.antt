@@ -1,7 +1,7 @@
 -- CREATE_SESSION: the bytes of its result, and what the code's steps come to.
-use Rattle.std.proofs.Common.{◌≡◌, ℕ, ◌+◌, ◌-◌, ◌≤◌, Bool, true, false, List, ◌++◌, length, take, drop, Option, Some, None, Result, Ok, Err, refl, sym, ◌∙◌, ap}
-use Rattle.std.proofs.{Common.{subst, arith}, lemmas.List.{length-append, length-drop, take_all}, Math.Seq.drop-append_seam}
-use Rattle.std.specs.Prelude.{IsOk}
+use Rattle.std.proofs.Common.{◌≡◌, ℕ, ◌+◌, ◌-◌, ◌≤◌, Bool, true, false, cond, List, ◌++◌, length, take, drop, Option, Some, None, Result, Ok, Err, refl, sym, ◌∙◌, ap}
+use Rattle.std.proofs.{Common.{subst, arith}, lemmas.{Bool.and_right, List.{length-append, length-drop, take_all}}, Math.Seq.drop-append_seam}
+use Rattle.std.specs.Prelude.{IsOk, ◌&&◌}
 use Rattle.nfs_xdr.specs.{SheetState.{SheetState, HasRoom, Puts}, declared.status.Status.Status, declared.status.Status.TheVariants.{Nfs4Ok, Delay}}
 use Rattle.nfs_xdr.specs.Spelling.{hyper}
 use Rattle.nfs_xdr.proofs.Putting.{length_hyper}
@@ -15,7 +15,7 @@ use Rattle.nfs_clients.proofs.Members.{not_kept}
 use Rattle.nfs_sessions.specs.{declared.id.SessionId.SessionId, declared.channel.Wish.Wish, declared.sessions.SessionFault.SessionFault}
 use Rattle.nfs_sessions.specs.{declared.sessions.SessionFault.TheVariants.{TooSmall, NoSpc, ServerFault, Memory}, Id.id_bytes}
 use Rattle.nfs_sessions.specs.{Sessions.{SessionTable, Created, create, create_unless, create_fault, session_fault_status}, SessionTables.CreatesOrWants}
-use Rattle.nfs_names.specs.Outcome.{is_delay}
+use Rattle.nfs_names.specs.Outcome.{is_ok, is_lack}
 use Rattle.nfs_exec.specs.Step.Machine.{Machine, MachineOutcome, or_with_delay, with_refusal}
 use Rattle.nfs_exec.specs.{Step.CreateSession.{session_made, made_body, confirmed}, Step.View.Does}
 use Rattle.nfs_exec.specs.Step.Parts.{by_number, by_created, creates}
@@ -90,34 +90,35 @@ no_memory m now c did ok = go did.answer ok
 told : (m : Machine) (now : ℕ) (c : CreateSession) (clients : Roster) (after : SessionTable) (fault : SessionFault) (s : Status)
     (old new : SheetState) (wish : Wish) (o : Option SessionFault) →
     Err fault ≡ (create_unless m.sessions c.clientid wish o).answer → after ≡ (create_unless m.sessions c.clientid wish o).after →
-    clients ≡ with_kept m.clients c.clientid (Refused s) → s ≡ session_fault_status fault → is_delay s ≡ false →
+    clients ≡ with_kept m.clients c.clientid (Refused s) → s ≡ session_fault_status fault → is_ok s ≡ false →
     ((n : Machine) → Does (with_refusal n 43 s) s n old new) →
-    Does (or_with_delay (is_delay s) m 43 (creates m now c (create_unless m.sessions c.clientid wish o))) s
+    Does (or_with_delay (is_lack s) m 43 (creates m now c (create_unless m.sessions c.clientid wish o))) s
     (record m { clients = clients; sessions = after }) old new
-told m now c clients after fault s old new wish None answer left kept status plain does = absurd cc
-told m now c clients after fault s old new wish (Some f) answer left kept status plain does =
+told m now c clients after fault s old new wish None answer left kept status fails does = absurd cc
+told m now c clients after fault s old new wish (Some f) answer left kept status fails does =
     let same : fault ≡ f = cc in
     let is : s ≡ session_fault_status f = status ∙ ap session_fault_status same in
     let n = record m { clients = clients; sessions = after } in
     let to : n ≡ record m { clients = with_kept m.clients c.clientid (Refused (session_fault_status f)) } =
     ap (λ (t : Roster). record m { clients = t; sessions = after }) (kept ∙ ap (λ (u : Status). with_kept m.clients c.clientid (Refused u)) is)
     ∙ ap (λ (t : SessionTable). record m { clients = with_kept m.clients c.clientid (Refused (session_fault_status f)); sessions = t }) left in
-    subst (λ b. Does (or_with_delay b m 43 (with_refusal (record m { clients = with_kept m.clients c.clientid (Refused (session_fault_status f)) })
-    43 (session_fault_status f))) s n old new) (sym plain)
+    let no : is_lack s && is_ok (session_fault_status f) ≡ false = and_right (is_lack s) _ (ap is_ok (sym is) ∙ fails) in
+    subst (λ b. Does (cond b (with_refusal m 43 Delay) (with_refusal (record m { clients = with_kept m.clients c.clientid (Refused (session_fault_status f)) })
+    43 (session_fault_status f))) s n old new) (sym no)
     (subst (λ (k : Machine). Does (with_refusal k 43 (session_fault_status f)) s n old new) to
     (subst (λ (u : Status). Does (with_refusal n 43 u) s n old new) is (does n)))
 
 wanted : (m : Machine) (now : ℕ) (c : CreateSession) (clients : Roster) (after : SessionTable) (s : Status) (old new : SheetState) (did : Created) →
     IsOk did.answer → after ≡ m.sessions → clients ≡ with_kept m.clients c.clientid (Refused s) → s ≡ Delay →
     ((n : Machine) → Does (with_refusal n 43 s) s n old new) →
-    Does (or_with_delay (is_delay s) m 43 (creates m now c did)) s (record m { clients = clients; sessions = after }) old new
+    Does (or_with_delay (is_lack s) m 43 (creates m now c did)) s (record m { clients = clients; sessions = after }) old new
 wanted m now c clients after s old new did ok left kept status does =
     let same : clients ≡ m.clients = kept ∙ ap (λ (u : Status). with_kept m.clients c.clientid (Refused u)) status
     ∙ sym (not_kept m.clients c.clientid (Refused Delay) refl) in
     let n = record m { clients = clients; sessions = after } in
     let to : n ≡ m = ap (λ (t : Roster). record m { clients = t; sessions = after }) same ∙ ap (λ (t : SessionTable). record m { sessions = t }) left in
     subst (λ (o : MachineOutcome). Does o s n old new)
-    (sym (ap (λ (u : Status). or_with_delay (is_delay u) m 43 (creates m now c did)) status ∙ no_memory m now c did ok))
+    (sym (ap (λ (u : Status). or_with_delay (is_lack u) m 43 (creates m now c did)) status ∙ no_memory m now c did ok))
     (subst (λ (k : Machine). Does (with_refusal k 43 Delay) s n old new) to
     (subst (λ (u : Status). Does (with_refusal n 43 u) s n old new) status (does n)))
 
@@ -126,14 +127,14 @@ pub refused_session : (m : Machine) (now : ℕ) (c : CreateSession) (wish : Wish
     CreatesOrWants m.sessions (create m.sessions c.clientid wish) (Err fault) after →
     clients ≡ with_kept m.clients c.clientid (Refused s) → s ≡ session_fault_status fault →
     ((n : Machine) → Does (with_refusal n 43 s) s n old new) →
-    Does (or_with_delay (is_delay s) m 43 (creates m now c (create m.sessions c.clientid wish))) s
+    Does (or_with_delay (is_lack s) m 43 (creates m now c (create m.sessions c.clientid wish))) s
     (record m { clients = clients; sessions = after }) old new
 refused_session m now c wish clients after TooSmall s old new did kept status does =
-    told m now c clients after TooSmall s old new wish (create_fault m.sessions wish) did.0 did.1 kept status (ap is_delay status) does
+    told m now c clients after TooSmall s old new wish (create_fault m.sessions wish) did.0 did.1 kept status (ap is_ok status) does
 refused_session m now c wish clients after NoSpc s old new did kept status does =
-    told m now c clients after NoSpc s old new wish (create_fault m.sessions wish) did.0 did.1 kept status (ap is_delay status) does
+    told m now c clients after NoSpc s old new wish (create_fault m.sessions wish) did.0 did.1 kept status (ap is_ok status) does
 refused_session m now c wish clients after ServerFault s old new did kept status does =
-    told m now c clients after ServerFault s old new wish (create_fault m.sessions wish) did.0 did.1 kept status (ap is_delay status) does
+    told m now c clients after ServerFault s old new wish (create_fault m.sessions wish) did.0 did.1 kept status (ap is_ok status) does
 refused_session m now c wish clients after Memory s old new did kept status does =
     wanted m now c clients after s old new (create m.sessions c.clientid wish) did.0 did.1 kept status does
 

@@ -18,14 +18,14 @@ use Rattle.nfs_sessions.specs.{Id.id_of, Sessions.{Session, session_at, create}}
 use Rattle.nfs_names.specs.{declared.context.Context.Context, Context.begins, State.{State, time_at}, Outcome.{Outcome as OfStore, is_ok}}
 use Rattle.nfs_names.specs.Outcome as of_store
 use Rattle.nfs_names.specs.Operation as names
-use Rattle.nfs_names.proofs.Faulted.{status_of_refusal}
+use Rattle.nfs_names.proofs.Faulted.{status_of_refusal, lacks_fail}
 use Rattle.nfs_files.specs.Operation as files
 use Rattle.nfs_exec.specs.Step.{Machine.{Machine, MachineOutcome, or_with_delay, with_refusal, with_result}, Parts.wish_of}
 use Rattle.nfs_exec.specs.Step.{Place.{place_fault, stands_alone, is_sequence}, ExchangeId.exchange_id}
 use Rattle.nfs_exec.specs.Step.Sequence.{compared, Sequenced, sequenced, sequence_ok}
 use Rattle.nfs_exec.specs.{Step.Behind.{Step, refused_step, step, on_store, otherwise}, Step.Run.{Ran, run, in_room, reserve, follow, only}}
 use Rattle.nfs_exec.specs.Step.Compound.{Answered, answers, carried_out, first_item, renewed, begun, runs_behind, keeps, in_session, by_first, bare}
-use Rattle.nfs_exec.specs.{Step.Laws.{if_runs, first_runs}, Step.Delayed.{grows, kept_by, with_ok, DelayIsACut}}
+use Rattle.nfs_exec.specs.{Step.Laws.{if_runs, first_runs}, Step.Delayed.{grows, lacks_at, kept_by, with_ok, DelayIsACut}}
 use Rattle.nfs_exec.specs.Step.Sequence as sequence
 use Rattle.nfs_exec.specs.Step.Parts.{past, by_session, slot_fault, by_number, creates}
 use Rattle.nfs_exec.proofs.Step.{InSteps.create_session_is, Terms.{by_fault, or_refuses}}
@@ -36,7 +36,7 @@ use Rattle.nfs_files.proofs.Storing.{or_left}
 
 -- it is refused, where it may want memory and would have answered NFS4_OK
 record IsRefused (i : Item) (m : Machine) (x : Context) (refused plenty : Step) : Type 0 where
-  is : refused ≡ refused_step m x i Delay
+  is : refused ≡ refused_step m x i (lacks_at m.store i)
   wants : grows m.store x i ≡ true
   ok : is_ok plenty.outcome.status ≡ true
 
@@ -44,12 +44,12 @@ abbrev Delays : Item → Machine → Context → (refused plenty : Step) → Typ
 Delays i m x refused plenty = (refused ≡ plenty) ⊎ IsRefused i m x refused plenty
 
 record IsWant (g : Bool) (s : State) (x : Context) (n : OpNum) (o : OfStore) : Type 0 where
-  is : of_store.or_delay (g && true) s x n o ≡ of_store.refuses s x n Delay
+  is : of_store.or_lack (g && true) s x n o ≡ of_store.refuses s x n (of_store.lacks s n)
   wants : g ≡ true
-  ok : of_store.is_ok (status_of_result (of_store.or_delay (g && false) s x n o).result) ≡ true
+  ok : of_store.is_ok (status_of_result (of_store.or_lack (g && false) s x n o).result) ≡ true
 
 delay_or_not : (g : Bool) (s : State) (x : Context) (n : OpNum) (o : OfStore)
-    → (of_store.or_delay (g && true) s x n o ≡ of_store.or_delay (g && false) s x n o) ⊎ IsWant g s x n o
+    → (of_store.or_lack (g && true) s x n o ≡ of_store.or_lack (g && false) s x n o) ⊎ IsWant g s x n o
 delay_or_not true s x n o = elim (cases_Bool (of_store.is_ok (status_of_result o.result))) [
   | inl ok ↦ inr (record { is = rw ok refl; wants = refl; ok = ok })
   | inr bad ↦ inl (rw bad refl)
@@ -71,7 +71,7 @@ files_grow s x (Op.CreateSession a) e = refl
 files_grow s x op e = or_right (names.grows s x op) (files.grows s x op) e
 
 abbrev named_by : Machine → Context → Op → OfStore → Bool → Step
-named_by m x op o b = on_store m (of_store.or_delay (names.grows m.store x op && b) m.store x (arguments op).op o)
+named_by m x op o b = on_store m (of_store.or_lack (names.grows m.store x op && b) m.store x (arguments op).op o)
 
 names_delay : (m : Machine) (x : Context) (op : Op) (o : OfStore) → Delays (Operation op) m x (named_by m x op o true) (named_by m x op o false)
 names_delay m x op o = elim (delay_or_not (names.grows m.store x op) m.store x (arguments op).op o) [
@@ -80,7 +80,7 @@ names_delay m x op o = elim (delay_or_not (names.grows m.store x op) m.store x (
 ]
 
 abbrev filed_by : Machine → Context → Op → OfStore → Bool → Step
-filed_by m x op o b = on_store m (of_store.or_delay (files.grows m.store x op && b) m.store x (arguments op).op o)
+filed_by m x op o b = on_store m (of_store.or_lack (files.grows m.store x op && b) m.store x (arguments op).op o)
 
 files_delay : (m : Machine) (x : Context) (op : Op) (o : OfStore) → Delays (Operation op) m x (filed_by m x op o true) (filed_by m x op o false)
 files_delay m x op o = elim (delay_or_not (files.grows m.store x op) m.store x (arguments op).op o) [
@@ -94,8 +94,8 @@ step_delays m x now (Operation op) = by_whom (names.one m.store x (time_at m.sto
   where
     stepped_by : (v w : Option OfStore) (b : Bool) → Step
     stepped_by v w b =
-        option_map_or (on_store m) (option_map (of_store.or_delay (names.grows m.store x op && b) m.store x (arguments op).op) v)
-        (option_map_or (on_store m) (option_map (of_store.or_delay (files.grows m.store x op && b) m.store x (arguments op).op) w)
+        option_map_or (on_store m) (option_map (of_store.or_lack (names.grows m.store x op && b) m.store x (arguments op).op) v)
+        (option_map_or (on_store m) (option_map (of_store.or_lack (files.grows m.store x op && b) m.store x (arguments op).op) w)
         (otherwise m x (Operation op)))
 
     by_whom : (v w : Option OfStore) → Delays (Operation op) m x (stepped_by v w true) (stepped_by v w false)
@@ -122,18 +122,23 @@ record IsCutRun (limit sofar now place : ℕ) (m : Machine) (x : Context) (items
   ok : left.status ≡ Nfs4Ok
   count : left.count ≡ place
   delayed : run limit sofar now (Some place) m x items
-      ≡ record { status = Delay; count = suc place; results = left.results ++ spell_result (refusal (item_number item) Delay); machine = left.machine }
+      ≡ (let status = lacks_at left.machine.store item in
+      record { status = status; count = suc place; results = left.results ++ spell_result (refusal (item_number item) status); machine = left.machine })
   more : List ℕ
   behind : Machine
   would : run limit sofar now None m x (take (suc place) items)
       ≡ record { status = Nfs4Ok; count = suc place; results = left.results ++ more; machine = behind }
 
 -- a refusal ends the run
-refused_ends : (m : Machine) (n : ℕ) (rest : Ran)
-    → follow (with_refusal m n Delay) rest ≡ record { status = Delay; count = 1; results = spell_result (refusal n Delay); machine = m }
-refused_ends m n rest =
-    let status = status_of_refusal n Delay in
-    rw (ap is_ok status) (ap (λ (s : Status). record (only (with_refusal m n Delay)) { status = s }) status)
+refused_ends : (m : Machine) (n : ℕ) (f : Status) (rest : Ran) → is_ok f ≡ false
+    → follow (with_refusal m n f) rest ≡ record { status = f; count = 1; results = spell_result (refusal n f); machine = m }
+refused_ends m n f rest fails =
+    let status = status_of_refusal n f in
+    rw (ap is_ok status ∙ fails) (ap (λ (s : Status). record (only (with_refusal m n f)) { status = s }) status)
+
+pub lack_fails : (s : State) (i : Item) → is_ok (lacks_at s i) ≡ false
+lack_fails s (Operation op) = lacks_fail s (arguments op).op
+lack_fails s (Fault n status) = refl
 
 run_delays : (limit sofar now place : ℕ) (m : Machine) (x : Context) (items : List Item)
     → (run limit sofar now (Some place) m x items ≡ run limit sofar now None m x items) ⊎ IsCutRun limit sofar now place m x items
@@ -151,7 +156,7 @@ run_delays limit sofar now zero m x (i ∷ more) =
         cut = refl;
         ok = refl;
         count = refl;
-        delayed = ap goes delayed.is ∙ refused_ends m (item_number i) _;
+        delayed = ap goes delayed.is ∙ refused_ends m (item_number i) (lacks_at m.store i) _ (lack_fails m.store i);
         more = (in_room limit sofar now false m x i).outcome.result ++ [];
         behind = (in_room limit sofar now false m x i).outcome.machine;
         would = rw delayed.ok refl;
@@ -175,11 +180,11 @@ run_delays limit sofar now (suc place) m x (i ∷ more) =
           ok = later.ok;
           count = ap suc later.count;
           delayed = ap (follow s.outcome) later.delayed ∙ rw ok (ap (λ (text : List ℕ). record {
-            status = Delay;
+            status = lacks_at later.left.machine.store later.item;
             count = suc (suc place);
             results = text;
             machine = later.left.machine;
-          }) (sym (append_assoc s.outcome.result later.left.results (spell_result (refusal (item_number later.item) Delay)))));
+          }) (sym (append_assoc s.outcome.result later.left.results (spell_result (refusal (item_number later.item) (lacks_at later.left.machine.store later.item))))));
           more = later.more;
           behind = later.behind;
           would = ap (follow s.outcome) later.would ∙ rw ok (ap (λ (text : List ℕ). record {
@@ -224,7 +229,7 @@ cut_runs r c who size shorter s (Some session) channel e few short =
 
 abbrev delayed_at : Request → Machine → (place : ℕ) → List ℕ → Item → Answered
 delayed_at r m place results item = record {
-  text = spell_compound_head Delay r.tag (suc place) ++ (results ++ spell_result (refusal (item_number item) Delay));
+  text = spell_compound_head (lacks_at m.store item) r.tag (suc place) ++ (results ++ spell_result (refusal (item_number item) (lacks_at m.store item)));
   machine = m;
 }
 
@@ -292,8 +297,8 @@ in_run m r who size now place s more channel runs =
         context = d.context;
         wants = d.wants;
         answer = refused ∙ ap (behind_it k r who s channel) d.delayed
-            ∙ ap (λ (text : List ℕ). keeps r who s (record { text = spell_compound_head Delay r.tag (suc (suc place)) ++ text; machine = d.left.machine }))
-            (sym (append_assoc (front s channel) d.left.results (spell_result (refusal (item_number d.item) Delay))))
+            ∙ ap (λ (text : List ℕ). keeps r who s (record { text = spell_compound_head (lacks_at d.left.machine.store d.item) r.tag (suc (suc place)) ++ text; machine = d.left.machine }))
+            (sym (append_assoc (front s channel) d.left.results (spell_result (refusal (item_number d.item) (lacks_at d.left.machine.store d.item)))))
             ∙ sym (ap (λ (v : Sequenced). kept_by r who (if_runs s v) (delayed_at r d.left.machine (suc place) results d.item)) runs);
         cut = λ c shorter tag few short.
             cut_in_run m r c who shorter now place s more channel d.left
@@ -326,6 +331,7 @@ in_session_either m r who size now (suc place) s more (sequence.Runs channel) e 
 
 record IsLoneRefused (m : Machine) (i : Item) (refused plenty : MachineOutcome) : Type 0 where
   is : refused ≡ with_refusal m (item_number i) Delay
+  again : lacks_at m.store i ≡ Delay
   wants : (x : Context) → grows m.store x i ≡ true
   ok : is_ok plenty.status ≡ true
 
@@ -339,14 +345,14 @@ created_delays : (m : Machine) (now : ℕ) (c : CreateSession) (v : clients.Verd
     → IsLone m (Operation (Op.CreateSession c)) (by_number m now true c v) (by_number m now false c v)
 created_delays m now c clients.Runs = elim (lone m 43 (creates m now c (create m.sessions c.clientid (wish_of m c)))) [
   | inl same ↦ inl same
-  | inr delayed ↦ inr (record { is = delayed.0; wants = λ x. refl; ok = delayed.1 })
+  | inr delayed ↦ inr (record { is = delayed.0; again = refl; wants = λ x. refl; ok = delayed.1 })
 ]
 created_delays m now c v = inl refl
 
 carried_delays : (m : Machine) (who : Caller) (now : ℕ) (i : Item) → IsLone m i (carried_out m who now true i) (carried_out m who now false i)
 carried_delays m who now (Operation (Op.ExchangeId e)) = elim (lone m 42 (exchange_id m who now e)) [
   | inl same ↦ inl same
-  | inr delayed ↦ inr (record { is = delayed.0; wants = λ x. refl; ok = delayed.1 })
+  | inr delayed ↦ inr (record { is = delayed.0; again = refl; wants = λ x. refl; ok = delayed.1 })
 ]
 carried_delays m who now (Operation (Op.CreateSession c)) =
     subst₂ (IsLone m (Operation (Op.CreateSession c))) (sym (create_session_is m who now true c)) (sym (create_session_is m who now false c))
@@ -371,6 +377,7 @@ item_fewer (Fault n status) declared few low e = e
 
 record IsFirstRefused (m : Machine) (declared : ℕ) (who : Caller) (now : ℕ) (i : Item) : Type 0 where
   is : first_item m declared who now true i ≡ with_refusal m (item_number i) Delay
+  again : lacks_at m.store i ≡ Delay
   wants : (x : Context) → grows m.store x i ≡ true
   ok : is_ok (carried_out m who now false i).status ≡ true
   would : (few : ℕ) → few ≤ declared → first_item m few who now false i ≡ carried_out m who now false i
@@ -387,6 +394,7 @@ first_delays m declared who now i = go (place_fault declared i) refl
       | inl same ↦ inl (ap (λ o. by_fault m (item_number i) (place_fault declared i) o) same)
       | inr delayed ↦ inr (record {
         is = ap (λ f. by_fault m (item_number i) f (carried_out m who now true i)) e ∙ delayed.is;
+        again = delayed.again;
         wants = delayed.wants;
         ok = delayed.ok;
         would = λ few low. ap (λ f. by_fault m (item_number i) f (carried_out m who now false i)) (item_fewer i declared few low e);
@@ -406,7 +414,8 @@ items_either m r who size now zero (item ∷ more) = elim (first_delays m r.decl
     context = begins 0 who;
     wants = delayed.wants (begins 0 who);
     answer = ap (λ (o : MachineOutcome). answers r (only o)) delayed.is
-        ∙ ap (λ (status : Status). answers r (record (only (with_refusal m (item_number item) Delay)) { status = status })) (status_of_refusal (item_number item) Delay);
+        ∙ ap (λ (status : Status). answers r (record (only (with_refusal m (item_number item) Delay)) { status = status })) (status_of_refusal (item_number item) Delay)
+        ∙ ap (λ (status : Status). answers r (record (only (with_refusal m (item_number item) status)) { status = status })) (sym delayed.again);
     cut = λ c shorter tag few short. ap (λ (t : List ℕ). record { text = spell_compound_head Nfs4Ok t 0 ++ []; machine = m }) tag;
     more = (carried_out m who now false item).result;
     behind = (carried_out m who now false item).machine;

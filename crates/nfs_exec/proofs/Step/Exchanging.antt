@@ -10,7 +10,7 @@ use Rattle.nfs_xdr.specs.{Checks.judged, Caller.Caller}
 use Rattle.nfs_compound.specs.declared.session_args.ExchangeId.{ExchangeId}
 use Rattle.nfs_lease.specs.Renewals.{Book, with_lease, without_lease}
 use Rattle.nfs_results.specs.declared.res.Res.TheVariants as Res
-use Rattle.nfs_names.specs.{Ending.has_open, Outcome.is_delay}
+use Rattle.nfs_names.specs.{Ending.has_open, Outcome.is_lack}
 use Rattle.nfs_exec.specs.Step.Machine.{Machine, IsMachine, with_result, or_with_delay}
 use Rattle.nfs_exec.specs.Step.View.{settled}
 use Rattle.nfs_exec.specs.Step.Parts.{granted_of, ask_of, owner_has_open, did_exchange, exchanged_by}
@@ -70,7 +70,7 @@ answered_ok m who now e next x after b Adds is none value at answer left book =
 -- the call was refused before anything was made
 pub refused_first : (m : Machine) (who : Caller) (now : ℕ) (e : ExchangeId) (fault : ClientFault) (case : Case) → Err fault ≡ judged (refusal_of case) →
     with_result m (Res.Refused 42 (client_fault_status fault))
-    ≡ or_with_delay (is_delay (client_fault_status fault)) m 42 (did_exchange m now (does m.clients (ask_of m who e) case))
+    ≡ or_with_delay (is_lack (client_fault_status fault)) m 42 (did_exchange m now (does m.clients (ask_of m who e) case))
 refused_first m who now e fault (Stays c) is = absurd cc
 refused_first m who now e fault Adds is = absurd cc
 refused_first m who now e Inval (Refuses f) is = let same : f ≡ Inval = cc in rw same refl
@@ -100,7 +100,7 @@ pub refused_last : (m : Machine) (who : Caller) (now : ℕ) (e : ExchangeId) (ne
     ExchangesOrWants m.clients (ask_of m who e) (Err fault) after →
     b ≡ without_lease (with_lease m.leases next now) next →
     with_result (record m { clients = after; leases = b }) (Res.Refused 42 (client_fault_status fault))
-    ≡ or_with_delay (is_delay (client_fault_status fault)) m 42 (exchanged_by m who now e)
+    ≡ or_with_delay (is_lack (client_fault_status fault)) m 42 (exchanged_by m who now e)
 refused_last m who now e next Memory after b is none judged did book =
     let back : b ≡ m.leases = book ∙ taken_back m.leases next now (unleased m next is none) in
     rw (did.1, back) (wanted m who now e (case_of m.clients (ask_of m who e)) judged)

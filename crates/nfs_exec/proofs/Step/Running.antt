@@ -3,7 +3,7 @@ use Rattle.std.proofs.Common.{◌≡◌, ℕ, zero, suc, ◌+◌, ◌-◌, ◌�
 use Rattle.std.proofs.{Common.{arith, inr}, lemmas.List.{length-append, append_assoc, append-nil}}
 use Rattle.nfs_xdr.specs.{Tables.In, SheetState.{SheetState, Puts}, declared.status.Status.Status, declared.status.Status.TheVariants.Nfs4Ok}
 use Rattle.nfs_compound.specs.{declared.op.Item.Item, Request.Request}
-use Rattle.nfs_names.specs.{declared.context.Context.Context, StoreInvariants.IsStore, Outcome.{is_delay, is_ok}}
+use Rattle.nfs_names.specs.{declared.context.Context.Context, StoreInvariants.IsStore, Outcome.{is_lack, is_ok}}
 use Rattle.nfs_exec.specs.{Step.Machine.{Machine, MachineOutcome}, Step.Behind.Step, Step.Run.{Ran, run, in_room, follow, only, is_here, behind_here}}
 use Rattle.nfs_exec.specs.{Step.View.{RunsTo, Steps, CanBear}, declared.run.Ran.{Ran as Told}}
 
@@ -84,7 +84,7 @@ begins limit begun at now first all bears few start fits = record {
 
 -- the operation was run where the run stood, and left it there
 abbrev pub Stepped : (limit begun at now : ℕ) (here next : Stand) → Item → Status → Type 0
-Stepped limit begun at now here next item s = Steps (step_at limit begun at now (is_delay s) here item) s next.machine next.context here.sheet next.sheet
+Stepped limit begun at now here next item s = Steps (step_at limit begun at now (is_lack s) here item) s next.machine next.context here.sheet next.sheet
 
 grown : (old new : SheetState) (text : List ℕ) → Puts old new text → length new.bytes ≡ length old.bytes + length text
 grown old new text put = ap length put.bytes ∙ length-append old.bytes text
@@ -112,11 +112,11 @@ abbrev unrolled : (limit now : ℕ) → Step → (sofar : ℕ) → Option ℕ �
 unrolled limit now s sofar choice m x left = follow s.outcome (run limit sofar now choice m x left)
 
 unrolls : (limit begun at now : ℕ) (here next : Stand) (left : List Item) (item : Item) (s : Status) (choice : Option ℕ) →
-    Stepped limit begun at now here next item s → is_here choice ≡ is_delay s → at ≤ length here.sheet.bytes →
+    Stepped limit begun at now here next item s → is_here choice ≡ is_lack s → at ≤ length here.sheet.bytes →
     run_at limit begun at now choice here (item ∷ left)
-    ≡ follow (step_at limit begun at now (is_delay s) here item).outcome (run_at limit begun at now (behind_here choice) next left)
+    ≡ follow (step_at limit begun at now (is_lack s) here item).outcome (run_at limit begun at now (behind_here choice) next left)
 unrolls limit begun at now here next left item s choice did place start =
-    let o = step_at limit begun at now (is_delay s) here item in
+    let o = step_at limit begun at now (is_lack s) here item in
     let long = grown here.sheet next.sheet o.outcome.result did.put in
     let sofar : so_far begun at here.sheet + length o.outcome.result ≡ so_far begun at next.sheet = omega (arith, long, start) in
     ap (λ (b : Bool). unrolled limit now (step_at limit begun at now b here item)
@@ -133,7 +133,7 @@ pub goes_on : (limit begun at now : ℕ) (first here next : Stand) (all left : L
     length next.sheet.bytes + so_far begun at here.sheet + 12 ≤ length here.sheet.bytes + limit → Going limit begun at now first next all left (done + 1)
 goes_on limit begun at now first here next all left item done s going did ok short =
     let start = going.start in
-    let o = (step_at limit begun at now (is_delay s) here item).outcome in
+    let o = (step_at limit begun at now (is_lack s) here item).outcome in
     let long = grown here.sheet next.sheet o.result did.put in
     record {
       bears = λ i there. going.bears i (inr there);
@@ -143,7 +143,7 @@ goes_on limit begun at now first here next all left item done s going did ok sho
       room = did.put.room ∙ going.room;
       ran = λ choice.
           (let whole = going.ran (later choice) in
-          let place : is_here (later choice) ≡ is_delay s = later_not_here choice ∙ sym (ap is_delay ok) in
+          let place : is_here (later choice) ≡ is_lack s = later_not_here choice ∙ sym (ap is_lack ok) in
           let rest : run_at limit begun at now (later choice) here (item ∷ left) ≡ follow o (run_at limit begun at now choice next left) =
           unrolls limit begun at now here next left item s (later choice) did place start
           ∙ ap (λ (c : Option ℕ). follow o (run_at limit begun at now c next left)) (later_behind choice) in (
@@ -160,14 +160,14 @@ pub ends_with : (limit begun at now : ℕ) (first here next : Stand) (all left :
     Stepped limit begun at now here next item s → is_ok s ≡ false →
     (choice : Option ℕ) × RunsTo (run_at limit begun at now choice first all) (record { status = s; count = done + 1 }) next.machine first.sheet next.sheet
 ends_with limit begun at now first here next all left item done s going did bad =
-    let choice = choice_of (is_delay s) in
-    let o = (step_at limit begun at now (is_delay s) here item).outcome in
+    let choice = choice_of (is_lack s) in
+    let o = (step_at limit begun at now (is_lack s) here item).outcome in
     let w = going.ran choice in
     let whole = run_at limit begun at now w.0 first all in
     let rest = run_at limit begun at now (behind_here choice) next left in
     let refused : is_ok o.status ≡ false = ap is_ok (sym did.status) ∙ bad in
     let last : run_at limit begun at now choice here (item ∷ left) ≡ only o =
-    unrolls limit begun at now here next left item s choice did (chosen (is_delay s)) going.start ∙ stopped o rest refused in
+    unrolls limit begun at now here next left item s choice did (chosen (is_lack s)) going.start ∙ stopped o rest refused in
     let j : Joins whole (only o) done first.sheet.bytes here.sheet.bytes =
     subst (λ (ran : Ran). Joins whole ran done first.sheet.bytes here.sheet.bytes) last w.1 in (
       w.0,

@@ -1,11 +1,11 @@
 -- Memory refused at a place of a compound (RFC 8881 sections 2.3, 2.10.6 and 15.1.1.3): it makes no difference, or the operation there
--- answers NFS4ERR_DELAY, and what is left is as if the compound ended in front of it.
+-- answers so, with NFS4ERR_DELAY or NFS4ERR_NOSPC, and what is left is as if the compound ended in front of it.
 use Rattle.std.specs.Prelude.{◌≡◌, ◌⊎◌, ℕ, suc, ◌≤◌, ◌||◌, Bool, true, false, List, ◌++◌, take, slice_get, Option, Some, None}
 use Rattle.nfs_xdr.specs.{declared.status.Status.Status, declared.status.Status.TheVariants.{Nfs4Ok, Delay}, Tables.In, Caller.Caller}
-use Rattle.nfs_compound.specs.{declared.op.Op.Op, declared.op.Item.Item, declared.op.Item.TheVariants.{Operation, Fault}, Request.{Request, item_number}}
+use Rattle.nfs_compound.specs.{declared.op.Op.Op, declared.op.Item.Item, declared.op.Item.TheVariants.{Operation, Fault}, Request.{Request, item_number}, Arguments.arguments}
 use Rattle.nfs_compound.specs.declared.session_args.Sequence.{Sequence}
 use Rattle.nfs_results.specs.Results.{refusal, spell_result, spell_compound_head}
-use Rattle.nfs_names.specs.{declared.start.Start.Start, declared.context.Context.Context, State.State, Outcome.is_delay}
+use Rattle.nfs_names.specs.{declared.start.Start.Start, declared.context.Context.Context, State.State, Outcome.{lacks, is_delay}}
 use Rattle.nfs_names.specs.Operation as names
 use Rattle.nfs_files.specs.Operation as files
 use Rattle.nfs_exec.specs.{Step.Machine.{Machine, starts}, Step.Sequence.{Refuses, sequenced}, Step.Compound.{Answered, first_item, keeps, compound}}
@@ -17,6 +17,11 @@ grows s x (Operation (Op.ExchangeId e)) = true
 grows s x (Operation (Op.CreateSession c)) = true
 grows s x (Operation op) = names.grows s x op || files.grows s x op
 grows s x (Fault number status) = false
+
+-- the status with which an item is refused then
+abbrev pub lacks_at : State → Item → Status
+lacks_at s (Operation op) = lacks s (arguments op).op
+lacks_at s (Fault number status) = Delay
 
 -- The same request with its operations from a place on left out: it declares no more of them, and its bytes are its own.
 pub record IsCut (place : ℕ) (r cut : Request) : Type 0 where
@@ -34,7 +39,7 @@ kept_by r who (Some s) a = keeps r who s a
 abbrev pub with_ok : Request → (count : ℕ) → List ℕ → Machine → Answered
 with_ok r count results left = record { text = spell_compound_head Nfs4Ok r.tag count ++ results; machine = left }
 
--- The operation at the place answers NFS4ERR_DELAY. Those before it were run, with these results, and left this machine: the compound answers
+-- The operation at the place answers that it was refused memory. Those before it were run, with these results, and left this machine: the compound answers
 -- with their results and that refusal; the request that is cut there, in a record that is no longer and with memory, answers with their
 -- results alone; and either leaves that machine, in which its slot keeps its own request and answer. With memory the operation itself answers
 -- NFS4_OK: the request that is cut behind it does.
@@ -46,7 +51,7 @@ pub record IsDelayed (m : Machine) (r : Request) (who : Caller) (size now place 
   pub context : Context
   pub wants : grows left.store context item ≡ true
   pub answer : compound m r who size now (Some place) ≡ kept_by r who (first_runs m r who size r.left) (record {
-    text = spell_compound_head Delay r.tag (suc place) ++ (results ++ spell_result (refusal (item_number item) Delay));
+    text = spell_compound_head (lacks_at left.store item) r.tag (suc place) ++ (results ++ spell_result (refusal (item_number item) (lacks_at left.store item)));
     machine = left;
   })
   pub cut : (c : Request) (shorter : ℕ) → IsCut place r c → shorter ≤ size

@@ -20,20 +20,15 @@ use Rattle.nfs_promises.specs.Answers.Asked.{StateGiven, by_state, of_locker, of
 use Rattle.nfs_promises.specs.Answers.Invalid.{IsNoShare, ToOpen, ToNarrow, Widens, IsInvalid, NoName, NoText, NoRange, NoShare, ByHandle, Sized, Below, Fixed, NoValue, Unreadable, Uncompared}
 use Rattle.nfs_promises.specs.Answers.Reasons.{StateTold, access_under, IsOld, IsBad, NoCurrent, Special, NoState, state_of, IsOwn, BySize, Made, Written, stands_alone, Reason, SaysSo, IsSaid, is_cut, LacksRoom, HasKind}
 use Rattle.nfs_promises.specs.Answers.Granted.{EachIsGranted, HasNoReason, IsAsTold, MayLock}
-use Rattle.nfs_promises.proofs.Answers.{Reasons.answered, ReasonOf.reason_of, StateReasons.stands_one}
+use Rattle.nfs_promises.proofs.Answers.{Placed.cut_so, Reasons.answered, ReasonOf.reason_of, StateReasons.stands_one}
 use Rattle.nfs_promises.proofs.{Locks.OneStateEach.{HasOneEach, each_in}, Runs.LaterRecords.ran_in}
-
-cut_so : (f : Status) → is_cut f ≡ true → (f ≡ S.RepTooBig) ⊎ (f ≡ S.Delay)
-cut_so S.RepTooBig on = inl refl
-cut_so S.Delay on = inr refl
-cut_so f on = absurd (false≢true on)
 
 -- no row holds
 granted : (d : RanOp) → IsRun d → HasOneEach d.before.store.opens → (op : Op) → d.item ≡ Operation op → HasNoReason d op → is_ok d.status ≡ true
 granted d r each op is none = elim (cases_Bool (is_ok d.status)) [
   | inl ok ↦ ok
-  | inr fails ↦ absurd (elim (cases_Bool (is_cut d.status)) [
-    | inl cut ↦ elim (cut_so d.status cut) [
+  | inr fails ↦ absurd (elim (cases_Bool (is_cut d.before.store (Operation op) d.status)) [
+    | inl cut ↦ elim (cut_so d.before.store (Operation op) d.status cut) [
       | inl big ↦ none.room (said.room big)
       | inr delay ↦ false≢true (sym none.memory ∙ said.memory delay)
     ]

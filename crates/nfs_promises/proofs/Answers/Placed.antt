@@ -3,23 +3,27 @@ use Rattle.std.proofs.Common.{◌≡◌, ◌⊎◌, ℕ, suc, Bool, true, false,
 use Rattle.std.proofs.lemmas.{Bool.{cases_Bool, false≢true, ltb-true, leb-true, not-true, eqb-true, and_right, or_cases}, Option.same_Some}
 use Rattle.std.proofs.lemmas.Slice.Eq.{bytes_eq-Decides}
 use Rattle.std.specs.{Prelude.{◌==◌, ◌||◌, ◌&&◌, ◌+◌, ◌<◌, ◌≤◌, nat_le, nat_lt, is_some, length, bytes_eq, Ok, option_map, unwrap_or}, List.list_any}
-use Rattle.nfs_xdr.specs.{Tables.In, Status.status_number, declared.status.Status.Status}
+use Rattle.nfs_xdr.specs.{Tables.In, declared.status.Status.Status}
 use Rattle.nfs_xdr.specs.declared.status.Status.TheVariants as S
 use Rattle.nfs_xdr.proofs.Lists.{find_in, in_any}
-use Rattle.nfs_compound.specs.{OpNum.op_number, declared.op_num.OpNum.OpNum, declared.op.{Op.Op, Item.Item, Item.TheVariants.Operation}, Request.item_number}
+use Rattle.nfs_compound.specs.declared.op_num.OpNum.TheVariants as Num
+use Rattle.nfs_compound.specs.declared.op.Op.TheVariants as Op
+use Rattle.nfs_compound.specs.{OpNum.op_number, Arguments.arguments, declared.op_num.OpNum.OpNum, declared.op.{Op.Op, Item.Item, Item.TheVariants.{Operation, Fault}}, Request.item_number}
 use Rattle.nfs_results.specs.{Largest.largest, Results.status_of_result}
 use Rattle.nfs_tree.specs.{declared.object.Object.Object, declared.object.FileType.FileType, declared.row.Row.Row, declared.stored.Stored.Stored, Object.is_directory}
 use Rattle.nfs_tree.specs.Files.{Files, most_name, stored_in, object_at, object_named, number_named, is_there, entry, has_name, has_entries}
 use Rattle.nfs_attrs.specs.Permissions.{execute}
 use Rattle.nfs_names.specs.{declared.context.Context.Context, declared.context.Saved.Saved, declared.node.Node.Node, State.{State, is_used}}
-use Rattle.nfs_names.specs.{Checks.{node_as, node_at, saved_object, current, both, permits, name_checks}, Outcome.{Outcome, refuses, is_ok, or_delay}}
-use Rattle.nfs_names.proofs.{Found.{came, ok_is}, Faulted.status_of_refusal}
+use Rattle.nfs_names.specs.{Checks.{node_as, node_at, saved_object, current, both, permits, name_checks}, Outcome.{Outcome, refuses, is_ok, or_lack, lacks, is_lack}}
+use Rattle.nfs_names.proofs.{Found.{came, ok_is}, Faulted.{status_of_refusal, lacks_memory}, Ones.is_lacked}
 use Rattle.nfs_files.proofs.{TreeFiles.IsWhole, WrittenOps.current_number}
 use Rattle.nfs_exec.specs.{Step.{Behind.{refused_step, step}, Run.{in_room, reserve}}, Runs.Ops.RanOp}
+use Rattle.nfs_exec.specs.Step.Delayed.{lacks_at}
+use Rattle.nfs_exec.proofs.Step.Delayed.{lack_fails}
 use Rattle.nfs_exec.proofs.{Runs.{OneRun.IsRun, WrittenRun.used_there}}
 use Rattle.nfs_promises.specs.{Names.FileStays.{is_on_current, is_on_saved}, Permission.Permitted.{Right, Executes, rights_of, rights_at}}
 use Rattle.nfs_promises.specs.Answers.{Asked.{LooksAt, AtCurrent, AtSaved, Target, is_in_directory, named, Gives, Needs, ToFind, Seeks}, Invalid.NoName}
-use Rattle.nfs_promises.specs.Answers.Reasons.{HasKind, HasEntry, IsDenied, MayDo, Reason, Granted, IsAnswered, room_of, is_cut, LacksRoom}
+use Rattle.nfs_promises.specs.Answers.Reasons.{HasKind, HasEntry, IsDenied, MayDo, Reason, Granted, IsAnswered, room_of, is_full, is_cut, LacksRoom}
 use Rattle.nfs_promises.proofs.{Answers.Blaming.{Blames, AllBlame, then_blames}, Permission.{Granting.may_execute, PermittedNames.picked}}
 
 -- An operation that was run is refused for want of room, or answers so.
@@ -43,19 +47,49 @@ done_so s x i granted = record { refused = λ no_ok. absurd (false≢true (sym n
 -- It was refused for want of room, or ended as its step; and the step was refused for want of memory, or answers so.
 
 abbrev pub Blamed : State → Context → Item → Bool → Status → Type 0
-Blamed s x i refused status = ((status ≡ S.Delay) × (refused ≡ true)) ⊎ IsAnswered s x i status
+Blamed s x i refused status = ((status ≡ lacks_at s i) × (refused ≡ true)) ⊎ IsAnswered s x i status
 
-pub or_delayed : (s : State) (x : Context) (i : Item) (op : OpNum) (wants refused : Bool) (o : Outcome) → Answers s x i o
-    → Blamed s x i refused (status_of_result (or_delay (wants && refused) s x op o).result)
-or_delayed s x i op wants false o is = by (wants && false) (and_right wants false refl)
+-- the status where memory is refused, by whether the bytes of a WRITE were refused it
+lacks_is : (s : State) (i : Item) → lacks_at s i ≡ cond (is_full s i) S.NoSpc S.Delay
+lacks_is s (Operation (Op.Write a)) = refl
+lacks_is s (Operation op) = refl
+lacks_is s (Fault n f) = refl
+
+cut_lacks : (s : State) (i : Item) → is_cut s i (lacks_at s i) ≡ true
+cut_lacks s i = subst (λ f. is_cut s i f ≡ true) (sym (lacks_is s i)) (by (is_full s i) refl)
   where
-    by : (b : Bool) → b ≡ false → Blamed s x i false (status_of_result (or_delay b s x op o).result)
+    by : (full : Bool) → is_full s i ≡ full → is_cut s i (cond full S.NoSpc S.Delay) ≡ true
+    by true on = on
+    by false off = ap not off
+
+pub cut_so : (s : State) (i : Item) (f : Status) → is_cut s i f ≡ true → (f ≡ S.RepTooBig) ⊎ (f ≡ lacks_at s i)
+cut_so s i S.RepTooBig on = inl refl
+cut_so s i S.Delay on = inr (sym (lacks_is s i ∙ ap (λ b. cond b S.NoSpc S.Delay) (not-true _ on)))
+cut_so s i S.NoSpc on = inr (sym (lacks_is s i ∙ ap (λ b. cond b S.NoSpc S.Delay) on))
+cut_so s i f on = absurd (false≢true on)
+
+not_big : (s : State) (i : Item) → S.RepTooBig ≡ lacks_at s i → ⊥
+not_big s (Operation op) same = false≢true (ap is_lack same ∙ lacks_memory s (arguments op).op)
+not_big s (Fault n f) same = absurd cc
+
+-- what has a reason has another status
+no_lack : (s : State) (x : Context) (i : Item) → Reason s x i (lacks_at s i) → ⊥
+no_lack s x (Operation (Op.Write a)) = is_lacked (λ f. Reason s x (Operation (Op.Write a)) f → ⊥) s Num.Write (λ none. none) (λ full. false≢true full.0)
+no_lack s x (Operation op) = λ none. none
+no_lack s x (Fault n f) = λ none. none
+
+pub or_delayed : (s : State) (x : Context) (i : Item) (op : OpNum) (wants refused : Bool) (o : Outcome) → lacks s op ≡ lacks_at s i → Answers s x i o
+    → Blamed s x i refused (status_of_result (or_lack (wants && refused) s x op o).result)
+or_delayed s x i op wants false o same is = by (wants && false) (and_right wants false refl)
+  where
+    by : (b : Bool) → b ≡ false → Blamed s x i false (status_of_result (or_lack b s x op o).result)
     by true on = absurd (false≢true (sym on))
     by false off = inr is
-or_delayed s x i op wants true o is = elim (wants && true && is_ok (status_of_result o.result)) as (λ k. Blamed s x i true (status_of_result (cond k (refuses s x op S.Delay) o).result)) [
-  | true ↦ inl (status_of_refusal (op_number op) S.Delay, refl)
-  | false ↦ inr is
-]
+or_delayed s x i op wants true o same is =
+    elim (wants && true && is_ok (status_of_result o.result)) as (λ k. Blamed s x i true (status_of_result (cond k (refuses s x op (lacks s op)) o).result)) [
+      | true ↦ inl (status_of_refusal (op_number op) (lacks s op) ∙ same, refl)
+      | false ↦ inr is
+    ]
 
 pub status_is : (d : RanOp) (r : IsRun d) (i : Item) → d.item ≡ i → d.status ≡ (in_room r.limit r.sofar r.now r.refused d.before d.context i).outcome.status
 status_is d r i is = ap (λ (c : RanOp). c.status) r.is ∙ ap (λ j. (in_room r.limit r.sofar r.now r.refused d.before d.context j).outcome.status) is
@@ -79,32 +113,35 @@ in_room_or d r i is small = by (nat_lt r.limit (r.sofar + largest i + reserve)) 
 -- what is said of an operation, but for the mark of RECLAIM_COMPLETE
 pub record IsBlamed (d : RanOp) (op : Op) : Type 0 where
   pub room : d.status ≡ S.RepTooBig → LacksRoom d
-  pub memory : d.status ≡ S.Delay → d.refused ≡ true
-  pub answered : is_cut d.status ≡ false → IsAnswered d.before.store d.context (Operation op) d.status
+  pub memory : d.status ≡ lacks_at d.before.store (Operation op) → d.refused ≡ true
+  pub answered : is_cut d.before.store (Operation op) d.status ≡ false → IsAnswered d.before.store d.context (Operation op) d.status
 
 pub ran_blames : (d : RanOp) (r : IsRun d) (op : Op) → d.item ≡ Operation op → nat_le (largest (Operation op)) (room_of (Operation op)) ≡ true
     → Blamed d.before.store d.context (Operation op) r.refused (step d.before d.context r.now r.refused (Operation op)).outcome.status → IsBlamed d op
 ran_blames d r op is small blamed = elim (in_room_or d r (Operation op) is small) [
   | inl (big, lacks) ↦ record {
     room = λ e. lacks;
-    memory = λ e. absurd (big_off S.Delay refl (sym big ∙ e));
-    answered = λ off. absurd (false≢true (sym off ∙ ap is_cut big));
+    memory = λ e. absurd (not_big s i (sym big ∙ e));
+    answered = λ off. absurd (false≢true (sym off ∙ ap (is_cut s i) big));
   }
   | inr e ↦ by (subst (Blamed d.before.store d.context (Operation op) r.refused) (sym e) blamed)
 ]
   where
-    big_off : (f : Status) → status_number f == status_number S.RepTooBig ≡ false → S.RepTooBig ≡ f → ⊥
-    big_off f off same = false≢true (sym off ∙ ap (λ g. status_number g == status_number S.RepTooBig) (sym same))
+    s : State
+    s = d.before.store
+
+    i : Item
+    i = Operation op
 
     by : Blamed d.before.store d.context (Operation op) r.refused d.status → IsBlamed d op
-    by (inl (delay, refused)) = record {
-      room = λ e. absurd (big_off S.Delay refl (sym e ∙ delay));
+    by (inl (lack, refused)) = record {
+      room = λ e. absurd (not_big s i (sym e ∙ lack));
       memory = λ e. ap (λ (c : RanOp). c.refused) r.is ∙ refused;
-      answered = λ off. absurd (false≢true (sym off ∙ ap is_cut delay));
+      answered = λ off. absurd (false≢true (sym off ∙ (ap (is_cut s i) lack ∙ cut_lacks s i)));
     }
     by (inr is) = record {
       room = λ e. absurd ((subst (IsAnswered d.before.store d.context (Operation op)) e is).refused refl);
-      memory = λ e. absurd ((subst (IsAnswered d.before.store d.context (Operation op)) e is).refused refl);
+      memory = λ e. absurd (no_lack s d.context i ((subst (IsAnswered s d.context i) e is).refused (lack_fails s i)));
       answered = λ off. is;
     }
 

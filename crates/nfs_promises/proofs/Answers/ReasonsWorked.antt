@@ -295,4 +295,6 @@ cuts_refused = record {
   big_unlock = λ d is. no_less _ _ refl (is.room refl);
   big_read = λ d is. no_less _ _ refl (is.room refl);
   delayed = λ d is. false≢true (is.memory refl);
+  full = λ d is. false≢true (is.memory refl);
+  waits = λ d is. (is.answered refl).refused refl;
 }

@@ -1,13 +1,12 @@
 -- Each yes is true, in every run.
 use Rattle.std.proofs.Common.{◌≡◌, ℕ, Bool, true, List, refl}
 use Rattle.std.specs.Prelude.{◌&&◌}
-use Rattle.nfs_xdr.specs.declared.status.Status.TheVariants as S
 use Rattle.nfs_compound.specs.declared.{op.{Item.{Item, TheVariants.Operation}, Op.Op}, op_num.OpNum.OpNum}
 use Rattle.nfs_compound.specs.declared.op.Op.TheVariants as Op
 use Rattle.nfs_compound.specs.declared.op_num.OpNum.TheVariants as Num
 use Rattle.nfs_tree.specs.Bytes.{has_bytes}
-use Rattle.nfs_names.specs.{declared.context.Context.Context, Outcome.{Outcome, is_ok, or_delay}, State.{State, time_at}}
-use Rattle.nfs_names.proofs.Ones.{by_delay}
+use Rattle.nfs_names.specs.{declared.context.Context.Context, Outcome.{Outcome, is_ok, or_lack, lacks}, State.{State, time_at}}
+use Rattle.nfs_names.proofs.{Ones.by_delay, Faulted.lacks_fail}
 use Rattle.nfs_files.specs.{Lock.lock, LockU.{lock_u, wants_memory}, Open.open_file, Write.write}
 use Rattle.nfs_exec.specs.Runs.Ops.{RanOp}
 use Rattle.nfs_exec.proofs.Runs.OneRun.{IsRun, by_ok}
@@ -27,8 +26,8 @@ module _ (d : RanOp) (r : IsRun d) (each : HasOneEach d.before.store.opens) wher
   T op = IsTrueOf s x (Operation op)
 
   -- what memory was refused to is no yes
-  late : (op : Op) (n : OpNum) (b : Bool) (o : Outcome) → Yes (T op) o → Yes (T op) (or_delay b s x n o)
-  late op n b o is = by_delay (Yes (T op)) b s x n o (refused_off (T op) s x n S.Delay refl) is
+  late : (op : Op) (n : OpNum) (b : Bool) (o : Outcome) → Yes (T op) o → Yes (T op) (or_lack b s x n o)
+  late op n b o is = by_delay (Yes (T op)) b s x n o (refused_off (T op) s x n (lacks s n) (lacks_fail s n)) is
 
   by_op : (i : Item) → d.item ≡ i → is_ok d.status ≡ true → IsTrueOf s x i d.result d.behind.store
   by_op (Operation (Op.Access asked)) is ok = by_ok (T (Op.Access asked)) d r (Operation (Op.Access asked)) is ok (access_true s x asked)

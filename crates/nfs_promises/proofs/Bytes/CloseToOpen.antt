@@ -2,7 +2,7 @@
 use Rattle.std.proofs.Common.{◌≡◌, ◌⊎◌, inl, inr, ℕ, zero, suc, ◌<◌, ◌≤◌, Bool, true, Some, List, [], ◌∷◌, ◌++◌, length, drop, take, append_assoc, refl, sym}
 use Rattle.std.proofs.{Common.{◌∙◌, ap, subst, arith}, lemmas.List.{take_at, drop_at}}
 use Rattle.std.specs.{Prelude.◌&&◌, Int.{w32, from_be_bytes}}
-use Rattle.nfs_xdr.specs.{Spelling.number, Tables.In, declared.{time.Time.Time, status.Status.{Status, TheVariants.{Nfs4Ok, Delay, RepTooBig}}}}
+use Rattle.nfs_xdr.specs.{Spelling.number, Tables.In, declared.{time.Time.Time, status.Status.{Status, TheVariants.{Nfs4Ok, RepTooBig}}}}
 use Rattle.nfs_xdr.proofs.Putting.{length_number}
 use Rattle.nfs_compound.specs.{declared.file_args.Write.Write, declared.op.Item.TheVariants.Operation, OpNum.op_number}
 use Rattle.nfs_compound.specs.declared.op.Op.TheVariants as Op
@@ -10,7 +10,7 @@ use Rattle.nfs_compound.specs.declared.op_num.OpNum.TheVariants as Num
 use Rattle.nfs_results.proofs.Lengths.{length_head}
 use Rattle.nfs_results.specs.Results.{spell_result, done_head, status_of_result}
 use Rattle.nfs_tree.specs.Files.{Files, is_there, change_of}
-use Rattle.nfs_names.specs.{declared.start.Start.Start, declared.context.Context.Context, Checks.current, Outcome.{Outcome, checked, is_ok}, State.time_at}
+use Rattle.nfs_names.specs.{declared.start.Start.Start, declared.context.Context.Context, Checks.current, Outcome.{Outcome, checked, is_ok, lacks}, State.time_at}
 use Rattle.nfs_names.specs.State as store
 use Rattle.nfs_names.proofs.{Found.{checked_ok, current_is}, Ones.by_delay}
 use Rattle.nfs_files.specs.{Operation.grows, Parts.{writable, was_written}, Written.{Byte, GivesIt}}
@@ -89,7 +89,7 @@ write_told : (n : ℕ) (refused : Bool) (s : store.State) (x : Context) (now : T
     → 0 < from_be_bytes w32 count → (let o = one_or_delay refused s x now (Op.Write w) in Wrote n s.tree w count more (status_of_result o.result) (spell_result o.result))
 write_told n refused s x now w count more at long some =
     let P : Outcome → Type 0 = λ o. Wrote n s.tree w count more (status_of_result o.result) (spell_result o.result) in
-    by_delay P (grows s x (Op.Write w) && refused) s x Num.Write (of_write.write s x now w) (λ told. absurd (short Num.Write Delay count more long told))
+    by_delay P (grows s x (Op.Write w) && refused) s x Num.Write (of_write.write s x now w) (λ told. absurd (short Num.Write (lacks s Num.Write) count more long told))
     (subst P (sym (write_is s x now w)) (by_found P s x Num.Write (checked (writable s x w.stateid (current s x)) (of_write.last_checks s w)) (was_written s x now w)
     (λ status told. absurd (short Num.Write status count more long told))
     (λ d granted told.

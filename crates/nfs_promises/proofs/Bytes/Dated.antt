@@ -17,7 +17,7 @@ use Rattle.nfs_names.specs.{declared.context.Context.Context, declared.node.Node
 use Rattle.nfs_names.specs.{Link.link, Outcome.{Outcome, checked, is_ok}, Remove.remove, State.{with_tree, is_used, without_unused, time_at}}
 use Rattle.nfs_names.specs.State as store
 use Rattle.nfs_names.specs.Operation as names
-use Rattle.nfs_names.proofs.{Found.{came, ok_is, checked_ok, current_is}, NameLaws.{current_refuses, by_create, by_link, by_remove}, Ones.by_delay, Refusing.refuses_checked}
+use Rattle.nfs_names.proofs.{Found.{came, ok_is, checked_ok, current_is}, NameLaws.{current_refuses, by_create, by_link, by_remove}, Ones.by_delay, Faulted.lacks_fail, Refusing.refuses_checked}
 use Rattle.nfs_files.specs.{Operation.grows, Parts.writable, FileImage.{claimed, is_number, asks_empty}, Bytes.behind_sets}
 use Rattle.nfs_files.specs.OpenParts as open_parts
 use Rattle.nfs_files.specs.Open as of_open
@@ -159,7 +159,8 @@ link_dates n s x now name at =
 write_dates : (n : ℕ) (refused : Bool) (s : store.State) (x : Context) (now : Time) (w : Write) → x.current ≡ Some n → has_bytes w.bytes ≡ true
     → Done (Dates n (Modified now) s.tree) (one_or_delay refused s x now (Op.Write w))
 write_dates n refused s x now w at some =
-    by_delay (Done (Dates n (Modified now) s.tree)) (grows s x (Op.Write w) && refused) s x Num.Write (of_write.write s x now w) (λ ok. absurd (false≢true ok))
+    by_delay (Done (Dates n (Modified now) s.tree)) (grows s x (Op.Write w) && refused) s x Num.Write (of_write.write s x now w)
+    (λ ok. absurd (false≢true (sym (lacks_fail s Num.Write) ∙ ok)))
     (rw (write_is s x now w) (by_granted (Done (Dates n (Modified now) s.tree)) s x Num.Write (checked (writable s x w.stateid (current s x)) (of_write.last_checks s w))
     (parts.was_written s x now w)
     (refuses_checked (writable s x w.stateid (current s x)) (of_write.last_checks s w) (writable_refuses s x w.stateid (current s x) (current_refuses s x)) (λ d. refl))

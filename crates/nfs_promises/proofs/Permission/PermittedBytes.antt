@@ -18,7 +18,7 @@ use Rattle.nfs_opens.specs.declared.{records.{LockState.LockState, OpenState.Ope
 use Rattle.nfs_opens.proofs.Terms.{judge_named}
 use Rattle.nfs_names.specs.{declared.context.Context.Context, declared.node.Node.Node, Checks.current, Outcome.{Outcome, is_ok, checked, answers}}
 use Rattle.nfs_names.specs.State.{State, time_at}
-use Rattle.nfs_names.proofs.{Faulted.status_of_refusal, Found.{came, ok_is, checked_ok}, NameLaws.current_refuses, Ones.by_delay}
+use Rattle.nfs_names.proofs.{Faulted.{status_of_refusal, lacks_fail}, Found.{came, ok_is, checked_ok}, NameLaws.current_refuses, Ones.by_delay}
 use Rattle.nfs_names.proofs.Refusing.{Refuses, refuses_checked}
 use Rattle.nfs_files.specs.{Bytes.{file_checks, seat, reading, writing, lets_use, seat_checks, may_use}, StateIds.meant, Parts.{readable, writable}}
 use Rattle.nfs_files.specs.Write as of_write
@@ -184,7 +184,7 @@ write_granted d run n r at ok a same =
     let v = writable s x a.stateid (current s x) in
     by_ok (λ text t. ByStateid s.tree.profile n r d a.stateid Writes) d run (Operation (Op.Write a)) same ok
     (by_delay (λ o. is_ok (status_of_result o.result) ≡ true → ByStateid s.tree.profile n r d a.stateid Writes) (has_bytes a.bytes && run.refused) s x Num.Write (of_write.write s x (time_at s run.now) a)
-    (λ delayed. absurd (false≢true delayed)) (λ fine.
+    (λ delayed. absurd (false≢true (sym (lacks_fail s Num.Write) ∙ delayed))) (λ fine.
     (let its = done_by s x Num.Write (checked v (of_write.last_checks s a)) _
     (refuses_checked v (of_write.last_checks s a) (writable_refuses s x a.stateid (current s x) (current_refuses s x)) (λ d. refl))
     (subst (λ (o : Outcome). is_ok (status_of_result o.result) ≡ true) (in_steps.write_is s x (time_at s run.now) a) fine) in

@@ -17,10 +17,10 @@ use Rattle.nfs_tree.specs.{Create.{New, with_new, new_object, new_directory, new
 use Rattle.nfs_tree.proofs.Objects.{keeps_changed, stored_map}
 use Rattle.nfs_attrs.specs.{declared.wanted.Wanted.Wanted, SetId.{settled, mode_behind, mode_if, made_in}}
 use Rattle.nfs_names.specs.{declared.context.Context.Context, declared.node.Node.Node, declared.start.Start.Start, Checks.current}
-use Rattle.nfs_names.specs.{Create.{attributes_in, new_of, plain_mode, create}, Outcome.{Outcome, is_ok, checked, answers, refuses}, State.{moment, time_at}}
+use Rattle.nfs_names.specs.{Create.{attributes_in, new_of, plain_mode, create}, Outcome.{Outcome, is_ok, checked, answers, lacks, refuses}, State.{moment, time_at}}
 use Rattle.nfs_names.specs.Create as creating
 use Rattle.nfs_names.specs.State as store
-use Rattle.nfs_names.proofs.{Faulted.status_of_refusal, Found.{IsHeld, ok_is, checked_ok, current_is}, NameLaws.{by_create, current_refuses}, Ones.by_delay}
+use Rattle.nfs_names.proofs.{Faulted.{status_of_refusal, lacks_fail}, Found.{IsHeld, ok_is, checked_ok, current_is}, NameLaws.{by_create, current_refuses}, Ones.by_delay}
 use Rattle.nfs_names.proofs.Refusing.{IsRefusal, Refuses, refuses_checked}
 use Rattle.nfs_files.specs.{Parts.writable, Bytes.behind_sets, FileImage.{is_number, asks_empty}, Open.{makes, open_file}, Operation.grows, SetAttr.set_attr}
 use Rattle.nfs_files.specs.OpenParts as open_parts
@@ -297,7 +297,8 @@ run_have k r d run is (Operation (Op.Write a)) same =
     by_item (λ status text u. Leaves k r q status u) d run (Operation (Op.Write a)) same
     (run_set k r d (Op.Write a) run is same)
     (by_delay (λ o. Leaves k r q (status_of_result o.result) o.state) (grows d.before.store d.context (Op.Write a) && run.refused) d.before.store d.context Num.Write
-    (of_write.write d.before.store d.context (time_at d.before.store run.now) a) is
+    (of_write.write d.before.store d.context (time_at d.before.store run.now) a)
+    (refused_have k r q (lacks d.before.store Num.Write) d.before.store (lacks_fail d.before.store Num.Write) is)
     (write_have k r d.before.store d.context (time_at d.before.store run.now) a is)))
 run_have k r d run is (Operation (Op.Open a)) same =
     (let q = rights_left k r d.before.store.tree d.context (Operation (Op.Open a)) in

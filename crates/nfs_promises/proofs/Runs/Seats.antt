@@ -2,7 +2,7 @@
 use Rattle.std.proofs.Common.{◌≡◌, ◌≢◌, ℕ, ◌+◌, Bool, true, false, not, List, [], ◌∷◌, Option, Some, None, refl, sym, ◌∙◌, ap, subst}
 use Rattle.std.proofs.lemmas.Bool.{eqb-true, not-false, false≢true}
 use Rattle.std.specs.Prelude.{◌==◌, ◌&&◌, IfSome, is_some, option_map}
-use Rattle.nfs_xdr.specs.{declared.time.Time.Time, declared.status.Status.TheVariants.{Stale, Delay}}
+use Rattle.nfs_xdr.specs.{declared.time.Time.Time, declared.status.Status.TheVariants.Stale}
 use Rattle.nfs_xdr.proofs.Checks.{all_passed}
 use Rattle.nfs_compound.specs.{Arguments.arguments, declared.name_args.Create.Create, declared.name_args.Rename.Rename}
 use Rattle.nfs_compound.specs.declared.open_args.OpenClaim.{OpenClaim}
@@ -17,10 +17,10 @@ use Rattle.nfs_tree.specs.Object.{is_directory}
 use Rattle.nfs_attrs.specs.{declared.handle.Handle.Handle, Handle.handle_of, Permissions.execute}
 use Rattle.nfs_opens.specs.Locking as locking
 use Rattle.nfs_names.specs.{declared.context.Context.Context, Checks.{saved_object, no_directory, no_access}, Create.{new_of, create}, Link.link}
-use Rattle.nfs_names.specs.{Outcome.{Outcome, checked, is_ok, refuses}, PutPubFh.put_pub_fh, PutRootFh.put_root_fh, Rename.{move_of, renamed, rename}}
+use Rattle.nfs_names.specs.{Outcome.{Outcome, checked, is_ok, lacks, refuses}, PutPubFh.put_pub_fh, PutRootFh.put_root_fh, Rename.{move_of, renamed, rename}}
 use Rattle.nfs_names.specs.State.{State, time_at}
 use Rattle.nfs_names.specs.Operation as names
-use Rattle.nfs_names.proofs.{Found.{current_is, checked_ok}, Faulted.status_of_refusal, Ones.{each_of, if_delayed, by_delay}}
+use Rattle.nfs_names.proofs.{Found.{current_is, checked_ok}, Faulted.{status_of_refusal, lacks_fail}, Ones.{each_of, if_delayed, by_delay}}
 use Rattle.nfs_names.proofs.NameLaws as law
 use Rattle.nfs_files.specs.{OpenTold.{named_in, claimed}, Operation.grows, TestStateid.test_stateid}
 use Rattle.nfs_files.specs.OpenParts as open_parts
@@ -275,8 +275,8 @@ did_file s x now op = λ ok. absurd (false≢true ok)
 
 -- So did each operation that was run.
 
-delayed : (op : Op) (s : State) (x : Context) → Does op s x (refuses s x (arguments op).op Delay)
-delayed op s x ok = absurd (false≢true (sym (ap is_ok (status_of_refusal (op_number (arguments op).op) Delay)) ∙ ok))
+delayed : (op : Op) (s : State) (x : Context) → Does op s x (refuses s x (arguments op).op (lacks s (arguments op).op))
+delayed op s x ok = absurd (false≢true (sym (ap is_ok (status_of_refusal (op_number (arguments op).op) (lacks s (arguments op).op)) ∙ lacks_fail s (arguments op).op) ∙ ok))
 
 did_step : (m : Machine) (x : Context) (now : ℕ) (refused : Bool) (i : Item) → IsTree m.store.tree
     → (let s = step m x now refused i in is_ok s.outcome.status ≡ true → Did i m.store x s.outcome.machine.store s.context)

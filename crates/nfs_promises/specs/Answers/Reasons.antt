@@ -8,7 +8,7 @@ use Rattle.nfs_compound.specs.{declared.op.Item.Item, declared.op.{Op.Op, Item.T
 use Rattle.nfs_compound.specs.{declared.session_args.Sequence.Sequence, declared.attributes.Attributes.Attributes, declared.file_args.{SetAttr.SetAttr, Write.Write}, declared.lock_args.Lock.Lock, declared.stateid.Stateid.Stateid, declared.name_args.{ReadDir.ReadDir, CreateType.CreateType, CreateType.TheVariants.{Symlink, Other}}}
 use Rattle.nfs_compound.specs.declared.name_args.Create as args
 use Rattle.nfs_attrs.specs.{declared.handle.Handle.Handle, declared.wanted.Wanted.Wanted, Handle.handle_of}
-use Rattle.nfs_tree.specs.{declared.object.FileType.FileType, declared.object.Object.Object, declared.row.Row.Row, declared.profile.Profile.{Profile, TheVariants.Unix}, Object.{is_directory, is_link}}
+use Rattle.nfs_tree.specs.{declared.object.FileType.FileType, declared.object.Object.Object, declared.row.Row.Row, declared.profile.Profile.{Profile, TheVariants.Unix}, Object.{is_directory, is_link}, Profile.is_unix}
 use Rattle.nfs_tree.specs.Files.{Files, links_in, most_links, most_name, most_text, object_at, object_named, is_directory_at}
 use Rattle.nfs_opens.specs.{declared.judging.Sort.Sort, declared.judging.Sort.TheVariants.{Either, OpenOnly, LockOnly}, declared.stateid.StateId.StateId}
 use Rattle.nfs_opens.specs.{declared.records.OpenState.OpenState, declared.records.LockState.LockState, declared.share.Share.Share, Share.meets, Table.{Table, open_at, lock_at}}
@@ -17,7 +17,7 @@ use Rattle.nfs_ranges.specs.Facts.{HoldsAny}
 use Rattle.nfs_names.specs.{declared.{start.Start.Start, context.Context.Context, context.Saved.Saved}, Create.attributes_in, Outcome.is_ok, State.{State, is_used}}
 use Rattle.nfs_files.specs.{Open.{access_of, deny_of}, OpenTold.claimed, Ranges.kind_of, StateIds.state_id}
 use Rattle.nfs_clients.specs.Marks.{has_reclaimed}
-use Rattle.nfs_exec.specs.Runs.Ops.{RanOp}
+use Rattle.nfs_exec.specs.{Runs.Ops.RanOp, Step.Delayed.lacks_at}
 use Rattle.nfs_promises.specs.{Network.Endpoint.Arrival, Runs.Points.{reached, ops_of}, Names.FileStays.{is_on_current, is_on_saved}}
 use Rattle.nfs_promises.specs.Permission.Permitted.{Right, Reads, Writes, Grants, GrantsBytes, Rights, has_right, rights_at}
 use Rattle.nfs_promises.specs.Answers.Asked.{LooksAt, DirectoryOf, NoDirectoryOf, NoLinkOf, NamedOf, Seeks, Gives, made, makes_by, reclaims, is_delegated, Needs}
@@ -349,21 +349,27 @@ room_of (Operation Op.ReadLink) = 1036
 room_of (Operation (Op.TestStateid given)) = 12 + 4 * length given
 room_of item = 128
 
--- It was not tried: the reply has no room for its result and the 12 bytes of a refusal behind it, or memory was refused to it.
-abbrev pub is_cut : Status → Bool
-is_cut S.RepTooBig = true
-is_cut S.Delay = true
-is_cut status = false
+-- It was not tried: the reply has no room for its result and the 12 bytes of a refusal behind it, or memory was refused to it. The bytes of a
+-- WRITE are refused with NFS4ERR_NOSPC then in the profile `unix`, all else with NFS4ERR_DELAY.
+abbrev pub is_full : State → Item → Bool
+is_full s (Operation (Op.Write a)) = is_unix s.tree.profile
+is_full s item = false
+
+abbrev pub is_cut : State → Item → Status → Bool
+is_cut s i S.RepTooBig = true
+is_cut s i S.Delay = not (is_full s i)
+is_cut s i S.NoSpc = is_full s i
+is_cut s i status = false
 
 abbrev pub LacksRoom : RanOp → Type 0
 LacksRoom d = d.limit < d.sofar + room_of d.item + 12
 
 pub record IsSaid (d : RanOp) (op : Op) : Type 0 where
   pub room : d.status ≡ S.RepTooBig → LacksRoom d
-  pub memory : d.status ≡ S.Delay → d.refused ≡ true
+  pub memory : d.status ≡ lacks_at d.before.store (Operation op) → d.refused ≡ true
   -- the client's record says that its reclaim is complete
   pub reclaimed : (one : Bool) → op ≡ Op.ReclaimComplete one → d.status ≡ S.CompleteAlready → has_reclaimed d.before.clients d.context.client ≡ true
-  pub answered : is_cut d.status ≡ false → IsAnswered d.before.store d.context (Operation op) d.status
+  pub answered : is_cut d.before.store (Operation op) d.status ≡ false → IsAnswered d.before.store d.context (Operation op) d.status
 
 -- An operation that ran, or what could not be read, whose fault is the status.
 abbrev pub SaysSo : RanOp → Item → Type 0

@@ -3,7 +3,7 @@
 -- SETATTR of its mode by another user.
 use Rattle.std.specs.Prelude.{◌≡◌, ℕ, ◌+◌, [], ◌∷◌}
 use Rattle.nfs_xdr.specs.declared.status.Status.{Status}
-use Rattle.nfs_xdr.specs.declared.status.Status.TheVariants.{Nfs4Ok, Perm, OldStateId, BadStateId, Exist, NoEnt, IsDir, Access, NotDir, Denied, RepTooBig, Delay}
+use Rattle.nfs_xdr.specs.declared.status.Status.TheVariants.{Nfs4Ok, Perm, OldStateId, BadStateId, Exist, NoEnt, IsDir, Access, NotDir, Denied, RepTooBig, NoSpc, Delay}
 use Rattle.nfs_compound.specs.declared.open_args.{OpenHow.OpenHow, OpenHow.TheVariants.{NoCreate, Create}, CreateHow.TheVariants.Guarded}
 use Rattle.nfs_compound.specs.declared.op.Op.TheVariants as Op
 use Rattle.nfs_compound.specs.declared.name_args.CreateType.TheVariants.{Other}
@@ -12,7 +12,7 @@ use Rattle.nfs_exec.specs.Runs.Ops.{RanOp}
 use Rattle.nfs_serve.specs.Step.{ServerState}
 use Rattle.nfs_promises.specs.{Runs.{Requests.{words, handle, stateid, in_session, opening_by, locking, unchecked}, Started.usual, Points.{reached, ops_of}}, Network.Endpoint.Arrival, Answers.Reasons.AnswersSo}
 use Rattle.nfs_promises.specs.Locks.LockKeptWorked.{came, earlier, asked, gives_up, last_of, statuses}
-use Rattle.nfs_promises.specs.{Bytes.WrittenStaysWorked.made, Names.FileStaysWorked.{with_status, missed, closes}, Permission.PermittedWorked.{to_group, runs, asks}}
+use Rattle.nfs_promises.specs.{Bytes.WrittenStaysWorked.made, Names.FileStaysWorked.{with_status, missed, closes}, Permission.{PermittedWorked.{to_group, runs, asks}, NoSetUidWorked.{given, other_writes}}}
 
 -- PUTROOTFH, and an OPEN of `f` for reading by another open owner
 abbrev pub opens : OpenHow → Arrival
@@ -99,3 +99,6 @@ pub record CutsRefused : Type 0 where
   pub big_read : Refused runs asks RepTooBig
   -- there is no memory, where none was refused
   pub delayed : Refused made removes Delay
+  -- so in `unix`, of a WRITE; and its client is told to wait
+  pub full : Refused given other_writes NoSpc
+  pub waits : Refused given other_writes Delay

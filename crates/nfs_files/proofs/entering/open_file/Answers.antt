@@ -1,4 +1,4 @@
-use Rattle.std.proofs.Common.{true, sym, ap, ◌∙◌}
+use Rattle.std.proofs.Common.{true, refl, sym, ap, ◌∙◌}
 use Rattle.nfs_compound.specs.declared.op_num.OpNum.TheVariants as Num
 use Rattle.nfs_results.specs.Results.{status_of_result}
 use Rattle.nfs_names.specs.{State.state_of, Outcome.{Outcome, is_ok}}
@@ -21,7 +21,7 @@ returns-in-Err-open_found c =
     let o = c.args.asked.now in
     let is = where_found s x Num.Open (open_file s x c.args.now o) _ _ _ (open_is s x c.args.now o) (sym c.judge_whole.ensures ∙ c.in-Ok.is) in
     told_delay s _ x _ Num.Open (open_file s x c.args.now o) c.in-Err-open_found.status _
-    (ap (λ (o : Outcome). is_ok (status_of_result o.result)) is) c.in-Err-open_found.ensures c.refuse.ensures
+    (ap (λ (o : Outcome). is_ok (status_of_result o.result)) is) refl c.in-Err-open_found.ensures c.refuse.ensures
 
 pub returns-in-Err : goal.returns-in-Err
 returns-in-Err c =

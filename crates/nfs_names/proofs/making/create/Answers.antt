@@ -7,9 +7,9 @@ use Rattle.nfs_tree.specs.{Files.raised, Calls.{DoesOrWants, create_fault}, Crea
 use Rattle.nfs_tree.specs.declared.done.Created.{Created}
 use Rattle.nfs_tree.specs.Calls as tree_create
 use Rattle.nfs_attrs.specs.{declared.mask.Mask.Mask, Mask.{mask_of, trimmed_words}}
-use Rattle.nfs_names.specs.{declared.context.Context.Context, State.{state_of, with_tree}, Context.at_object, Outcome.Outcome}
+use Rattle.nfs_names.specs.{declared.context.Context.Context, State.{state_of, with_tree}, Context.at_object, Outcome.Outcome, Faults.tree_fault_status}
 use Rattle.nfs_names.specs.{Create.{new_of, made_sets, change_info, create}, Fronts.creating}
-use Rattle.nfs_names.proofs.{NameLaws.created, Changing.{creating_refuses, create_asks, goes, stops, errs}, Faulted.{told_done, told_fault, told_stop}}
+use Rattle.nfs_names.proofs.{NameLaws.created, Changing.{creating_refuses, create_asks, goes, stops, errs}, Faulted.{told_done, told_fault, told_stop, plain_fault}}
 use Rattle.nfs_names.proofs.making.create.Goals as goal
 use Rattle.nfs_names.proofs.making.create.Goals.{After-create}
 
@@ -59,9 +59,9 @@ returns-in-Err-create c =
     let v : creating s x a ≡ Ok m = sym c.judge_making.ensures ∙ c.in-Ok.is in
     told_fault true true s x Num.Create (create s x c.args.now a) (created s x c.args.now a m.place m.wanted) _ (create_fault s.tree d a.objname new)
     (record { number = s.tree.last_object + 1; directory = raised s.tree d }) (with_new s.tree d a.objname new (made_sets s x c.args.now m.place new m.wanted) c.args.now)
-    c.create.new.self f refl (c.refuse.ensures ∙ ap (Res.Refused 6) c.status_of.ensures)
+    c.create.new.self f (tree_fault_status f) refl (plain_fault s Num.Create f refl) (c.refuse.ensures ∙ ap (Res.Refused 6) c.status_of.ensures)
     (λ none. goes (create_asks s x c.args.now a) m v none)
-    (λ some. stops (create_asks s x c.args.now a) m f v some) refl
+    (λ other. stops (create_asks s x c.args.now a) m f v other.0) refl
     (as_asked (goal.at.returns-in-Err-create c).After-create (Err f) c.in-Err-create.ensures)
 
 pub returns-in-Err : goal.returns-in-Err

@@ -3,8 +3,8 @@ use Rattle.std.specs.Prelude.{Ok, Err}
 use Rattle.nfs_compound.specs.declared.op_num.OpNum.TheVariants as Num
 use Rattle.nfs_results.specs.declared.res.Res.TheVariants as Res
 use Rattle.nfs_tree.specs.{Files.raised, Names.with_link, Calls.link_fault}
-use Rattle.nfs_names.specs.{State.{state_of, with_tree}, Create.change_info, Link.link, Fronts.linking}
-use Rattle.nfs_names.proofs.{NameLaws.linked, Changing.{linking_refuses, link_asks, goes, stops, errs}, Faulted.{told_done, told_fault, told_stop}}
+use Rattle.nfs_names.specs.{State.{state_of, with_tree}, Create.change_info, Faults.tree_fault_status, Link.link, Fronts.linking}
+use Rattle.nfs_names.proofs.{NameLaws.linked, Changing.{linking_refuses, link_asks, goes, stops, errs}, Faulted.{told_done, told_fault, told_stop, plain_fault}}
 use Rattle.nfs_names.proofs.making.link.Goals as goal
 
 pub returns-in-Ok-link : goal.returns-in-Ok-link
@@ -29,9 +29,10 @@ returns-in-Err-link c =
     let v : linking s x name ≡ Ok p = sym c.judge_link.ensures ∙ c.in-Ok.is in
     told_fault true true s x Num.Link (link s x c.args.now name) (linked s x c.args.now name p) _
     (link_fault s.tree p.saved.number p.current.number name) (raised s.tree p.current.number)
-    (with_link s.tree p.saved.number p.current.number name c.args.now) c.link.new.self f refl (c.refuse.ensures ∙ ap (Res.Refused 11) c.status_of.ensures)
+    (with_link s.tree p.saved.number p.current.number name c.args.now) c.link.new.self f (tree_fault_status f) refl (plain_fault s Num.Link f refl)
+    (c.refuse.ensures ∙ ap (Res.Refused 11) c.status_of.ensures)
     (λ none. goes (link_asks s x c.args.now name) p v none)
-    (λ some. stops (link_asks s x c.args.now name) p f v some) refl c.in-Err-link.ensures
+    (λ other. stops (link_asks s x c.args.now name) p f v other.0) refl c.in-Err-link.ensures
 
 pub returns-in-Err : goal.returns-in-Err
 returns-in-Err c =

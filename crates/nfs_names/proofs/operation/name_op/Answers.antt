@@ -4,7 +4,7 @@ use Rattle.nfs_compound.specs.{declared.op.Item.Item, declared.op.Item.TheVarian
 use Rattle.nfs_compound.specs.declared.op.Op.TheVariants as Op
 use Rattle.nfs_results.specs.{Largest.largest, declared.res.Res.Res, Results.status_of_result}
 use Rattle.nfs_tree.specs.TreeInvariants.{IsTree}
-use Rattle.nfs_names.specs.{declared.context.Context.Context, State.{State, state_of, time_at}, StoreInvariants.IsStore, Outcome.is_delay, Operation.comes_to}
+use Rattle.nfs_names.specs.{declared.context.Context.Context, State.{State, state_of, time_at}, StoreInvariants.IsStore, Outcome.is_lack, Operation.comes_to}
 use Rattle.nfs_names.proofs.{Bounds.answers_one, Ones.each_of, Whole.{Keeps, keeps, within, bounded_may, room_may}}
 use Rattle.nfs_names.proofs.operation.name_op.Goals as goal
 
@@ -34,16 +34,16 @@ returns-in-ReadLink-clause-within c =
 
 -- what was found of an operation whose result is put behind the match
 kept : (s : State) (x : Context) (now : Time) (i : Item) (r : Res) (left : State) (behind : Context) → IsTree s.tree → IsStore s
-    → comes_to (is_delay (status_of_result r)) s x now i ≡ Some (record { result = r; state = left; context = behind })
+    → comes_to (is_lack (status_of_result r)) s x now i ≡ Some (record { result = r; state = left; context = behind })
     → Keeps i (record { result = r; state = left; context = behind })
-kept s x now i r left behind tree is = each_of (Keeps i) _ (keeps (is_delay (status_of_result r)) s x now i tree is) _
+kept s x now i r left behind tree is = each_of (Keeps i) _ (keeps (is_lack (status_of_result r)) s x now i tree is) _
 
 pub write-requires : goal.write-requires
 write-requires c =
     let i = Operation c.args.op.now in
     let r = c.match-op.res in
     let s = state_of c.args.store.now in
-    let is : comes_to (is_delay (status_of_result r)) s c.args.context.now (time_at s c.args.now) i
+    let is : comes_to (is_lack (status_of_result r)) s c.args.context.now (time_at s c.args.now) i
     ≡ Some (record { result = r; state = state_of c.match-op.store; context = c.match-op.context }) = search rules in
     let may = (kept s c.args.context.now (time_at s c.args.now) i r (state_of c.match-op.store) c.match-op.context c.kept.ensures c.requires.store is).may in
     record { bounds = bounded_may i r may; room = λ arrays. room_may i r c.args.out.now may c.requires.room }
@@ -53,7 +53,7 @@ returns c =
     let i = Operation c.args.op.now in
     let r = c.match-op.res in
     let s = state_of c.args.store.now in
-    let is : comes_to (is_delay (status_of_result r)) s c.args.context.now (time_at s c.args.now) i
+    let is : comes_to (is_lack (status_of_result r)) s c.args.context.now (time_at s c.args.now) i
     ≡ Some (record { result = r; state = state_of c.match-op.store; context = c.match-op.context }) = search rules in
     let keeps = kept s c.args.context.now (time_at s c.args.now) i r (state_of c.match-op.store) c.match-op.context c.kept.ensures c.requires.store is in
     record { comes = search rules; store = keeps.store; within = within i r c.args.out.now c.write.new.out keeps.may c.write.ensures }

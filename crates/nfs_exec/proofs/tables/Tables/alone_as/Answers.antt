@@ -3,7 +3,7 @@ use Rattle.nfs_xdr.specs.{Caller.caller, declared.status.Status.TheVariants.NotS
 use Rattle.nfs_compound.specs.{Request.item_number, declared.op.Item.TheVariants.Operation}
 use Rattle.nfs_results.specs.{declared.res.Res.Res, Results.{refusal, status_of_result}, ResultCodec.IsBounded}
 use Rattle.nfs_compound.specs.declared.op.Op.TheVariants as Op
-use Rattle.nfs_names.specs.Outcome.{is_delay}
+use Rattle.nfs_names.specs.Outcome.{is_lack}
 use Rattle.nfs_exec.specs.{Step.Machine.{Machine, with_result, machine_of}, Step.View.IsSmall}
 use Rattle.nfs_exec.proofs.Step.RefusalsFit.{place_small, rest_small}
 use Rattle.nfs_exec.proofs.Step.AloneResults.{small_fits, put_does, misplaced, branch_done, not_carried}
@@ -54,7 +54,7 @@ returns c =
       | in-Some w ↦ (
           let same = w.refusal-res.ensures ∙ ap (λ n. refusal n w.in-Some.status) w.number.ensures in
           ap (λ (k : Machine). with_result k r) (ap machine_of w.self-is) ∙ ap (with_result m) (w.res-is ∙ same)
-          ∙ misplaced m c.args.declared who c.args.now (is_delay (status_of_result r)) i w.in-Some.status (sym c.place_fault.ensures ∙ w.in-Some.is)
+          ∙ misplaced m c.args.declared who c.args.now (is_lack (status_of_result r)) i w.in-Some.status (sym c.place_fault.ensures ∙ w.in-Some.is)
           )
       | in-None+in-DestroySession w ↦ branch_done m left (machine_of w.destroy_session.new.self) c.args.declared who c.args.now i
           (Operation (Op.DestroySession w.in-DestroySession.sessionid)) r w.destroy_session.result (ap machine_of w.self-is) w.res-is

@@ -1,7 +1,7 @@
 use Rattle.std.proofs.Common.{List, ◌∷◌, length, inr, ap, sym, subst, ◌∙◌, arith}
 use Rattle.nfs_xdr.specs.{Caller.caller, Tables.In, declared.status.Status.TheVariants.{Nfs4Ok, MinorVersMismatch}}
 use Rattle.nfs_compound.specs.{declared.op.Item.Item, Request.Request}
-use Rattle.nfs_names.specs.{StoreInvariants.IsStore, Outcome.is_delay}
+use Rattle.nfs_names.specs.{StoreInvariants.IsStore, Outcome.is_lack}
 use Rattle.nfs_exec.specs.Step.Machine.{Machine, machine_of}
 use Rattle.nfs_exec.proofs.{Step.LeaseMoments.first_stores, Step.RefusalsFit.{opened_all, opened_bears, opened_few}}
 use Rattle.nfs_exec.proofs.{Step.RepliesKept.{any_head_fits, head_fits, alone_fits, has_one}, Step.CompoundCases.{for_sequence, for_other}}
@@ -68,5 +68,5 @@ returns-in-None c = record {
   store =
       subst (λ (m : Machine). IsStore m.store) (sym c.alone-status.ensures.machine)
       (first_stores (machine_of c.args.self.now) c.declared.result (caller c.args.who.now) c.args.now
-      (is_delay c.alone-status.result) c.in-Some.item c.requires.kept.store);
+      (is_lack c.alone-status.result) c.in-Some.item c.requires.kept.store);
 }

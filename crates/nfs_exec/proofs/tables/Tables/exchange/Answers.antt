@@ -4,7 +4,7 @@ use Rattle.nfs_clients.specs.{ExchangeId.{Ask, case_of, exchange, client_fault_s
 use Rattle.nfs_clients.specs.declared.exchange_id.ClientFault.TheVariants.{Memory}
 use Rattle.nfs_lease.specs.Renewals.{Book, leases_of, without_lease}
 use Rattle.nfs_results.specs.declared.res.Res.{Res}
-use Rattle.nfs_names.specs.Outcome.{is_delay}
+use Rattle.nfs_names.specs.Outcome.{is_lack}
 use Rattle.nfs_exec.specs.{Step.Machine.{with_result, or_with_delay, machine_of}, Step.ExchangeId.exchange_id, Step.View.settled}
 use Rattle.nfs_exec.specs.Step.Parts.{ask_of}
 use Rattle.nfs_exec.proofs.Step.InSteps.{exchange_id_is}
@@ -19,7 +19,7 @@ returns-in-Err-clause-outcome c =
     let ask = asked_as m who e _ _ c.bytes-owner.ensures c.owner_has_open-has_open.ensures in
     refused_first m who c.args.now e c.in-Err.fault (case_of m.clients (ask_of m who e))
     (c.in-Err.ensures ∙ ap (λ (a : Ask). judged (exchange_fault m.clients a)) ask)
-    ∙ ap (or_with_delay (is_delay (client_fault_status c.in-Err.fault)) m 42) (sym (exchange_id_is m who c.args.now e))
+    ∙ ap (or_with_delay (is_lack (client_fault_status c.in-Err.fault)) m 42) (sym (exchange_id_is m who c.args.now e))
 
 pub returns-in_default-add-clause-outcome : goal.returns-in_default-add-clause-outcome
 returns-in_default-add-clause-outcome c =
@@ -58,4 +58,4 @@ returns-in-Err-exchange-clause-outcome c =
     (ap (λ (a : Ask). judged (exchange_fault m.clients a)) (sym ask) ∙ sym c.judge_exchange.ensures ∙ c.in_default.is)
     (subst (λ (a : Ask). ExchangesOrWants m.clients a (Err c.in-Err-exchange.fault) c.exchange.new.self) ask c.in-Err-exchange.ensures)
     (c.remove.ensures.lease ∙ ap (λ (b : Book). without_lease b c.next_id-next.result) c.in-Ok.ensures.ok)
-    ∙ ap (or_with_delay (is_delay (client_fault_status c.in-Err-exchange.fault)) m 42) (sym (exchange_id_is m who c.args.now e))
+    ∙ ap (or_with_delay (is_lack (client_fault_status c.in-Err-exchange.fault)) m 42) (sym (exchange_id_is m who c.args.now e))

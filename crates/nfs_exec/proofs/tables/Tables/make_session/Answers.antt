@@ -1,7 +1,7 @@
 use Rattle.std.proofs.Common.{◌≡◌, ℕ, Option, Ok, Err, ap, sym, subst, ◌∙◌}
 use Rattle.nfs_xdr.specs.declared.status.Status.{Status}
 use Rattle.nfs_sessions.specs.{declared.channel.Wish.Wish, Sessions.create, SessionTables.CreatesOrWants}
-use Rattle.nfs_names.specs.Outcome.{is_delay}
+use Rattle.nfs_names.specs.Outcome.{is_lack}
 use Rattle.nfs_exec.specs.Step.{Machine.{or_with_delay, with_refusal, machine_of}, Parts.wish_of}
 use Rattle.nfs_exec.specs.Step.View.{Does}
 use Rattle.nfs_exec.specs.Step.Parts.{creates}
@@ -29,7 +29,7 @@ returns-in-Err c =
     wish c.in-Err.ensures in
     let status : c.put_refusal.result ≡ c.status-status.result = (c.put_refusal.ensures m).status in
     let left = machine_of (record c.args.self.now { clients = c.keep_created.new.self; sessions = c.create.new.self }) in
-    subst (λ (s : Status). Does (or_with_delay (is_delay s) m 43
+    subst (λ (s : Status). Does (or_with_delay (is_lack s) m 43
     (creates m c.args.now asked (create m.sessions asked.clientid (wish_of m asked)))) s left c.args.out.now c.put_refusal.new.out) (sym status)
     (refused_session m c.args.now asked (wish_of m asked) c.keep_created.new.self c.create.new.self c.in-Err.fault
     c.status-status.result c.args.out.now c.put_refusal.new.out did c.keep_created.ensures c.status-status.ensures

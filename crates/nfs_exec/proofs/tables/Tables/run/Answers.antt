@@ -1,6 +1,6 @@
 use Rattle.std.proofs.Common.{arith, refl, ℕ, ◌+◌, ◌-◌, ◌≤◌, ◌∷◌, ap, subst, ◌∙◌, List, length}
 use Rattle.nfs_compound.specs.{declared.op.Item.Item, Request.Request}
-use Rattle.nfs_names.specs.{declared.context.Context.Context, Outcome.is_delay}
+use Rattle.nfs_names.specs.{declared.context.Context.Context, Outcome.is_lack}
 use Rattle.nfs_xdr.specs.SheetState.{SheetState}
 use Rattle.nfs_exec.specs.{declared.tables.Tables.Tables, Step.Machine.machine_of, Step.Run.in_room, Step.View.Steps}
 use Rattle.nfs_exec.proofs.Step.Running.{Stand, Going, Stepped, so_far, begins, goes_on, ends, ends_with, ends_within, not_ok, counted, whole}
@@ -34,7 +34,7 @@ at_code c P = counted P c.args.reply.sofar (length c.args.out.now.bytes) (here c
 did : (c : After-in_room-status)
     → Stepped c.args.reply.limit c.args.reply.sofar (length c.args.out.now.bytes) c.args.now (here c) (next c) c.in-Some.item c.in_room-status.result
 did c = at_code c
-    (λ sofar. Steps (in_room c.args.reply.limit sofar c.args.now (is_delay c.in_room-status.result) (here c).machine (here c).context c.in-Some.item)
+    (λ sofar. Steps (in_room c.args.reply.limit sofar c.args.now (is_lack c.in_room-status.result) (here c).machine (here c).context c.in-Some.item)
     c.in_room-status.result (next c).machine (next c).context (here c).sheet (next c).sheet)
     c.in_room-status.ensures.steps
 
