@@ -1,5 +1,6 @@
 -- Who is looked at, and who of them is ready.
-use Rattle.std.specs.Prelude.{◌≡◌, ◌≤◌, ◌<◌, ℕ, ◌+◌, min, List, get_or, Bool, true, false, Option, Some, None}
+use Rattle.std.specs.Prelude.{◌≡◌, ◌≤◌, ◌<◌, ℕ, zero, suc, ◌+◌, min, List, get_or, Bool, true, false, ◌&&◌, Option, Some, None, if◌then◌else◌}
+use Rattle.nfs_pace.specs.{declared.turns.Turn.Turn, Places.{Guests, client_of, guest_at}, Turns.{asked, becomes, has_turn}}
 use Rattle.nfs_serve.specs.{declared.ports.Next.Next}
 use Rattle.nfs_serve.specs.declared.ports.Next.TheVariants.{Over}
 use Rattle.nfs41d.specs.declared.sockets.Connection.{Connection}
@@ -17,10 +18,22 @@ is_ready (Some connection) = connection.ready
 abbrev pub ready_at : List (Option Connection) → ℕ → Bool
 ready_at connections port = is_ready (get_or connections port None)
 
-abbrev pub NoneReady : List (Option Connection) → ℕ → ℕ → Type 0
-NoneReady connections from to = (port : ℕ) → from ≤ port → port < to → ready_at connections port ≡ false
+-- the ports below one that are ready have asked for a turn of their clients
+abbrev pub asked_below : ℕ → List (Option Connection) → Guests → (sweep : ℕ) → List Turn → List Turn
+asked_below zero connections guests sweep turns = turns
+asked_below (suc port) connections guests sweep turns =
+    let before = asked_below port connections guests sweep turns in
+    let client = client_of (guest_at guests port) in
+    if ready_at connections port then becomes client (asked client sweep port) before else before
 
--- the first port from one on and below another on which it may
-abbrev pub NextReady : List (Option Connection) → ℕ → ℕ → Option ℕ → Type 0
-NextReady connections from to None = NoneReady connections from to
-NextReady connections from to (Some port) = NoneReady connections from port × (ready_at connections port ≡ true)
+-- whether a port is to have a turn: it is ready, and its client's other connections do not come before it
+abbrev pub turn_at : List (Option Connection) → Guests → List Turn → (sweep : ℕ) → ℕ → Bool
+turn_at connections guests turns sweep port = ready_at connections port && has_turn (client_of (guest_at guests port)) sweep port turns
+
+abbrev pub NoneBefore : (ℕ → Bool) → ℕ → ℕ → Type 0
+NoneBefore is from to = (port : ℕ) → from ≤ port → port < to → is port ≡ false
+
+-- the first port from one on and below another that is such a port
+abbrev pub IsFirst : (ℕ → Bool) → ℕ → ℕ → Option ℕ → Type 0
+IsFirst is from to None = NoneBefore is from to
+IsFirst is from to (Some port) = NoneBefore is from port × (is port ≡ true)

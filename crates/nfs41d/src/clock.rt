@@ -109,11 +109,11 @@ impl<S: Readings> Clock for PacedClock<S> {
         self.at.begin_sweep(read);
     }
 
-    /// What was read last is when the turn began.
-    fn begin_turn(&mut self)
-        ensures { Logs None None (Turn ∷ []) × (self.new ≡ record self.old { at = begins_turn self.old.at }) }
+    /// What was read last is when the turn began, but for what those of the same client before it lasted.
+    fn begin_turn(&mut self, before: u64)
+        ensures { Logs None None (Turn ∷ []) × (self.new ≡ record self.old { at = begins_turn before self.old.at }) }
     {
-        self.at.begin_turn();
+        self.at.begin_turn(before);
     }
 
     /// Whether the turn has lasted for 2 ms at what is read now.

@@ -1,10 +1,14 @@
 //! TCP connections as the ports of a hub, by readiness.
 
-ghost use Rattle.std.specs.Prelude.{◌≡◌, ◌≤◌, ◌<◌, ◌+◌, ◌&&◌, None, Some, IfSome, IfOk, unwrap_or, not, nat_eq, length, min};
+ghost use Rattle.std.specs.Prelude.{◌≡◌, ◌⊎◌, ◌≤◌, ◌<◌, ◌+◌, ◌-◌, ◌%◌, ◌&&◌, None, Some, IfSome, IfOk, unwrap_or, not, nat_eq, length, min};
 ghost use Rattle.nfs_serve.specs.Desk.{most_ports};
 ghost use Rattle.nfs_serve.specs.Shows.{ComesWithin, TakesWithin, NamesPort, named, passes};
 ghost use Rattle.nfs_serve.specs.Told.{Logs};
-ghost use Rattle.nfs41d.specs.Looking.{Looks, ready_at, NextReady};
+ghost use Rattle.nfs_serve.specs.declared.ports.Next.TheVariants.{Nobody};
+ghost use Rattle.nfs_pace.specs.Places.{client_of, guest_at};
+ghost use Rattle.nfs_pace.specs.Turns.{becomes, begun, added, lasted_so_far};
+ghost use Rattle.nfs41d.specs.Looking.{Looks, ready_at, asked_below, turn_at, IsFirst};
+ghost use Rattle.nfs41d.specs.Accepting.{StaysOut};
 ghost use Rattle.nfs41d.specs.Tally.{no_calls};
 
 use crate::left::{Left, Room};
@@ -14,7 +18,7 @@ use crate::seen::{Seen, seen_in};
 use crate::tally::Tally;
 use mio::net::{TcpListener, TcpStream};
 use mio::{Events, Interest, Token};
-use nfs_pace::{MICROS, Paced, Places, patience};
+use nfs_pace::{MICROS, Paced, Places, Turns, patience};
 use nfs_serve::{Came, MOST_PORTS, Next, Ports, Took};
 use std::alloc::{AllocError, Global};
 use std::io::{ErrorKind, Read, Write};
@@ -135,8 +139,13 @@ pub struct Sockets<'a, R: rt::Clock> {
     places: Places,
     /// What leases go by, as it is shown here: who has a seat is judged by it.
     pace: Paced,
+    /// Whose connections have a turn, and until when what passed in this sweep is told there.
+    turns: Turns,
+    charged: u64,
     /// When a port for one of them is looked for again.
     again: u64,
+    /// How many were closed since the system had no room to watch one more.
+    unwatched: u64,
     /// Whether somebody may have come who wants a seat, or one may have been left, and when seats were looked for last.
     asked: bool,
     sought: u64,
@@ -178,7 +187,10 @@ impl<'a, R: Net + AllocGlobal + rt::Clock> Sockets<'a, R> {
             connections: no_connections(rt.alloc(), room.ports)?,
             places: Places::new(rt.alloc(), room.ports, room.seats, lease)?,
             pace: Paced::new(lease, 0),
+            turns: Turns::new(rt.alloc())?,
+            charged: 0,
             again: 0,
+            unwatched: 0,
             asked: true,
             sought: 0,
             left: Left::new(connections, room.ports),
@@ -239,6 +251,8 @@ impl<R: rt::Clock> Sockets<'_, R> {
     fn accept(&mut self, made: u32) -> io::Result<Option<u32>>
         requires { made ≤ most_ports }
         ensures taken { IfOk result (λ taken. IfSome taken (λ port. port < made)) }
+        ensures nobody { IfOk result (λ taken. taken ≡ None → StaysOut made self.new.left self.new.now self.old.again self.new.outside.newcomers.items self.new.places self.new.pace.last self.new.looking.looks self.old.unwatched self.new.unwatched) }
+        ensures again { (self.new.again ≡ self.old.again) ⊎ (self.new.again ≡ min (self.old.now + 5000) 18446744073709551615) }
         ensures looking { self.new.looking ≡ self.old.looking }
     {
         let stuck = !self.let_in;
@@ -270,6 +284,8 @@ impl<R: rt::Clock> Sockets<'_, R> {
     /// ended, and else now and then.
     fn seat(&mut self)
         ensures looking { self.new.looking ≡ self.old.looking }
+        ensures again { self.new.again ≡ self.old.again }
+        ensures unwatched { self.new.unwatched ≡ self.old.unwatched }
     {
         let since = if self.asked { AGAIN } else { SELDOM };
         if self.now < self.sought.saturating_add(since) {
@@ -284,6 +300,8 @@ impl<R: rt::Clock> Sockets<'_, R> {
     fn take_on(&mut self, place: usize, newcomer: Newcomer) -> Option<u32>
         requires { place < most_ports }
         ensures port { IfSome result (λ port. port ≡ place) }
+        ensures counted { result ≡ None → self.new.unwatched ≡ min (self.old.unwatched + 1) 18446744073709551615 }
+        ensures again { self.new.again ≡ self.old.again }
         ensures looking { self.new.looking ≡ self.old.looking }
     {
         let mut stream = newcomer.stream;
@@ -295,13 +313,12 @@ impl<R: rt::Clock> Sockets<'_, R> {
             .registry()
             .register(&mut stream, Token(place), both)
             .is_err()
+            || place >= self.connections.len()
         {
+            self.unwatched = self.unwatched.saturating_add(1);
             return None;
         }
-        let Some(at) = self.connections.get_mut(place) else {
-            return None;
-        };
-        *at = Some(Connection {
+        self.connections[place] = Some(Connection {
             stream,
             ready: true,
             readable: true,
@@ -320,16 +337,51 @@ impl<R: rt::Clock> Sockets<'_, R> {
         Some(place as u32)
     }
 
+    /// Whether a port is to have a turn in this sweep.
+    fn has_turn(&self, port: u32) -> bool
+        ensures { result ≡ turn_at self.now.connections.items self.now.places.guests self.now.turns self.now.looking.looks port }
+    {
+        if !is_ready(&self.connections, port) {
+            return false;
+        }
+        let client = self.places.client_on(port as usize);
+        self.turns.has_turn(client, self.looking.looks(), port)
+    }
+
+    /// The first port from one on and below another that is to have one.
+    fn first_in_turn(&self, from: u32, to: u32) -> Option<u32>
+        requires { from ≤ to }
+        ensures first { IsFirst (turn_at self.now.connections.items self.now.places.guests self.now.turns self.now.looking.looks) from to result }
+        ensures bound { IfSome result (λ port. (from ≤ port) × (port < to)) }
+    {
+        for port in from..to {
+            if self.has_turn(port) {
+                return Some(port);
+            }
+        }
+        None
+    }
+
     /// Looks at which connections are ready, and waits for one or for the listener where none is and it may wait.
     fn wait(&mut self, may_wait: bool) -> io::Result<()>
         ensures looks { self.new.looking.looks ≡ min (self.old.looking.looks + 1) 18446744073709551615 }
+        ensures again { self.new.again ≡ self.old.again }
+        ensures unwatched { self.new.unwatched ≡ self.old.unwatched }
+        ensures asked { IfOk result (λ _. self.new.turns ≡ asked_below (length self.new.connections.items % 4294967296) self.new.connections.items self.new.places.guests self.new.looking.looks self.old.turns) }
     {
         let timeout = self.timeout(may_wait);
         self.looking.look(timeout)?;
         self.now = self.micros();
+        self.charged = self.now;
         self.pace.begin_sweep(self.now);
         let told = note_all(&mut self.connections, self.looking.events());
         self.outside.note(told);
+        ask_all(
+            &self.connections,
+            &self.places,
+            &mut self.turns,
+            self.looking.looks(),
+        );
         Ok(())
     }
 
@@ -368,6 +420,18 @@ impl<R: rt::Clock> Sockets<'_, R> {
         let _ = self.pace.now();
         self.pace.shown()
     }
+
+    /// What passed since somebody was answered last, or since the sweep began, was a turn of the client on the port.
+    fn charge(&mut self, port: usize)
+        ensures charged { self.new.charged ≡ self.old.pace.read }
+        ensures turns { self.new.turns ≡ becomes (client_of (guest_at self.old.places.guests port)) (added (client_of (guest_at self.old.places.guests port)) self.old.looking.looks (self.old.pace.read - self.old.charged)) self.old.turns }
+    {
+        let read = self.pace.read();
+        let passed = read.saturating_sub(self.charged);
+        self.charged = read;
+        let client = self.places.client_on(port);
+        self.turns.add(client, self.looking.looks(), passed);
+    }
 }
 
 /// Gives seats to those of the hall that have none, as far as there are some for them.
@@ -395,6 +459,17 @@ fn note_all(connections: &mut [Option<Connection>], events: &Events) -> bool {
     calling
 }
 
+/// Each port that is ready asks for a turn of its client in this sweep.
+fn ask_all(connections: &[Option<Connection>], places: &Places, turns: &mut Turns, sweep: u64)
+    ensures { turns.new ≡ asked_below (length connections.now % 4294967296) connections.now places.now.guests sweep turns.old }
+{
+    for port in 0..connections.len() as u32 {
+        if is_ready(connections, port) {
+            turns.ask(places.client_on(port as usize), sweep, port);
+        }
+    }
+}
+
 /// Connections that were silent for too long are to be closed.
 fn end_silent(connections: &mut [Option<Connection>], places: &Places, shown: u64) {
     for port in 0..connections.len() {
@@ -408,7 +483,8 @@ fn end_silent(connections: &mut [Option<Connection>], places: &Places, shown: u6
 
 /// The port, if it is one of the first `made`.
 fn within(port: Option<usize>, made: u32) -> Option<usize>
-    ensures { IfSome result (λ place. (port ≡ Some place) × (place < made)) }
+    ensures some { IfSome result (λ place. (port ≡ Some place) × (place < made)) }
+    ensures none { result ≡ None → IfSome port (λ place. made ≤ place) }
 {
     match port {
         Some(port) => {
@@ -430,20 +506,6 @@ fn is_ready(connections: &[Option<Connection>], port: u32) -> bool
         Some(Some(connection)) => connection.ready,
         _ => false,
     }
-}
-
-/// The first port from one on and below another on which it may.
-fn first_ready(connections: &[Option<Connection>], from: u32, to: u32) -> Option<u32>
-    requires { from ≤ to }
-    ensures ready { NextReady connections.now from to result }
-    ensures bound { IfSome result (λ port. (from ≤ port) × (port < to)) }
-{
-    for port in from..to {
-        if is_ready(connections, port) {
-            return Some(port);
-        }
-    }
-    None
 }
 
 /// So many ports without a connection.
@@ -473,6 +535,8 @@ impl<R: rt::Clock> Ports for Sockets<'_, R> {
         ensures port { NamesPort made result }
         ensures logs { Logs None None (named made result) }
         ensures looks { Looks self.old.looking.looks self.new.looking.looks result }
+        ensures nobody { result ≡ Nobody → StaysOut made self.new.left self.new.now self.old.again self.new.outside.newcomers.items self.new.places self.new.pace.last self.new.looking.looks self.old.unwatched self.new.unwatched }
+        ensures again { (self.new.again ≡ self.old.again) ⊎ (self.new.again ≡ min (self.new.now + 5000) 18446744073709551615) }
     {
         if self.left.is_over() && self.places.is_empty() {
             return Next::Over;
@@ -500,9 +564,17 @@ impl<R: rt::Clock> Ports for Sockets<'_, R> {
         requires { from ≤ to }
         ensures found { IfSome result (λ port. (from ≤ port) × (port < to)) }
         ensures logs { Logs None None (passes from to result) }
-        ensures ready { NextReady self.old.connections.items from to result }
+        ensures first { IsFirst (turn_at self.old.connections.items self.old.places.guests self.old.turns self.old.looking.looks) from to result }
     {
-        first_ready(&self.connections, from, to)
+        self.first_in_turn(from, to)
+    }
+
+    fn begin_turn(&mut self, port: u32) -> u64
+        ensures turns { self.new.turns ≡ becomes (client_of (guest_at self.old.places.guests port)) (begun (client_of (guest_at self.old.places.guests port)) self.old.looking.looks port) self.old.turns }
+        ensures before { result ≡ lasted_so_far (client_of (guest_at self.old.places.guests port)) self.old.looking.looks self.old.turns }
+    {
+        let client = self.places.client_on(port as usize);
+        self.turns.begin(client, self.looking.looks(), port)
     }
 
     fn read(&mut self, port: u32, buf: &mut [u8]) -> Came {
@@ -532,6 +604,7 @@ impl<R: rt::Clock> Ports for Sockets<'_, R> {
             Seen::End => self.places.ended(port),
             Seen::Other => self.places.heard(port, shown),
         }
+        self.charge(port);
     }
 
     fn count(&mut self, port: u32) {
@@ -540,7 +613,9 @@ impl<R: rt::Clock> Ports for Sockets<'_, R> {
         self.left.hear();
     }
 
-    fn close(&mut self, port: u32) {
+    fn close(&mut self, port: u32)
+        ensures again { self.new.again ≡ 0 }
+    {
         if let Some(connection) = self.connections.get_mut(port as usize) {
             *connection = None;
         }

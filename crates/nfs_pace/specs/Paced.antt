@@ -39,8 +39,9 @@ sweeps_from p read shown = record p { read = read; since = read; begun = shown; 
 abbrev pub takes : Paced → ℕ → Paced
 takes p read = record p { read = read }
 
-abbrev pub begins_turn : Paced → Paced
-begins_turn p = record p { turn = p.read }
+-- a turn begins; those of its client before it in this sweep lasted so long, and it is as if it had begun with them
+abbrev pub begins_turn : ℕ → Paced → Paced
+begins_turn before p = record p { turn = p.read - before }
 
 abbrev pub is_late : Paced → ℕ → Bool
 is_late p read = nat_le enough (read - p.turn)

@@ -33,6 +33,10 @@ abbrev pub is_over : ℕ → ℕ → Option Guest → Bool
 is_over lease shown None = false
 is_over lease shown (Some guest) = nat_lt (spared lease guest) (shown - guest.used)
 
+abbrev pub client_of : Option Guest → ℕ
+client_of None = 0
+client_of (Some guest) = guest.client
+
 abbrev pub has_ended : Option Guest → Bool
 has_ended None = false
 has_ended (Some guest) = guest.ended

@@ -1,6 +1,8 @@
 //! What leases rest on. Each function does nothing; its contract is a law.
 
 ghost use Rattle.nfs_pace.specs.Paced.{risen};
+ghost use Rattle.nfs_pace.specs.InTurn.{TakeTurns, lowest_first};
+ghost use Rattle.nfs_pace.specs.Turns.{asked};
 ghost use Rattle.nfs_pace.specs.Laws.{AlwaysAddsUp, KeepsWhoRenews};
 ghost use Rattle.nfs_pace.specs.Seated.{KeepsSeats, SeatsAreHad};
 ghost use Rattle.nfs_pace.specs.SeatedWorked.{IsKept, SeatsRefused};
@@ -44,4 +46,11 @@ pub fn seats_are_had()
 pub fn wrong_places_are_refused()
     ensures kept { IsKept }
     ensures wrong { SeatsRefused }
+{}
+
+/// Of the connections of a client that are ready, the first behind that of its last turn comes next, or else the first of all: so each comes once those
+/// between have had their turns. To let the lowest come first each time is refused by this law.
+pub fn take_turns()
+    ensures next { TakeTurns asked }
+    ensures wrong { TakeTurns lowest_first → ⊥ }
 {}

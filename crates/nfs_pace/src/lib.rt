@@ -7,7 +7,7 @@
 //! ```text
 //! let mut clock = Paced::new(90, read);
 //! clock.begin_sweep(read);              // a sweep over the connections begins
-//! clock.begin_turn();                   // the turn of one of them
+//! clock.begin_turn(0);                  // the turn of one of them, the first of its client
 //! let second = clock.now();             // the moment of a record
 //! if clock.is_late(read) { .. }         // behind it: the rest waits for the next sweep
 //! ```
@@ -16,6 +16,8 @@
 pub mod laws;
 mod paced;
 mod places;
+mod turns;
 
 pub use paced::{MICROS, Paced, patience};
 pub use places::{Guest, Places, Seat};
+pub use turns::{Turn, Turns};

@@ -6,8 +6,8 @@ ghost use Rattle.nfs_pace.specs.Paced.{second, starts, step, made_up, risen, is_
 /// How many microseconds a second has.
 pub const MICROS: u64 = 1_000_000;
 
-/// How many microseconds a turn lasts before what waits in it is left for the next sweep.
-const ENOUGH: u64 = 2_000;
+/// How many microseconds the turns of a client last in a sweep before what waits in them is left for the next one.
+pub(crate) const ENOUGH: u64 = 2_000;
 
 /// How many microseconds a server waits at most, where nobody asks, before the next sweep.
 const LONGEST_WAIT: u64 = 500_000;
@@ -27,7 +27,7 @@ pub struct Paced {
     told: u64,
     /// What was read last.
     read: u64,
-    /// What had been read when this turn began.
+    /// What had been read when this turn began, less what the turns of the same client before it lasted.
     turn: u64,
 }
 
@@ -83,11 +83,11 @@ impl Paced {
         self.since = read;
     }
 
-    /// A turn begins. Nothing is read for it.
-    pub fn begin_turn(&mut self)
-        ensures { self.new ≡ begins_turn self.old }
+    /// A turn begins; those of its client before it in this sweep lasted so many microseconds. Nothing is read for it.
+    pub fn begin_turn(&mut self, before: u64)
+        ensures { self.new ≡ begins_turn before self.old }
     {
-        self.turn = self.read;
+        self.turn = self.read.saturating_sub(before);
     }
 
     /// The moment at what was read last, in whole seconds.
@@ -114,7 +114,7 @@ impl Paced {
         self.read
     }
 
-    /// Whether the turn has lasted for 2 ms when this is read.
+    /// Whether the turn, with those of its client before it, has lasted for 2 ms when this is read.
     pub fn is_late(&mut self, read: u64) -> bool
         ensures took { self.new ≡ takes self.old read }
         ensures late { result ≡ is_late self.old read }

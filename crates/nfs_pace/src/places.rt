@@ -6,7 +6,7 @@
 ghost use Rattle.std.specs.Prelude.{◌≡◌, ◌≤◌, ◌<◌, ◌-◌, ◌+◌, ◌*◌, ℕ, find, option_map, option_and_then, MatchOption, IfOk, IfSome, length, replicate, set, is_some, is_none, nat_le, false, true, None, Some};
 ghost use Rattle.std.specs.List.{count_by, list_any, position};
 ghost use Rattle.std.specs.Option.{option_copied};
-ghost use Rattle.nfs_pace.specs.Places.{is_over, has_ended, answers, hears, ends, sits, left, is_at, is_of, is_from, is_kept_for, is_dead, is_run_out, has_stood, guest_at, seat_at, AreEach, newcomer, given_to, seats_of, used_at, crowd_of, IsMost, NoneMany, stands, stood, hall_count, crowd, IsFirstToGo, NoneToGo, GivesPort, Spares, GivesSeat, SeatsNext, NoneNext, IsNext};
+ghost use Rattle.nfs_pace.specs.Places.{is_over, client_of, has_ended, answers, hears, ends, sits, left, is_at, is_of, is_from, is_kept_for, is_dead, is_run_out, has_stood, guest_at, seat_at, AreEach, newcomer, given_to, seats_of, used_at, crowd_of, IsMost, NoneMany, stands, stood, hall_count, crowd, IsFirstToGo, NoneToGo, GivesPort, Spares, GivesSeat, SeatsNext, NoneNext, IsNext};
 
 use crate::paced::MICROS;
 use std::alloc::{AllocError, Global};
@@ -118,6 +118,16 @@ impl Places {
         ensures { result ≡ true → (port : ℕ) → port < length self.now.guests → is_none (guest_at self.now.guests port) ≡ true }
     {
         self.guests.iter().all(|guest| guest.is_none())
+    }
+
+    /// The client of the last SEQUENCE that was answered on the port; 0 where there is none.
+    pub fn client_on(&self, port: usize) -> u64
+        ensures { result ≡ client_of (guest_at self.now.guests port) }
+    {
+        match self.guests.get(port) {
+            Some(Some(guest)) => guest.client,
+            _ => 0,
+        }
     }
 
     /// Whether who is on the port was silent for longer than it is spared.

@@ -18,8 +18,8 @@ pub trait Clock {
     fn begin_sweep(&mut self)
         ensures { Logs (told self.old) (told self.new) (Sweep ∷ []) };
 
-    /// The turn of one connection begins.
-    fn begin_turn(&mut self)
+    /// The turn of one connection begins. Those of the same client before it in this sweep lasted so many microseconds.
+    fn begin_turn(&mut self, before: u64)
         ensures { Logs (told self.old) (told self.new) (Turn ∷ []) };
 
     /// Whether the turn has lasted long enough, behind a record of it.

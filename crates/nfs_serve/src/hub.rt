@@ -269,6 +269,6 @@ fn begin_turns<C: Clock>(count: usize, clock: &mut C)
     ensures { Logs (C.told clock.old) (C.told clock.new) (replicate count Turn) }
 {
     for _ in 0..count {
-        clock.begin_turn();
+        clock.begin_turn(0);
     }
 }

@@ -271,7 +271,8 @@ impl Lane {
         requires port { port < most_ports }
         ensures { Visits port (stand engine.old.kept self.old (P.log ports.old) (C.told clock.old)) (stand engine.new.kept self.new (P.log ports.new) (C.told clock.new)) }
     {
-        clock.begin_turn();
+        let before = ports.begin_turn(port);
+        clock.begin_turn(before);
         self.turn(alloc, engine, port, ports, clock);
     }
 

@@ -1,6 +1,6 @@
 //! What is asked of the connections.
 
-ghost use Rattle.std.specs.Prelude.{◌<◌, ◌≤◌, ℕ, [], ◌∷◌, List, Option, IfSome, length};
+ghost use Rattle.std.specs.Prelude.{◌≡◌, ◌<◌, ◌≤◌, ℕ, [], ◌∷◌, List, Option, IfSome, length};
 ghost use Rattle.nfs_serve.specs.Desk.{most_ports, Act, Closed, Counted};
 ghost use Rattle.nfs_serve.specs.Told.{Logs};
 ghost use Rattle.nfs_serve.specs.Deeds.{Deed};
@@ -55,12 +55,18 @@ pub trait Ports {
         ensures port { NamesPort made result }
         ensures logs { Logs (log self.old) (log self.new) (named made result) };
 
-    /// The first port from `from` on and below `to` on which a read or a write may do something. On none before it one may.
+    /// The first port from `from` on and below `to` that is to have a turn: a read or a write may do something there, and its client's other connections
+    /// do not come before it. None before it is.
     fn next_ready(&mut self, from: u32, to: u32) -> Option<u32>
         requires order { from ≤ to }
         requires ports { to ≤ most_ports }
         ensures found { IfSome result (λ port. (from ≤ port) × (port < to)) }
         ensures logs { Logs (log self.old) (log self.new) (passes from to result) };
+
+    /// The turn of a port begins: how many microseconds those of the same client lasted before it in this sweep; 0 where no client is known.
+    fn begin_turn(&mut self, port: u32) -> u64
+        requires port { port < most_ports }
+        ensures { log self.new ≡ log self.old };
 
     /// Reads what is there into the front of `buf`.
     fn read(&mut self, port: u32, buf: &mut [u8]) -> Came

@@ -45,7 +45,9 @@ impl Clock for Counting {
 
     fn begin_sweep(&mut self) {}
 
-    fn begin_turn(&mut self) {}
+    fn begin_turn(&mut self, before: u64) {
+        let _ = before;
+    }
 
     fn is_late(&mut self) -> bool {
         false
