@@ -1,5 +1,5 @@
 -- The ports so far have asked.
-use Rattle.std.proofs.Common.◌≡◌
+use Rattle.std.proofs.Common.{◌≡◌}
 use Rattle.nfs41d.specs.Looking.{asked_below}
 use Rattle.nfs41d.proofs.sockets.ask_all.Given as goal
 

@@ -1,4 +1,4 @@
-use Rattle.std.proofs.Common.subst
+use Rattle.std.proofs.Common.{subst}
 use Rattle.nfs_serve.specs.Lane.{TakesTurn, stand}
 use Rattle.nfs_serve.proofs.lane.Lane.visit.Goals as goal
 
