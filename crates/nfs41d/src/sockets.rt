@@ -1,6 +1,6 @@
 //! TCP connections as the ports of a hub, by readiness.
 
-ghost use Rattle.std.specs.Prelude.{◌≡◌, ◌⊎◌, ◌≤◌, ◌<◌, ◌+◌, ◌-◌, ◌%◌, ◌&&◌, None, Some, IfSome, IfOk, unwrap_or, not, nat_eq, length, min};
+ghost use Rattle.std.specs.Prelude.{◌≡◌, ◌⊎◌, ◌≤◌, ◌<◌, ◌+◌, ◌-◌, ◌&&◌, None, Some, IfSome, IfOk, unwrap_or, not, nat_eq, length, min};
 ghost use Rattle.nfs_serve.specs.Desk.{most_ports};
 ghost use Rattle.nfs_serve.specs.Shows.{ComesWithin, TakesWithin, NamesPort, named, passes};
 ghost use Rattle.nfs_serve.specs.Told.{Logs};
@@ -252,7 +252,7 @@ impl<R: rt::Clock> Sockets<'_, R> {
         requires { made ≤ most_ports }
         ensures taken { IfOk result (λ taken. IfSome taken (λ port. port < made)) }
         ensures nobody { IfOk result (λ taken. taken ≡ None → StaysOut made self.new.left self.new.now self.old.again self.new.outside.newcomers.items self.new.places self.new.pace.last self.new.looking.looks self.old.unwatched self.new.unwatched) }
-        ensures again { (self.new.again ≡ self.old.again) ⊎ (self.new.again ≡ min (self.old.now + 5000) 18446744073709551615) }
+        ensures again { (self.new.again ≡ self.old.again) ⊎ (self.new.again ≡ min (self.new.now + 5000) 18446744073709551615) }
         ensures looking { self.new.looking ≡ self.old.looking }
     {
         let stuck = !self.let_in;
@@ -339,7 +339,7 @@ impl<R: rt::Clock> Sockets<'_, R> {
 
     /// Whether a port is to have a turn in this sweep.
     fn has_turn(&self, port: u32) -> bool
-        ensures { result ≡ turn_at self.now.connections.items self.now.places.guests self.now.turns self.now.looking.looks port }
+        ensures { result ≡ turn_at self.entry.now.connections.items self.entry.now.places.guests self.entry.now.turns self.entry.now.looking.looks port }
     {
         if !is_ready(&self.connections, port) {
             return false;
@@ -351,7 +351,7 @@ impl<R: rt::Clock> Sockets<'_, R> {
     /// The first port from one on and below another that is to have one.
     fn first_in_turn(&self, from: u32, to: u32) -> Option<u32>
         requires { from ≤ to }
-        ensures first { IsFirst (turn_at self.now.connections.items self.now.places.guests self.now.turns self.now.looking.looks) from to result }
+        ensures first { IsFirst (turn_at self.entry.now.connections.items self.entry.now.places.guests self.entry.now.turns self.entry.now.looking.looks) from to result }
         ensures bound { IfSome result (λ port. (from ≤ port) × (port < to)) }
     {
         for port in from..to {
@@ -363,11 +363,11 @@ impl<R: rt::Clock> Sockets<'_, R> {
     }
 
     /// Looks at which connections are ready, and waits for one or for the listener where none is and it may wait.
-    fn wait(&mut self, may_wait: bool) -> io::Result<()>
+    fn wait(&mut self, may_wait: bool, made: u32) -> io::Result<()>
         ensures looks { self.new.looking.looks ≡ min (self.old.looking.looks + 1) 18446744073709551615 }
         ensures again { self.new.again ≡ self.old.again }
         ensures unwatched { self.new.unwatched ≡ self.old.unwatched }
-        ensures asked { IfOk result (λ _. self.new.turns ≡ asked_below (length self.new.connections.items % 4294967296) self.new.connections.items self.new.places.guests self.new.looking.looks self.old.turns) }
+        ensures asked { IfOk result (λ _. self.new.turns ≡ asked_below made self.new.connections.items self.new.places.guests self.new.looking.looks self.old.turns) }
     {
         let timeout = self.timeout(may_wait);
         self.looking.look(timeout)?;
@@ -381,6 +381,7 @@ impl<R: rt::Clock> Sockets<'_, R> {
             &self.places,
             &mut self.turns,
             self.looking.looks(),
+            made,
         );
         Ok(())
     }
@@ -459,11 +460,17 @@ fn note_all(connections: &mut [Option<Connection>], events: &Events) -> bool {
     calling
 }
 
-/// Each port that is ready asks for a turn of its client in this sweep.
-fn ask_all(connections: &[Option<Connection>], places: &Places, turns: &mut Turns, sweep: u64)
-    ensures { turns.new ≡ asked_below (length connections.now % 4294967296) connections.now places.now.guests sweep turns.old }
+/// Each of the first `made` ports that is ready asks for a turn of its client in this sweep.
+fn ask_all(
+    connections: &[Option<Connection>],
+    places: &Places,
+    turns: &mut Turns,
+    sweep: u64,
+    made: u32,
+)
+    ensures { turns.new ≡ asked_below made connections.now places.now.guests sweep turns.old }
 {
-    for port in 0..connections.len() as u32 {
+    for port in 0..made {
         if is_ready(connections, port) {
             turns.ask(places.client_on(port as usize), sweep, port);
         }
@@ -541,7 +548,7 @@ impl<R: rt::Clock> Ports for Sockets<'_, R> {
         if self.left.is_over() && self.places.is_empty() {
             return Next::Over;
         }
-        if self.wait(may_wait).is_err() {
+        if self.wait(may_wait, made).is_err() {
             self.failed = true;
             return Next::Over;
         }
