@@ -1,5 +1,6 @@
 -- Each connection of a client comes next once those behind the last turn have had theirs.
-use Rattle.std.proofs.Common.{◌≡◌, ◌⊎◌, ◌≤◌, ◌<◌, ℕ, zero, suc, Bool, true, false, refl, sym, subst, ap, arith, inl, inr, rules, nat_eq, nat_le, nat_lt, ◌&&◌, ◌||◌, if◌then◌else◌}
+use Rattle.std.proofs.Common.{◌≡◌, ◌⊎◌, ◌≤◌, ◌<◌, ℕ, zero, suc, Bool, true, false, refl, sym, subst, arith, inl, inr, rules, nat_eq, nat_le, nat_lt, ◌&&◌, ◌||◌, if◌then◌else◌}
+use Rattle.std.proofs.Math.Nat.{eq-or-lt_of_le}
 use Rattle.nfs_pace.specs.{declared.turns.Turn.Turn, Turns.{asked, has_one, last_of}, InTurn.{asked_below, ComesNext, TakeTurns, lowest_first}}
 
 module _ (asks : ℕ → Bool) (client sweep : ℕ) (turn : Turn) (fresh : nat_eq turn.sweep sweep ≡ false) where
@@ -22,26 +23,16 @@ module _ (asks : ℕ → Bool) (client sweep : ℕ) (turn : Turn) (fresh : nat_e
   asked_here : (port first : ℕ) → asked client sweep port (here first) ≡ here (if nat_le first (last_of client turn) && nat_lt (last_of client turn) port then port else first)
   asked_here port first = search rules
 
-  last_or_below : (port count : ℕ) → port < suc count → (port < count) ⊎ (port ≡ count)
-  last_or_below zero zero less = inr refl
-  last_or_below zero (suc count) less = inl (omega arith)
-  last_or_below (suc port) zero less = absurd (omega (arith, less))
-  last_or_below (suc port) (suc count) less = by (last_or_below port count (omega (arith, less)))
-    where
-      by : (port < count) ⊎ (port ≡ count) → (suc port < suc count) ⊎ (suc port ≡ suc count)
-      by (inl below) = inl (omega (arith, below))
-      by (inr is) = inr (ap suc is)
-
   abbrev Asked : ℕ → (ℕ → Type 0) → Type 0
   Asked count P = (port : ℕ) → port < count → asks port ≡ true → P port
 
   -- what is so of all that ask so far, and of one more
   with_next : (count : ℕ) (P : ℕ → Type 0) → Asked count P → (asks count ≡ true → P count) → Asked (suc count) P
-  with_next count P all one port less is = by (last_or_below port count less)
+  with_next count P all one port less is = by (eq-or-lt_of_le (omega (arith, less)))
     where
-      by : (port < count) ⊎ (port ≡ count) → P port
-      by (inl below) = all port below is
-      by (inr at) = subst P (sym at) (one (subst (λ p. asks p ≡ true) at is))
+      by : (port ≡ count) ⊎ (port < count) → P port
+      by (inr below) = all port below is
+      by (inl at) = subst P (sym at) (one (subst (λ p. asks p ≡ true) at is))
 
   abbrev Behind : ℕ → ℕ → Type 0
   Behind first port = last_of client turn < port → (last_of client turn < first) × (first ≤ port)
@@ -57,11 +48,11 @@ module _ (asks : ℕ → Bool) (client sweep : ℕ) (turn : Turn) (fresh : nat_e
     where
       -- one that does not ask
       passed : asks count ≡ false → SoFar count → SoFar (suc count)
-      passed is (inl (same, none)) = inl (rw is same, λ port less. by_port port (last_or_below port count less))
+      passed is (inl (same, none)) = inl (rw is same, λ port less. by_port port (eq-or-lt_of_le (omega (arith, less))))
         where
-          by_port : (port : ℕ) → (port < count) ⊎ (port ≡ count) → asks port ≡ false
-          by_port port (inl below) = none port below
-          by_port port (inr at) = subst (λ p. asks p ≡ false) (sym at) is
+          by_port : (port : ℕ) → (port ≡ count) ⊎ (port < count) → asks port ≡ false
+          by_port port (inr below) = none port below
+          by_port port (inl at) = subst (λ p. asks p ≡ false) (sym at) is
       passed is (inr (first, same, next)) = inr (
         first,
         rw is same,

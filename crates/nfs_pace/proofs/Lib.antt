@@ -3,4 +3,4 @@ mod Seats
 mod SeatedWorked
 mod Sums
 mod WrongClocks
-pub mod InTurn
+mod InTurn
