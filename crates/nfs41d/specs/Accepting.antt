@@ -4,7 +4,7 @@ use Rattle.nfs_pace.specs.Places.{PlacesModel, GivesPort}
 use Rattle.nfs41d.specs.{Left.none_left, declared.left.Left.Left, declared.outside.Newcomer.Newcomer}
 
 -- Why nobody is let in who waits, on the first `made` ports: no connection is to come any more; a port was looked for a short while ago; nobody waits; the
--- places have no port for one that waits, or one that was not made; or the system has no room to watch one more connection, which is counted.
+-- places have no port for some address, or one that was not made; or the system has no room to watch one more connection, which is counted.
 abbrev pub StaysOut : (made : ℕ) → Left → (now again : ℕ) → List Newcomer → PlacesModel → (shown sweep : ℕ) → (unwatched0 unwatched1 : ℕ) → Type 0
 StaysOut made left now again newcomers places shown sweep unwatched0 unwatched1 = (none_left left.connections ≡ true) ⊎ (now < again)
     ⊎ (length newcomers ≡ 0)

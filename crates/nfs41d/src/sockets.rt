@@ -425,6 +425,7 @@ impl<R: rt::Clock> Sockets<'_, R> {
     /// What passed since somebody was answered last, or since the sweep began, was a turn of the client on the port.
     fn charge(&mut self, port: usize)
         ensures charged { self.new.charged ≡ self.old.pace.read }
+        ensures pace { self.new.pace ≡ self.old.pace }
         ensures turns { self.new.turns ≡ becomes (client_of (guest_at self.old.places.guests port)) (added (client_of (guest_at self.old.places.guests port)) self.old.looking.looks (self.old.pace.read - self.old.charged)) self.old.turns }
     {
         let read = self.pace.read();
@@ -598,7 +599,9 @@ impl<R: rt::Clock> Ports for Sockets<'_, R> {
         connection.write(bytes)
     }
 
-    fn answered(&mut self, port: u32, reply: &[u8]) {
+    fn answered(&mut self, port: u32, reply: &[u8])
+        ensures charged { 0 < length reply.now → self.new.charged ≡ self.new.pace.read }
+    {
         if let Some(tally) = &mut self.tally {
             tally.note(reply);
         }
