@@ -3,7 +3,7 @@ use Rattle.std.specs.Prelude.{◌≡◌, ◌≤◌, ◌<◌, ℕ, zero, suc, ◌
 use Rattle.nfs_pace.specs.{declared.turns.Turn.Turn, Places.{Guests, client_of, guest_at}, Turns.{asked, becomes, has_turn}}
 use Rattle.nfs_serve.specs.{declared.ports.Next.Next}
 use Rattle.nfs_serve.specs.declared.ports.Next.TheVariants.{Over}
-use Rattle.nfs41d.specs.declared.sockets.Connection.{Connection}
+use Rattle.nfs41d.specs.declared.connections.Connection.{Connection}
 
 -- it was looked at once, unless no connection is left
 abbrev pub Looks : ℕ → ℕ → Next → Type 0
@@ -17,6 +17,10 @@ is_ready (Some connection) = connection.ready
 
 abbrev pub ready_at : List (Option Connection) → ℕ → Bool
 ready_at connections port = is_ready (get_or connections port None)
+
+-- those that are ready have ports from one on and below another
+abbrev pub Between : (from to : ℕ) → List (Option Connection) → Type 0
+Between from to connections = (port : ℕ) → ready_at connections port ≡ true → (from ≤ port) × (port < to)
 
 -- the ports below one that are ready have asked for a turn of their clients
 abbrev pub asked_below : ℕ → List (Option Connection) → Guests → (sweep : ℕ) → List Turn → List Turn

@@ -2,26 +2,25 @@
 
 ghost use Rattle.std.specs.Prelude.{◌≡◌, ◌⊎◌, ◌≤◌, ◌<◌, ◌+◌, ◌-◌, ◌&&◌, None, Some, IfSome, IfOk, unwrap_or, not, nat_eq, length, min};
 ghost use Rattle.nfs_serve.specs.Desk.{most_ports};
-ghost use Rattle.nfs_serve.specs.Shows.{ComesWithin, TakesWithin, NamesPort, named, passes};
+ghost use Rattle.nfs_serve.specs.Shows.{NamesPort, named, passes};
 ghost use Rattle.nfs_serve.specs.Told.{Logs};
 ghost use Rattle.nfs_serve.specs.declared.ports.Next.TheVariants.{Nobody};
 ghost use Rattle.nfs_pace.specs.Places.{client_of, guest_at};
 ghost use Rattle.nfs_pace.specs.Turns.{becomes, begun, added, lasted_so_far};
-ghost use Rattle.nfs41d.specs.Looking.{Looks, ready_at, asked_below, turn_at, IsFirst};
+ghost use Rattle.nfs41d.specs.Looking.{Looks, asked_below, turn_at, IsFirst};
 ghost use Rattle.nfs41d.specs.Accepting.{StaysOut};
 ghost use Rattle.nfs41d.specs.Tally.{no_calls};
 
+use crate::connections::{Connection, Connections};
 use crate::left::{Left, Room};
 use crate::looking::Looking;
 use crate::outside::{Newcomer, Outside};
 use crate::seen::{Seen, seen_in};
 use crate::tally::Tally;
-use mio::net::{TcpListener, TcpStream};
-use mio::{Events, Interest, Token};
+use mio::net::TcpListener;
+use mio::{Interest, Token};
 use nfs_pace::{MICROS, Paced, Places, Turns, patience};
 use nfs_serve::{Came, MOST_PORTS, Next, Ports, Took};
-use std::alloc::{AllocError, Global};
-use std::io::{ErrorKind, Read, Write};
 use std::net::{Net, SocketAddr};
 use std::time::{Duration, Instant};
 use std::{io, rt};
@@ -48,84 +47,6 @@ pub trait Listening: Ports {
     fn failed(&self) -> bool;
 }
 
-/// A connection, and what was told of it.
-#[derive(Drop)]
-struct Connection {
-    stream: TcpStream,
-    /// Whether a read or a write may do something.
-    ready: bool,
-    /// Whether a read may: bytes or an end were told, and no read was short since.
-    readable: bool,
-    /// Whether the peer has ended its side or the connection has failed, so that a read says so once all bytes were read.
-    ending: bool,
-    /// Whether it is to be closed, since it was silent for too long and nobody is served after it.
-    over: bool,
-}
-
-impl Connection {
-    /// It is to be closed: it is ready, so that this is met.
-    fn end(&mut self) {
-        self.over = true;
-        self.ready = true;
-    }
-
-    /// Notes what was told of it.
-    fn note(&mut self, readable: bool, ending: bool) {
-        self.ready = true;
-        self.ending = self.ending || ending;
-        self.readable = self.readable || self.ending || readable;
-    }
-
-    /// Reads what is there into the front of `buf`.
-    fn read(&mut self, buf: &mut [u8]) -> Came
-        ensures { ComesWithin result buf.new }
-    {
-        if self.over {
-            return Came::Ended;
-        }
-        // Bytes that were read while they were told are told once more, as room to write.
-        if !self.readable {
-            self.ready = false;
-            return Came::Blocked;
-        }
-        match self.stream.read(buf) {
-            Ok(0) => Came::Ended,
-            Ok(n) => {
-                // What comes behind a read that was short is told anew; an end that was told already is not.
-                self.readable = n == buf.len() || self.ending;
-                self.ready = self.readable;
-                Came::Bytes(n)
-            }
-            Err(e) if e.kind() == ErrorKind::WouldBlock => {
-                self.readable = false;
-                self.ready = false;
-                Came::Blocked
-            }
-            Err(e) if e.kind() == ErrorKind::Interrupted => Came::Blocked,
-            Err(_) => Came::Failed,
-        }
-    }
-
-    /// Writes a front of the bytes.
-    fn write(&mut self, bytes: &[u8]) -> Took
-        ensures { TakesWithin result bytes.now }
-    {
-        if self.over {
-            return Took::Failed;
-        }
-        match self.stream.write(bytes) {
-            Ok(0) => Took::Failed,
-            Ok(n) => Took::Bytes(n),
-            Err(e) if e.kind() == ErrorKind::WouldBlock => {
-                self.ready = false;
-                Took::Blocked
-            }
-            Err(e) if e.kind() == ErrorKind::Interrupted => Took::Blocked,
-            Err(_) => Took::Failed,
-        }
-    }
-}
-
 /// A listener and its connections.
 #[derive(Drop)]
 pub struct Sockets<'a, R: rt::Clock> {
@@ -134,7 +55,7 @@ pub struct Sockets<'a, R: rt::Clock> {
     outside: Outside,
     /// Whether somebody was let in where a sweep began last, so that more may be.
     let_in: bool,
-    connections: Vec<Option<Connection>>,
+    connections: Connections,
     /// Who has a port, who has a seat, and who gives way.
     places: Places,
     /// What leases go by, as it is shown here: who has a seat is judged by it.
@@ -184,7 +105,7 @@ impl<'a, R: Net + AllocGlobal + rt::Clock> Sockets<'a, R> {
             looking,
             outside: Outside::new(rt.alloc(), listener)?,
             let_in: true,
-            connections: no_connections(rt.alloc(), room.ports)?,
+            connections: Connections::new(rt.alloc(), room.ports)?,
             places: Places::new(rt.alloc(), room.ports, room.seats, lease)?,
             pace: Paced::new(lease, 0),
             turns: Turns::new(rt.alloc())?,
@@ -237,14 +158,6 @@ impl<R: rt::Clock> Sockets<'_, R> {
         ensures { result ≡ (not self.entry.now.let_in && not (nat_eq (length self.entry.now.outside.newcomers.items) 0)) }
     {
         !self.let_in && self.outside.count() != 0
-    }
-
-    /// The connection on a port.
-    fn connection(&mut self, port: u32) -> Option<&mut Connection> {
-        match self.connections.get_mut(port as usize) {
-            Some(Some(connection)) => Some(connection),
-            _ => None,
-        }
     }
 
     /// Gives one of the first `made` ports to one of those that wait for one, if there is one for it.
@@ -313,18 +226,13 @@ impl<R: rt::Clock> Sockets<'_, R> {
             .registry()
             .register(&mut stream, Token(place), both)
             .is_err()
-            || place >= self.connections.len()
+            || place >= self.connections.count()
         {
             self.unwatched = self.unwatched.saturating_add(1);
             return None;
         }
-        self.connections[place] = Some(Connection {
-            stream,
-            ready: true,
-            readable: true,
-            ending: false,
-            over: false,
-        });
+        self.connections
+            .put(place as u32, Some(Connection::new(stream)));
         let shown = self.pace.shown();
         self.places.stand(
             place,
@@ -339,9 +247,9 @@ impl<R: rt::Clock> Sockets<'_, R> {
 
     /// Whether a port is to have a turn in this sweep.
     fn has_turn(&self, port: u32) -> bool
-        ensures { result ≡ turn_at self.entry.now.connections.items self.entry.now.places.guests self.entry.now.turns self.entry.now.looking.looks port }
+        ensures { result ≡ turn_at self.entry.now.connections self.entry.now.places.guests self.entry.now.turns self.entry.now.looking.looks port }
     {
-        if !is_ready(&self.connections, port) {
+        if !self.connections.is_ready(port) {
             return false;
         }
         let client = self.places.client_on(port as usize);
@@ -351,10 +259,11 @@ impl<R: rt::Clock> Sockets<'_, R> {
     /// The first port from one on and below another that is to have one.
     fn first_in_turn(&self, from: u32, to: u32) -> Option<u32>
         requires { from ≤ to }
-        ensures first { IsFirst (turn_at self.entry.now.connections.items self.entry.now.places.guests self.entry.now.turns self.entry.now.looking.looks) from to result }
+        ensures first { IsFirst (turn_at self.entry.now.connections self.entry.now.places.guests self.entry.now.turns self.entry.now.looking.looks) from to result }
         ensures bound { IfSome result (λ port. (from ≤ port) × (port < to)) }
     {
-        for port in from..to {
+        let (low, high) = self.connections.span(from, to);
+        for port in low..high {
             if self.has_turn(port) {
                 return Some(port);
             }
@@ -367,14 +276,15 @@ impl<R: rt::Clock> Sockets<'_, R> {
         ensures looks { self.new.looking.looks ≡ min (self.old.looking.looks + 1) 18446744073709551615 }
         ensures again { self.new.again ≡ self.old.again }
         ensures unwatched { self.new.unwatched ≡ self.old.unwatched }
-        ensures asked { IfOk result (λ _. self.new.turns ≡ asked_below made self.new.connections.items self.new.places.guests self.new.looking.looks self.old.turns) }
+        ensures asked { IfOk result (λ _. self.new.turns ≡ asked_below made self.new.connections self.new.places.guests self.new.looking.looks self.old.turns) }
     {
-        let timeout = self.timeout(may_wait);
+        let ready = self.connections.settle();
+        let timeout = self.timeout(ready || !may_wait);
         self.looking.look(timeout)?;
         self.now = self.micros();
         self.charged = self.now;
         self.pace.begin_sweep(self.now);
-        let told = note_all(&mut self.connections, self.looking.events());
+        let told = self.connections.note_all(self.looking.events());
         self.outside.note(told);
         ask_all(
             &self.connections,
@@ -386,15 +296,10 @@ impl<R: rt::Clock> Sockets<'_, R> {
         Ok(())
     }
 
-    /// How long a wait lasts at most.
-    fn timeout(&self, may_wait: bool) -> Duration {
-        let ready = self
-            .connections
-            .iter()
-            .flatten()
-            .any(|connection| connection.ready);
+    /// How long a wait lasts at most, where something else is to be done or nothing is.
+    fn timeout(&self, busy: bool) -> Duration {
         let calling = self.outside.is_calling();
-        if ready || !may_wait || calling && self.let_in {
+        if busy || calling && self.let_in {
             Duration::ZERO
         } else if calling || self.outside.count() != 0 || self.left.is_over() {
             Duration::from_millis(TICK).min(self.patience)
@@ -445,46 +350,14 @@ fn seat_all(places: &mut Places, shown: u64) {
     }
 }
 
-/// Notes on each connection what was told of it: whether something was told of the listener.
-fn note_all(connections: &mut [Option<Connection>], events: &Events) -> bool {
-    let mut calling = false;
-    for event in events {
-        match connections.get_mut(event.token().0) {
-            Some(Some(connection)) => {
-                let ending = event.is_read_closed() || event.is_error();
-                connection.note(event.is_readable(), ending);
-            }
-            Some(None) => {}
-            None => calling = true,
-        }
-    }
-    calling
-}
-
 /// Each of the first `made` ports that is ready asks for a turn of its client in this sweep.
-fn ask_all(
-    connections: &[Option<Connection>],
-    places: &Places,
-    turns: &mut Turns,
-    sweep: u64,
-    made: u32,
-)
+fn ask_all(connections: &Connections, places: &Places, turns: &mut Turns, sweep: u64, made: u32)
     ensures { turns.new ≡ asked_below made connections.now places.now.guests sweep turns.old }
 {
-    for port in 0..made {
-        if is_ready(connections, port) {
+    let (low, high) = connections.span(0, made);
+    for port in low..high {
+        if connections.is_ready(port) {
             turns.ask(places.client_on(port as usize), sweep, port);
-        }
-    }
-}
-
-/// Connections that were silent for too long are to be closed.
-fn end_silent(connections: &mut [Option<Connection>], places: &Places, shown: u64) {
-    for port in 0..connections.len() {
-        if places.is_over(port, shown) {
-            if let Some(connection) = &mut connections[port] {
-                connection.end();
-            }
         }
     }
 }
@@ -504,25 +377,6 @@ fn within(port: Option<usize>, made: u32) -> Option<usize>
         }
         None => None,
     }
-}
-
-/// Whether a read or a write may do something on a port.
-fn is_ready(connections: &[Option<Connection>], port: u32) -> bool
-    ensures { result ≡ ready_at connections.now port }
-{
-    match connections.get(port as usize) {
-        Some(Some(connection)) => connection.ready,
-        _ => false,
-    }
-}
-
-/// So many ports without a connection.
-fn no_connections(alloc: Global, ports: u32) -> Result<Vec<Option<Connection>>, AllocError> {
-    let mut connections = Vec::with_capacity(alloc, ports as usize)?;
-    for _ in 0..ports {
-        connections.push(None)?;
-    }
-    Ok(connections)
 }
 
 impl<R: rt::Clock> Listening for Sockets<'_, R> {
@@ -556,7 +410,7 @@ impl<R: rt::Clock> Ports for Sockets<'_, R> {
         self.seat();
         if self.left.is_over() {
             let shown = self.pace.shown();
-            end_silent(&mut self.connections, &self.places, shown);
+            self.connections.end_silent(&self.places, shown);
         }
         match self.accept(made) {
             Ok(Some(port)) => Next::Opened(port),
@@ -572,7 +426,7 @@ impl<R: rt::Clock> Ports for Sockets<'_, R> {
         requires { from ≤ to }
         ensures found { IfSome result (λ port. (from ≤ port) × (port < to)) }
         ensures logs { Logs None None (passes from to result) }
-        ensures first { IsFirst (turn_at self.old.connections.items self.old.places.guests self.old.turns self.old.looking.looks) from to result }
+        ensures first { IsFirst (turn_at self.old.connections self.old.places.guests self.old.turns self.old.looking.looks) from to result }
     {
         self.first_in_turn(from, to)
     }
@@ -586,17 +440,11 @@ impl<R: rt::Clock> Ports for Sockets<'_, R> {
     }
 
     fn read(&mut self, port: u32, buf: &mut [u8]) -> Came {
-        let Some(connection) = self.connection(port) else {
-            return Came::Failed;
-        };
-        connection.read(buf)
+        self.connections.read(port, buf)
     }
 
     fn write(&mut self, port: u32, bytes: &[u8]) -> Took {
-        let Some(connection) = self.connection(port) else {
-            return Took::Failed;
-        };
-        connection.write(bytes)
+        self.connections.write(port, bytes)
     }
 
     fn answered(&mut self, port: u32, reply: &[u8])
@@ -624,11 +472,10 @@ impl<R: rt::Clock> Ports for Sockets<'_, R> {
     }
 
     fn close(&mut self, port: u32)
+        requires { port < most_ports }
         ensures again { self.new.again ≡ 0 }
     {
-        if let Some(connection) = self.connections.get_mut(port as usize) {
-            *connection = None;
-        }
+        self.connections.put(port, None);
         self.asked = true;
         self.again = 0;
         let shown = self.pace.shown();

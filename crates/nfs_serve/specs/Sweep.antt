@@ -25,6 +25,10 @@ abbrev pub SweepsOn : (from to : ℕ) → KeptServer → List Lane → KeptServe
 SweepsOn from to a lanes b more l1 l2 c1 c2 = (s : ServerState) (old : Desks) (l0 : Option (List Deed)) (c0 : Option (List Told))
     → SweepsBelow from s old (state_of a) (at (desks_of lanes)) l0 l1 c0 c1 → SweepsBelow to s old (state_of b) (at (desks_of more)) l0 l2 c0 c2
 
+-- where it is known, nothing waits to be stepped on any port
+abbrev pub Quiet : Bool → List Lane → Type 0
+Quiet quiet lanes = quiet ≡ true → (port : ℕ) → HasMore (at (desks_of lanes) port) → ⊥
+
 -- what is passed over: on no port from one on and below another something waits to be stepped, and each shows that it is not ready
 pub record PassesOver (from to : ℕ) (lanes : List Lane) (l0 l1 : Option (List Deed)) (c0 c1 : Option (List Told)) : Type 0 where
   pub on : from ≤ to

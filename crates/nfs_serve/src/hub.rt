@@ -5,8 +5,8 @@ ghost use Rattle.nfs_serve.specs.Server.{state_of};
 ghost use Rattle.nfs_serve.specs.Told.{Sweep, Turn, Logs};
 ghost use Rattle.nfs_serve.specs.Desk.{most_ports, closed, HasMore};
 ghost use Rattle.nfs_serve.specs.Hub.{Serves, at};
-ghost use Rattle.nfs_serve.specs.Lane.{desks_of};
-ghost use Rattle.nfs_serve.specs.Sweep.{Begins, PassesOver, ServesOnce, SweepsAll, SweepsOn};
+ghost use Rattle.nfs_serve.specs.Lane.{desk_of, desks_of};
+ghost use Rattle.nfs_serve.specs.Sweep.{Begins, PassesOver, Quiet, ServesOnce, SweepsAll, SweepsOn};
 
 use crate::engine::Engine;
 use crate::lane::Lane;
@@ -92,34 +92,39 @@ fn serve_lanes<P: Ports, C: Clock, W: Watch<P, C>>(
     ensures length { length lanes.new.items ≤ most }
     ensures serves { Serves most (state_of engine.old.kept) (state_of engine.new.kept) (desks_of lanes.new.items) (P.log ports.old) (P.log ports.new) (C.told clock.old) (C.told clock.new) }
 {
+    let mut quiet = false;
     for _ in 0..u64::MAX {
         grow(alloc, lanes, most);
-        if !serve_once(alloc, engine, lanes, ports, clock) {
+        if !serve_once(alloc, engine, lanes, &mut quiet, ports, clock) {
             return;
         }
         show(engine, ports, clock, watch);
     }
 }
 
-/// Lets the connection begin that is to begin, if there is one, and visits each port once. `false` where none is left and none will come.
+/// Lets the connection begin that is to begin, if there is one, and visits each port once. `false` where none is left and none will come. `quiet` is
+/// whether it is known that nothing waits to be stepped on any port, so that nobody looks for it.
 fn serve_once<P: Ports, C: Clock>(
     alloc: Global,
     engine: &mut Engine,
     lanes: &mut [Lane],
+    quiet: &mut bool,
     ports: &mut P,
     clock: &mut C,
 ) -> bool
     requires ports { length lanes.old ≤ most_ports }
+    requires quiet { Quiet quiet.old lanes.old }
     ensures length { length lanes.new ≡ length lanes.old }
+    ensures quiet { Quiet quiet.new lanes.new }
     ensures serves { ServesOnce result (length lanes.old) (state_of engine.old.kept) (at (desks_of lanes.old)) (state_of engine.new.kept) (at (desks_of lanes.new)) (P.log ports.old) (P.log ports.new) (C.told clock.old) (C.told clock.new) }
 {
     // What earlier records left is dropped while nobody asks, too.
     let left = engine.tidy();
-    let more = have_more(lanes);
-    if !begin_sweep(lanes, ports, clock, !left && !more) {
+    *quiet = is_quiet(lanes, *quiet);
+    if !begin_sweep(lanes, ports, clock, !left && *quiet) {
         return false;
     }
-    sweep(alloc, engine, lanes, ports, clock);
+    sweep(alloc, engine, lanes, quiet, ports, clock);
     true
 }
 
@@ -148,6 +153,15 @@ fn grow(alloc: Global, lanes: &mut Vec<Lane>, most: u32)
     }
 }
 
+/// Whether nothing waits to be stepped on any port. Where that is known, none is looked at.
+fn is_quiet(lanes: &[Lane], quiet: bool) -> bool
+    requires { Quiet quiet lanes.now }
+    ensures quiet { Quiet result lanes.now }
+    ensures more { result ≡ false → (port : ℕ) × (port < length lanes.now) × HasMore (at (desks_of lanes.now) port) }
+{
+    quiet || !have_more(lanes)
+}
+
 /// Whether on some port something waits to be stepped.
 fn have_more(lanes: &[Lane]) -> bool
     ensures none { result ≡ false → (port : ℕ) → port < length lanes.now → HasMore (at (desks_of lanes.now) port) → ⊥ }
@@ -169,6 +183,20 @@ fn next_more(lanes: &[Lane], from: usize) -> usize
         }
     }
     lanes.len()
+}
+
+/// Up to which port from one on nothing waits to be stepped. Where that is known of all, none is looked at.
+fn next_waiting(lanes: &[Lane], quiet: bool, from: usize) -> usize
+    requires from { from ≤ length lanes.now }
+    requires quiet { Quiet quiet lanes.now }
+    ensures bound { (from ≤ result) × (result ≤ length lanes.now) }
+    ensures none { (port : ℕ) → from ≤ port → port < result → HasMore (at (desks_of lanes.now) port) → ⊥ }
+{
+    if quiet {
+        lanes.len()
+    } else {
+        next_more(lanes, from)
+    }
 }
 
 /// Lets the connection begin that is to begin, if there is one. `false` where none is left and none will come.
@@ -213,16 +241,19 @@ fn sweep<P: Ports, C: Clock>(
     alloc: Global,
     engine: &mut Engine,
     lanes: &mut [Lane],
+    quiet: &mut bool,
     ports: &mut P,
     clock: &mut C,
 )
     requires ports { length lanes.old ≤ most_ports }
+    requires quiet { Quiet quiet.old lanes.old }
     ensures length { length lanes.new ≡ length lanes.old }
+    ensures quiet { Quiet quiet.new lanes.new }
     ensures sweeps { SweepsAll engine.old.kept lanes.old engine.new.kept lanes.new (P.log ports.old) (P.log ports.new) (C.told clock.old) (C.told clock.new) }
 {
     let mut port = 0;
     while port < lanes.len() {
-        port = visit_next(alloc, engine, lanes, port, ports, clock);
+        port = visit_next(alloc, engine, lanes, quiet, port, ports, clock);
     }
 }
 
@@ -231,31 +262,49 @@ fn visit_next<P: Ports, C: Clock>(
     alloc: Global,
     engine: &mut Engine,
     lanes: &mut [Lane],
+    quiet: &mut bool,
     from: usize,
     ports: &mut P,
     clock: &mut C,
 ) -> usize
     requires ports { length lanes.old ≤ most_ports }
     requires from { from < length lanes.old }
+    requires quiet { Quiet quiet.old lanes.old }
     ensures length { length lanes.new ≡ length lanes.old }
+    ensures quiet { Quiet quiet.new lanes.new }
     ensures order { (from < result) × (result ≤ length lanes.old) }
     ensures sweeps { SweepsOn from result engine.old.kept lanes.old engine.new.kept lanes.new (P.log ports.old) (P.log ports.new) (C.told clock.old) (C.told clock.new) }
 {
-    let port = pass_over(lanes, from, ports, clock);
+    let port = pass_over(lanes, *quiet, from, ports, clock);
     if port >= lanes.len() {
         return port;
     }
     lanes[port].visit(alloc, engine, port as u32, ports, clock);
+    *quiet = stays_quiet(*quiet, &lanes[port]);
     port + 1
 }
 
+/// Whether nothing waits to be stepped still, behind a visit of this port.
+fn stays_quiet(quiet: bool, lane: &Lane) -> bool
+    ensures { result ≡ true → (quiet ≡ true) × (HasMore (desk_of lane.now) → ⊥) }
+{
+    quiet && !lane.has_more()
+}
+
 /// Passes over the ports that are not ready and have nothing to step: which port comes then.
-fn pass_over<P: Ports, C: Clock>(lanes: &[Lane], from: usize, ports: &mut P, clock: &mut C) -> usize
+fn pass_over<P: Ports, C: Clock>(
+    lanes: &[Lane],
+    quiet: bool,
+    from: usize,
+    ports: &mut P,
+    clock: &mut C,
+) -> usize
     requires ports { length lanes.now ≤ most_ports }
     requires from { from ≤ length lanes.now }
+    requires quiet { Quiet quiet lanes.now }
     ensures { PassesOver from result lanes.now (P.log ports.old) (P.log ports.new) (C.told clock.old) (C.told clock.new) }
 {
-    let until = next_more(lanes, from);
+    let until = next_waiting(lanes, quiet, from);
     let at = match ports.next_ready(from as u32, until as u32) {
         Some(port) => port as usize,
         None => until,

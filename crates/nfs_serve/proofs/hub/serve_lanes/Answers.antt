@@ -4,11 +4,11 @@ use Rattle.nfs_serve.proofs.{Rounds.{start, grown, more, given_back}, Sweeps.of_
 use Rattle.nfs_serve.proofs.hub.serve_lanes.Goals as goal
 
 pub loop-init : goal.loop-init
-loop-init g c = (start c.args.most (state_of c.args.engine.now.kept) c.args.lanes.now.items _ _ c.requires.closed, c.requires.ports)
+loop-init g c = (start c.args.most (state_of c.args.engine.now.kept) c.args.lanes.now.items _ _ c.requires.closed, c.requires.ports, λ e. cc)
 
 pub loop-preserved : goal.loop-preserved
 loop-preserved g c =
-    let (before, len) = c.loop.invariant in
+    let (before, len, quiet) = c.loop.invariant in
     let begun : c.serve_once.result ≡ true = search rules in
     let same : c.deref_mut.result.now ≡ c.grow.new.lanes.items = search rules in
     let made = length c.deref_mut.result.now in
@@ -24,11 +24,12 @@ loop-preserved g c =
           (more c.args.most _ _ _ old (desks_of new_lanes) _ _ _ _ _ _ _ w.sweep (grown c.args.most _ _ _ old _ _ _ _ _ before (λ p. ap (λ l. at (desks_of l) p) same ∙ c.grow.ensures.alike p))
           (of_more made c.args.most _ _ _ _ _ few w.sweeps) w.logs w.clock),
       rw (given_back c.grow.new.lanes.len new_lanes behind size) (omega (arith, c.serve_once.ensures.length, few)),
+      rw (given_back c.grow.new.lanes.len new_lanes behind size) c.serve_once.ensures.quiet,
     )
 
 pub returns-then-not-serve_once-clause-serves : goal.returns-then-not-serve_once-clause-serves
 returns-then-not-serve_once-clause-serves g c =
-    let (before, len) = c.loop.invariant in
+    let (before, len, quiet) = c.loop.invariant in
     let none : c.serve_once.result ≡ false = search rules in
     let same : c.deref_mut.result.now ≡ c.grow.new.lanes.items = search rules in
     let old = desks_of c.deref_mut.result.now in
@@ -46,6 +47,6 @@ returns-then-not-serve_once-clause-serves g c =
 
 pub returns-clause-serves : goal.returns-clause-serves
 returns-clause-serves g c =
-    let (before, len) = c.loop.invariant in
+    let (before, len, quiet) = c.loop.invariant in
     let all : c.loop.counter ≡ 2 ^ 64 - 1 = omega (arith, c.loop.auto.counter-end, c.loop-test.false) in
     (c.loop.counter, _, before, inr (all, refl))

@@ -7,6 +7,7 @@ pub loop-port-init : goal.loop-port-init
 loop-port-init g c = record {
   kept = refl;
   within = omega arith;
+  quiet = c.requires.quiet;
   sweeps = sweep_start (state_of c.args.engine.now.kept) (at (desks_of c.args.lanes.now)) _ _;
 }
 
@@ -16,6 +17,7 @@ loop-port-preserved g c =
     let same = c.visit_next-port.ensures.length in record {
       kept = same ∙ before.kept;
       within = omega (arith, c.visit_next-port.ensures.order.1, same);
+      quiet = c.visit_next-port.ensures.quiet;
       sweeps = c.visit_next-port.ensures.sweeps _ _ _ _ before.sweeps;
     }
 

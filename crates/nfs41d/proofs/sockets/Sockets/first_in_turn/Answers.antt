@@ -6,5 +6,5 @@ use Rattle.nfs41d.proofs.sockets.Sockets.first_in_turn.Goals as goal
 pub loop-port-preserved : goal.loop-port-preserved
 loop-port-preserved g c =
     let self = c.args.self.now in
-    none_more (turn_at self.connections.items self.places.guests self.turns self.looking.looks) c.args.from c.loop-port.port c.loop-port.invariant
+    none_more (turn_at self.connections self.places.guests self.turns self.looking.looks) c.args.from c.loop-port.port c.loop-port.invariant
     (sym c.has_turn.ensures ∙ c.if-has_turn.false)
