@@ -1,4 +1,5 @@
 mod Found
+mod Sitting
 mod Seats
 mod SeatedWorked
 mod Sums

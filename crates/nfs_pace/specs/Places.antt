@@ -66,6 +66,10 @@ abbrev pub is_at : ℕ → Option Seat → Bool
 is_at port None = false
 is_at port (Some seat) = names port seat.port
 
+-- the seat of who is on a port is where it is looked for
+abbrev pub IsFound : List ℕ → Seats → Type 0
+IsFound found seats = (port j : ℕ) → is_at port (seat_at seats j) ≡ true → (port < length found) × (get_or found port 0 ≡ j)
+
 abbrev pub is_of : ℕ → Option Seat → Bool
 is_of client None = false
 is_of client (Some seat) = nat_eq seat.client client

@@ -58,16 +58,21 @@ pub struct Seat {
 pub struct Places {
     guests: Vec<Option<Guest>>,
     seats: Vec<Option<Seat>>,
+    /// Where the seat is of who is on each port, where it has one.
+    found: Vec<usize>,
     /// How long one is spared: a lease, and a second more, as leases go by whole seconds.
     lease: u64,
 }
 
 impl Model for Places {
-    ghost use Rattle.nfs_pace.specs.Places.{PlacesModel};
+    ghost use Rattle.std.specs.Prelude.{◌≡◌, length};
+    ghost use Rattle.nfs_pace.specs.Places.{PlacesModel, IsFound};
 
     ghost Value = { PlacesModel };
 
     ghost view = { λ p. record { guests = p.guests.items; seats = p.seats.items; lease = p.lease } };
+
+    ghost invariant = { λ p. (length p.found.items ≡ length p.guests.items) × IsFound p.found.items p.seats.items };
 }
 
 impl Places {
@@ -79,9 +84,11 @@ impl Places {
     {
         let guests = vec![in alloc; None; ports as usize]?;
         let seats = vec![in alloc; None; seats as usize]?;
+        let found = vec![in alloc; 0; ports as usize]?;
         Ok(Places {
             guests,
             seats,
+            found,
             lease: (u64::from(lease) + 1) * MICROS,
         })
     }
@@ -146,10 +153,11 @@ impl Places {
         ensures seats { AreEach (sits port client shown) self.old.seats self.new.seats }
         ensures lease { self.new.lease ≡ self.old.lease }
     {
-        if port < self.guests.len() {
-            self.guests[port] = answers(self.guests[port], client, shown);
+        if port >= self.guests.len() {
+            return;
         }
-        each_sits(&mut self.seats, port, client, shown);
+        self.guests[port] = answers(self.guests[port], client, shown);
+        sit(&mut self.seats, self.found[port], port, client, shown);
     }
 
     /// Something else was answered there: that counts of a stranger.
@@ -245,6 +253,7 @@ impl Places {
         match self.next_seat(shown) {
             Some((port, j)) => {
                 self.seats[j] = given_to(self.guests[port], port, self.seats[j]);
+                self.found[port] = j;
                 true
             }
             None => false,
@@ -459,11 +468,11 @@ impl Places {
     }
 }
 
-/// Each seat is as `sits` makes it.
-fn each_sits(seats: &mut [Option<Seat>], port: usize, client: u64, shown: u64)
-    ensures { AreEach (sits port client shown) seats.old seats.new }
+/// One seat is as `sits` makes it.
+fn sit(seats: &mut Vec<Option<Seat>>, j: usize, port: usize, client: u64, shown: u64)
+    ensures { seats.new.items ≡ set seats.old.items j (sits port client shown (seat_at seats.old.items j)) }
 {
-    for j in 0..seats.len() {
+    if j < seats.len() {
         seats[j] = sits(seats[j], port, client, shown);
     }
 }
