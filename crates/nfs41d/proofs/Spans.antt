@@ -1,41 +1,13 @@
--- Ports that are ready lie from one on and below another: what does not change that, and what follows for those that do not lie there.
-use Rattle.std.proofs.Common.{◌≡◌, ◌≢◌, ◌≤◌, ◌<◌, ◌⊎◌, ℕ, suc, zero, Bool, true, false, List, length, set, Option, None, refl, sym, ap, ◌∙◌, eqb, leb, arith, inl, inr}
-use Rattle.std.proofs.{Math.Nat.{eq-or-lt_of_le}, lemmas.Bool.Decides.{eqb_tells, leb_tells}, lemmas.List.{get_or_past, get_or-set_other}}
+-- Ports that are ready lie from one on and below another: what follows for those that do not lie there.
+use Rattle.std.proofs.Common.{◌≡◌, ◌≤◌, ◌<◌, ◌⊎◌, ℕ, suc, zero, true, false, List, Option, sym, ap, arith, inl, inr}
+use Rattle.std.proofs.{Math.Nat.{eq-or-lt_of_le}, lemmas.Bool.{false_from_ne_true}}
 use Rattle.nfs_pace.specs.{declared.turns.Turn.Turn, Places.Guests}
-use Rattle.nfs41d.specs.{Looking.{is_ready, ready_at, Between, asked_below}, declared.connections.Connection.{Connection}}
-
-never : (b : Bool) → (b ≡ true → ⊥) → b ≡ false
-never true h = absurd (h refl)
-never false h = refl
-
--- no port beyond the list is ready
-pub spanned : (l : List (Option Connection)) (ports : ℕ) → length l ≡ ports → Between 0 ports l
-spanned l ports size port ready = (omega arith, cases (leb_tells ports port))
-  where
-    cases : ((leb ports port ≡ true) × (ports ≤ port)) ⊎ ((leb ports port ≡ false) × (port < ports)) → port < ports
-    cases (inl h) =
-        let none : ready_at l port ≡ false = ap is_ready (get_or_past l port None (omega (arith, size, h.1))) in
-        cc
-    cases (inr h) = h.1
-
-pub wider : (from to low high : ℕ) (l : List (Option Connection)) → Between from to l → low ≤ from → to ≤ high → Between low high l
-wider from to low high l between below above port ready =
-    let at = between port ready in
-    (omega (arith, at.0, below), omega (arith, at.1, above))
-
--- what is on a port that lies there changes
-pub reached : (from to low high port : ℕ) (l : List (Option Connection)) (x : Option Connection) → Between from to l → (low ≤ from) × (low ≤ port) → (to ≤ high) × (port < high)
-    → Between low high (set l port x)
-reached from to low high port l x between low_is high_is q ready = cases (eqb_tells q port)
-  where
-    cases : ((eqb q port ≡ true) × (q ≡ port)) ⊎ ((eqb q port ≡ false) × (q ≢ port)) → (low ≤ q) × (q < high)
-    cases (inl h) = (omega (arith, h.1, low_is.1), omega (arith, h.1, high_is.1))
-    cases (inr h) = wider from to low high l between low_is.0 high_is.0 q (sym (ap is_ready (get_or-set_other l port q x None h.1)) ∙ ready)
+use Rattle.nfs41d.specs.{Looking.{ready_at, asked_below}, declared.connections.Connection.{Connection}}
 
 -- from one port on, below another, none of those that do not lie there is ready
 pub unready : (l : List (Option Connection)) (from to low high : ℕ) → ((port : ℕ) → from ≤ port → port < to → ready_at l port ≡ true → (low ≤ port) × (port < high))
     → (port : ℕ) → from ≤ port → port < to → (port < low) ⊎ (high ≤ port) → ready_at l port ≡ false
-unready l from to low high span port on less out = never (ready_at l port) (λ ready. beyond (span port on less ready) out)
+unready l from to low high span port on less out = false_from_ne_true (ready_at l port) (λ ready. beyond (span port on less ready) out)
   where
     beyond : (low ≤ port) × (port < high) → (port < low) ⊎ (high ≤ port) → ⊥
     beyond h (inl below) = absurd (omega (arith, h.0, below))

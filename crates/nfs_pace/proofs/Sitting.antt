@@ -1,11 +1,7 @@
 -- A SEQUENCE was answered on a port: the seat of who is there changes alone, and it is where it is looked for.
 use Rattle.std.proofs.Common.{◌≡◌, ◌≢◌, ◌≤◌, ◌<◌, ◌⊎◌, ℕ, Bool, true, false, List, length, set, get_or, Option, Some, None, if◌then◌else◌, refl, sym, ap, ◌∙◌, eqb, leb, arith, inl, inr}
-use Rattle.std.proofs.{lemmas.Bool.Decides.{eqb_tells, leb_tells}, lemmas.List.{get_or_past, get_or-set_same, get_or-set_other, length-set}}
+use Rattle.std.proofs.{lemmas.Bool.{false_from_ne_true, Decides.{eqb_tells, leb_tells}}, lemmas.List.{get_or_past, get_or-set_same, get_or-set_other, length-set}}
 use Rattle.nfs_pace.specs.{declared.places.Seat.Seat, Places.{Seats, seat_at, is_at, sits, IsFound, AreEach}}
-
-never : (b : Bool) → (b ≡ true → ⊥) → b ≡ false
-never true h = absurd (h refl)
-never false h = refl
 
 sits_alone : (port client shown : ℕ) (seat : Option Seat) → is_at port seat ≡ false → sits port client shown seat ≡ seat
 sits_alone port client shown None elsewhere = refl
@@ -19,11 +15,11 @@ sits_there seats port client shown place there = (length-set seats place (sits p
         → seat_at (set seats place (sits port client shown (seat_at seats place))) i ≡ sits port client shown (seat_at seats i)
     cases i less (inl h) = rw h.1 (get_or-set_same seats place (sits port client shown (seat_at seats place)) None (rw (sym h.1) less))
     cases i less (inr h) = get_or-set_other seats place i (sits port client shown (seat_at seats place)) None h.1
-        ∙ sym (sits_alone port client shown (seat_at seats i) (never (is_at port (seat_at seats i)) (λ at. h.1 (sym (there i at)))))
+        ∙ sym (sits_alone port client shown (seat_at seats i) (false_from_ne_true (is_at port (seat_at seats i)) (λ at. h.1 (sym (there i at)))))
 
 pub none_sits : (found : List ℕ) (seats : Seats) (port client shown : ℕ) → IsFound found seats → length found ≤ port → AreEach (sits port client shown) seats seats
 none_sits found seats port client shown is past =
-    (refl, λ i less. sym (sits_alone port client shown (seat_at seats i) (never (is_at port (seat_at seats i)) (λ at. absurd (omega (arith, past, (is port i at).0))))))
+    (refl, λ i less. sym (sits_alone port client shown (seat_at seats i) (false_from_ne_true (is_at port (seat_at seats i)) (λ at. absurd (omega (arith, past, (is port i at).0))))))
 
 -- its port stays
 sits_at : (p port client shown : ℕ) (seat : Option Seat) → is_at p (sits port client shown seat) ≡ is_at p seat

@@ -1,7 +1,7 @@
 -- A sweep, port after port; who begins before it; and how few others have their turn between two turns of a port.
 use Rattle.std.proofs.Common.{◌≡◌, ◌≢◌, ℕ, suc, ◌+◌, ◌<◌, ◌≤◌, ◌⊎◌, List, [], ◌∷◌, ◌++◌, length, set, get_or, flat_map, Option, true, false, refl, sym, ap}
 use Rattle.std.proofs.Common.{subst, ◌∙◌, ◌-◌, zero, None, Some, replicate, append-nil, append_assoc, leb, arith, inl, inr, eqb}
-use Rattle.std.proofs.{lemmas.Bool.Decides.{eqb_tells, leb_tells}, lemmas.List.{get_or_past, length-map}, lemmas.List.Concat.flat_map-append}
+use Rattle.std.proofs.{lemmas.Bool.Decides.{eqb_tells, leb_tells}, lemmas.List.Concat.flat_map-append}
 use Rattle.nfs_serve.specs.Step.{ServerState}
 use Rattle.nfs_serve.specs.{Desk.{most_ports, Desk, closed, opened, Act, Opened, Unready, HasMore, IsPassed, Goes}, Told.{Told, Sweep, Turn, Logs}, Deeds.{Deed, looked}, Shows.passed}
 use Rattle.nfs_serve.specs.{Lane.{desk_of, desks_of, Visits}, declared.lane.Lane.Lane}
@@ -175,24 +175,7 @@ waits_within made old port beyond more = cases (leb_tells made port)
     cases (inl h) = absurd (no (sym (subst HasMore (beyond port h.1) more).live))
     cases (inr h) = h.1
 
--- Where nothing waits to be stepped, nothing does once a connection has begun, nor behind a visit that leaves nothing.
-
-pub all_quiet : (lanes : List Lane) → ((port : ℕ) → port < length lanes → HasMore (at (desks_of lanes) port) → ⊥) → (port : ℕ) → HasMore (at (desks_of lanes) port) → ⊥
-all_quiet lanes none port more =
-    let desks = desks_of lanes in
-    none port (waits_within (length lanes) (at desks) port (λ p above. get_or_past desks p closed (rw length-map above)) more) more
-
-pub begun_quiet : (made : ℕ) (old mid : Desks) (l0 l1 : Option (List Deed)) → Begins made true old mid l0 l1 → ((port : ℕ) → HasMore (old port) → ⊥)
-    → (port : ℕ) → HasMore (mid port) → ⊥
-begun_quiet made old mid l0 l1 (inl nobody) none port more = none port (subst HasMore (nobody.0 port) more)
-begun_quiet made old mid l0 l1 (inr begun) none port more =
-    let (first, less, is, others, logs) = begun in
-    cases first is others (eqb_tells port first)
-  where
-    cases : (first : ℕ) → mid first ≡ opened → OthersStay old mid first → ((eqb port first ≡ true) × (port ≡ first)) ⊎ ((eqb port first ≡ false) × (port ≢ first)) → ⊥
-    cases first is others (inl h) = absurd (omega (arith, (subst HasMore (ap mid h.1 ∙ is) more).unread))
-    cases first is others (inr h) = none port (subst HasMore (others port h.1) more)
-
+-- where nothing waits to be stepped, nothing does behind a visit that leaves nothing
 pub visited_quiet : (lanes : List Lane) (port : ℕ) (lane : Lane) → ((p : ℕ) → HasMore (at (desks_of lanes) p) → ⊥) → port < length lanes → (HasMore (desk_of lane) → ⊥)
     → (p : ℕ) → HasMore (at (desks_of (set lanes port lane)) p) → ⊥
 visited_quiet lanes port lane none within last p more = cases (eqb_tells p port)
