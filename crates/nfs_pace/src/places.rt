@@ -196,11 +196,18 @@ impl Places {
         ensures seats { AreEach (left port (has_ended (guest_at self.old.guests port)) self.old.lease shown) self.old.seats self.new.seats }
         ensures lease { self.new.lease ≡ self.old.lease }
     {
-        let ended = match self.guests.get(port) {
-            Some(guest) => has_ended(*guest),
-            None => false,
-        };
-        each_left(&mut self.seats, port, ended, self.lease, shown);
+        if port >= self.guests.len() {
+            return;
+        }
+        let ended = has_ended(self.guests[port]);
+        rise(
+            &mut self.seats,
+            self.found[port],
+            port,
+            ended,
+            self.lease,
+            shown,
+        );
     }
 
     /// A newcomer of this address has the port from now on, and stands in the hall.
@@ -316,10 +323,14 @@ impl Places {
     }
 
     /// Whether who is on the port has a seat.
+    #[tactic(auto, using(crate::proofs::Sitting::any_there))]
     fn is_seated(&self, port: usize) -> bool
         ensures { result ≡ list_any (is_at port) self.now.seats }
     {
-        self.seats.iter().any(|seat| is_at(*seat, port))
+        if port >= self.guests.len() {
+            return false;
+        }
+        is_at(seat_in(&self.seats, self.found[port]), port)
     }
 
     /// The seat that is kept for a client.
@@ -477,12 +488,22 @@ fn sit(seats: &mut Vec<Option<Seat>>, j: usize, port: usize, client: u64, shown:
     }
 }
 
-/// Each seat is as `left` makes it.
-fn each_left(seats: &mut [Option<Seat>], port: usize, ended: bool, lease: u64, shown: u64)
-    ensures { AreEach (left port ended lease shown) seats.old seats.new }
+/// One seat is as `left` makes it.
+fn rise(seats: &mut Vec<Option<Seat>>, j: usize, port: usize, ended: bool, lease: u64, shown: u64)
+    ensures { seats.new.items ≡ set seats.old.items j (left port ended lease shown (seat_at seats.old.items j)) }
 {
-    for j in 0..seats.len() {
+    if j < seats.len() {
         seats[j] = left(seats[j], port, ended, lease, shown);
+    }
+}
+
+/// The seat of a place, if there is one and somebody has it.
+fn seat_in(seats: &[Option<Seat>], j: usize) -> Option<Seat>
+    ensures { result ≡ seat_at seats.now j }
+{
+    match seats.get(j) {
+        Some(seat) => *seat,
+        None => None,
     }
 }
 
