@@ -187,12 +187,14 @@ def one_session_on_many_connections():
                         gone.stream.close()
 
 
-def many_newcomers():
-    """900 newcomers a second, of two hundred addresses, each of which says NULL and stays for a while, beside good clients. A new machine that mounts
-    beside them is served."""
-    name, stay = "many newcomers", 32
-    with seated(name) as (server, stack):
-        begun, came = time.monotonic(), []
+def many_newcomers(seats=64, silent=0, most=0.3):
+    """900 newcomers a second, of two hundred addresses, each of which says NULL and stays for a while, beside good clients and strangers that are
+    silent. A new machine that mounts beside them is served, and the server takes so many milliseconds of a processor for each at most."""
+    name, stay = f"many newcomers at {seats} seats", 32
+    with seated(name, seats=seats) as (server, stack):
+        for n in range(silent):
+            stack.enter_context(server.connect(f"127.0.5.{n % 200 + 1}"))
+        begun, before, came = time.monotonic(), server.seconds(), []
 
         def comes():
             for n in range(len(came), int(900 * (time.monotonic() - begun))):
@@ -204,15 +206,22 @@ def many_newcomers():
 
         with repeated(comes, 0.005):
             time.sleep(4)
+            each = 1e3 * (server.seconds() - before) / len(came)
             late = stack.enter_context(Peer(server, b"late", "127.0.4.1"))
             took, rate = time.monotonic() - begun - 4, len(came) / (time.monotonic() - begun)
-            print(f"{name}: {rate:.0f} a second came; a new machine was mounted beside them in {took:.1f} s")
+            print(f"{name}: {rate:.0f} a second came, each took {each:.2f} ms of a processor; a new machine was mounted beside them in {took:.1f} s")
+            judge(f"{name}: a newcomer takes at most {most} ms", 0 < each <= most, each)
             judge(f"{name}: a new machine is mounted beside them", took < 10, took)
             for _ in range(8):
                 late.asks()
                 time.sleep(1)
         for stranger in came[-stay:]:
             stranger.close()
+
+
+def newcomers_beside_many():
+    """The same where there are as many seats as may be, and as many strangers: a pass over them for each would cost more."""
+    many_newcomers(1_024, 1_024, 0.5)
 
 
 def a_dead_connection(lease=4):
@@ -265,7 +274,7 @@ def leases_of_ten_seconds():
 
 
 PARTS = (*ROWS, leases_of_ten_seconds, strangers_with_sessions, twenty_machines, more_than_the_settings_say, forty_sessions,
-         one_session_on_many_connections, many_newcomers)
+         one_session_on_many_connections, many_newcomers, newcomers_beside_many)
 
 # the same with numbers that take minutes
 LONG = {"seats for 90 s": all_rows(90, many_calls={"calls": 1_000_000}, long_sweeps={"owners": 100_000})}
