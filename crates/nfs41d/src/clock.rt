@@ -8,6 +8,7 @@ ghost use Rattle.nfs41d.specs.Readings.{Reads, Takes, Looks};
 
 use nfs_pace::{MICROS, Paced};
 use nfs_serve::{Clock, LAST_MOMENT};
+use std::cell::Cell;
 use std::rt;
 use std::time::{SystemTime, UNIX_EPOCH};
 
@@ -21,16 +22,50 @@ pub trait Readings {
         ensures { Reads (reads self.old) (reads self.new) result };
 }
 
+/// What was read last of the system's clock, in microseconds since 1970. A server's clock and its sockets share it, so that one of them reads where both
+/// want to know.
+#[derive(Drop)]
+pub struct LastReading {
+    micros: Cell<u64>,
+    /// Whether it is the next reading, too.
+    is_next: Cell<bool>,
+}
+
+impl LastReading {
+    /// Nothing was read so far.
+    pub fn new() -> LastReading {
+        LastReading {
+            micros: Cell::new(0),
+            is_next: Cell::new(false),
+        }
+    }
+}
+
 /// The readings of the system's clock.
 #[derive(Drop)]
 pub struct SystemReadings<'a, R: rt::Clock> {
     rt: &'a R,
+    last: &'a LastReading,
 }
 
 impl<'a, R: rt::Clock> SystemReadings<'a, R> {
     /// Those that are taken from now on.
-    pub fn new(rt: &'a R) -> SystemReadings<'a, R> {
-        SystemReadings { rt }
+    pub fn new(rt: &'a R, last: &'a LastReading) -> SystemReadings<'a, R> {
+        SystemReadings { rt, last }
+    }
+}
+
+impl<R: rt::Clock> SystemReadings<'_, R> {
+    /// What was read last.
+    pub fn last(&self) -> u64 {
+        self.last.micros.get()
+    }
+
+    /// What is read now, which is the next reading of whoever shares these, too; what was read last where the clock cannot be read.
+    pub fn read_ahead(&mut self) -> u64 {
+        let read = self.micros().unwrap_or(self.last());
+        self.last.is_next.set(true);
+        read
     }
 }
 
@@ -38,10 +73,15 @@ impl<R: rt::Clock> Readings for SystemReadings<'_, R> {
     ghost reads = { λ _. None };
 
     fn micros(&mut self) -> Option<u64> {
+        if self.last.is_next.replace(false) {
+            return Some(self.last());
+        }
         let now = SystemTime::now(self.rt).ok()?;
         let since = now.duration_since(UNIX_EPOCH).ok()?;
         let seconds = since.as_secs().saturating_mul(MICROS);
-        Some(seconds.saturating_add(u64::from(since.subsec_micros())))
+        let micros = seconds.saturating_add(u64::from(since.subsec_micros()));
+        self.last.micros.set(micros);
+        Some(micros)
     }
 }
 
@@ -57,10 +97,10 @@ pub struct PacedClock<S: Readings> {
 
 impl<'a, R: rt::Clock> PacedClock<SystemReadings<'a, R>> {
     /// A clock that shows the system's second, for a lease of so many.
-    pub fn new(rt: &'a R, lease: u32) -> PacedClock<SystemReadings<'a, R>>
+    pub fn new(rt: &'a R, last: &'a LastReading, lease: u32) -> PacedClock<SystemReadings<'a, R>>
         ensures { (read : ℕ) × (result.at ≡ starts lease read) }
     {
-        let mut readings = SystemReadings::new(rt);
+        let mut readings = SystemReadings::new(rt, last);
         let read = readings.micros().unwrap_or(0);
         PacedClock {
             readings,

@@ -11,6 +11,7 @@ ghost use Rattle.nfs41d.specs.Looking.{Looks, asked_below, turn_at, IsFirst};
 ghost use Rattle.nfs41d.specs.Accepting.{StaysOut};
 ghost use Rattle.nfs41d.specs.Tally.{no_calls};
 
+use crate::clock::{LastReading, Readings, SystemReadings};
 use crate::connections::{Connection, Connections};
 use crate::left::{Left, Room};
 use crate::looking::Looking;
@@ -60,6 +61,8 @@ pub struct Sockets<'a, R: rt::Clock> {
     places: Places,
     /// What leases go by, as it is shown here: who has a seat is judged by it.
     pace: Paced,
+    /// What the server's clock reads, which is what that goes by.
+    readings: SystemReadings<'a, R>,
     /// Whose connections have a turn, and until when what passed in this sweep is told there.
     turns: Turns,
     charged: u64,
@@ -88,6 +91,7 @@ impl<'a, R: Net + AllocGlobal + rt::Clock> Sockets<'a, R> {
     /// seconds.
     pub fn new(
         rt: &'a R,
+        last: &'a LastReading,
         addr: SocketAddr,
         connections: Option<u32>,
         room: Room,
@@ -96,6 +100,8 @@ impl<'a, R: Net + AllocGlobal + rt::Clock> Sockets<'a, R> {
         requires { room.ports ≤ most_ports }
     {
         let looking = Looking::new(rt, room.ports as usize + 1)?;
+        let mut readings = SystemReadings::new(rt, last);
+        let read = readings.micros().unwrap_or(0);
         let mut listener = TcpListener::bind(rt, addr)?;
         looking
             .registry()
@@ -107,9 +113,10 @@ impl<'a, R: Net + AllocGlobal + rt::Clock> Sockets<'a, R> {
             let_in: true,
             connections: Connections::new(rt.alloc(), room.ports)?,
             places: Places::new(rt.alloc(), room.ports, room.seats, lease)?,
-            pace: Paced::new(lease, 0),
+            pace: Paced::new(lease, read),
+            readings,
             turns: Turns::new(rt.alloc())?,
-            charged: 0,
+            charged: read,
             again: 0,
             unwatched: 0,
             asked: true,
@@ -282,8 +289,9 @@ impl<R: rt::Clock> Sockets<'_, R> {
         let timeout = self.timeout(ready || !may_wait);
         self.looking.look(timeout)?;
         self.now = self.micros();
-        self.charged = self.now;
-        self.pace.begin_sweep(self.now);
+        // (the server's clock begins its sweep by the same reading)
+        self.charged = self.readings.read_ahead();
+        self.pace.begin_sweep(self.charged);
         let told = self.connections.note_all(self.looking.events());
         self.outside.note(told);
         ask_all(
@@ -319,9 +327,9 @@ impl<R: rt::Clock> Sockets<'_, R> {
         }
     }
 
-    /// The moment at which something is answered, by what leases go by.
+    /// The moment at which something is answered, by what leases go by: the server's clock was read behind its record.
     fn moment(&mut self) -> u64 {
-        let read = self.micros();
+        let read = self.readings.last();
         let _ = self.pace.is_late(read);
         let _ = self.pace.now();
         self.pace.shown()

@@ -1,5 +1,7 @@
+mod Often
 mod Found
 mod Sitting
+mod Standing
 mod Seats
 mod SeatedWorked
 mod Sums

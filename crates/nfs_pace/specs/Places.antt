@@ -1,5 +1,5 @@
 -- Who has a seat among the connections of a server, who stands in the hall, and who gives way to a newcomer (docs/OPERATING.md). In microseconds.
-use Rattle.std.specs.Prelude.{◌≡◌, ◌⊎◌, ◌≤◌, ◌<◌, ℕ, zero, suc, ◌+◌, ◌-◌, nat_eq, nat_lt, nat_le, List, length, get_or, set, Bool, true, false, not, ◌&&◌, ◌||◌, Option, Some, None, is_none, min, max, if◌then◌else◌}
+use Rattle.std.specs.Prelude.{◌≡◌, ◌⊎◌, ◌≤◌, ◌<◌, ℕ, zero, suc, ◌+◌, ◌-◌, nat_eq, nat_lt, nat_le, List, length, map, get_or, set, Bool, true, false, not, ◌&&◌, ◌||◌, Option, Some, None, is_none, min, max, if◌then◌else◌}
 use Rattle.std.specs.List.{count_by, list_any, position}
 use Rattle.nfs_pace.specs.declared.places.{Guest.Guest, Seat.Seat}
 
@@ -141,6 +141,34 @@ of_address address (Some guest) = nat_eq guest.address address
 abbrev pub is_from : ℕ → Option Guest → Bool
 is_from client None = false
 is_from client (Some guest) = nat_eq guest.client client
+
+-- What is counted of seats and of the hall: the client of each seat, and the address of who stands in the hall at each port; 2^64 - 1 where there is none.
+abbrev pub nobody : ℕ
+nobody = 18446744073709551615
+
+abbrev pub owner : Option Seat → ℕ
+owner None = nobody
+owner (Some seat) = seat.client
+
+abbrev pub stander : Bool → Option Guest → ℕ
+stander seated None = nobody
+stander seated (Some guest) = if seated then nobody else guest.address
+
+abbrev pub AreOwners : List ℕ → Seats → Type 0
+AreOwners owners seats = owners ≡ map owner seats
+
+abbrev pub AreStanders : List ℕ → Guests → Seats → Type 0
+AreStanders standers guests seats = (length standers ≡ length guests)
+    × ((port : ℕ) → get_or standers port nobody ≡ stander (list_any (is_at port) seats) (guest_at guests port))
+
+-- those in the hall, where it has lost his seat whose seat it was
+abbrev pub joined : List ℕ → Guests → Option ℕ → List ℕ
+joined standers guests None = standers
+joined standers guests (Some port) = set standers port (stander false (guest_at guests port))
+
+abbrev pub port_of : Option Seat → Option ℕ
+port_of None = None
+port_of (Some seat) = seat.port
 
 -- it stands in the hall, at an address
 abbrev pub stands : PlacesModel → ℕ → ℕ → Bool

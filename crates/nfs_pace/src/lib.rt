@@ -13,6 +13,7 @@
 //! ```
 #![tactic(auto)]
 
+mod crowds;
 pub mod laws;
 mod paced;
 mod places;

@@ -6,8 +6,9 @@
 ghost use Rattle.std.specs.Prelude.{◌≡◌, ◌≤◌, ◌<◌, ◌-◌, ◌+◌, ◌*◌, ℕ, find, option_map, option_and_then, MatchOption, IfOk, IfSome, length, replicate, set, is_some, is_none, nat_le, false, true, None, Some};
 ghost use Rattle.std.specs.List.{count_by, list_any, position};
 ghost use Rattle.std.specs.Option.{option_copied};
-ghost use Rattle.nfs_pace.specs.Places.{is_over, client_of, has_ended, answers, hears, ends, sits, left, is_at, is_of, is_from, is_kept_for, is_dead, is_run_out, has_stood, guest_at, seat_at, AreEach, newcomer, given_to, seats_of, used_at, crowd_of, IsMost, NoneMany, stands, stood, hall_count, crowd, IsFirstToGo, NoneToGo, GivesPort, Spares, GivesSeat, SeatsNext, NoneNext, IsNext};
+ghost use Rattle.nfs_pace.specs.Places.{is_over, client_of, has_ended, answers, hears, ends, sits, left, is_at, is_of, is_from, is_kept_for, is_dead, is_run_out, has_stood, guest_at, seat_at, AreEach, newcomer, given_to, seats_of, used_at, crowd_of, IsMost, NoneMany, AreOwners, owner, stander, joined, port_of, is_seated, stood, hall_count, crowd, IsFirstToGo, NoneToGo, GivesPort, Spares, GivesSeat, SeatsNext, NoneNext, IsNext};
 
+use crate::crowds::{Crowds, NOBODY};
 use crate::paced::MICROS;
 use std::alloc::{AllocError, Global};
 use std::marker::Model;
@@ -60,19 +61,22 @@ pub struct Places {
     seats: Vec<Option<Seat>>,
     /// Where the seat is of who is on each port, where it has one.
     found: Vec<usize>,
+    /// Of each seat the client, and of each port the address of who stands in the hall there.
+    owners: Crowds,
+    standers: Crowds,
     /// How long one is spared: a lease, and a second more, as leases go by whole seconds.
     lease: u64,
 }
 
 impl Model for Places {
     ghost use Rattle.std.specs.Prelude.{◌≡◌, length};
-    ghost use Rattle.nfs_pace.specs.Places.{PlacesModel, IsFound};
+    ghost use Rattle.nfs_pace.specs.Places.{PlacesModel, IsFound, AreOwners, AreStanders};
 
     ghost Value = { PlacesModel };
 
     ghost view = { λ p. record { guests = p.guests.items; seats = p.seats.items; lease = p.lease } };
 
-    ghost invariant = { λ p. (length p.found.items ≡ length p.guests.items) × IsFound p.found.items p.seats.items };
+    ghost invariant = { λ p. (length p.found.items ≡ length p.guests.items) × IsFound p.found.items p.seats.items × AreOwners p.owners p.seats.items × AreStanders p.standers p.guests.items p.seats.items };
 }
 
 impl Places {
@@ -83,12 +87,16 @@ impl Places {
         ensures { IfOk result (λ p. p ≡ record { guests = replicate ports None; seats = replicate seats None; lease = (lease + 1) * 1000000 }) }
     {
         let guests = vec![in alloc; None; ports as usize]?;
-        let seats = vec![in alloc; None; seats as usize]?;
+        let free = vec![in alloc; None; seats as usize]?;
         let found = vec![in alloc; 0; ports as usize]?;
+        let owners = Crowds::new(alloc, seats)?;
+        let standers = Crowds::new(alloc, ports)?;
         Ok(Places {
             guests,
-            seats,
+            seats: free,
             found,
+            owners,
+            standers,
             lease: (u64::from(lease) + 1) * MICROS,
         })
     }
@@ -157,7 +165,9 @@ impl Places {
             return;
         }
         self.guests[port] = answers(self.guests[port], client, shown);
-        sit(&mut self.seats, self.found[port], port, client, shown);
+        let j = self.found[port];
+        let seat = sits(seat_in(&self.seats, j), port, client, shown);
+        change(&mut self.seats, &mut self.owners, j, seat);
     }
 
     /// Something else was answered there: that counts of a stranger.
@@ -184,30 +194,24 @@ impl Places {
         ensures seats { AreEach (left port (has_ended (guest_at self.old.guests port)) self.old.lease shown) self.old.seats self.new.seats }
         ensures lease { self.new.lease ≡ self.old.lease }
     {
-        self.vacate(port, shown);
-        if port < self.guests.len() {
-            self.guests[port] = None;
-        }
+        self.turn_over(port, None, shown);
     }
 
-    /// The seat of who is on the port is kept for its client, or is free.
-    fn vacate(&mut self, port: usize, shown: u64)
-        ensures guests { self.new.guests ≡ self.old.guests }
+    /// Somebody else is on the port from now on, or nobody. The seat of who was there is kept for its client, or is free.
+    fn turn_over(&mut self, port: usize, guest: Option<Guest>, shown: u64)
+        ensures guests { self.new.guests ≡ set self.old.guests port guest }
         ensures seats { AreEach (left port (has_ended (guest_at self.old.guests port)) self.old.lease shown) self.old.seats self.new.seats }
         ensures lease { self.new.lease ≡ self.old.lease }
     {
         if port >= self.guests.len() {
             return;
         }
+        let j = self.found[port];
         let ended = has_ended(self.guests[port]);
-        rise(
-            &mut self.seats,
-            self.found[port],
-            port,
-            ended,
-            self.lease,
-            shown,
-        );
+        let seat = left(seat_in(&self.seats, j), port, ended, self.lease, shown);
+        change(&mut self.seats, &mut self.owners, j, seat);
+        self.guests[port] = guest;
+        self.standers.put(port, stander(guest));
     }
 
     /// A newcomer of this address has the port from now on, and stands in the hall.
@@ -216,18 +220,16 @@ impl Places {
         ensures seats { AreEach (left port (has_ended (guest_at self.old.guests port)) self.old.lease shown) self.old.seats self.new.seats }
         ensures lease { self.new.lease ≡ self.old.lease }
     {
-        self.vacate(port, shown);
-        if port < self.guests.len() {
-            self.guests[port] = Some(Guest {
-                address,
-                client: 0,
-                used: shown,
-                since: shown,
-                came: now,
-                sweep,
-                ended: false,
-            });
-        }
+        let newcomer = Guest {
+            address,
+            client: 0,
+            used: shown,
+            since: shown,
+            came: now,
+            sweep,
+            ended: false,
+        };
+        self.turn_over(port, Some(newcomer), shown);
     }
 
     /// The port that a newcomer of this address is given now, if there is one for it. Who has it gives way. Who has a seat gives way to none before it
@@ -259,12 +261,26 @@ impl Places {
     {
         match self.next_seat(shown) {
             Some((port, j)) => {
-                self.seats[j] = given_to(self.guests[port], port, self.seats[j]);
-                self.found[port] = j;
+                self.give(port, j);
                 true
             }
             None => false,
         }
+    }
+
+    /// Who is on the port has the seat from now on; whose it was stands in the hall.
+    fn give(&mut self, port: usize, j: usize)
+        requires guest { is_some (guest_at self.old.guests port) ≡ true }
+        requires seat { j < length self.old.seats }
+        requires stands { is_seated self.old port ≡ false }
+        ensures { self.new ≡ record self.old { seats = set self.old.seats j (given_to port (guest_at self.old.guests port) (seat_at self.old.seats j)) } }
+    {
+        let before = self.seats[j];
+        let given = given_to(self.guests[port], port, before);
+        change(&mut self.seats, &mut self.owners, j, given);
+        self.found[port] = j;
+        join(&mut self.standers, &self.guests, port_of(before));
+        self.standers.put(port, NOBODY);
     }
 
     /// The first port, in their order, for which there is a seat, and that seat.
@@ -373,10 +389,15 @@ impl Places {
         ensures count { result ≡ seats_of client self.now.seats }
         ensures bound { result ≤ length self.now.seats }
     {
-        self.seats
-            .iter()
-            .filter(|seat| is_of(**seat, client))
-            .count()
+        if client == NOBODY {
+            // (that is what a free seat has: it is no client of the server's)
+            self.seats
+                .iter()
+                .filter(|seat| is_of(**seat, client))
+                .count()
+        } else {
+            self.owners.count(client)
+        }
     }
 
     /// How many seats the client of this one has.
@@ -410,29 +431,12 @@ impl Places {
         found
     }
 
-    /// Whether the port is in the hall, with one of this address.
-    fn stands(&self, port: usize, address: u32) -> bool
-        requires { port < length self.now.guests }
-        ensures { result ≡ stands self.now address port }
-    {
-        match self.guests[port] {
-            Some(guest) => guest.address == address && !self.is_seated(port),
-            None => false,
-        }
-    }
-
     /// How many of an address stand in the hall.
     pub fn in_hall(&self, address: u32) -> usize
         ensures count { result ≡ hall_count self.now address (length self.now.guests) }
         ensures bound { result ≤ length self.now.guests }
     {
-        let mut count = 0;
-        for port in 0..self.guests.len() {
-            if self.stands(port, address) {
-                count += 1;
-            }
-        }
-        count
+        self.standers.count(u64::from(address))
     }
 
     /// How many of the address of who is on the port stand in the hall, and the newcomer with them if it is of that; 0 where who is there does not give
@@ -479,21 +483,28 @@ impl Places {
     }
 }
 
-/// One seat is as `sits` makes it.
-fn sit(seats: &mut Vec<Option<Seat>>, j: usize, port: usize, client: u64, shown: u64)
-    ensures { seats.new.items ≡ set seats.old.items j (sits port client shown (seat_at seats.old.items j)) }
+/// One seat becomes this one.
+fn change(seats: &mut Vec<Option<Seat>>, owners: &mut Crowds, j: usize, seat: Option<Seat>)
+    requires { AreOwners owners.old seats.old.items }
+    ensures seats { seats.new.items ≡ set seats.old.items j seat }
+    ensures owners { AreOwners owners.new seats.new.items }
 {
     if j < seats.len() {
-        seats[j] = sits(seats[j], port, client, shown);
+        seats[j] = seat;
+        owners.put(j, owner(seat));
     }
 }
 
-/// One seat is as `left` makes it.
-fn rise(seats: &mut Vec<Option<Seat>>, j: usize, port: usize, ended: bool, lease: u64, shown: u64)
-    ensures { seats.new.items ≡ set seats.old.items j (left port ended lease shown (seat_at seats.old.items j)) }
+/// Who is on the port stands in the hall from now on.
+fn join(standers: &mut Crowds, guests: &[Option<Guest>], port: Option<usize>)
+    ensures { standers.new ≡ joined standers.old guests.now port }
 {
-    if j < seats.len() {
-        seats[j] = left(seats[j], port, ended, lease, shown);
+    if let Some(port) = port {
+        let guest = match guests.get(port) {
+            Some(guest) => *guest,
+            None => None,
+        };
+        standers.put(port, stander(guest));
     }
 }
 
@@ -530,6 +541,36 @@ fn goes_before(crowd: usize, used: u64, most: usize, least: u64, base: usize) ->
         crowd > base && used <= least
     } else {
         crowd > most
+    }
+}
+
+/// The client of a seat.
+fn owner(seat: Option<Seat>) -> u64
+    ensures { result ≡ owner seat }
+{
+    match seat {
+        Some(seat) => seat.client,
+        None => NOBODY,
+    }
+}
+
+/// Where its connection is.
+fn port_of(seat: Option<Seat>) -> Option<usize>
+    ensures { result ≡ port_of seat }
+{
+    match seat {
+        Some(seat) => seat.port,
+        None => None,
+    }
+}
+
+/// The address of who stands in the hall.
+fn stander(guest: Option<Guest>) -> u64
+    ensures { result ≡ stander false guest }
+{
+    match guest {
+        Some(guest) => u64::from(guest.address),
+        None => NOBODY,
     }
 }
 
