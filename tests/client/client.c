@@ -776,6 +776,7 @@ static void beat(void) {
 /* Mounts, takes the steps of a part, and unmounts. */
 static void play(const char *part, int first, char *options) {
     if (!strcmp(part, "plain")) ask("lock");
+    if (!strcmp(part, "machines")) meet();
     double begun = now();
     if (!mounted(options)) return;
     printf("note: mounted in %.1f s\n", now() - begun);
@@ -789,6 +790,7 @@ static void play(const char *part, int first, char *options) {
     }
     if (!strcmp(part, "several")) many_at_once();
     if (!strcmp(part, "two")) two_machines(first);
+    if (!strcmp(part, "machines")) among_machines(getenv("host"), atoi(getenv("machines")));
     if (!strcmp(part, "cut")) over_cuts();
     if (!strcmp(part, "database")) database();
     if (!strcmp(part, "mounts")) two_mounts(options);

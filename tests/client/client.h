@@ -26,6 +26,7 @@ void took_step(void);
 /* client_crowd.c */
 void over_cuts(void);
 void database(void);
+void among_machines(const char *host, int machines);
 
 /* client_life.c */
 void life(char *what);

@@ -1,4 +1,4 @@
-/* Of the guest of tests/client/linux: several processes at work while connections are cut. */
+/* Of the guest of tests/client/linux: several processes at work while connections are cut, and one of many machines at once. */
 #define _GNU_SOURCE
 #include <errno.h>
 #include <fcntl.h>
@@ -12,7 +12,8 @@
 #include <unistd.h>
 #include "client.h"
 
-enum { WORKERS = 6, WRITERS = 3, TRANSACTIONS = 30, PATIENCE = 120 };
+/* (of many machines: the seconds that a lock is kept, which is longer than their lease, and how often each counts) */
+enum { WORKERS = 6, WRITERS = 3, TRANSACTIONS = 30, PATIENCE = 120, KEPT = 40, COUNTED = 3 };
 
 /* How the calls of each process ended, in memory that all share: of the first that went wrong what it was, and its errno. */
 struct worker {
@@ -162,4 +163,24 @@ void database(void) {
     snprintf(rows, sizeof rows, "%d|%d;", WRITERS * TRANSACTIONS, WRITERS * TRANSACTIONS);
     base_says("each row is there once, and was counted once", "SELECT (SELECT count(*) FROM rows), n FROM counter;", rows);
     base_says("its integrity check", "PRAGMA integrity_check;", "ok;");
+}
+
+/* One of so many machines that have mounted at once: it keeps a lock for longer than a lease, and counts under one that all share. */
+void among_machines(const char *host, int machines) {
+    char path[64], all[16];
+    ssize_t long_ = strlen(host);
+    snprintf(path, sizeof path, AT "of-%s", host);
+    int file = open(path, O_CREAT | O_EXCL | O_RDWR, 0600);
+    ends("it locks a file of its own", file < 0 ? -1 : locked(file, F_SETLK, F_WRLCK, 0, 10), 0);
+    int wrong = added(AT "number", COUNTED);
+    step("it counts under a lock that all share", !wrong, "case %d", wrong);
+    ask("meet");
+    ask("count");
+    sleep(KEPT);
+    step("it writes what it has locked still", pwrite(file, host, long_, 0) == long_ && !fsync(file), "errno %d", errno);
+    ends("and closes it", close(file), 0);
+    ask("meet");
+    forget();
+    snprintf(all, sizeof all, "%06d\n", machines * COUNTED);
+    holds_bytes("each has counted", AT "number", all, 7);
 }

@@ -210,9 +210,9 @@ class Store:
     shrink = tell
 
 
-# what checks were seen to take of the memory that the script plans for one of the whole crate: builds, and rounds of
-# edits
-SHARES = {"proof": 0.6, "edits": 0.35}
+# of the memory that the script plans for a check of the whole crate, more than builds and rounds of edits were seen to
+# take: of nfs41d's, the largest, 0.16 and 0.08
+SHARES = {"proof": 0.25, "edits": 0.15}
 # what a turn counts for among the tasks of a run, whose order is by the lines behind each
 LINES_OF_A_TURN = 150
 

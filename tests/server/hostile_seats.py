@@ -224,6 +224,29 @@ def newcomers_beside_many():
     many_newcomers(1_024, 1_024, 0.5)
 
 
+def one_client_on_all_seats(connections=1_022, share=0.25):
+    """One client has a connection on each of 1,024 seats but those of the good ones, and further ones in the hall, while a stranger comes and goes: what
+    the server does for them takes this share of a processor at most."""
+    name = "one client on all seats"
+    with seated(name, seats=1_024) as (server, stack):
+        first = stack.enter_context(Peer(server, b"has all", "127.0.3.1"))
+        for _ in range(connections):
+            peer = stack.enter_context(Peer(server, source="127.0.3.1"))
+            peer.session, peer.numbers = first.session, first.numbers
+            peer.asks()
+
+        def comes():
+            server.connect("127.0.5.1").close()
+
+        with repeated(comes, 0.005):
+            time.sleep(1)
+            begun, before = time.monotonic(), server.seconds()
+            time.sleep(3)
+            took = (server.seconds() - before) / (time.monotonic() - begun)
+        print(f"{name}: {took:.2f} of a processor")
+        judge(f"{name}: that takes at most {share} of a processor", took <= share, took)
+
+
 def a_dead_connection(lease=4):
     """Three clients' connections die without a word, each at another moment of its lease, while all seats are taken and strangers stand in the hall: on
     its next one each is answered at once, and keeps its session."""
@@ -274,7 +297,7 @@ def leases_of_ten_seconds():
 
 
 PARTS = (*ROWS, leases_of_ten_seconds, strangers_with_sessions, twenty_machines, more_than_the_settings_say, forty_sessions,
-         one_session_on_many_connections, many_newcomers, newcomers_beside_many)
+         one_session_on_many_connections, many_newcomers, newcomers_beside_many, one_client_on_all_seats)
 
 # the same with numbers that take minutes
 LONG = {"seats for 90 s": all_rows(90, many_calls={"calls": 1_000_000}, long_sweeps={"owners": 100_000})}
