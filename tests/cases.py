@@ -22,7 +22,8 @@ class Judged:
                 self.passed += 1
             else:
                 self.failed.append(name)
-                print(f"{name}: {shown}" if shown else name)
+                # (also where what is tried goes unheard)
+                print(f"{name}: {shown}" if shown else name, file=sys.__stdout__)
 
     def last_line(self):
         """Prints the last line of a part, and returns the exit status."""
