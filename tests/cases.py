@@ -14,7 +14,7 @@ class Judged:
     """What a part has judged: how much held, and the names of what did not."""
 
     def __init__(self):
-        self.passed, self.failed, self.one_by_one = 0, [], threading.Lock()
+        self.passed, self.failed, self.unheard, self.one_by_one = 0, [], [], threading.Lock()
 
     def __call__(self, name, holds, shown=""):
         with self.one_by_one:
@@ -22,11 +22,18 @@ class Judged:
                 self.passed += 1
             else:
                 self.failed.append(name)
-                # (also where what is tried goes unheard)
-                print(f"{name}: {shown}" if shown else name, file=sys.__stdout__)
+                self.say(f"{name}: {shown}" if shown else name)
+
+    def say(self, line):
+        """Prints the line, at the end where what is tried now goes unheard."""
+        if sys.stdout is sys.__stdout__:
+            print(line)
+        else:
+            self.unheard.append(line)
 
     def last_line(self):
         """Prints the last line of a part, and returns the exit status."""
+        print("".join(f"{it}\n" for it in self.unheard), end="")
         print(f"{self.passed} passed, {len(self.failed)} failed")
         return 1 if self.failed else 0
 
