@@ -211,7 +211,7 @@ class Store:
 
 
 # of the memory that the script plans for a check of the whole crate, more than builds and rounds of edits were seen to
-# take: of nfs41d's, the largest, 0.16 and 0.08
+# take: 0.16 and 0.12 at most, of nfs41d and nfs_serve
 SHARES = {"proof": 0.25, "edits": 0.15}
 # what a turn counts for among the tasks of a run, whose order is by the lines behind each
 LINES_OF_A_TURN = 150
