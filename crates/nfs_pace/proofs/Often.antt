@@ -84,10 +84,10 @@ count_some xs place within =
     get_or-le-sum_by (λ y. cond (nat_eq (get_or xs place 0) y) 1 0) xs place 0 within in
     omega (arith, ap {B = ℕ} (λ b. cond b 1 0) same, least)
 
--- how often a number is in a list in order, by how many are less, and how many it or less
+-- how often a number is in a list in order, by how many are less, and how many less than the next number
 pub count_is : (xs : List ℕ) (n low high : ℕ) → low ≤ length xs → ((k : ℕ) → k < low → get_or xs k 0 < n)
-    → ((k : ℕ) → low ≤ k → k < length xs → n ≤ get_or xs k 0) → high ≤ length xs → ((k : ℕ) → k < high → get_or xs k 0 ≤ n)
-    → ((k : ℕ) → high ≤ k → k < length xs → n < get_or xs k 0) → count_by (nat_eq n) xs ≡ high - low
+    → ((k : ℕ) → low ≤ k → k < length xs → n ≤ get_or xs k 0) → high ≤ length xs → ((k : ℕ) → k < high → get_or xs k 0 < n + 1)
+    → ((k : ℕ) → high ≤ k → k < length xs → n + 1 ≤ get_or xs k 0) → count_by (nat_eq n) xs ≡ high - low
 count_is xs n low high low_within less others high_within most more =
     count_within (nat_eq n) 0 xs low high (by (leb_tells low high)) high_within
     (λ k from to. let least = others k from (omega (arith, to, high_within)) in let greatest = most k to in same n (get_or xs k 0) (omega (arith, least, greatest)))

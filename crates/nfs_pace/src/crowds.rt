@@ -1,6 +1,6 @@
 //! How many places have each number.
 
-ghost use Rattle.std.specs.Prelude.{◌≡◌, ◌≤◌, ◌<◌, ◌+◌, ℕ, if◌then◌else◌, nat_eq, nat_le, nat_lt, length, replicate, set, get_or, slice_index_or, IfOk};
+ghost use Rattle.std.specs.Prelude.{◌≡◌, ◌≤◌, ◌<◌, ◌+◌, ℕ, if◌then◌else◌, nat_eq, nat_lt, length, replicate, set, get_or, slice_index_or, IfOk};
 ghost use Rattle.std.specs.List.{count_by};
 ghost use Rattle.std.specs.List.Sorted.{IsNonDecreasing};
 ghost use Rattle.nfs_pace.specs.Places.{nobody};
@@ -46,8 +46,9 @@ impl Crowds {
         ensures count { result ≡ count_by (nat_eq number) self.now }
         ensures bound { result ≤ length self.now }
     {
+        let number = number as u128;
         let low = below(&self.sorted, number);
-        let high = up_to(&self.sorted, number);
+        let high = below(&self.sorted, number + 1);
         high - low
     }
 
@@ -66,31 +67,17 @@ impl Crowds {
     }
 }
 
-/// How many numbers are less than this one.
-fn below(sorted: &[u64], number: u64) -> usize
+/// How many numbers are less than a bound, which may be past all of them.
+fn below(sorted: &[u64], bound: u128) -> usize
     requires { IsNonDecreasing sorted.now }
     ensures bound { result ≤ length sorted.now }
-    ensures less { (k : ℕ) → k < result → get_or sorted.now k 0 < number }
-    ensures others { (k : ℕ) → result ≤ k → k < length sorted.now → number ≤ get_or sorted.now k 0 }
+    ensures less { (k : ℕ) → k < result → get_or sorted.now k 0 < bound }
+    ensures others { (k : ℕ) → result ≤ k → k < length sorted.now → bound ≤ get_or sorted.now k 0 }
 {
     sorted.partition_point(
         |other: &u64| -> bool
-            ensures { result ≡ nat_lt other.now number }
-        { *other < number },
-    )
-}
-
-/// How many are this one or less.
-fn up_to(sorted: &[u64], number: u64) -> usize
-    requires { IsNonDecreasing sorted.now }
-    ensures bound { result ≤ length sorted.now }
-    ensures less { (k : ℕ) → k < result → get_or sorted.now k 0 ≤ number }
-    ensures others { (k : ℕ) → result ≤ k → k < length sorted.now → number < get_or sorted.now k 0 }
-{
-    sorted.partition_point(
-        |other: &u64| -> bool
-            ensures { result ≡ nat_le other.now number }
-        { *other <= number },
+            ensures { result ≡ nat_lt other.now bound }
+        { (*other as u128) < bound },
     )
 }
 
@@ -100,7 +87,7 @@ fn place_of(sorted: &[u64], number: u64) -> usize
     requires there { 0 < count_by (nat_eq number) sorted.now }
     ensures { (result < length sorted.now) × (get_or sorted.now result 0 ≡ number) }
 {
-    below(sorted, number)
+    below(sorted, number as u128)
 }
 
 /// One of those that are this number becomes another.
@@ -112,6 +99,6 @@ fn replace(sorted: &mut Vec<u64>, before: u64, number: u64)
 {
     let from = place_of(sorted, before);
     let _ = sorted.remove(from);
-    let to = below(sorted, number);
+    let to = below(sorted, number as u128);
     let _ = sorted.insert(to, number);
 }

@@ -7,10 +7,10 @@ pub returns-clause-count : goal.returns-clause-count
 returns-clause-count c =
     let sorted = c.self.inside.sorted.items in
     let low = c.below-low.ensures in
-    let high = c.up_to-high.ensures in
+    let high = c.below-high.ensures in
     let first : c.deref.result.now ≡ sorted = c.deref.ensures.value in
     let second : c.deref-2.result.now ≡ sorted = c.deref-2.ensures.value in
-    let is = count_is sorted c.args.number c.below-low.result c.up_to-high.result (rw (sym first) low.bound) (rw (sym first) low.less) (rw (sym first) low.others)
+    let is = count_is sorted c.args.number c.below-low.result c.below-high.result (rw (sym first) low.bound) (rw (sym first) low.less) (rw (sym first) low.others)
     (rw (sym second) high.bound) (rw (sym second) high.less) (rw (sym second) high.others) in
     let all : c.self.inside.numbers.items ≡ c.args.self.now = search rules in
     sym is ∙ c.self.invariant.1 c.args.number ∙ rw all refl
