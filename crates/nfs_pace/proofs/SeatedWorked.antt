@@ -1,7 +1,7 @@
 -- A seat that is kept, and places that take it or give none, computed.
 use Rattle.std.proofs.Common.{◌≡◌, ℕ, zero, suc, ◌<◌, ◌≤◌, ◌+◌, [], ◌∷◌, length, set, true, false, Option, Some, None, refl, sym, ◌∙◌, ap, arith}
 use Rattle.std.proofs.lemmas.Bool.{false≢true}
-use Rattle.nfs_pace.specs.declared.places.Seat.{Seat}
+use Rattle.nfs_pace.specs.declared.seat.Seat.{Seat}
 use Rattle.nfs_pace.specs.Places.{PlacesModel, Seats, AreEach, GivesSeat, crowd_of, given_to, guest_at, left, seat_at, seats_of, sits}
 use Rattle.nfs_pace.specs.Seated.{Seated, HasSeat, SitsAt}
 use Rattle.nfs_pace.specs.SeatedWorked.{at, guest, its_seat, first, last, IsKept, SeatsRefused}

@@ -2,7 +2,7 @@
 use Rattle.std.proofs.Common.{◌≡◌, ◌≢◌, ◌⊎◌, ℕ, zero, suc, ◌<◌, ◌≤◌, ◌+◌, List, [], ◌∷◌, length, get_or, set, Bool, true, false, Option, Some, None, is_none, not, refl, sym, subst, ◌∙◌, arith, inl, inr, rules, cond, eqb, nat_eq, nat_lt, ◌||◌, if◌then◌else◌}
 use Rattle.std.proofs.{lemmas.Bool.Decides.eqb_tells, lemmas.List.{get_or-set_same, get_or-set_other, length-set}, lemmas.List.Quantifiers.position-Some, lemmas.List.Sums.sum_by-cons, lemmas.Option.none-some}
 use Rattle.std.specs.List.{count_by, position, position_or_len}
-use Rattle.nfs_pace.specs.declared.places.{Guest.Guest, Seat.Seat}
+use Rattle.nfs_pace.specs.declared.{guest.Guest.Guest, seat.Seat.Seat}
 use Rattle.nfs_pace.specs.Places.{PlacesModel, guest_at, seat_at, AreEach, sits, left, has_ended, is_at, is_of, is_kept_for, is_dead, is_run_out, used_at, seats_of, crowd_of, IsMost, SeatsNext, Chooses, ChoosesFor, asker, given_to, is_seated}
 use Rattle.nfs_pace.specs.Seated.{Deed, Stands, Answers, Hears, Ends, Leaves, Seated, Does, HasSeat, IsWithin, Renewed, KeepsSeats, SeatsAreHad}
 

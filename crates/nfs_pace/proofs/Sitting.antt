@@ -2,7 +2,7 @@
 use Rattle.std.proofs.Common.{◌≡◌, ◌≢◌, ◌≤◌, ◌<◌, ◌⊎◌, ℕ, zero, suc, Bool, true, false, List, [], ◌∷◌, length, set, get_or, Option, Some, None, ◌||◌, if◌then◌else◌, refl, sym, ap, ◌∙◌, eqb, leb, arith, inl, inr}
 use Rattle.std.proofs.{lemmas.Bool.{false_from_ne_true, Decides.{eqb_tells, leb_tells}}, lemmas.List.{get_or_past, get_or-set_same, get_or-set_other, length-set}}
 use Rattle.std.specs.List.{list_any}
-use Rattle.nfs_pace.specs.{declared.places.Seat.Seat, Places.{Seats, seat_at, is_at, sits, left, IsFound, AreEach}}
+use Rattle.nfs_pace.specs.{declared.seat.Seat.Seat, Places.{Seats, seat_at, is_at, sits, left, IsFound, AreEach}}
 
 -- what is made of the seat of who is on a port leaves those of others as they are
 abbrev SparesOthers : ℕ → (Option Seat → Option Seat) → Type 0
@@ -12,7 +12,7 @@ SparesOthers port f = (seat : Option Seat) → is_at port seat ≡ false → f s
 abbrev BringsNobody : (Option Seat → Option Seat) → Type 0
 BringsNobody f = (p : ℕ) (seat : Option Seat) → is_at p (f seat) ≡ true → is_at p seat ≡ true
 
-pub changes_there : (f : Option Seat → Option Seat) (seats : Seats) (port place : ℕ) → SparesOthers port f → ((i : ℕ) → is_at port (seat_at seats i) ≡ true → place ≡ i)
+changes_there : (f : Option Seat → Option Seat) (seats : Seats) (port place : ℕ) → SparesOthers port f → ((i : ℕ) → is_at port (seat_at seats i) ≡ true → place ≡ i)
     → AreEach f seats (set seats place (f (seat_at seats place)))
 changes_there f seats port place spares is = (length-set seats place (f (seat_at seats place)), λ i less. cases i less (eqb_tells i place))
   where
@@ -21,6 +21,10 @@ changes_there f seats port place spares is = (length-set seats place (f (seat_at
     cases i less (inl h) = rw h.1 (get_or-set_same seats place (f (seat_at seats place)) None (rw (sym h.1) less))
     cases i less (inr h) = get_or-set_other seats place i (f (seat_at seats place)) None h.1
         ∙ sym (spares (seat_at seats i) (false_from_ne_true (is_at port (seat_at seats i)) (λ at. h.1 (sym (is i at)))))
+
+pub changes_found : (f : Option Seat → Option Seat) (found : List ℕ) (seats : Seats) (port place : ℕ) → SparesOthers port f → IsFound found seats
+    → place ≡ get_or found port 0 → AreEach f seats (set seats place (f (seat_at seats place)))
+changes_found f found seats port place spares is at = changes_there f seats port place spares (λ i there. at ∙ (is port i there).1)
 
 pub changes_none : (f : Option Seat → Option Seat) (found : List ℕ) (seats : Seats) (port : ℕ) → SparesOthers port f → IsFound found seats → length found ≤ port
     → AreEach f seats seats

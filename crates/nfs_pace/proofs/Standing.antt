@@ -2,7 +2,7 @@
 use Rattle.std.proofs.Common.{◌≡◌, ◌≢◌, ◌≤◌, ◌<◌, ◌⊎◌, ◌+◌, ℕ, zero, suc, Bool, true, false, not, ◌&&◌, List, [], ◌∷◌, length, set, take, replicate, get_or, Option, Some, None, is_some, if◌then◌else◌, cond, refl, sym, ap, subst, ◌∙◌, nat_eq, eqb, leb, arith, rules, inl, inr, count_by, ne_eqb, eqb-true}
 use Rattle.std.proofs.{lemmas.Bool.{Decides.{eqb_tells, leb_tells}}, lemmas.List.{get_or_past, get_or-set_same, get_or-set_other, get_or-replicate, length-set, length-replicate, map-set, take_all}, lemmas.List.Sums.{sum_by_more}}
 use Rattle.std.specs.List.{list_any}
-use Rattle.nfs_pace.specs.{declared.places.{Guest.Guest, Seat.Seat}, Places.{PlacesModel, Guests, Seats, guest_at, seat_at, names, is_at, owner, stander, joined, port_of, given_to, nobody, AreOwners, AreStanders, IsFound, AreEach, is_seated, stands, of_address, hall_count, answers, sits, left}}
+use Rattle.nfs_pace.specs.{declared.{guest.Guest.Guest, seat.Seat.Seat}, Places.{PlacesModel, Guests, Seats, guest_at, seat_at, names, is_at, owner, stander, joined, port_of, given_to, nobody, AreOwners, AreStanders, IsFound, AreEach, is_seated, stands, of_address, hall_count, answers, sits, left}}
 use Rattle.nfs_pace.proofs.Sitting.{any_there}
 
 -- Owners.

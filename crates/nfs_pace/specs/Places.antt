@@ -1,7 +1,7 @@
 -- Who has a seat among the connections of a server, who stands in the hall, and who gives way to a newcomer (docs/OPERATING.md). In microseconds.
 use Rattle.std.specs.Prelude.{◌≡◌, ◌⊎◌, ◌≤◌, ◌<◌, ℕ, zero, suc, ◌+◌, ◌-◌, nat_eq, nat_lt, nat_le, List, length, map, get_or, set, Bool, true, false, not, ◌&&◌, ◌||◌, Option, Some, None, is_none, min, max, if◌then◌else◌}
 use Rattle.std.specs.List.{count_by, list_any, position}
-use Rattle.nfs_pace.specs.declared.places.{Guest.Guest, Seat.Seat}
+use Rattle.nfs_pace.specs.declared.{guest.Guest.Guest, seat.Seat.Seat}
 
 abbrev pub Guests : Type 0
 Guests = List (Option Guest)

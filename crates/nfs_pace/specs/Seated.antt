@@ -1,6 +1,6 @@
 -- What is done with the places of a server, and who keeps a seat by it (docs/OPERATING.md). In microseconds.
 use Rattle.std.specs.Prelude.{◌≡◌, ◌≤◌, ◌<◌, ℕ, ◌+◌, List, [], ◌∷◌, length, set, Bool, true, false, Some, None, is_none}
-use Rattle.nfs_pace.specs.declared.places.Guest.{Guest}
+use Rattle.nfs_pace.specs.declared.guest.Guest.{Guest}
 use Rattle.nfs_pace.specs.Places.{PlacesModel, Guests, guest_at, seat_at, AreEach, answers, hears, ends, newcomer, sits, left, has_ended, is_at, is_of, used_at, is_run_out, seats_of, crowd_of, is_seated, asker, SeatsNext}
 
 -- a newcomer has a port from now on; a SEQUENCE of a client was answered there, or something else; a session was ended there; its connection is gone; one

@@ -1,6 +1,6 @@
 -- A seat that is kept, worked by hand, and places that take it or give none. In microseconds.
 use Rattle.std.specs.Prelude.{◌≡◌, ℕ, ◌*◌, List, [], ◌∷◌, Bool, false, set, Some, None}
-use Rattle.nfs_pace.specs.declared.places.{Guest.Guest, Seat.Seat}
+use Rattle.nfs_pace.specs.declared.{guest.Guest.Guest, seat.Seat.Seat}
 use Rattle.nfs_pace.specs.Paced.{second}
 use Rattle.nfs_pace.specs.Places.{PlacesModel, guest_at, seat_at, given_to}
 use Rattle.nfs_pace.specs.Seated.{Deed, Stands, Answers, Seated, Does, HasSeat, RunsRenewed, KeepsSeatsBy, AreHadBy}

@@ -1,6 +1,6 @@
 //! How many places have each number.
 
-ghost use Rattle.std.specs.Prelude.{◌≡◌, ◌≤◌, ◌<◌, ◌+◌, ℕ, if◌then◌else◌, nat_eq, nat_lt, length, replicate, set, get_or, slice_index_or, IfOk};
+ghost use Rattle.std.specs.Prelude.{◌≡◌, ◌≤◌, ◌<◌, ◌+◌, ℕ, if◌then◌else◌, nat_eq, nat_lt, length, replicate, set, get_or, IfOk};
 ghost use Rattle.std.specs.List.{count_by};
 ghost use Rattle.std.specs.List.Sorted.{IsNonDecreasing};
 ghost use Rattle.nfs_pace.specs.Places.{nobody};
@@ -67,7 +67,7 @@ impl Crowds {
     }
 }
 
-/// How many numbers are less than a bound, which may be past all of them.
+/// How many numbers are less than a bound, which may be past all that a `u64` holds.
 fn below(sorted: &[u64], bound: u128) -> usize
     requires { IsNonDecreasing sorted.now }
     ensures bound { result ≤ length sorted.now }
@@ -91,6 +91,8 @@ fn place_of(sorted: &[u64], number: u64) -> usize
 }
 
 /// One of those that are this number becomes another.
+// (not within `put`, which is small so: it is called for each SEQUENCE, where seldom anything changes)
+#[inline(never)]
 fn replace(sorted: &mut Vec<u64>, before: u64, number: u64)
     requires order { IsNonDecreasing sorted.old.items }
     requires there { 0 < count_by (nat_eq before) sorted.old.items }

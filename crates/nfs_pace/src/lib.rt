@@ -14,11 +14,15 @@
 #![tactic(auto)]
 
 mod crowds;
+mod guest;
 pub mod laws;
 mod paced;
 mod places;
+mod seat;
 mod turns;
 
+pub use guest::Guest;
 pub use paced::{MICROS, Paced, patience};
-pub use places::{Guest, Places, Seat};
+pub use places::Places;
+pub use seat::Seat;
 pub use turns::{Turn, Turns};

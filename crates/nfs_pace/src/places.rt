@@ -3,56 +3,22 @@
 //! Nothing here reads a clock or a socket. `shown` is what the clock shows that leases go by; `now` is what really passed, which bears on the hall alone.
 //! Both are in microseconds. A client is named by its client id, and 0 stands for none.
 
-ghost use Rattle.std.specs.Prelude.{◌≡◌, ◌≤◌, ◌<◌, ◌-◌, ◌+◌, ◌*◌, ℕ, find, option_map, option_and_then, MatchOption, IfOk, IfSome, length, replicate, set, is_some, is_none, nat_le, false, true, None, Some};
+ghost use Rattle.std.specs.Prelude.{◌≡◌, ◌≤◌, ◌<◌, ◌+◌, ◌*◌, ℕ, find, option_map, option_and_then, MatchOption, IfOk, IfSome, length, replicate, set, is_some, is_none, false, true, None, Some};
 ghost use Rattle.std.specs.List.{count_by, list_any, position};
 ghost use Rattle.std.specs.Option.{option_copied};
-ghost use Rattle.nfs_pace.specs.Places.{is_over, client_of, has_ended, answers, hears, ends, sits, left, is_at, is_of, is_from, is_kept_for, is_dead, is_run_out, has_stood, guest_at, seat_at, AreEach, newcomer, given_to, seats_of, used_at, crowd_of, IsMost, NoneMany, AreOwners, owner, stander, joined, port_of, is_seated, stood, hall_count, crowd, IsFirstToGo, NoneToGo, GivesPort, Spares, GivesSeat, SeatsNext, NoneNext, IsNext};
+ghost use Rattle.nfs_pace.specs.Places.{is_over, client_of, has_ended, answers, hears, ends, sits, left, is_at, is_from, is_kept_for, is_dead, is_run_out, guest_at, seat_at, AreEach, newcomer, given_to, seats_of, crowd_of, IsMost, NoneMany, AreOwners, joined, is_seated, hall_count, crowd, IsFirstToGo, NoneToGo, GivesPort, Spares, GivesSeat, SeatsNext, NoneNext, IsNext};
 
 use crate::crowds::{Crowds, NOBODY};
+use crate::guest::{
+    Guest, answers, ends, has_ended, has_stood, hears, is_from, is_over, stander, stood,
+};
 use crate::paced::MICROS;
+use crate::seat::{
+    Seat, given_to, is_at, is_dead, is_kept_for, is_of, is_run_out, left, owner, port_of, seat_in,
+    sits, used_at,
+};
 use std::alloc::{AllocError, Global};
 use std::marker::Model;
-
-/// For how many microseconds one is spared of whom no client is known.
-const STRANGER: u64 = 10 * MICROS;
-
-/// For how many microseconds, and how many sweeps, one stands in the hall before it gives way to another.
-const STAY: u64 = MICROS;
-
-const STAY_SWEEPS: u64 = 8;
-
-/// For how many microseconds a connection is unanswered before another of its client and address has its seat.
-const DEAD: u64 = MICROS;
-
-/// Who is on a port.
-#[derive(Clone, Copy)]
-pub struct Guest {
-    /// Where its peer is: the 32 bits of an IPv4 address.
-    address: u32,
-    /// The client of the last SEQUENCE that was answered on it.
-    client: u64,
-    /// What was shown at that; of a stranger, at its last answer, and at first when it came.
-    used: u64,
-    /// What was shown when it came.
-    since: u64,
-    /// When it came.
-    came: u64,
-    /// In which sweep it came.
-    sweep: u64,
-    /// Whether a session or a client was ended on it since.
-    ended: bool,
-}
-
-/// A seat that somebody has.
-#[derive(Clone, Copy)]
-pub struct Seat {
-    client: u64,
-    address: u32,
-    /// What was shown when a SEQUENCE of its client was last answered there.
-    used: u64,
-    /// Where its connection is; `None` where it is kept for its client, whose connection has ended.
-    port: Option<usize>,
-}
 
 /// Who is on each port, and who has each seat.
 #[derive(Drop)]
@@ -164,10 +130,9 @@ impl Places {
         if port >= self.guests.len() {
             return;
         }
-        self.guests[port] = answers(self.guests[port], client, shown);
+        answers(&mut self.guests[port], client, shown);
         let j = self.found[port];
-        let seat = sits(seat_in(&self.seats, j), port, client, shown);
-        change(&mut self.seats, &mut self.owners, j, seat);
+        sits_in(&mut self.seats, &mut self.owners, j, port, client, shown);
     }
 
     /// Something else was answered there: that counts of a stranger.
@@ -175,7 +140,7 @@ impl Places {
         ensures { self.new ≡ record self.old { guests = set self.old.guests port (hears shown (guest_at self.old.guests port)) } }
     {
         if port < self.guests.len() {
-            self.guests[port] = hears(self.guests[port], shown);
+            hears(&mut self.guests[port], shown);
         }
     }
 
@@ -184,7 +149,7 @@ impl Places {
         ensures { self.new ≡ record self.old { guests = set self.old.guests port (ends (guest_at self.old.guests port)) } }
     {
         if port < self.guests.len() {
-            self.guests[port] = ends(self.guests[port]);
+            ends(&mut self.guests[port]);
         }
     }
 
@@ -484,6 +449,7 @@ impl Places {
 }
 
 /// One seat becomes this one.
+#[tactic(auto, using(crate::proofs::Standing::owners_set))]
 fn change(seats: &mut Vec<Option<Seat>>, owners: &mut Crowds, j: usize, seat: Option<Seat>)
     requires { AreOwners owners.old seats.old.items }
     ensures seats { seats.new.items ≡ set seats.old.items j seat }
@@ -492,6 +458,27 @@ fn change(seats: &mut Vec<Option<Seat>>, owners: &mut Crowds, j: usize, seat: Op
     if j < seats.len() {
         seats[j] = seat;
         owners.put(j, owner(seat));
+    }
+}
+
+/// A SEQUENCE of this client was answered on the port, whose seat is this one if it has one.
+#[tactic(auto, using(crate::proofs::Standing::owners_set))]
+fn sits_in(
+    seats: &mut Vec<Option<Seat>>,
+    owners: &mut Crowds,
+    j: usize,
+    port: usize,
+    client: u64,
+    shown: u64,
+)
+    requires { AreOwners owners.old seats.old.items }
+    ensures seats { seats.new.items ≡ set seats.old.items j (sits port client shown (seat_at seats.old.items j)) }
+    ensures owners { AreOwners owners.new seats.new.items }
+{
+    if j < seats.len() {
+        let seat = &mut seats[j];
+        sits(seat, port, client, shown);
+        owners.put(j, owner(*seat));
     }
 }
 
@@ -508,14 +495,11 @@ fn join(standers: &mut Crowds, guests: &[Option<Guest>], port: Option<usize>)
     }
 }
 
-/// The seat of a place, if there is one and somebody has it.
-fn seat_in(seats: &[Option<Seat>], j: usize) -> Option<Seat>
-    ensures { result ≡ seat_at seats.now j }
+/// The first connection that is a client's.
+fn first_from<'a>(guests: &'a [Option<Guest>], client: u64) -> Option<&'a Option<Guest>>
+    ensures { option_copied result ≡ find (is_from client) guests.now }
 {
-    match seats.get(j) {
-        Some(seat) => *seat,
-        None => None,
-    }
+    guests.iter().find(|guest| is_from(**guest, client))
 }
 
 /// Whether a crowd of more than so many leads: it is larger than the largest so far, or as large, and older.
@@ -541,268 +525,5 @@ fn goes_before(crowd: usize, used: u64, most: usize, least: u64, base: usize) ->
         crowd > base && used <= least
     } else {
         crowd > most
-    }
-}
-
-/// The client of a seat.
-fn owner(seat: Option<Seat>) -> u64
-    ensures { result ≡ owner seat }
-{
-    match seat {
-        Some(seat) => seat.client,
-        None => NOBODY,
-    }
-}
-
-/// Where its connection is.
-fn port_of(seat: Option<Seat>) -> Option<usize>
-    ensures { result ≡ port_of seat }
-{
-    match seat {
-        Some(seat) => seat.port,
-        None => None,
-    }
-}
-
-/// The address of who stands in the hall.
-fn stander(guest: Option<Guest>) -> u64
-    ensures { result ≡ stander false guest }
-{
-    match guest {
-        Some(guest) => u64::from(guest.address),
-        None => NOBODY,
-    }
-}
-
-/// What was shown when something was last answered there.
-fn used_at(seat: Option<Seat>) -> u64
-    ensures { result ≡ used_at seat }
-{
-    match seat {
-        Some(seat) => seat.used,
-        None => 0,
-    }
-}
-
-/// How long ago one came.
-fn stood(guest: Option<Guest>, now: u64) -> u64
-    ensures { result ≡ stood now guest }
-{
-    match guest {
-        Some(guest) => now.saturating_sub(guest.came),
-        None => 0,
-    }
-}
-
-/// Whether it stood long enough to give way to another.
-fn has_stood(guest: Guest, now: u64, sweep: u64) -> bool
-    ensures { result ≡ has_stood now sweep guest }
-{
-    now.saturating_sub(guest.came) >= STAY && sweep.saturating_sub(guest.sweep) >= STAY_SWEEPS
-}
-
-/// Whether it was silent for longer than it is spared: a stranger for ten seconds, where a lease is longer.
-fn is_over(guest: Option<Guest>, lease: u64, shown: u64) -> bool
-    ensures { result ≡ is_over lease shown guest }
-{
-    match guest {
-        Some(guest) => {
-            let spared = if guest.client == 0 {
-                lease.min(STRANGER)
-            } else {
-                lease
-            };
-            spared < shown.saturating_sub(guest.used)
-        }
-        None => false,
-    }
-}
-
-/// Whether a session or a client was ended there.
-fn has_ended(guest: Option<Guest>) -> bool
-    ensures { result ≡ has_ended guest }
-{
-    match guest {
-        Some(guest) => guest.ended,
-        None => false,
-    }
-}
-
-/// The same, where a SEQUENCE of this client was answered.
-fn answers(guest: Option<Guest>, client: u64, shown: u64) -> Option<Guest>
-    ensures { result ≡ answers client shown guest }
-{
-    match guest {
-        Some(guest) => Some(Guest {
-            client,
-            used: shown,
-            ended: false,
-            ..guest
-        }),
-        None => None,
-    }
-}
-
-/// The same, where something else was answered.
-fn hears(guest: Option<Guest>, shown: u64) -> Option<Guest>
-    ensures { result ≡ hears shown guest }
-{
-    match guest {
-        Some(guest) => {
-            let used = if guest.client == 0 { shown } else { guest.used };
-            Some(Guest { used, ..guest })
-        }
-        None => None,
-    }
-}
-
-/// The same, where a session or a client was ended.
-fn ends(guest: Option<Guest>) -> Option<Guest>
-    ensures { result ≡ ends guest }
-{
-    match guest {
-        Some(guest) => Some(Guest {
-            ended: true,
-            ..guest
-        }),
-        None => None,
-    }
-}
-
-/// Whether the seat is that of who is on the port.
-fn is_at(seat: Option<Seat>, port: usize) -> bool
-    ensures { result ≡ is_at port seat }
-{
-    match seat {
-        Some(seat) => match seat.port {
-            Some(at) => at == port,
-            None => false,
-        },
-        None => false,
-    }
-}
-
-/// The first connection that is a client's.
-fn first_from<'a>(guests: &'a [Option<Guest>], client: u64) -> Option<&'a Option<Guest>>
-    ensures { option_copied result ≡ find (is_from client) guests.now }
-{
-    guests.iter().find(|guest| is_from(**guest, client))
-}
-
-/// Whether the last SEQUENCE that was answered there was a client's.
-fn is_from(guest: Option<Guest>, client: u64) -> bool
-    ensures { result ≡ is_from client guest }
-{
-    match guest {
-        Some(guest) => guest.client == client,
-        None => false,
-    }
-}
-
-/// Whether it is a client's.
-fn is_of(seat: Option<Seat>, client: u64) -> bool
-    ensures { result ≡ is_of client seat }
-{
-    match seat {
-        Some(seat) => seat.client == client,
-        None => false,
-    }
-}
-
-/// Whether it is kept for a client.
-fn is_kept_for(seat: Option<Seat>, client: u64) -> bool
-    ensures { result ≡ is_kept_for client seat }
-{
-    match seat {
-        Some(seat) => seat.client == client && seat.port.is_none(),
-        None => false,
-    }
-}
-
-/// Whether it is of this client and address, and was answered nothing since another connection of them came, and for a second.
-fn is_dead(seat: Option<Seat>, client: u64, address: u32, since: u64, shown: u64) -> bool
-    ensures { result ≡ is_dead client address since shown seat }
-{
-    match seat {
-        Some(seat) => {
-            let same = seat.client == client && seat.address == address;
-            same && seat.used <= since && shown.saturating_sub(seat.used) >= DEAD
-        }
-        None => false,
-    }
-}
-
-/// Whether nothing was answered there for longer than a lease.
-fn is_run_out(seat: Option<Seat>, lease: u64, shown: u64) -> bool
-    ensures { result ≡ is_run_out lease shown seat }
-{
-    match seat {
-        Some(seat) => lease < shown.saturating_sub(seat.used),
-        None => false,
-    }
-}
-
-/// The same, where a SEQUENCE of this client was answered on the port.
-fn sits(seat: Option<Seat>, port: usize, client: u64, shown: u64) -> Option<Seat>
-    ensures { result ≡ sits port client shown seat }
-{
-    match seat {
-        Some(seat) => {
-            if is_at(Some(seat), port) {
-                Some(Seat {
-                    client,
-                    used: shown,
-                    ..seat
-                })
-            } else {
-                Some(seat)
-            }
-        }
-        None => None,
-    }
-}
-
-/// The same, where the connection of the port is gone, on which a session had ended or not.
-fn left(seat: Option<Seat>, port: usize, ended: bool, lease: u64, shown: u64) -> Option<Seat>
-    ensures { result ≡ left port ended lease shown seat }
-{
-    match seat {
-        Some(seat) => {
-            if !is_at(Some(seat), port) {
-                Some(seat)
-            } else if ended || is_run_out(Some(seat), lease, shown) {
-                None
-            } else {
-                Some(Seat { port: None, ..seat })
-            }
-        }
-        None => None,
-    }
-}
-
-/// The seat, given to who is on the port. Where it was of the same client, it was last answered there or here.
-fn given_to(guest: Option<Guest>, port: usize, seat: Option<Seat>) -> Option<Seat>
-    ensures { result ≡ given_to port guest seat }
-{
-    match guest {
-        Some(guest) => {
-            let before = match seat {
-                Some(seat) => {
-                    if seat.client == guest.client {
-                        seat.used
-                    } else {
-                        0
-                    }
-                }
-                None => 0,
-            };
-            Some(Seat {
-                client: guest.client,
-                address: guest.address,
-                used: guest.used.max(before),
-                port: Some(port),
-            })
-        }
-        None => seat,
     }
 }
