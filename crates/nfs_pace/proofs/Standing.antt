@@ -1,6 +1,6 @@
 -- Whose seats there are, and who stands in the hall, are counted by lists that follow each change.
 use Rattle.std.proofs.Common.{◌≡◌, ◌≢◌, ◌≤◌, ◌<◌, ◌⊎◌, ◌+◌, ℕ, zero, suc, Bool, true, false, not, ◌&&◌, List, [], ◌∷◌, length, set, take, replicate, get_or, Option, Some, None, is_some, if◌then◌else◌, cond, refl, sym, ap, subst, ◌∙◌, nat_eq, eqb, leb, arith, rules, inl, inr, count_by, ne_eqb, eqb-true}
-use Rattle.std.proofs.{lemmas.Bool.{Decides.{eqb_tells, leb_tells}}, lemmas.List.{get_or_past, get_or-set_same, get_or-set_other, get_or-replicate, length-set, length-replicate, map-set, take_all}, lemmas.List.Sums.{sum_by_more}}
+use Rattle.std.proofs.{lemmas.Bool.{Decides.{eqb_tells, leb_tells}}, lemmas.List.{get_or_past, get_or-set_same, get_or-set_other, get_or-replicate, length-set, length-replicate, map-set, take_all}, lemmas.List.Sums.{sum_by_more}, Math.Seq.{map-set_same}}
 use Rattle.std.specs.List.{list_any}
 use Rattle.nfs_pace.specs.{declared.{guest.Guest.Guest, seat.Seat.Seat}, Places.{PlacesModel, Guests, Seats, guest_at, seat_at, names, is_at, owner, stander, joined, port_of, given_to, nobody, AreOwners, AreStanders, IsFound, AreEach, is_seated, stands, of_address, hall_count, answers, sits, left}}
 use Rattle.nfs_pace.proofs.Sitting.{any_there}
@@ -9,6 +9,10 @@ use Rattle.nfs_pace.proofs.Sitting.{any_there}
 
 pub owners_set : (owners : List ℕ) (seats : Seats) (j : ℕ) (seat : Option Seat) → AreOwners owners seats → AreOwners (set owners j (owner seat)) (set seats j seat)
 owners_set owners seats j seat are = ap (λ all. set all j (owner seat)) are ∙ sym (map-set owner seats j seat)
+
+pub owners_stay : (owners : List ℕ) (seats : Seats) (j : ℕ) (seat : Option Seat) → AreOwners owners seats → owner seat ≡ owner (seat_at seats j)
+    → AreOwners owners (set seats j seat)
+owners_stay owners seats j seat are same = are ∙ sym (map-set_same owner seats j seat None same)
 
 -- Standers.
 

@@ -91,8 +91,6 @@ fn place_of(sorted: &[u64], number: u64) -> usize
 }
 
 /// One of those that are this number becomes another.
-// (not within `put`, which is small so: it is called for each SEQUENCE, where seldom anything changes)
-#[inline(never)]
 fn replace(sorted: &mut Vec<u64>, before: u64, number: u64)
     requires order { IsNonDecreasing sorted.old.items }
     requires there { 0 < count_by (nat_eq before) sorted.old.items }

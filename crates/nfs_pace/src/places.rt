@@ -462,7 +462,7 @@ fn change(seats: &mut Vec<Option<Seat>>, owners: &mut Crowds, j: usize, seat: Op
 }
 
 /// A SEQUENCE of this client was answered on the port, whose seat is this one if it has one.
-#[tactic(auto, using(crate::proofs::Standing::owners_set))]
+#[tactic(auto, using(crate::proofs::Standing::owners_set, crate::proofs::Standing::owners_stay))]
 fn sits_in(
     seats: &mut Vec<Option<Seat>>,
     owners: &mut Crowds,
@@ -477,8 +477,12 @@ fn sits_in(
 {
     if j < seats.len() {
         let seat = &mut seats[j];
+        let before = owner(*seat);
         sits(seat, port, client, shown);
-        owners.put(j, owner(*seat));
+        let after = owner(*seat);
+        if after != before {
+            owners.put(j, after);
+        }
     }
 }
 
