@@ -480,6 +480,7 @@ fn sits_in(
         let before = owner(*seat);
         sits(seat, port, client, shown);
         let after = owner(*seat);
+        // (mostly it is the same client)
         if after != before {
             owners.put(j, after);
         }
