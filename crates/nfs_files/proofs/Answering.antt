@@ -18,6 +18,7 @@ refused_as t a after new F.Inval same e = (refl, same)
 refused_as t a after new F.Fbig same e = (refl, same)
 refused_as t a after new F.NoSpc same e = (refl, same)
 refused_as t a after new F.Mlink same e = (refl, same)
+refused_as t a after new F.Deep same e = (refl, same)
 refused_as t a after new F.Counter same e = (refl, same)
 refused_as t a after new F.Memory same e = absurd (false≢true (sym e))
 

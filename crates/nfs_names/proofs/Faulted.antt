@@ -6,7 +6,7 @@ use Rattle.nfs_xdr.specs.{Checks.first_fault, declared.status.Status.Status}
 use Rattle.nfs_compound.specs.{declared.op_num.OpNum.OpNum, OpNum.op_number}
 use Rattle.nfs_results.specs.{declared.res.Res.Res, Results.{status_of_result, refusal}}
 use Rattle.nfs_tree.specs.declared.fault.TreeFault.{TreeFault}
-use Rattle.nfs_tree.specs.declared.fault.TreeFault.TheVariants.{NoEnt, Exist, NotDir, IsDir, NotEmpty, Inval, Fbig, NoSpc, Mlink, Counter, Memory}
+use Rattle.nfs_tree.specs.declared.fault.TreeFault.TheVariants.{NoEnt, Exist, NotDir, IsDir, NotEmpty, Inval, Fbig, NoSpc, Mlink, Deep, Counter, Memory}
 use Rattle.nfs_tree.specs.{Files.Files, Calls.{Did, does_unless, DoesOrWants}}
 use Rattle.nfs_names.specs.{declared.context.Context.Context, State.{State, with_tree}, Faults.tree_fault_status}
 use Rattle.nfs_names.specs.Outcome.{Outcome, refuses, passed, checked, answers, or_lack, is_ok, lacks, is_delay, is_lack}
@@ -97,6 +97,7 @@ refused_by_did t grows did new Inval d = inr (refl, d.0, d.1)
 refused_by_did t grows did new Fbig d = inr (refl, d.0, d.1)
 refused_by_did t grows did new NoSpc d = inr (refl, d.0, d.1)
 refused_by_did t grows did new Mlink d = inr (refl, d.0, d.1)
+refused_by_did t grows did new Deep d = inr (refl, d.0, d.1)
 refused_by_did t grows did new Counter d = inr (refl, d.0, d.1)
 refused_by_did t grows did new Memory d = inl (refl, d.0, d.1, d.2)
 

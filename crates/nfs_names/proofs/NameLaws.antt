@@ -2,7 +2,7 @@
 use Rattle.std.proofs.Common.{◌≡◌, ℕ, ◌+◌, Bool, true, false, cond, List, [], ◌∷◌, Option, Some, None, refl, ◌∙◌}
 use Rattle.std.specs.Prelude.{◌==◌, ◌&&◌, Ok, Err, not, is_some}
 use Rattle.nfs_xdr.specs.{Checks.first_fault, declared.time.Time.Time, declared.status.Status.Status}
-use Rattle.nfs_xdr.specs.declared.status.Status.TheVariants.{Exist, IsDir, Symlink, Inval, Stale, NoEnt, BadHandle, NoFileHandle, WrongType}
+use Rattle.nfs_xdr.specs.declared.status.Status.TheVariants.{Exist, IsDir, Symlink, Inval, NameTooLong, Stale, NoEnt, BadHandle, NoFileHandle, WrongType}
 use Rattle.nfs_xdr.specs.declared.status.Status.TheVariants.{NotSame, Same, ServerFault, TooSmall}
 use Rattle.nfs_compound.specs.{declared.op_num.OpNum.OpNum, declared.attributes.Attributes.Attributes, declared.name_args.Create.Create}
 use Rattle.nfs_compound.specs.{declared.name_args.ReadDir.ReadDir, declared.name_args.Rename.Rename, declared.name_args.SecinfoStyle.SecinfoStyle}
@@ -37,12 +37,12 @@ use Rattle.nfs_names.proofs.Terms.{told_access}
 
 -- what is in the way of a RENAME refuses it, whichever the profile says
 rename_refuse : (t : Files) (m : Move) → all_refuse (of_rename.last_checks t m) ≡ true
-rename_refuse t m = way (is_unix t.profile && not (is_unlike t m)) false false false false
+rename_refuse t m = way (is_unix t.profile && not (is_unlike t m)) false false false false false
   where
-    way : (b p q r s : Bool)
-        → all_refuse ((p, NoEnt) ∷ (q, Inval) ∷ (r, tree_fault_status (cond b F.NotEmpty F.Exist)) ∷ (s, ServerFault) ∷ []) ≡ true
-    way true p q r s = refl
-    way false p q r s = refl
+    way : (b p q r s d : Bool)
+        → all_refuse ((p, NoEnt) ∷ (d, NameTooLong) ∷ (q, Inval) ∷ (r, tree_fault_status (cond b F.NotEmpty F.Exist)) ∷ (s, ServerFault) ∷ []) ≡ true
+    way true p q r s d = refl
+    way false p q r s d = refl
 
 -- What is looked up.
 

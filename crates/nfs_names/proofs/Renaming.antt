@@ -61,7 +61,7 @@ went t m now r new d = let p = unless_ok t (rename_fault t m) (Goes t m now) r n
 way_free : (t : Files) (m : Move) → rename_fault t m ≡ None → moves t m ≡ true → is_in_the_way t m ≡ false
 way_free t m none go =
     let checks = all_passed (rename_checks t m) none in
-    let both : moves t m && is_in_the_way t m ≡ false = checks.1.1.1.1.1.0 in
+    let both : moves t m && is_in_the_way t m ≡ false = checks.1.1.1.1.1.1.0 in
     rw go at both
 
 pub replaced_empty : (t : Files) (m : Move) (now : Time) (n : ℕ) → rename_fault t m ≡ None

@@ -15,6 +15,7 @@ tree_fault_status F.Inval = S.Inval
 tree_fault_status F.Fbig = S.FBig
 tree_fault_status F.NoSpc = S.NoSpc
 tree_fault_status F.Mlink = S.MLink
+tree_fault_status F.Deep = S.NameTooLong
 tree_fault_status F.Counter = S.ServerFault
 tree_fault_status F.Memory = S.Delay
 

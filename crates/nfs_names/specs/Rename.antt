@@ -1,12 +1,12 @@
 -- RENAME (RFC 8881 section 18.26): an entry moves from the saved filehandle's directory to the current one's.
 use Rattle.std.specs.Prelude.{ℕ, ◌&&◌, Bool, not, [], ◌∷◌, ◌++◌, Option, Some, None, Ok, false, true, List}
 use Rattle.nfs_xdr.specs.{declared.time.Time.Time, declared.status.Status.Status}
-use Rattle.nfs_xdr.specs.declared.status.Status.TheVariants.{NoEnt, Inval, ServerFault}
+use Rattle.nfs_xdr.specs.declared.status.Status.TheVariants.{NoEnt, Inval, NameTooLong, ServerFault}
 use Rattle.nfs_compound.specs.declared.op_num.OpNum.TheVariants as Num
 use Rattle.nfs_compound.specs.declared.name_args.Rename as args
 use Rattle.nfs_results.specs.declared.res.Res.TheVariants as Res
 use Rattle.nfs_tree.specs.Files.{Files, has_name, object_named, raised, unraised}
-use Rattle.nfs_tree.specs.Names.{Move, move, moves, is_below_itself, is_in_the_way, way_fault, can_move, with_moved}
+use Rattle.nfs_tree.specs.Names.{Move, move, moves, is_too_deep, is_below_itself, is_in_the_way, way_fault, can_move, with_moved}
 use Rattle.nfs_attrs.specs.Permissions.{change_entries}
 use Rattle.nfs_names.specs.{declared.context.Context.Context, declared.node.Pair.Pair, State.{State, with_tree, without_unused}}
 use Rattle.nfs_names.specs.{Faults.tree_fault_status, Outcome.{Outcome, done, or_refusal}, Checks.{both, no_directory, no_access, name_checks}, Create.change_info}
@@ -45,10 +45,11 @@ place_checks x a p =
     ∷ name_checks a.oldname
     ++ name_checks a.newname
 
--- .. and last: the old name is there, and where something moves, no directory comes to lie below itself and the new name can be had
+-- .. and last: the old name is there, and where something moves, no directory comes to lie too deep or below itself, and the new name can be had
 abbrev pub last_checks : Files → Move → List (Bool × Status)
 last_checks t m =
     (not (has_name t m.source m.old), NoEnt)
+    ∷ (moves t m && is_too_deep t m, NameTooLong)
     ∷ (moves t m && is_below_itself t m, Inval)
     ∷ (moves t m && is_in_the_way t m, tree_fault_status (way_fault t m))
     ∷ (moves t m && not (can_move t m), ServerFault)

@@ -221,6 +221,7 @@ pub fn status_of(fault: TreeFault) -> Status
         TreeFault::Fbig => Status::FBig,
         TreeFault::NoSpc => Status::NoSpc,
         TreeFault::Mlink => Status::MLink,
+        TreeFault::Deep => Status::NameTooLong,
         TreeFault::Counter => Status::ServerFault,
         TreeFault::Memory => Status::Delay,
     }

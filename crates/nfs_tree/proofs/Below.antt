@@ -1,10 +1,10 @@
 -- The climb meets what names lead from.
-use Rattle.std.proofs.Common.{◌≡◌, ℕ, zero, suc, ◌≤◌, Bool, true, false, List, [], ◌∷◌, ◌++◌, length, Option, Some, None, refl, sym, ◌∙◌, ap, arith, inl, inr}
-use Rattle.std.proofs.lemmas.Bool.{cases_Bool, eqb-true, eq-eqb, false≢true}
+use Rattle.std.proofs.Common.{◌≡◌, ℕ, zero, suc, ◌+◌, ◌≤◌, Bool, true, false, List, [], ◌∷◌, ◌++◌, length, Option, Some, None, refl, sym, ◌∙◌, ap, arith, inl, inr}
+use Rattle.std.proofs.lemmas.{Bool.{cases_Bool, eqb-true, eq-eqb, false≢true}, List.length-append}
 use Rattle.std.specs.{Prelude.{◌==◌, find}, Option.option_map_or}
 use Rattle.nfs_xdr.specs.Tables.{In}
 use Rattle.nfs_xdr.proofs.Lists.{find_in}
-use Rattle.nfs_tree.specs.{declared.row.Row.Row, Files.{entry, is_directory_at, is_there, parent_in}, Names.is_at_or_below, Walks.walk, TreeInvariants.Grounded}
+use Rattle.nfs_tree.specs.{declared.row.Row.Row, Files.{Files, root, entry, is_directory_at, is_there, parent_in}, Names.{is_at_or_below, is_near_root}, Walks.walk, TreeInvariants.{Grounded, IsTree}}
 use Rattle.nfs_tree.specs.Laws.{BelowIsReached}
 use Rattle.nfs_tree.proofs.{Walked.{Ends, ends, then_walk}, Move.{AreUnique, unique_of, depth_bound, parent_is}}
 
@@ -60,6 +60,33 @@ met rows dirs are top (suc fuel) (suc n) d le dir g names w =
         let above : is_at_or_below rows top fuel g.0.directory ≡ true = ih last.0 (last.3 ∙ ap (λ (r : Row). Some r.directory) same) in
         let parent : parent_in rows d ≡ Some g.0.directory = ap (parent_in rows) (sym g.2) ∙ parent_is rows dirs are g.0 g.1 dir_g in
         elim (cases_Bool (d == top)) [ inl here ↦ rw here refl | inr other ↦ rw (other, parent) above ]
+
+-- the climb meets what few names lead from
+near : (rows : List Row) (dirs : ℕ → Bool) → AreUnique rows dirs → (top fuel d : ℕ) → dirs d ≡ true → (names : List (List ℕ)) → length names ≤ fuel
+    → walk rows top names ≡ Some d → is_at_or_below rows top fuel d ≡ true
+near rows dirs are top zero d dir names few w = by_ends (ends rows top names d w)
+  where
+    by_ends : Ends rows top names d → is_at_or_below rows top zero d ≡ true
+    by_ends (inl none) = at_top rows top zero d none.1
+    by_ends (inr last) = absurd (let long : length names ≡ length last.0 + 1 = ap length last.2 ∙ length-append last.0 _ in omega arith)
+near rows dirs are top (suc fuel) d dir names few w =
+    by_ends (ends rows top names d w) (λ p of first le led. near rows dirs are top fuel p of first le led)
+  where
+    by_ends : Ends rows top names d
+        → ((p : ℕ) → dirs p ≡ true → (first : List (List ℕ)) → length first ≤ fuel → walk rows top first ≡ Some p → is_at_or_below rows top fuel p ≡ true)
+        → is_at_or_below rows top (suc fuel) d ≡ true
+    by_ends (inl none) ih = at_top rows top (suc fuel) d none.1
+    by_ends (inr last) ih =
+        let long : length names ≡ length last.0 + 1 = ap length last.2 ∙ length-append last.0 _ in
+        let above = ih last.1.directory (are.stands last.1 last.4) last.0 (omega arith) last.3 in
+        let parent : parent_in rows d ≡ Some last.1.directory = ap (parent_in rows) (sym last.5) ∙ parent_is rows dirs are last.1 last.4 (ap dirs last.5 ∙ dir) in
+        elim (cases_Bool (d == top)) [ inl here ↦ rw here refl | inr other ↦ rw (other, parent) above ]
+
+pub near_root : (t : Files) (d : ℕ) → IsTree t → is_directory_at t d ≡ true → (names : List (List ℕ)) → length names ≤ 2048
+    → walk t.rows root names ≡ Some d → is_near_root t.rows d ≡ true
+unfolding is_near_root
+near_root t d is dir names few w =
+    near t.rows (λ n. is_directory_at t n) (unique_of t.rows (λ n. is_directory_at t n) (λ n. is_there t n) is.rows) root 2048 d dir names few w
 
 pub below_is_reached : BelowIsReached
 below_is_reached t top d is dir = (

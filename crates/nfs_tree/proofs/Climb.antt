@@ -1,5 +1,5 @@
 -- The climb that looks whether an object lies at or below another: its steps, by rows, and that it meets no object without entries.
-use Rattle.std.proofs.Common.{◌≡◌, ℕ, zero, suc, ◌<◌, Bool, true, false, List, [], ◌∷◌, length, Option, Some, None, refl, sym, ◌∙◌, ap, subst, arith, inl, inr}
+use Rattle.std.proofs.Common.{◌≡◌, ℕ, zero, suc, Bool, true, false, List, Option, Some, None, refl, sym, ◌∙◌, ap, subst, inl, inr}
 use Rattle.std.proofs.lemmas.Bool.{cases_Bool, eqb-true, eq-eqb, false≢true}
 use Rattle.std.specs.{Prelude.{◌==◌, ◌||◌, find}, Option.option_map_or}
 use Rattle.nfs_tree.specs.{declared.row.Row.Row, Files.{parent_in, has_entries}, Names.is_at_or_below, Maps.HasOneRow, TreeInvariants.AreRows}
@@ -45,10 +45,6 @@ parent_by rows n p e = by_row (find (λ r. r.object == n) rows) refl e
         let at = find_in (λ (r : Row). r.object == n) rows r h in
         let directory : Some r.directory ≡ Some p = rw h at e in
         (r, at.0, eqb-true _ _ at.1, cc)
-
-pub some_row : (rows : List Row) (r : Row) → In r rows → 0 < length rows
-some_row [] r is = absurd is
-some_row (q ∷ rows) r is = omega arith
 
 -- where one row names the object it is that one's directory
 pub one_parent : (rows : List Row) (n : ℕ) (r : Row) → In r rows → r.object ≡ n → HasOneRow rows n → parent_in rows n ≡ Some r.directory

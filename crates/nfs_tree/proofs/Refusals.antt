@@ -3,7 +3,7 @@ use Rattle.std.proofs.Common.{◌≡◌, Bool, true, false, cond, List, [], ◌�
 use Rattle.std.specs.{Prelude.{Result, Ok, Err}, List.AllByRecursion}
 use Rattle.nfs_xdr.specs.Checks.{first_fault, judged}
 use Rattle.nfs_tree.specs.declared.fault.TreeFault.{TreeFault}
-use Rattle.nfs_tree.specs.declared.fault.TreeFault.TheVariants.{NoEnt, Exist, NotDir, IsDir, NotEmpty, Inval, Fbig, NoSpc, Mlink, Counter, Memory}
+use Rattle.nfs_tree.specs.declared.fault.TreeFault.TheVariants.{NoEnt, Exist, NotDir, IsDir, NotEmpty, Inval, Fbig, NoSpc, Mlink, Deep, Counter, Memory}
 use Rattle.nfs_tree.specs.{Files.Files, Calls.{Did, does_unless, DoesOrWants}}
 
 abbrev pub is_memory : TreeFault → Bool
@@ -16,6 +16,7 @@ is_memory Inval = false
 is_memory Fbig = false
 is_memory NoSpc = false
 is_memory Mlink = false
+is_memory Deep = false
 is_memory Counter = false
 is_memory Memory = true
 
@@ -49,6 +50,7 @@ by_fault t grows did Inval n e = (ap (λ d. d.answer) (sym e), ap (λ d. d.after
 by_fault t grows did Fbig n e = (ap (λ d. d.answer) (sym e), ap (λ d. d.after) (sym e))
 by_fault t grows did NoSpc n e = (ap (λ d. d.answer) (sym e), ap (λ d. d.after) (sym e))
 by_fault t grows did Mlink n e = (ap (λ d. d.answer) (sym e), ap (λ d. d.after) (sym e))
+by_fault t grows did Deep n e = (ap (λ d. d.answer) (sym e), ap (λ d. d.after) (sym e))
 by_fault t grows did Counter n e = (ap (λ d. d.answer) (sym e), ap (λ d. d.after) (sym e))
 by_fault t grows did Memory n e = absurd cc
 

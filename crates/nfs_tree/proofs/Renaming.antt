@@ -14,7 +14,7 @@ pub rename_refused : (t : Files) (m : Move) (now : Time) (r : Result Renamed Tre
     → rename_fault t m ≡ Some f → r ≡ Err f → DoesOrWants t (moves t m) (rename t m now) r t
 rename_refused t m now r f e is =
     subst (λ r. DoesOrWants t (moves t m) (rename t m now) r t) (sym is)
-    (by_fault t (moves t m) (rename t m now) f (fault_of (rename_checks t m) f (refl, (refl, (refl, (refl, (refl, (way_fault_told (is_unix t.profile && not (is_unlike t m)), (refl, tt))))))) e)
+    (by_fault t (moves t m) (rename t m now) f (fault_of (rename_checks t m) f (refl, (refl, (refl, (refl, (refl, (refl, (way_fault_told (is_unix t.profile && not (is_unlike t m)), (refl, tt)))))))) e)
     (ap (λ o. rename_unless t o (if moves t m then moved t m now else unmoved t m)) e))
 
 pub rename_goes : (t new : Files) (m : Move) (now : Time) (r : Result Renamed TreeFault) → rename_fault t m ≡ None

@@ -3,8 +3,8 @@ use Rattle.std.specs.Option.{option_map_or}
 use Rattle.std.specs.Prelude.{ℕ, zero, suc, ◌+◌, ◌==◌, nat_lt, nat_le, Bool, false, not, ◌&&◌, ◌||◌, if◌then◌else◌, List, [], ◌∷◌, ◌++◌, length, filter}
 use Rattle.nfs_xdr.specs.declared.time.Time.{Time}
 use Rattle.nfs_tree.specs.{declared.row.Row.Row, declared.stored.Stored.Stored, declared.fault.TreeFault.TreeFault}
-use Rattle.nfs_tree.specs.declared.fault.TreeFault.TheVariants.{NoEnt, Exist, NotDir, IsDir, NotEmpty, Inval, Mlink, Counter}
-use Rattle.nfs_tree.specs.Files.{Files, next_count, last_count, most_links, is_name, is_there, is_directory_at, has_name, number_named, parent_in, links_in, has_row}
+use Rattle.nfs_tree.specs.declared.fault.TreeFault.TheVariants.{NoEnt, Exist, NotDir, IsDir, NotEmpty, Inval, Mlink, Deep, Counter}
+use Rattle.nfs_tree.specs.Files.{Files, root, next_count, last_count, most_links, is_name, is_there, is_directory_at, has_name, number_named, parent_in, links_in, has_row}
 use Rattle.nfs_tree.specs.{Files.has_entries, Profile.is_unix}
 use Rattle.nfs_tree.specs.Files.{can_change, with_entries_changed, with_links_changed, without_entry}
 
@@ -54,7 +54,7 @@ without_name t d name now = record t {
 abbrev pub forget : Files → ℕ → Files
 forget t n = record t { objects = filter (λ s. not (s.number == n)) t.objects }
 
--- RENAME. One object lies at or below another where going up from it, over at most as many rows as there are, meets that other.
+-- RENAME. One object lies at or below another, at most so many levels, where going up from it over so many rows meets that other.
 abbrev pub is_at_or_below : List Row → ℕ → ℕ → ℕ → Bool
 is_at_or_below rows top zero n = n == top
 is_at_or_below rows top (suc more) n = (n == top) || option_map_or (λ p. is_at_or_below rows top more p) (parent_in rows n) false
@@ -83,6 +83,14 @@ moves t m = not (moved_object t m == replaced_object t m)
 -- a directory would come to lie below itself
 abbrev pub is_below_itself : Files → Move → Bool
 is_below_itself t m = is_directory_at t (moved_object t m) && is_at_or_below t.rows (moved_object t m) (length t.rows) m.target
+
+-- a directory lies at most 2,048 levels below the root: as many names as the path has that a system takes whole
+unfoldable pub is_near_root : List Row → ℕ → Bool
+is_near_root rows n = is_at_or_below rows root 2048 n
+
+-- in unix no directory comes from another one to one that lies farther down
+abbrev pub is_too_deep : Files → Move → Bool
+is_too_deep t m = is_unix t.profile && (is_directory_at t (moved_object t m) && (not (m.source == m.target) && not (is_near_root t.rows m.target)))
 
 -- the new name is of a directory and the old one is not, or the other way round
 abbrev pub is_unlike : Files → Move → Bool
@@ -113,6 +121,7 @@ rename_checks t m =
     ∷ (not (is_directory_at t m.source && is_directory_at t m.target), NotDir)
     ∷ (not (is_name m.name), Inval)
     ∷ (not (has_name t m.source m.old), NoEnt)
+    ∷ (moves t m && is_too_deep t m, Deep)
     ∷ (moves t m && is_below_itself t m, Inval)
     ∷ (moves t m && is_in_the_way t m, way_fault t m)
     ∷ (moves t m && not (can_move t m), Counter)

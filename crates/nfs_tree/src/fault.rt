@@ -26,6 +26,8 @@ pub enum TreeFault {
     NoSpc,
     /// NFS4ERR_MLINK: the object has 1,024 names.
     Mlink,
+    /// NFS4ERR_NAMETOOLONG: a directory moved to a place too far below the root.
+    Deep,
     /// NFS4ERR_SERVERFAULT: a counter, or the `change` of an object, has its last value.
     Counter,
     /// NFS4ERR_DELAY: memory was refused.

@@ -137,7 +137,7 @@ module _ (s : State) (x : Context) (a : Lock) (may : MayLock s x a) where
       by (Widens b k id o is given means there wider) = (let bad : Operation (Ops.Lock a) ≡ Operation (Ops.OpenDowngrade b) = is in cc)
   not_invalid (ByHandle b is claim some) = (let bad : Operation (Ops.Lock a) ≡ Operation (Ops.Open b) = is in cc)
   not_invalid (Sized c is some) = (let bad : Operation (Ops.Lock a) ≡ Operation (Ops.Create c) = is in cc)
-  not_invalid (Below why) = (let bad : Operation (Ops.Lock a) ≡ Operation (Ops.Rename why.asked) = why.is in cc)
+  not_invalid (Below why) = (let bad : Operation (Ops.Lock a) ≡ Operation (Ops.Rename why.moves.asked) = why.moves.is in cc)
   not_invalid (Fixed b is fixed) = (let bad : None ≡ Some b = is in cc)
   not_invalid (NoValue b v is read odd) = (let bad : None ≡ Some b = is in cc)
   not_invalid (Unreadable words is some) = (let bad : None ≡ Some words = is in cc)
@@ -191,7 +191,8 @@ module _ (s : State) (x : Context) (a : Lock) (may : MayLock s x a) where
   none S.NotEmpty fails (inl why) = (let bad : Operation (Ops.Lock a) ≡ Operation (Ops.Remove why.name) = why.is in cc)
   none S.NotEmpty fails (inr why) = (let bad : Operation (Ops.Lock a) ≡ Operation (Ops.Rename why.way.asked) = why.way.is in cc)
   none S.NameTooLong fails (inl (name, gives, long)) = no_name name gives
-  none S.NameTooLong fails (inr (c, is, text, of, long)) = (let bad : Operation (Ops.Lock a) ≡ Operation (Ops.Create c) = is in cc)
+  none S.NameTooLong fails (inr (inl (c, is, text, of, long))) = (let bad : Operation (Ops.Lock a) ≡ Operation (Ops.Create c) = is in cc)
+  none S.NameTooLong fails (inr (inr why)) = (let bad : Operation (Ops.Lock a) ≡ Operation (Ops.Rename why.moves.asked) = why.moves.is in cc)
   none S.BadChar fails (name, gives, byte, there, odd) = no_name name gives
   none S.BadName fails (name, gives, dots) = no_name name gives
   none S.BadCookie fails (b, is, odd) = (let bad : Operation (Ops.Lock a) ≡ Operation (Ops.ReadDir b) = is in cc)

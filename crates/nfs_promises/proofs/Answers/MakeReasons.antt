@@ -69,7 +69,7 @@ module _ (s : State) (whole : IsWhole s) (x : Context) where
           no_adding s x i c.objname refl d e,
           λ u. (
             λ other. (c, refl, sym (same_type c.objtype) ∙ not-true _ other),
-            λ u. (λ none. NoText c refl (no_text c.objtype none), λ u. (λ long. (let t = long_text c.objtype long in inr (c, refl, t.0, t.1, t.2)), λ u. names_blame s x i c.objname (ByName refl))),
+            λ u. (λ none. NoText c refl (no_text c.objtype none), λ u. (λ long. (let t = long_text c.objtype long in inr (inl (c, refl, t.0, t.1, t.2))), λ u. names_blame s x i c.objname (ByName refl))),
           ),
         ),
       ) (λ placed. ends_then B Y (attributes_in c.createattrs) _ (given_blames s x i c.createattrs refl) (λ w gives.

@@ -1,6 +1,6 @@
 -- Operations on names and attributes: what they are refused with has its reason, and what was answered NFS4_OK was granted.
-use Rattle.std.proofs.Common.{◌≡◌, ◌≢◌, ◌⊎◌, ℕ, Bool, true, false, cond, not, List, [], ◌∷◌, Option, Some, None, refl, sym, ◌∙◌, ap, subst, inl, inr}
-use Rattle.std.proofs.lemmas.{Bool.{and_parts, false≢true, not-false, not-true, eq-eqb, and_cases, or_cases}, Option.same_Some}
+use Rattle.std.proofs.Common.{◌≡◌, ◌≢◌, ◌⊎◌, ℕ, Bool, true, false, cond, not, List, [], ◌∷◌, length, Option, Some, None, refl, sym, ◌∙◌, ap, subst, inl, inr}
+use Rattle.std.proofs.lemmas.{Bool.Decides.leb_tells, Bool.{and_parts, false≢true, not-false, not-true, eq-eqb, and_cases, or_cases}, Option.same_Some}
 use Rattle.std.specs.{Prelude.{◌||◌, ◌&&◌, option_map, Ok, ok_or, if◌then◌else◌}, Option.option_map_or}
 use Rattle.nfs_xdr.specs.{Checks.first_fault, declared.status.Status.Status, declared.time.Time.Time}
 use Rattle.nfs_xdr.specs.declared.status.Status.TheVariants as S
@@ -9,9 +9,9 @@ use Rattle.nfs_compound.specs.{declared.name_args.Rename.Rename, declared.op.Ite
 use Rattle.nfs_compound.specs.declared.op.Op.TheVariants as Op
 use Rattle.nfs_compound.specs.declared.op_num.OpNum.TheVariants as Num
 use Rattle.nfs_tree.specs.{Object.{is_directory, is_link}, Files.{Files, stored_in, object_at, object_named, number_named, is_there, is_directory_at, can_change, has_name, has_entries}}
-use Rattle.nfs_tree.specs.{Names.{Move, moves, can_move, is_below_itself, is_unlike, is_in_the_way, way_fault, moved_object, replaced_object}, Profile.is_unix}
+use Rattle.nfs_tree.specs.{Names.{Move, moves, can_move, is_near_root, is_too_deep, is_below_itself, is_unlike, is_in_the_way, way_fault, moved_object, replaced_object}, Profile.is_unix}
 use Rattle.nfs_tree.specs.{declared.{object.Object.Object, stored.Stored.Stored}, TreeInvariants.IsTree}
-use Rattle.nfs_tree.proofs.Below.{below_is_reached}
+use Rattle.nfs_tree.proofs.Below.{below_is_reached, near_root}
 use Rattle.nfs_tree.specs.{declared.profile.Profile.Profile, declared.profile.Profile.TheVariants.{Exact, Unix}}
 use Rattle.nfs_tree.specs.declared.fault.TreeFault.TheVariants as F
 use Rattle.nfs_attrs.specs.{declared.permission.Want.Want, Mask.{has, mask_of, asks_set_only}, Permissions.{execute, change_entries}}
@@ -22,7 +22,7 @@ use Rattle.nfs_names.specs.{Rename.{rename, renamed, move_of, place_checks as re
 use Rattle.nfs_files.proofs.{TreeFiles.IsWhole, WrittenOps.current_number}
 use Rattle.nfs_promises.specs.Permission.Permitted.{Writes, Executes, Grants, rights_of, rights_at}
 use Rattle.nfs_promises.specs.Answers.Asked.{ByName, ByOldName, ByNewName, InCurrent, InSaved, Source, Searched, ToAdd, ToFind, ToRemove, ToTake, ToPut}
-use Rattle.nfs_promises.specs.Answers.{Invalid.{IsBelow, Below, Unreadable, IsSpent}, Reasons.{HasEntry, IsInTheWay, IsGranted, Reason}}
+use Rattle.nfs_promises.specs.Answers.{Invalid.{MovesDirectory, IsBelow, IsTooDeep, Below, Unreadable, IsSpent}, Reasons.{HasEntry, IsInTheWay, IsGranted, Reason}}
 use Rattle.nfs_promises.proofs.Answers.Blaming.{all_blame, held_blames, there_blames, ends_then, ends_checks, answers_blame, passed_all}
 use Rattle.nfs_promises.proofs.Answers.InvalidReasons.{never_both, spent_at, spent_there, no_cookie_left}
 use Rattle.nfs_promises.proofs.Answers.Placed.{Answers, refused_so, done_so, found_now, current_blames, both_blames, saved_found, rights_is, unnamed, named_at, named_there}
@@ -138,7 +138,7 @@ way_blamed s x a p e has is = by (is_unix s.tree.profile && not (is_unlike s.tre
         })
     by false on = inr (inl (in_the_way s x a p e has is))
 
--- What would come to lie below itself.
+-- What would come to lie below itself, or too deep.
 
 directory_at : (s : State) (d : Node) → object_at s.tree d.number ≡ Some d.object → not (is_directory d.object.kind) ≡ false → is_directory_at s.tree d.number ≡ true
 directory_at s d is dir = by (stored_in s.tree.objects d.number) is
@@ -147,28 +147,50 @@ directory_at s d is dir = by (stored_in s.tree.objects d.number) is
     by None e = absurd cc
     by (Some k) e = let same : k.object ≡ d.object = cc in ap (λ (o : Object). is_directory o.kind) same ∙ not-false _ dir
 
-is_below : (s : State) → IsTree s.tree → (x : Context) (a : Rename) (p : _) → both s x ≡ Ok p → in_order (rename_places x a p) ≡ Ok tt
-    → has_name s.tree p.saved.number a.oldname ≡ true → moves s.tree (move_of a p) && is_below_itself s.tree (move_of a p) ≡ true → IsBelow s x (Operation (Op.Rename a))
-is_below s tree x a p e placed has below =
-    let m : Move = move_of a p in
-    let its = saved_found s x p e in
-    let there = both_current s x p e in
+into : (s : State) (x : Context) (a : Rename) (p : _) → both s x ≡ Ok p → in_order (rename_places x a p) ≡ Ok tt → is_directory_at s.tree p.current.number ≡ true
+into s x a p e placed =
     let checks = all_passed (rename_places x a p) (passed_all (rename_places x a p) placed) in
-    let parts = and_parts (is_directory_at s.tree (moved_object s.tree m)) _ (and_parts (moves s.tree m) (is_below_itself s.tree m) below).1 in
-    let dir : is_directory_at s.tree p.current.number ≡ true = directory_at s p.current (found_now s x p.current there).1 checks.1.0 in
-    let led = (below_is_reached s.tree (moved_object s.tree m) p.current.number tree dir).0 parts.1 in
+    directory_at s p.current (found_now s x p.current (both_current s x p e)).1 checks.1.0
+
+moving : (s : State) (x : Context) (a : Rename) (p : _) → both s x ≡ Ok p → has_name s.tree p.saved.number a.oldname ≡ true
+    → is_directory_at s.tree (moved_object s.tree (move_of a p)) ≡ true → MovesDirectory s x (Operation (Op.Rename a))
+moving s x a p e has dir =
+    let its = saved_found s x p e in
     record {
       asked = a;
       is = refl;
       saved = its.saved;
       directory = p.current.number;
       source = its.is;
-      target = current_number s x p.current there;
-      moved = moved_object s.tree m;
+      target = current_number s x p.current (both_current s x p e);
+      moved = moved_object s.tree (move_of a p);
       old = ap (λ n. object_named s.tree n a.oldname) its.names ∙ named_at s.tree p.saved.number a.oldname has;
-      kind = parts.0;
-      names = led.0;
-      leads = led.1;
+      kind = dir;
+    }
+
+is_below : (s : State) → IsTree s.tree → (x : Context) (a : Rename) (p : _) → both s x ≡ Ok p → in_order (rename_places x a p) ≡ Ok tt
+    → has_name s.tree p.saved.number a.oldname ≡ true → moves s.tree (move_of a p) && is_below_itself s.tree (move_of a p) ≡ true → IsBelow s x (Operation (Op.Rename a))
+is_below s tree x a p e placed has below =
+    let m : Move = move_of a p in
+    let parts = and_parts (is_directory_at s.tree (moved_object s.tree m)) _ (and_parts (moves s.tree m) (is_below_itself s.tree m) below).1 in
+    let led = (below_is_reached s.tree (moved_object s.tree m) p.current.number tree (into s x a p e placed)).0 parts.1 in
+    record { moves = moving s x a p e has parts.0; names = led.0; leads = led.1 }
+
+is_deep : (s : State) → IsTree s.tree → (x : Context) (a : Rename) (p : _) → both s x ≡ Ok p → in_order (rename_places x a p) ≡ Ok tt
+    → has_name s.tree p.saved.number a.oldname ≡ true → moves s.tree (move_of a p) && is_too_deep s.tree (move_of a p) ≡ true → IsTooDeep s x (Operation (Op.Rename a))
+is_deep s tree x a p e placed has deep =
+    let m : Move = move_of a p in
+    let unix = and_parts (is_unix s.tree.profile) _ (and_parts (moves s.tree m) (is_too_deep s.tree m) deep).1 in
+    let kind = and_parts (is_directory_at s.tree (moved_object s.tree m)) _ unix.1 in
+    let apart = and_parts (not (m.source == m.target)) (not (is_near_root s.tree.rows m.target)) kind.1 in
+    record {
+      moves = moving s x a p e has kind.0;
+      unix = is_the_one s.tree.profile unix.0;
+      other = λ same. false≢true (sym (not-true _ apart.0) ∙ eq-eqb m.source m.target (sym (saved_found s x p e).names ∙ same));
+      far = λ names led. elim (leb_tells (length names) 2048) [
+        | inl few ↦ absurd (false≢true (sym (not-true _ apart.1) ∙ near_root s.tree p.current.number tree (into s x a p e placed) names few.1 led))
+        | inr many ↦ many.1
+      ];
     }
 
 -- What cannot be counted.
@@ -290,13 +312,16 @@ module _ (s : State) (whole : IsWhole s) (x : Context) where
       ) (λ placed. ends_checks B Y (rename_lasts s.tree (move_of a p)) _ (
         λ no_name. missing s x i p.saved a.oldname (InSaved a its.saved refl refl its.is its.names) (unnamed s.tree p.saved.number a.oldname no_name),
         λ has. (
-          λ below. Below (is_below s whole.tree x a p e placed (not-false _ has) below),
+          λ deep. inr (inr (is_deep s whole.tree x a p e placed (not-false _ has) deep)),
           λ u. (
-            λ way. way_blamed s x a p e (not-false _ has) way,
+            λ below. Below (is_below s whole.tree x a p e placed (not-false _ has) below),
             λ u. (
-              λ spent. none_is_moved s whole x p e its.there (found_now s x p.current there).1 a (not-false _ has)
-                  (not-true _ (and_parts (moves s.tree (move_of a p)) (not (can_move s.tree (move_of a p))) spent).1),
-              λ u. tt,
+              λ way. way_blamed s x a p e (not-false _ has) way,
+              λ u. (
+                λ spent. none_is_moved s whole x p e its.there (found_now s x p.current there).1 a (not-false _ has)
+                    (not-true _ (and_parts (moves s.tree (move_of a p)) (not (can_move s.tree (move_of a p))) spent).1),
+                λ u. tt,
+              ),
             ),
           ),
         ),

@@ -88,7 +88,8 @@ given_name name other (ByNewName a is same) = absurd (let bad : Operation (Op.Lo
 module _ (s : State) (x : Context) where
   not_long : Reason s x (Operation (Op.Lookup (0x66 ∷ []))) S.NameTooLong → ⊥
   not_long (inl (name, gives, long)) = (let short : 255 < 1 = subst (λ (name : List ℕ). 255 < length name) (sym (given_name (0x66 ∷ []) name gives)) long in absurd (omega arith))
-  not_long (inr (c, is, text, of, long)) = (let bad : Operation (Op.Lookup (0x66 ∷ [])) ≡ Operation (Op.Create c) = is in cc)
+  not_long (inr (inl (c, is, text, of, long))) = (let bad : Operation (Op.Lookup (0x66 ∷ [])) ≡ Operation (Op.Create c) = is in cc)
+  not_long (inr (inr why)) = (let bad : Operation (Op.Lookup (0x66 ∷ [])) ≡ Operation (Op.Rename why.moves.asked) = why.moves.is in cc)
 
   no_odd_byte : Reason s x (Operation (Op.Lookup (0x66 ∷ []))) S.BadChar → ⊥
   no_odd_byte (name, gives, byte, there, odd) = by (subst (In byte) (sym (given_name (0x66 ∷ []) name gives)) there) odd
@@ -117,7 +118,7 @@ module _ (s : State) (x : Context) where
       by (Widens a k id o is given means there wider) = (let bad : Operation (Op.Lookup (0x66 ∷ [])) ≡ Operation (Op.OpenDowngrade a) = is in cc)
   valid (ByHandle a is claim some) = (let bad : Operation (Op.Lookup (0x66 ∷ [])) ≡ Operation (Op.Open a) = is in cc)
   valid (Sized c is some) = (let bad : Operation (Op.Lookup (0x66 ∷ [])) ≡ Operation (Op.Create c) = is in cc)
-  valid (Below why) = (let bad : Operation (Op.Lookup (0x66 ∷ [])) ≡ Operation (Op.Rename why.asked) = why.is in cc)
+  valid (Below why) = (let bad : Operation (Op.Lookup (0x66 ∷ [])) ≡ Operation (Op.Rename why.moves.asked) = why.moves.is in cc)
   valid (Fixed a is fixed) = (let bad : None ≡ Some a = is in cc)
   valid (NoValue a v is read odd) = (let bad : None ≡ Some a = is in cc)
   valid (Unreadable words is some) = (let bad : None ≡ Some words = is in cc)

@@ -8,7 +8,7 @@ use Rattle.nfs_compound.specs.declared.name_args.{ReadDir.ReadDir, Rename.Rename
 use Rattle.nfs_compound.specs.declared.name_args.Create as args
 use Rattle.nfs_compound.specs.declared.open_args.{Open.Open, OpenDowngrade.OpenDowngrade, OpenClaim.TheVariants.Fh}
 use Rattle.nfs_results.specs.{declared.res.Entry.Entry, Straight.entry_text}
-use Rattle.nfs_tree.specs.{declared.object.Object.Object, declared.profile.Profile.TheVariants.Exact, Files.{last_count, is_directory_at, object_at, object_named}, Walks.walk}
+use Rattle.nfs_tree.specs.{declared.object.Object.Object, declared.profile.Profile.TheVariants.{Exact, Unix}, Files.{root, last_count, is_directory_at, object_at, object_named}, Walks.walk}
 use Rattle.nfs_attrs.specs.{declared.set_time.SetTime.TheVariants.Given, Attributes.{Settings, settable, supported, values}, Mask.{has, mask_of, within}, Owner.owner_of, SettingsCodec.settings_of}
 use Rattle.nfs_opens.specs.{declared.records.OpenState.OpenState, declared.stateid.StateId.StateId, Share.{is_neither, is_part}, StateId.last_number, Table.open_at}
 use Rattle.nfs_names.specs.{declared.{context.Context.Context, context.Saved.Saved, node.Node.Node}, Attributes.about, Create.attributes_in, ReadDir.left, State.State}
@@ -89,8 +89,8 @@ pub record AreValues (s : State) (x : Context) (a : Attributes) (text : List ℕ
 
 -- What is invalid.
 
--- RENAME would move a directory to a place that is reached from it
-pub record IsBelow (s : State) (x : Context) (i : Item) : Type 0 where
+-- RENAME would move a directory ..
+pub record MovesDirectory (s : State) (x : Context) (i : Item) : Type 0 where
   pub asked : Rename
   pub is : i ≡ Operation (Op.Rename asked)
   pub saved : Saved
@@ -100,8 +100,19 @@ pub record IsBelow (s : State) (x : Context) (i : Item) : Type 0 where
   pub moved : ℕ
   pub old : object_named s.tree saved.object asked.oldname ≡ Some moved
   pub kind : is_directory_at s.tree moved ≡ true
+
+-- .. to a place that is reached from it
+pub record IsBelow (s : State) (x : Context) (i : Item) : Type 0 where
+  pub moves : MovesDirectory s x i
   pub names : List (List ℕ)
-  pub leads : walk s.tree.rows moved names ≡ Some directory
+  pub leads : walk s.tree.rows moves.moved names ≡ Some moves.directory
+
+-- .. in unix from elsewhere to a place that takes more than 2,048 names to reach
+pub record IsTooDeep (s : State) (x : Context) (i : Item) : Type 0 where
+  pub moves : MovesDirectory s x i
+  pub unix : s.tree.profile ≡ Unix
+  pub other : moves.saved.object ≢ moves.directory
+  pub far : (names : List (List ℕ)) → walk s.tree.rows root names ≡ Some moves.directory → 2048 < length names
 
 pub data IsInvalid (s : State) (x : Context) (i : Item) : Type 0 where
   NoName : Gives i [] → IsInvalid s x i

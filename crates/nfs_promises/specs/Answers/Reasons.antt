@@ -23,7 +23,7 @@ use Rattle.nfs_promises.specs.Permission.Permitted.{Right, Reads, Writes, Grants
 use Rattle.nfs_promises.specs.Answers.Asked.{LooksAt, DirectoryOf, NoDirectoryOf, NoLinkOf, NamedOf, Seeks, Gives, made, makes_by, reclaims, is_delegated, Needs}
 use Rattle.nfs_promises.specs.Answers.Asked.{Owns, MaySet, Sets, Touches, adds, attributes_of, size_in, used, Range, locked, InRange, LiesBeside, IsAskers}
 use Rattle.nfs_promises.specs.Answers.Asked.{StateGiven, by_state, IsCurrent, IsNone, IsSpecial, StandsFor}
-use Rattle.nfs_promises.specs.Answers.Invalid.{given_in, values_in, NamesNobody, IsUnknown, AreValues, IsInvalid, shortest, LeavesNoEntry, IsSpent}
+use Rattle.nfs_promises.specs.Answers.Invalid.{given_in, values_in, NamesNobody, IsUnknown, AreValues, IsInvalid, IsTooDeep, shortest, LeavesNoEntry, IsSpent}
 
 -- Of names and objects.
 
@@ -276,7 +276,7 @@ Reason s x i S.NoEnt = IsMissing s x i ⊎ IsNameless s x i
 Reason s x i S.Exist = IsTaken s x i ⊎ (IsInTheWay s x i ⊎ IsThere s x i)
 Reason s x i S.NotEmpty = IsFilled s x i ⊎ IsFilledWay s x i
 Reason s x i S.NameTooLong = ((name : List ℕ) × Gives i name × (most_name < length name))
-    ⊎ ((c : args.Create) × (i ≡ Operation (Op.Create c)) × (text : List ℕ) × (c.objtype ≡ Symlink text) × (most_text < length text))
+    ⊎ (((c : args.Create) × (i ≡ Operation (Op.Create c)) × (text : List ℕ) × (c.objtype ≡ Symlink text) × (most_text < length text)) ⊎ IsTooDeep s x i)
 Reason s x i S.BadChar = (name : List ℕ) × Gives i name × (byte : ℕ) × In byte name × ((byte ≡ 0x2f) ⊎ (byte ≡ 0))
 Reason s x i S.BadName = (name : List ℕ) × Gives i name × ((name ≡ 0x2e ∷ []) ⊎ (name ≡ 0x2e ∷ 0x2e ∷ []))
 Reason s x i S.BadCookie = (a : ReadDir) × (i ≡ Operation (Op.ReadDir a)) × ((a.cookie ≡ 1) ⊎ (a.cookie ≡ 2))
