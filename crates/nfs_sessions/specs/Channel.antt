@@ -2,13 +2,11 @@
 use Rattle.std.specs.Prelude.{ℕ, min, nat_lt, ◌==◌, Bool, ◌||◌, None}
 use Rattle.nfs_xdr.specs.Limits.{most_record}
 use Rattle.nfs_compound.specs.declared.channel_attrs.ChannelAttrs.{ChannelAttrs}
+use Rattle.nfs_slots.specs.SlotTables.{most_slots}
 
--- the most operations of a compound, the most slots of a session, and the least bytes of its longest request and of its longest reply
+-- the most operations of a compound, and the least bytes of a session's longest request and of its longest reply
 abbrev pub most_operations : ℕ
 most_operations = 64
-
-abbrev pub most_slots : ℕ
-most_slots = 16
 
 abbrev pub least_bytes : ℕ
 least_bytes = 2048

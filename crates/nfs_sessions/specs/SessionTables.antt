@@ -2,8 +2,8 @@
 use Rattle.std.specs.Prelude.{◌≤◌, ◌≡◌, ℕ, ◌+◌, List, length, suc, Result, Err, IsOk}
 use Rattle.nfs_xdr.specs.{Limits.most_record, Tables.IsRising}
 use Rattle.nfs_compound.specs.declared.channel_attrs.ChannelAttrs.{ChannelAttrs}
-use Rattle.nfs_slots.specs.{Slot.{judge, kept}, SlotTables.SlotTable, declared.slot.Verdict.TheVariants.Fresh}
-use Rattle.nfs_sessions.specs.Channel.{most_operations, most_slots, least_bytes, rpc_head}
+use Rattle.nfs_slots.specs.{Slot.{judge, kept}, SlotTables.{most_slots, SlotTable}, declared.slot.Verdict.TheVariants.Fresh}
+use Rattle.nfs_sessions.specs.Channel.{most_operations, least_bytes, rpc_head}
 use Rattle.nfs_sessions.specs.{Sessions.{Session, SessionTable, Created}, declared.id.SessionId.SessionId}
 use Rattle.nfs_sessions.specs.{declared.sessions.SessionFault.SessionFault, declared.sessions.SessionFault.TheVariants.Memory}
 

@@ -1,6 +1,6 @@
 -- What every table of slots keeps, and what its calls answer.
 use Rattle.std.specs.{Prelude.{ℕ, ◌≤◌, List, [], replicate, length, slice_get}, Option.option_map_or}
-use Rattle.nfs_xdr.specs.declared.status.Status.{Status}
+use Rattle.nfs_xdr.specs.{Limits.most_record, declared.status.Status.Status}
 use Rattle.nfs_xdr.specs.declared.status.Status.TheVariants as status
 use Rattle.nfs_slots.specs.{Slot.{SlotState, unused_slot, kept}, declared.slot.Verdict.Verdict}
 use Rattle.nfs_slots.specs.declared.slot.Verdict.TheVariants.{Fresh, Again, FalseRetry, Misordered, NoSlot}
@@ -10,6 +10,14 @@ pub record SlotTable : Type 0 where
   pub slots : List SlotState
   pub size : ℕ
   pub request : ℕ
+
+-- the most slots of a session (this server's profile)
+abbrev pub most_slots : ℕ
+most_slots = 16
+
+-- what each keeps is of a request, and of a reply, no longer than a record
+abbrev pub IsKept : (size request : ℕ) → Type 0
+IsKept size request = (size ≤ most_record) × (request ≤ most_record)
 
 abbrev pub unused : ℕ → ℕ → ℕ → SlotTable
 unused count size request = record { slots = replicate count unused_slot; size = size; request = request }

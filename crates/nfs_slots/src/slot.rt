@@ -2,7 +2,7 @@
 
 ghost use Rattle.std.specs.Prelude.{◌≡◌, ◌≤◌, Bool, true, false, [], length, IfOk, vec_capacity};
 ghost use Rattle.nfs_slots.specs.Slot.{judge_slot, unused_slot};
-ghost use Rattle.nfs_slots.specs.SlotTables.{verdict_status};
+ghost use Rattle.nfs_slots.specs.SlotTables.{IsKept, verdict_status};
 ghost use Rattle.nfs_slots.specs.Buffers.{state_of, HasRoom, IsWithinRoom};
 
 use crate::args::Args;
@@ -51,6 +51,7 @@ pub(crate) struct Slot {
 impl Slot {
     /// A slot that took no request yet, with room for a reply of `size` bytes and arguments of `request` bytes.
     pub(crate) fn new(alloc: Global, size: usize, request: usize) -> Result<Slot, AllocError>
+        requires { IsKept size request }
         ensures unused { IfOk result (λ s. state_of s ≡ unused_slot) }
         ensures room { IfOk result (IsWithinRoom size request) }
     {

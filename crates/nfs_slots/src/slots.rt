@@ -2,7 +2,7 @@
 
 ghost use Rattle.std.specs.Prelude.{◌≡◌, ◌≤◌, length, IfOk};
 ghost use Rattle.nfs_slots.specs.Slot.{judge, keep, kept};
-ghost use Rattle.nfs_slots.specs.SlotTables.{unused, IsBounded};
+ghost use Rattle.nfs_slots.specs.SlotTables.{most_slots, IsKept, unused, IsBounded};
 
 use crate::args::Args;
 use crate::slot::{Slot, Verdict};
@@ -30,7 +30,7 @@ impl Model for Slots {
 }
 
 impl Slots {
-    /// `count` slots that took no request yet.
+    /// `count` slots that took no request yet: at most 16, which keep no more than a record each.
     ///
     /// Each reserves room for a reply of `size` bytes and argument bytes of `request` bytes, so that no later
     /// call takes memory. `AllocError` where that room is not to be had.
@@ -40,6 +40,8 @@ impl Slots {
         size: usize,
         request: usize,
     ) -> Result<Slots, AllocError>
+        requires count { count ≤ most_slots }
+        requires kept { IsKept size request }
         ensures { IfOk result (λ t. t ≡ unused count size request) }
     {
         let mut slots = Vec::with_capacity(alloc, count)?;
