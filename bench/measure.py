@@ -105,9 +105,9 @@ def counted(program, script, settings=""):
     return int(found.group(1))
 
 
-def worked(program, script, last):
+def worked(program, script, last, settings=""):
     """The seconds of a processor that a run of the program takes for the end of a script."""
-    with Replay(program=program) as run_:
+    with words_of(settings) as words, Replay(program=program, words=words) as run_:
         run_.takes([script])
         before = seconds_of(run_.process)
         run_.takes([last])

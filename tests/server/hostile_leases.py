@@ -116,7 +116,7 @@ def renames_below(server, makes, depth, connections):
     return [attack(n) for n in range(connections)]
 
 
-def below_many_directories(lease=4, depth=20_000, connections=8, seconds=(9, 9)):
+def below_many_directories(lease=4, depth=2_000, connections=8, seconds=(9, 9)):
     """60 RENAMEs at the bottom of a chain of directories, over all connections but two and then over those two."""
     def phases(server, stack):
         attacks = renames_below(server, stack.enter_context(Peer(server, b"makes")), depth, connections)
@@ -125,7 +125,7 @@ def below_many_directories(lease=4, depth=20_000, connections=8, seconds=(9, 9))
     renewed_in_time(f"leases of {lease} s beside RENAMEs {depth} directories down", lease, phases)
 
 
-def asks_below_many_directories(depth=20_000, counts=(1, 14), seconds=9):
+def asks_below_many_directories(depth=2_000, counts=(1, 14), seconds=9):
     """A good client that asks all the time, beside such RENAMEs over one connection, and over as many as there are places."""
     with Served(30) as server, Good(server, 0.01) as good:
         with Peer(server, b"makes") as makes:
@@ -227,7 +227,7 @@ PARTS = (between_lock_owners, below_many_directories, one_attacker, idle_for_lon
 LONG = {
     "leases of 90 s beside LOCKTs": functools.partial(between_lock_owners, lease=90, owners=100_000, last=58, seconds=(60, 140)),
     "leases of 10 s beside LOCKTs": functools.partial(between_lock_owners, lease=10, owners=100_000, last=58, seconds=(30, 30)),
-    "leases of 10 s beside RENAMEs": functools.partial(below_many_directories, lease=10, depth=60_000, connections=9, seconds=(30, 30)),
-    "waits beside RENAMEs": functools.partial(asks_below_many_directories, depth=60_000, seconds=20),
+    "leases of 10 s beside RENAMEs": functools.partial(below_many_directories, lease=10, connections=9, seconds=(30, 30)),
+    "waits beside RENAMEs": functools.partial(asks_below_many_directories, seconds=20),
     "a million NULL calls": functools.partial(calls_without_a_session, count=1_000_000, calls=by_knocks),
 }
