@@ -18,8 +18,8 @@ SMALL = (4_096, 4_096, 4_096, 64, 1)
 
 
 def Served(lease=30, connections=None, at_once=None, seats=None):  # noqa: N802 (it stands for the class)
-    """The program as instance 7. (A number of connections alone would be served one after the other.)"""
-    return wire.Served(connections, at_once or (16 if connections else None), seats=seats, instance=7, lease=lease)
+    """The program as instance 7, in the profile of a server that lasts. (A number of connections alone would be served one after the other.)"""
+    return wire.Served(connections, at_once or (16 if connections else None), seats=seats, instance=7, profile='"unix"', lease=lease)
 
 
 def field(told, operation, name):

@@ -143,6 +143,7 @@ fault_fails f = elim f as (λ f. is_ok (tree_fault_status f) ≡ false) [
   | Fbig ↦ refl
   | NoSpc ↦ refl
   | Mlink ↦ refl
+  | Deep ↦ refl
   | Counter ↦ refl
   | Memory ↦ refl
 ]
