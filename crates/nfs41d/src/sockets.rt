@@ -79,8 +79,9 @@ pub struct Sockets<'a, R: rt::Clock> {
     patience: Duration,
     /// When it began, if the clock could be read.
     begun: Option<Instant>,
-    /// How many microseconds later the last wait ended.
+    /// How many microseconds later it was when that was last looked at, behind a wait, and what the server's clock read then.
     now: u64,
+    timed: u64,
     /// What was answered, where that is asked for.
     tally: Option<Tally>,
     failed: bool,
@@ -125,6 +126,7 @@ impl<'a, R: Net + AllocGlobal + rt::Clock> Sockets<'a, R> {
             patience: Duration::from_micros(patience(lease)),
             begun: Instant::now(rt).ok(),
             now: 0,
+            timed: read,
             tally: None,
             failed: false,
         })
@@ -288,12 +290,15 @@ impl<R: rt::Clock> Sockets<'_, R> {
         let ready = self.connections.settle();
         let timeout = self.timeout(ready || !may_wait);
         self.looking.look(timeout)?;
-        self.now = self.micros();
         // (the server's clock begins its sweep by the same reading)
         self.charged = self.readings.read_ahead();
         self.pace.begin_sweep(self.charged);
         let told = self.connections.note_all(self.looking.events());
         self.outside.note(told);
+        if self.is_timed() {
+            self.now = self.micros();
+            self.timed = self.charged;
+        }
         ask_all(
             &self.connections,
             &self.places,
@@ -314,6 +319,14 @@ impl<R: rt::Clock> Sockets<'_, R> {
         } else {
             self.patience
         }
+    }
+
+    /// Whether it is to be looked how late it is: somebody may want a port or a seat, or the last look was a while ago (or the server's clock was set).
+    fn is_timed(&self) -> bool {
+        self.asked
+            || self.outside.is_calling()
+            || self.outside.count() != 0
+            || self.charged.wrapping_sub(self.timed) >= SELDOM / 2
     }
 
     /// How many microseconds after the begin it is; where the clock cannot be read, the last one stays.
