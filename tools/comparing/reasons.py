@@ -33,6 +33,7 @@ OF_OPERATION = {(name, status): text for names, status, text in (
     ("REMOVE", "NOTEMPTY", "the directory has entries"),
     ("RENAME", "EXIST", "the new name is there: of another kind, or a directory with entries"),
     ("RENAME", "INVAL", "the target lies below the directory that is moved or is itself that, or a name is empty"),
+    ("RENAME", "NAMETOOLONG", "a name is too long, or a directory would come to lie too deep"),
     ("RENAME", "NOENT", "the old name is not there"),
     ("RESTOREFH", "NOFILEHANDLE", "no filehandle was saved"),
     ("SEQUENCE", "SEQ_MISORDERED", "its number is neither the next of the slot nor the last"),

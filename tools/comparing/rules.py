@@ -135,6 +135,7 @@ ALLOWED = [Row(*words) for words in (
     ("OPEN|CREATE|LOOKUP|REMOVE|RENAME|LINK", "status", "BADCHAR|BADNAME", "OK|NOENT|INVAL|EXIST|BADNAME|BADCHAR|NOTEMPTY|ISDIR", "14.5",
      "which characters a name may have is the server's matter"),
     ("CREATE|OPEN", "status", "NAMETOOLONG", "OK", "5.8.2", "how long the text of a link may be"),
+    ("RENAME", "status", "OK", "NAMETOOLONG", "18.26.4", "how deep a directory may come to lie is the server's matter"),
     (".*", "attr Time_(Access|Modify)", ".*", ".*", "18.16.3", "an exclusive create may keep its verifier there", When.EXCLUSIVE),
     (".*", "attr Mode of a link", ".*", ".*", "6.2.4", "a link's mode has no use"),
     (".*", "(attr|change) .*", ".*", ".*", "6.2.4", "a link's mode has no use", When.A_LINKS_MODE),
