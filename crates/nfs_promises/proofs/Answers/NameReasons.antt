@@ -1,7 +1,7 @@
 -- Operations on names and attributes: what they are refused with has its reason, and what was answered NFS4_OK was granted.
 use Rattle.std.proofs.Common.{◌≡◌, ◌≢◌, ◌⊎◌, ℕ, Bool, true, false, cond, not, List, [], ◌∷◌, length, Option, Some, None, refl, sym, ◌∙◌, ap, subst, inl, inr}
 use Rattle.std.proofs.lemmas.{Bool.Decides.leb_tells, Bool.{and_parts, false≢true, not-false, not-true, eq-eqb, and_cases, or_cases}, Option.same_Some}
-use Rattle.std.specs.{Prelude.{◌||◌, ◌&&◌, option_map, Ok, ok_or, if◌then◌else◌}, Option.option_map_or}
+use Rattle.std.specs.{Prelude.{◌==◌, ◌||◌, ◌&&◌, option_map, Ok, ok_or, if◌then◌else◌}, Option.option_map_or}
 use Rattle.nfs_xdr.specs.{Checks.first_fault, declared.status.Status.Status, declared.time.Time.Time}
 use Rattle.nfs_xdr.specs.declared.status.Status.TheVariants as S
 use Rattle.nfs_xdr.proofs.Checks.{all_passed}
@@ -170,6 +170,7 @@ moving s x a p e has dir =
 
 is_below : (s : State) → IsTree s.tree → (x : Context) (a : Rename) (p : _) → both s x ≡ Ok p → in_order (rename_places x a p) ≡ Ok tt
     → has_name s.tree p.saved.number a.oldname ≡ true → moves s.tree (move_of a p) && is_below_itself s.tree (move_of a p) ≡ true → IsBelow s x (Operation (Op.Rename a))
+unfolding moving
 is_below s tree x a p e placed has below =
     let m : Move = move_of a p in
     let parts = and_parts (is_directory_at s.tree (moved_object s.tree m)) _ (and_parts (moves s.tree m) (is_below_itself s.tree m) below).1 in
@@ -178,6 +179,7 @@ is_below s tree x a p e placed has below =
 
 is_deep : (s : State) → IsTree s.tree → (x : Context) (a : Rename) (p : _) → both s x ≡ Ok p → in_order (rename_places x a p) ≡ Ok tt
     → has_name s.tree p.saved.number a.oldname ≡ true → moves s.tree (move_of a p) && is_too_deep s.tree (move_of a p) ≡ true → IsTooDeep s x (Operation (Op.Rename a))
+unfolding moving
 is_deep s tree x a p e placed has deep =
     let m : Move = move_of a p in
     let unix = and_parts (is_unix s.tree.profile) _ (and_parts (moves s.tree m) (is_too_deep s.tree m) deep).1 in
