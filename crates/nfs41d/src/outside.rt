@@ -1,6 +1,7 @@
 //! Those who were taken from the system and wait for a port.
 
-ghost use Rattle.std.specs.Prelude.{◌≡◌, ◌<◌, length, MatchOption};
+ghost use Rattle.std.specs.Prelude.{◌≡◌, ◌<◌, length, nat_eq, nat_lt, MatchOption};
+ghost use Rattle.std.specs.List.{count_by, list_any};
 ghost use Rattle.nfs41d.specs.Accepting.{lasts};
 
 use mio::net::{TcpListener, TcpStream};
@@ -106,7 +107,9 @@ impl Outside {
     }
 
     /// How many of an address are there.
-    fn crowd(&self, address: u32) -> usize {
+    fn crowd(&self, address: u32) -> usize
+        ensures { result ≡ count_by (λ n. nat_eq n.address address) self.now.newcomers.items }
+    {
         self.newcomers
             .iter()
             .filter(|newcomer| newcomer.address == address)
@@ -114,13 +117,12 @@ impl Outside {
     }
 
     /// Whether two of one address are.
-    fn is_crowded(&self) -> bool {
-        for at in 0..self.newcomers.len() {
-            if self.crowd(self.newcomers[at].address) > 1 {
-                return true;
-            }
-        }
-        false
+    fn is_crowded(&self) -> bool
+        ensures { result ≡ list_any (λ n. nat_lt 1 (count_by (λ other. nat_eq other.address n.address) self.now.newcomers.items)) self.now.newcomers.items }
+    {
+        self.newcomers
+            .iter()
+            .any(|newcomer| self.crowd(newcomer.address) > 1)
     }
 
     /// The last one of an address of which most are there is closed.
