@@ -16,7 +16,7 @@
 #include <unistd.h>
 #include "client.h"
 
-enum { CALLS = 2000, ROUNDS = 50, RAN = 42, MORE = 10, KINDS = 64 };
+enum { CALLS = 2000, ROUNDS = 50, RAN = 42, MORE = 10, KINDS = 64, PAGE = 4096, BLOCK = 65536, FAR = 1000000, MEMORY = 64 << 20 };
 
 static int is_unix;
 
@@ -168,19 +168,27 @@ static void renames(void) {
 }
 
 static void room(void) {
+    static char part[BLOCK];
     struct statvfs a, b;
+    struct stat hole;
     char path[64];
     forget();
     step("the file system tells its room", !statvfs(AT, &a), "errno %d", errno);
     for (int i = 0; i < MORE; i++) {
         snprintf(path, sizeof path, AT "room%d", i);
-        put(path, O_CREAT, "r", 1);
+        put(path, O_CREAT, part, sizeof part);
     }
     sleep(4);
     step("and once more", !statvfs(AT, &b), "errno %d", errno);
-    comes_to("whether there are bytes goes by the profile", a.f_blocks > 0 && a.f_bavail > 0, 1, 0);
+    comes_to("there are as many bytes as the setting memory says, by the profile", a.f_blocks * a.f_frsize, MEMORY, 0);
+    comes_to("of which fewer are left by those that were written", (a.f_bavail - b.f_bavail) * a.f_frsize, MORE * BLOCK, 0);
     comes_to("and objects", a.f_files > 0 && a.f_ffree < a.f_files, 1, 0);
     comes_to("of which fewer are left when some were made", a.f_ffree - b.f_ffree, MORE, 0);
+    int file = open(AT "hole", O_CREAT | O_WRONLY, 0644);
+    step("a byte is written far out", file >= 0 && pwrite(file, "h", 1, FAR) == 1 && !fsync(file) && !close(file), "errno %d", errno);
+    forget();
+    step("and its file looked at", !stat(AT "hole", &hole) && hole.st_size == FAR + 1, "%ld bytes", (long)hole.st_size);
+    comes_to("whether the hole takes room goes by the profile", hole.st_blocks, PAGE / 512, FAR / 512 + 1);
 }
 
 /* A file takes all pages that files may have: its writer hears of it, and what is removed makes room. */

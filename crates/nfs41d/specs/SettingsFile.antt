@@ -1,7 +1,7 @@
 -- What a settings file says: a TOML document of up to nine integers and two texts.
-use Rattle.std.specs.Prelude.{ℕ, pos, List, Bool, true, not, ◌&&◌, ◌||◌, nat_le, Option, Some, None, is_some, option_and_then, codes, bytes_eq, length, if◌then◌else◌}
+use Rattle.std.specs.Prelude.{ℕ, ◌/◌, ◌==◌, pos, List, Bool, true, not, ◌&&◌, ◌||◌, nat_le, Option, Some, None, is_some, option_and_then, codes, bytes_eq, length, if◌then◌else◌}
 use Rattle.toml.specs.{Data.{Data, integer, string, Members, no_members, member, get_member}, Parse.parse_document}
-use Rattle.nfs_tree.specs.{declared.profile.Profile.Profile, declared.profile.Profile.TheVariants.{Exact, Unix}}
+use Rattle.nfs_tree.specs.{declared.profile.Profile.Profile, declared.profile.Profile.TheVariants.{Exact, Unix}, Limits.any_pages}
 use Rattle.nfs41d.specs.declared.settings_file.Given.{Given}
 
 -- an integer from `low` to `high`, or `default` where the key is left out
@@ -64,6 +64,10 @@ default_memory lasting half = if lasting then half else 0
 abbrev pub memory : ℕ → Bool → Members → Option ℕ
 memory half lasting table = number_of 0 70368744177664 (default_memory lasting half) (get_member (codes "memory") table)
 
+-- how many pages of 4,096 bytes lie in so many bytes, of which 0 is no bound
+abbrev pub pages_of : ℕ → ℕ
+pages_of memory = if memory == 0 then any_pages else memory / 4096
+
 -- the most client records: 1 to 65,536
 abbrev pub clients : Members → Option ℕ
 clients table = number_of 1 65536 1024 (get_member (codes "clients") table)
@@ -107,8 +111,7 @@ given (Some lease) (Some mode) (Some instance) (Some owner) (Some bytes) (Some o
   instance = instance;
   owner = owner;
   lasting = lasting;
-  limits = record { objects = objects; bytes = bytes };
-  memory = memory;
+  limits = record { objects = objects; bytes = bytes; pages = pages_of memory };
   seats = seats;
   profile = profile;
   crowd = record { clients = clients; sessions = sessions };

@@ -1,8 +1,10 @@
 //! How much memory the machine has, and how many pages of it files may have.
 
-ghost use Rattle.std.specs.Prelude.{◌≡◌, ◌/◌, ◌^◌, ◌-◌, ◌==◌, if◌then◌else◌};
+ghost use Rattle.std.specs.Prelude.{◌≡◌};
+ghost use Rattle.nfs41d.specs.SettingsFile.{pages_of};
 
 use libc::{_SC_PAGESIZE, sysconf};
+use nfs_tree::Limits;
 
 /// What `sysconf` is asked for how many pages of memory there are (glibc).
 const SC_PHYS_PAGES: i32 = 85;
@@ -22,7 +24,11 @@ fn said(name: i32) -> u64 {
 
 /// How many pages lie in so many bytes, where 0 is no bound.
 pub fn pages_of(memory: u64) -> u64
-    ensures { result ≡ (if memory == 0 then 2 ^ 64 - 1 else memory / 4096) }
+    ensures { result ≡ pages_of memory }
 {
-    if memory == 0 { u64::MAX } else { memory / PAGE }
+    if memory == 0 {
+        Limits::ANY_PAGES
+    } else {
+        memory / PAGE
+    }
 }

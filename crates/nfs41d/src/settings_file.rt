@@ -6,6 +6,7 @@ ghost use Rattle.toml.specs.Errors.{IsBlank};
 ghost use Rattle.toml.specs.View.{view, table_view};
 ghost use Rattle.nfs41d.specs.SettingsFile.{settings_in, settings_of, given, lease, root_mode, instance, file_bytes, objects, memory, connections, profile, clients, sessions, number_of, owner_of, is_owner, lasts, default_bytes, default_objects, default_memory, default_profile, profile_of, profile_named, all_known, is_known};
 
+use crate::machine::pages_of;
 use nfs_names::{Crowd, ServerOwner};
 use nfs_serve::Settings;
 use nfs_tree::{Limits, Profile};
@@ -31,10 +32,8 @@ pub struct Given {
     pub owner: Option<ServerOwner>,
     /// The server lasts: it is for no run that is to be the same twice.
     pub lasting: bool,
-    /// How many objects there may be, and how many bytes a file may have.
+    /// How many objects there may be, how many bytes a file may have, and how many pages all may have.
     pub limits: Limits,
-    /// How many bytes the pages of files may take, or 0 where they have no bound.
-    pub memory: u64,
     /// How many seats for connections there are, where no number is asked for on the command line.
     pub seats: u32,
     /// What the server has of what the RFC leaves open.
@@ -273,8 +272,11 @@ impl Asked {
             instance,
             owner: None,
             lasting,
-            limits: Limits { objects, bytes },
-            memory,
+            limits: Limits {
+                objects,
+                bytes,
+                pages: pages_of(memory),
+            },
             seats,
             profile,
             crowd: Crowd { clients, sessions },

@@ -15,6 +15,10 @@ has mask n = bit_at (get_or mask.words (n / 32) 0) (n % 32) == 1
 abbrev pub asks_set_only : Mask → Bool
 asks_set_only mask = has mask 48 || has mask 54
 
+-- one of those that tell how many objects and bytes there may be, or how many more
+abbrev pub asks_room : Mask → Bool
+asks_room mask = has mask 21 || has mask 22 || has mask 23 || has mask 42 || has mask 43 || has mask 44
+
 -- the words up to the last that is not zero
 abbrev pub without_last_zeros : List ℕ → List ℕ
 without_last_zeros [] = []

@@ -6,7 +6,7 @@ ghost use Rattle.std.specs.List.{list_any};
 ghost use Rattle.nfs_xdr.specs.SheetState.{HasRoom, Puts};
 ghost use Rattle.nfs_attrs.specs.Attributes.{supported, readable};
 ghost use Rattle.nfs_attrs.specs.Following.{Follows};
-ghost use Rattle.nfs_attrs.specs.Mask.{mask_of, has, asks_set_only, trimmed_words, spell_mask, common, within, numbers_of};
+ghost use Rattle.nfs_attrs.specs.Mask.{mask_of, has, asks_set_only, asks_room, trimmed_words, spell_mask, common, within, numbers_of};
 
 use crate::attribute;
 use crate::following::{number_follows, numbers_follow};
@@ -117,6 +117,19 @@ impl Mask {
         ensures { result ≡ asks_set_only self.now }
     {
         self.has(attribute::TIME_ACCESS_SET) || self.has(attribute::TIME_MODIFY_SET)
+    }
+
+    /// Whether it has one of the attributes that tell how many objects and bytes there may be, or how many more: `files_avail`,
+    /// `files_free`, `files_total`, `space_avail`, `space_free` and `space_total`.
+    pub fn asks_room(&self) -> bool
+        ensures { result ≡ asks_room self.now }
+    {
+        self.has(attribute::FILES_AVAIL)
+            || self.has(attribute::FILES_FREE)
+            || self.has(attribute::FILES_TOTAL)
+            || self.has(attribute::SPACE_AVAIL)
+            || self.has(attribute::SPACE_FREE)
+            || self.has(attribute::SPACE_TOTAL)
     }
 
     /// The words of the mask as it is written: without zero words at its end.

@@ -49,11 +49,4 @@ impl Tables {
     {
         self.store.tidy()
     }
-
-    /// Has so many pages at most for the bytes of files and the texts of links.
-    pub(crate) fn bound_pages(&mut self, pages: u64)
-        ensures { machine_of self.new ≡ machine_of self.old }
-    {
-        self.store.bound_pages(pages);
-    }
 }

@@ -133,12 +133,4 @@ impl World {
     {
         self.tables.tidy()
     }
-
-    /// Has so many pages at most, of 4,096 bytes each, for the bytes of files and the texts of links. What needs one more is refused, as if
-    /// there were no memory for it. Contracts see no more of it than of memory.
-    pub fn bound_pages(&mut self, pages: u64)
-        ensures { machine_of self.new ≡ machine_of self.old }
-    {
-        self.tables.bound_pages(pages);
-    }
 }

@@ -6,7 +6,7 @@ use Rattle.nfs_xdr.specs.declared.time.Time.{Time}
 use Rattle.nfs_xdr.proofs.Lists.{find_in, find_past, find_push_some}
 use Rattle.nfs_tree.specs.{declared.sets.Sets.Sets, declared.stored.Stored.Stored, Object.{modified, no_sets}}
 use Rattle.nfs_tree.specs.Files.{Files, stored_in, is_there, change_of, change_at, with_changed, with_entries_changed, with_links_changed, number_named}
-use Rattle.nfs_tree.specs.{Create.{New, with_new, new_object}, Names.{with_link, without_name, Move, replaced_object, touched_object, with_moved}, Bytes.with_bytes}
+use Rattle.nfs_tree.specs.{Create.{New, with_new, new_object}, Names.{with_link, without_name, Move, replaced_object, touched_object, with_moved}, Bytes.{Content, with_bytes}}
 use Rattle.nfs_tree.proofs.Objects.{keeps_changed, stored_map}
 use Rattle.nfs_names.specs.State.{State, is_used, without_unused}
 
@@ -42,18 +42,18 @@ pub at_other : (n m : ℕ) (now : Time) (sets : Sets) (xs : List Stored) (change
 at_other n m now sets xs change other at = at_map n xs change change (change_at m now sets) (keeps_changed m now sets []).number
     (λ s here is. rw (ne_eqb s.number m (λ same. other (sym same ∙ here))) is) at
 
-abbrev put : ℕ → Time → Sets → (Stored → List ℕ) → Stored → Stored
+abbrev put : ℕ → Time → Sets → (Stored → Content) → Stored → Stored
 put m now sets bytes s = if s.number == m then with_bytes now sets (bytes s) s else s
 
-put_number : (m : ℕ) (now : Time) (sets : Sets) (bytes : Stored → List ℕ) (s : Stored) → (put m now sets bytes s).number ≡ s.number
+put_number : (m : ℕ) (now : Time) (sets : Sets) (bytes : Stored → Content) (s : Stored) → (put m now sets bytes s).number ≡ s.number
 put_number m now sets bytes s = elim (s.number == m) as (λ v. (cond v (with_bytes now sets (bytes s) s) s).number ≡ s.number) [ true ↦ refl | false ↦ refl ]
 
-pub bytes_here : (n : ℕ) (now : Time) (sets : Sets) (bytes : Stored → List ℕ) (xs : List Stored) (change : ℕ) → At n xs change
+pub bytes_here : (n : ℕ) (now : Time) (sets : Sets) (bytes : Stored → Content) (xs : List Stored) (change : ℕ) → At n xs change
     → At n (map (λ (s : Stored). if s.number == n then with_bytes now sets (bytes s) s else s) xs) (change + 1)
 bytes_here n now sets bytes xs change at = at_map n xs change (change + 1) (put n now sets bytes) (put_number n now sets bytes)
     (λ s here is. rw (eq-eqb s.number n here) (ap (λ (k : ℕ). k + 1) is)) at
 
-pub bytes_other : (n m : ℕ) (now : Time) (sets : Sets) (bytes : Stored → List ℕ) (xs : List Stored) (change : ℕ) → m ≢ n → At n xs change
+pub bytes_other : (n m : ℕ) (now : Time) (sets : Sets) (bytes : Stored → Content) (xs : List Stored) (change : ℕ) → m ≢ n → At n xs change
     → At n (map (λ (s : Stored). if s.number == m then with_bytes now sets (bytes s) s else s) xs) change
 bytes_other n m now sets bytes xs change other at = at_map n xs change change (put m now sets bytes) (put_number m now sets bytes)
     (λ s here is. rw (ne_eqb s.number m (λ same. other (sym same ∙ here))) is) at
@@ -78,7 +78,7 @@ new_at t d name new sets now change at =
     record {
       object = is.object;
       there = find_push_some (λ (s : Stored). s.number == d) (with_entries_changed d now t.objects)
-          (record { number = t.last_object + 1; object = new_object now new sets; bytes = new.bytes }) is.object is.there;
+          (record { number = t.last_object + 1; object = new_object now new sets; bytes = new.bytes; pages = new.pages }) is.object is.there;
       is = is.is;
     }
 

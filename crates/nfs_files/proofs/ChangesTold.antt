@@ -15,7 +15,7 @@ use Rattle.nfs_tree.specs.{declared.object.FileType.FileType, declared.object.Fi
 use Rattle.nfs_tree.specs.{declared.row.Row.Row, declared.sets.Sets.Sets, Object.{is_directory, is_regular}}
 use Rattle.nfs_tree.specs.Files.{Files, root, stored_in, is_there, is_directory_at, change_of, entry, has_name, has_entries, number_named, object_named, raised}
 use Rattle.nfs_tree.specs.Files.{unraised}
-use Rattle.nfs_tree.specs.{Bytes.{has_bytes, written, resized, with_written, with_resized, with_sets}, Calls.is_regular_at, Create.with_new}
+use Rattle.nfs_tree.specs.{Bytes.{has_bytes, with_text, with_size, with_written, with_resized, with_sets}, Stored.content_of, Calls.is_regular_at, Create.with_new}
 use Rattle.nfs_tree.specs.Names.{Move, link_checks, rename_checks, moves, replaced_object, is_unlike, is_in_the_way, with_link, without_name, with_moved}
 use Rattle.nfs_tree.specs.TreeInvariants.{IsTree}
 use Rattle.nfs_tree.proofs.{Objects.stored_within, Trees.{remove_granted, has_one, apart}, Moved.{move_granted, touched_source, touched_target}}
@@ -249,7 +249,7 @@ cut_info t place g sets now true there other = record {
   atomic = refl;
   before = refl;
   after = sym (change_is (with_resized t g 0 sets now) place (change_of t place)
-      (bytes_other place g now sets (λ s. resized s.bytes 0) t.objects (change_of t place) (other refl) (at_now t place there)));
+      (bytes_other place g now sets (λ s. with_size (content_of s) 0) t.objects (change_of t place) (other refl) (at_now t place there)));
 }
 
 opened_info : (s : store.State) (x : Context) (now : Time) (a : Open) (f : Found) (n : ℕ) → open_parts.asked_for s x a ≡ Ok f → Is s x a f → x.current ≡ Some n
@@ -290,7 +290,7 @@ written_raises : (n : ℕ) (s : store.State) (x : Context) (now : Time) (w : Wri
     → Raises n s.tree (of_write.with_bytes s.tree x w d now)
 written_raises n s x now w d same there some =
     rw (some, same) (goes_up n s.tree (with_written s.tree n w.offset w.bytes (behind_sets s.tree x d) now)
-    (bytes_here n now (behind_sets s.tree x d) (λ s. written s.bytes w.offset w.bytes) s.tree.objects (change_of s.tree n) (at_now s.tree n there)))
+    (bytes_here n now (behind_sets s.tree x d) (λ s. with_text (content_of s) w.offset w.bytes) s.tree.objects (change_of s.tree n) (at_now s.tree n there)))
 
 pub write_raises : (n : ℕ) (refused : Bool) (s : store.State) (x : Context) (now : Time) (w : Write) → x.current ≡ Some n → is_there s.tree n ≡ true → has_bytes w.bytes ≡ true
     → Done (λ o. Raises n s.tree o.state.tree) (one_or_delay refused s x now (Op.Write w))
@@ -308,7 +308,7 @@ set_raises : (t : Files) (x : Context) (d : Node) (now : Time) (wanted : Wanted)
     → Raises d.number t (of_set.with_set t x d now wanted size)
 set_raises t x d now wanted (Some size) there some =
     goes_up d.number t (with_resized t d.number size (of_set.settled_sets t x d now wanted) now)
-    (bytes_here d.number now (of_set.settled_sets t x d now wanted) (λ s. resized s.bytes size) t.objects (change_of t d.number) (at_now t d.number there))
+    (bytes_here d.number now (of_set.settled_sets t x d now wanted) (λ s. with_size (content_of s) size) t.objects (change_of t d.number) (at_now t d.number there))
 set_raises t x d now wanted None there some =
     rw some (goes_up d.number t (with_sets t d.number (of_set.settled_sets t x d now wanted) now)
     (at_here d.number now (of_set.settled_sets t x d now wanted) t.objects (change_of t d.number) (at_now t d.number there)))
@@ -336,7 +336,7 @@ opened_raises n s x now a (There place g cut) is there empties =
     let both = and_parts cut (g.number == n) (sym (is.empties n) ∙ empties) in
     let same : g.number ≡ n = eqb-true g.number n both.1 in
     rw (both.0, same) (goes_up n s.tree (with_resized s.tree n 0 (behind_sets s.tree x g) now)
-    (bytes_here n now (behind_sets s.tree x g) (λ s. resized s.bytes 0) s.tree.objects (change_of s.tree n) (at_now s.tree n there)))
+    (bytes_here n now (behind_sets s.tree x g) (λ s. with_size (content_of s) 0) s.tree.objects (change_of s.tree n) (at_now s.tree n there)))
 opened_raises n s x now a (Absent m) is there empties =
     absurd (false≢true (sym (ap (λ (k : Option ℕ). is_number n k && asks_empty a) is.none) ∙ empties))
 

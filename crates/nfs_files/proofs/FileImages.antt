@@ -7,10 +7,10 @@ use Rattle.std.specs.{Prelude.{◌==◌, ◌&&◌, nat_lt, filter, option_map, m
 use Rattle.nfs_xdr.specs.declared.time.Time.{Time}
 use Rattle.nfs_xdr.proofs.Lists.{find_in, find_past, find_out, find_push_other}
 use Rattle.nfs_results.specs.Largest.{given}
-use Rattle.nfs_tree.specs.{declared.sets.Sets.Sets, declared.stored.Stored.Stored, Object.{changed, modified, no_sets}}
+use Rattle.nfs_tree.specs.{declared.sets.Sets.Sets, declared.stored.Stored.Stored, Stored.content_of, Object.{changed, modified, no_sets}}
 use Rattle.nfs_tree.specs.Files.{Files, stored_in, change_at, with_changed, with_entries_changed, with_links_changed, number_named, object_named}
 use Rattle.nfs_tree.specs.{Create.{New, with_new, new_object}, Names.{with_link, without_name, Move, replaced_object, touched_object, with_both_changed, with_moved}}
-use Rattle.nfs_tree.specs.Bytes.{written_byte, written, resized, with_bytes, with_written, with_resized, with_sets}
+use Rattle.nfs_tree.specs.Bytes.{Content, written_byte, written, resized, with_text, with_size, with_bytes, with_written, with_resized, with_sets}
 use Rattle.nfs_tree.proofs.Objects.{keeps_changed, stored_map}
 use Rattle.nfs_names.specs.State as store
 use Rattle.nfs_names.specs.{State.{with_tree, is_used, without_unused}, Ending.{with_opens, table_staying, staying}, Rename.without_replaced}
@@ -125,14 +125,14 @@ at_two n img c d now xs holds = elim (cases_Bool (c == d)) [
 ]
 
 -- the file of one number alone gets other bytes
-at_bytes : (n : ℕ) (img later : Image) (m : ℕ) (now : Time) (sets : Sets) (bytes : List ℕ → List ℕ) (xs : List Stored)
-    → (m ≡ n → (b : List ℕ) → IsOf img b → IsOf later (bytes b)) → (m ≢ n → (b : List ℕ) → IsOf img b → IsOf later b)
-    → Holds n img xs → Holds n later (map (λ (s : Stored). if s.number == m then with_bytes now sets (bytes s.bytes) s else s) xs)
-at_bytes n img later m now sets bytes xs here other holds =
-    at_map n img later (λ (s : Stored). if s.number == m then with_bytes now sets (bytes s.bytes) s else s) xs
-    (λ s. elim (s.number == m) as (λ v. (cond v (with_bytes now sets (bytes s.bytes) s) s).number ≡ s.number) [ true ↦ refl | false ↦ refl ])
+at_bytes : (n : ℕ) (img later : Image) (m : ℕ) (now : Time) (sets : Sets) (content : Stored → Content) (xs : List Stored)
+    → (m ≡ n → (s : Stored) → IsOf img s.bytes → IsOf later (content s).bytes) → (m ≢ n → (b : List ℕ) → IsOf img b → IsOf later b)
+    → Holds n img xs → Holds n later (map (λ (s : Stored). if s.number == m then with_bytes now sets (content s) s else s) xs)
+at_bytes n img later m now sets content xs here other holds =
+    at_map n img later (λ (s : Stored). if s.number == m then with_bytes now sets (content s) s else s) xs
+    (λ s. elim (s.number == m) as (λ v. (cond v (with_bytes now sets (content s) s) s).number ≡ s.number) [ true ↦ refl | false ↦ refl ])
     (λ s at is. elim (cases_eq s.number m) [
-      | inl same ↦ rw (eq-eqb s.number m same) (here (sym same ∙ at) s.bytes is)
+      | inl same ↦ rw (eq-eqb s.number m same) (here (sym same ∙ at) s is)
       | inr differ ↦ rw (ne_eqb s.number m differ) (other (λ e. differ (at ∙ sym e)) s.bytes is)
     ]) holds
 
@@ -145,7 +145,7 @@ pub record Has (n : ℕ) (img : Image) (t : Files) : Type 0 where
 
 pub has_new : (n : ℕ) (img : Image) (t : Files) (d : ℕ) (name : List ℕ) (new : New) (sets : Sets) (now : Time) → Has n img t → Has n img (with_new t d name new sets now)
 has_new n img t d name new sets now is =
-    let made : Stored = record { number = t.last_object + 1; object = new_object now new sets; bytes = new.bytes } in
+    let made : Stored = record { number = t.last_object + 1; object = new_object now new sets; bytes = new.bytes; pages = new.pages } in
     let low = is.given in
     let other : t.last_object + 1 ≢ n = λ same. omega arith in
     record {
@@ -179,16 +179,16 @@ pub has_written : (n : ℕ) (img : Image) (t : Files) (m offset : ℕ) (text : L
 has_written n img t m offset text sets now is = record {
   given = is.given;
   holds = at_bytes n img (if m == n then record { size = max img.size (offset + length text); byte = byte_over img offset text } else img) m now sets
-      (λ b. written b offset text) t.objects
-      (λ same b of_b. rw (eq-eqb m n same) (written_is img b offset text of_b)) (λ differ b of_b. rw (ne_eqb m n differ) of_b) is.holds;
+      (λ s. with_text (content_of s) offset text) t.objects
+      (λ same s of_s. rw (eq-eqb m n same) (written_is img s.bytes offset text of_s)) (λ differ b of_b. rw (ne_eqb m n differ) of_b) is.holds;
 }
 
 pub has_resized : (n : ℕ) (img : Image) (t : Files) (m size : ℕ) (sets : Sets) (now : Time) → Has n img t
     → Has n (if m == n then cut_to img (Some size) else img) (with_resized t m size sets now)
 has_resized n img t m size sets now is = record {
   given = is.given;
-  holds = at_bytes n img (if m == n then cut_to img (Some size) else img) m now sets (λ b. resized b size) t.objects
-      (λ same b of_b. rw (eq-eqb m n same) (resized_is img b size of_b)) (λ differ b of_b. rw (ne_eqb m n differ) of_b) is.holds;
+  holds = at_bytes n img (if m == n then cut_to img (Some size) else img) m now sets (λ s. with_size (content_of s) size) t.objects
+      (λ same s of_s. rw (eq-eqb m n same) (resized_is img s.bytes size of_s)) (λ differ b of_b. rw (ne_eqb m n differ) of_b) is.holds;
 }
 
 -- Names, and objects that go for want of use.

@@ -17,7 +17,7 @@ use Rattle.nfs_results.specs.Results.{status_of_result, refusal}
 use Rattle.nfs_ranges.specs.declared.Held.{Held}
 use Rattle.nfs_tree.specs.{declared.object.Object.Object, declared.stored.Stored.Stored, declared.sets.Sets.Sets, Object.{is_directory, modified, no_sets}}
 use Rattle.nfs_tree.specs.Files.{Files, stored_in, object_at, is_there, is_directory_at, object_named, change_at, with_entries_changed}
-use Rattle.nfs_tree.specs.{Bytes.{has_bytes, resized, with_bytes, with_resized}, Create.{new_file, with_new, new_object}}
+use Rattle.nfs_tree.specs.{Bytes.{has_bytes, with_size, with_bytes, with_resized}, Stored.content_of, Create.{new_file, with_new, new_object}}
 use Rattle.nfs_tree.proofs.Objects.{keeps_changed, stored_map}
 use Rattle.nfs_attrs.specs.declared.wanted.Wanted.{Wanted}
 use Rattle.nfs_opens.specs.Closing as closing
@@ -385,8 +385,8 @@ none_there (Some s) e = absurd (false≢true (sym e))
 
 cut_there : (n : ℕ) (t : Files) (g : ℕ) (sets : Sets) (now : Time) (cut : Bool) → is_there (if cut then with_resized t g 0 sets now else t) n ≡ is_there t n
 cut_there n t g sets now true =
-    there_map (λ (s : Stored). if s.number == g then with_bytes now sets (resized s.bytes 0) s else s) n t.objects
-    (λ s. elim (s.number == g) as (λ v. (cond v (with_bytes now sets (resized s.bytes 0) s) s).number ≡ s.number) [ true ↦ refl | false ↦ refl ])
+    there_map (λ (s : Stored). if s.number == g then with_bytes now sets (with_size (content_of s) 0) s else s) n t.objects
+    (λ s. elim (s.number == g) as (λ v. (cond v (with_bytes now sets (with_size (content_of s) 0) s) s).number ≡ s.number) [ true ↦ refl | false ↦ refl ])
 cut_there n t g sets now false = refl
 
 new_there : (n : ℕ) (t : Files) (d : ℕ) (name : List ℕ) (size : ℕ) (verifier : Option (List ℕ)) (sets : Sets) (now : Time) → is_there t n ≡ false
@@ -402,7 +402,7 @@ new_there n t d name size verifier sets now free there = elim (cases_eq (t.last_
 ]
   where
     made : Stored
-    made = record { number = t.last_object + 1; object = new_object now (new_file size verifier) sets; bytes = replicate size 0 }
+    made = record { number = t.last_object + 1; object = new_object now (new_file size verifier) sets; bytes = replicate size 0; pages = [] }
 
     before : is_some (stored_in (with_entries_changed d now t.objects) n) ≡ false
     before = there_map (change_at d now (modified now no_sets)) n t.objects (keeps_changed d now (modified now no_sets) []).number ∙ free

@@ -2,7 +2,7 @@
 use Rattle.std.proofs.Common.{◌≡◌, ℕ, true, false, cond, List, map, Option, Some, None, refl, ◌∙◌, ap}
 use Rattle.std.specs.Prelude.{◌==◌, option_map, if◌then◌else◌}
 use Rattle.nfs_xdr.specs.declared.time.Time.{Time}
-use Rattle.nfs_tree.specs.{declared.sets.Sets.Sets, declared.stored.Stored.Stored, Bytes.with_bytes, Files.stored_in}
+use Rattle.nfs_tree.specs.{declared.sets.Sets.Sets, declared.stored.Stored.Stored, Bytes.{Content, with_bytes}, Files.stored_in}
 use Rattle.nfs_tree.proofs.Objects.{stored_map}
 use Rattle.nfs_names.proofs.StoreInvariants.{kind_in}
 
@@ -12,7 +12,7 @@ kind_by f same None = refl
 kind_by f same (Some s) = ap Some (same s)
 
 -- other bytes of one file
-pub kind_bytes : (objects : List Stored) (n m : ℕ) (now : Time) (sets : Sets) (bytes : Stored → List ℕ)
+pub kind_bytes : (objects : List Stored) (n m : ℕ) (now : Time) (sets : Sets) (bytes : Stored → Content)
     → kind_in (map (λ s. if s.number == n then with_bytes now sets (bytes s) s else s) objects) m ≡ kind_in objects m
 kind_bytes objects n m now sets bytes =
     let f : Stored → Stored = λ s. if s.number == n then with_bytes now sets (bytes s) s else s in

@@ -11,7 +11,7 @@ use Rattle.nfs_compound.specs.declared.open_args.OpenClaim.TheVariants.{Null, Pr
 use Rattle.nfs_compound.specs.declared.op.Item.TheVariants.{Operation}
 use Rattle.nfs_compound.specs.declared.op.Op.TheVariants as Op
 use Rattle.nfs_tree.specs.{declared.stored.Stored.Stored, Object.is_regular, Files.{Files, root, stored_in, object_named, with_entries_changed}}
-use Rattle.nfs_tree.specs.{Calls.is_regular_at, Create.new_object, Bytes.{resized, with_resized}, TreeInvariants.IsTree}
+use Rattle.nfs_tree.specs.{Calls.is_regular_at, Create.new_object, Bytes.{with_size, with_resized}, Stored.content_of, TreeInvariants.IsTree}
 use Rattle.nfs_opens.specs.{declared.stateid.StateId.StateId, Opening.opens}
 use Rattle.nfs_names.specs.{declared.context.Context.Context, declared.node.Node.Node, declared.making.Making.Making, State.State, Outcome.{mapped, checked}}
 use Rattle.nfs_names.specs.{Checks.{node_at, current}, Create.attributes_in}
@@ -168,13 +168,14 @@ made_regular t x now o m is =
       number = t.last_object + 1;
       object = new_object now (new_of o m.wanted) (made_sets t x now o m);
       bytes = (new_of o m.wanted).bytes;
+      pages = (new_of o m.wanted).pages;
     } in
     number_regular (objects ++ made ∷ []) made root (t.last_object + 1 + 1) is.objects (last_in objects made) refl _ refl
 
 cut_regular : (t : Files) (x : Context) (now : Time) (o : Open) (place : ℕ) (f : Node) (cut : Bool)
     → is_regular_at t f.number ≡ true → is_regular_at (tree_of t x now o (There place f cut)) f.number ≡ true
 cut_regular t x now o place f true e =
-    regular_same (with_resized t f.number 0 (behind_sets t x f) now) t f.number (kind_bytes t.objects f.number f.number now (behind_sets t x f) (λ k. resized k.bytes 0)) ∙ e
+    regular_same (with_resized t f.number 0 (behind_sets t x f) now) t f.number (kind_bytes t.objects f.number f.number now (behind_sets t x f) (λ k. with_size (content_of k) 0)) ∙ e
 cut_regular t x now o place f false e = e
 
 -- the file that is opened, in the tree that OPEN leaves

@@ -1,5 +1,5 @@
 -- What the table of opens refuses leaves it as it was, and what is answered then.
-use Rattle.std.proofs.{Common.{◌≡◌, ◌⊎◌, Bool, true, false, cond, not, [], refl, sym, ◌∙◌, ap, inl, inr}, lemmas.Bool.and_right}
+use Rattle.std.proofs.{Common.{◌≡◌, ◌⊎◌, Bool, true, false, cond, not, refl, sym, ◌∙◌, ap, inl, inr}, lemmas.Bool.and_right}
 use Rattle.std.specs.Prelude.{Result, Ok, Err, ◌&&◌, IsOk}
 use Rattle.nfs_xdr.specs.{declared.status.Status.Status}
 use Rattle.nfs_xdr.specs.declared.status.Status.TheVariants as S

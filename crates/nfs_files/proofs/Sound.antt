@@ -4,7 +4,7 @@ use Rattle.std.specs.{Prelude.{◌==◌, ◌||◌, filter, if◌then◌else◌},
 use Rattle.nfs_xdr.specs.{Tables.In, declared.time.Time.Time}
 use Rattle.nfs_xdr.proofs.Lists.{in_any, any_in, stays_in, in_filter}
 use Rattle.nfs_compound.specs.declared.op.Item.{Item}
-use Rattle.nfs_tree.specs.{Files.{next_count, root, has_row}, Bytes.{written, resized, with_written, with_resized, with_sets}, TreeInvariants.IsTree}
+use Rattle.nfs_tree.specs.{Files.{next_count, root, has_row}, Bytes.{with_text, with_size, with_written, with_resized, with_sets}, Stored.content_of, TreeInvariants.IsTree}
 use Rattle.nfs_tree.proofs.{Trees.{tree_changed, tree_counts}, Sized.{tree_written, tree_resized}}
 use Rattle.nfs_opens.specs.{declared.share.Share.Share, declared.records.OpenState.OpenState, Table.Table, TableInvariants.IsTable, Opening.narrows}
 use Rattle.nfs_opens.specs.Closing.{without_open}
@@ -73,9 +73,9 @@ but_closed s client n file closing is = record {
 store_kept : (s : State) (client : ℕ) (e : Effect) → Fits s client e → IsTree s.tree → IsStore s → IsStore (behind s e)
 store_kept s client (Names e) fits tree is = names.store_kept s e tree is
 store_kept s client (Writes n offset text sets now) fits tree is = store_by s (with_written s.tree n offset text sets now)
-    (λ m. kind_bytes s.tree.objects n m now sets (λ k. written k.bytes offset text)) (λ m some. some) is
+    (λ m. kind_bytes s.tree.objects n m now sets (λ k. with_text (content_of k) offset text)) (λ m some. some) is
 store_kept s client (Resizes n size sets now) fits tree is = store_by s (with_resized s.tree n size sets now)
-    (λ m. kind_bytes s.tree.objects n m now sets (λ k. resized k.bytes size)) (λ m some. some) is
+    (λ m. kind_bytes s.tree.objects n m now sets (λ k. with_size (content_of k) size)) (λ m some. some) is
 store_kept s client (Changes n sets now) fits tree is = store_by s (with_sets s.tree n sets now)
     (λ m. kind_changed s.tree.objects n m now sets) (λ m some. some) is
 store_kept s client (Opens a) fits tree is = store_opened s s.tree a (fits.regular tree) is

@@ -1,5 +1,5 @@
 -- CLOSE, FREE_STATEID, LOCKU and OPEN_DOWNGRADE: the results that they may have.
-use Rattle.std.proofs.Common.{ℕ, length, Some, None, refl}
+use Rattle.std.proofs.Common.{ℕ, Some, None, refl}
 use Rattle.std.specs.Prelude.{Result, Ok, ok_or, not}
 use Rattle.nfs_xdr.specs.{Spelling.number, declared.status.Status.Status}
 use Rattle.nfs_xdr.specs.declared.status.Status.TheVariants as S

@@ -7,8 +7,8 @@ use Rattle.std.specs.{Prelude.{nat_le, ◌==◌, is_some, filter, nat_lt, ◌&&�
 use Rattle.nfs_xdr.specs.{SheetState.{SheetState, Puts}, Spelling.{padding, opaque}, Tables.In}
 use Rattle.nfs_results.specs.{declared.res.Entry.Entry, Straight.{entry_text, entry_head}, Items.fattr, Largest.given}
 use Rattle.nfs_xdr.proofs.{Putting.{length_number, length_hyper}, Lists.{in_map, in_filter}}
-use Rattle.nfs_tree.specs.{declared.object.Object.Object, declared.profile.Profile.Profile, declared.row.Row.Row, declared.stored.Stored.Stored, TreeInvariants.IsTree}
-use Rattle.nfs_tree.specs.Files.{Files, Listed, listed, listing, stored_in, is_there, data_at, object_at}
+use Rattle.nfs_tree.specs.{declared.object.Object.Object, declared.profile.Profile.Profile, declared.row.Row.Row, declared.stored.Stored.Stored, declared.stored.Size.Size, Stored.{content_of, size_of}, TreeInvariants.IsTree}
+use Rattle.nfs_tree.specs.Files.{Files, Listed, listed, listing, stored_in, is_there, size_at, object_at}
 use Rattle.nfs_attrs.specs.{declared.mask.Mask.Mask, Attributes.{values, readable, spell_attrs}, Mask.{mask_of, common, spell_mask}, declared.about.About.About}
 use Rattle.nfs_names.specs.{State.State, Attributes.about, ReadDir.{attributes_at, entry_of, longest, fitting, left}, Lists.PutsWithin}
 use Rattle.nfs_names.specs.declared.node.Node.{Node}
@@ -152,13 +152,13 @@ listed_there t d cookie is e there =
     some_object : (t : Files) (n : ℕ) → is_there t n ≡ true → is_some (object_at t n) ≡ true
     some_object t n e = some_by (stored_in t.objects n) e
 
--- an object and how many bytes it has
-abbrev measured : Stored → Object × ℕ
-measured s = (s.object, length s.bytes)
+-- an object, and how many bytes and pages it has
+abbrev pub measured : Stored → Object × Size
+measured s = (s.object, size_of (content_of s))
 
 -- an object that is there is found among the same objects ..
 pub found_there : (t : Files) (objects : List Stored) (n : ℕ) → objects ≡ t.objects → is_some (object_at t n) ≡ true
-    → None ≡ option_map {U = Object × ℕ} (λ (s : Stored). (s.object, length s.bytes)) (stored_in objects n) → ⊥
+    → None ≡ option_map {U = Object × Size} (λ (s : Stored). (s.object, size_of (content_of s))) (stored_in objects n) → ⊥
 found_there t objects n are there none =
     by_option (stored_in t.objects n) (none ∙ ap (λ (xs : List Stored). option_map measured (stored_in xs n)) are) there
   where
@@ -167,18 +167,19 @@ found_there t objects n are there none =
     by_option (Some w) e there = cc
 
 -- .. and is the tree's, as is its size
-pub found_measured : (t : Files) (objects : List Stored) (n : ℕ) (p : Object × ℕ) → objects ≡ t.objects
-    → Some p ≡ option_map {U = Object × ℕ} (λ (s : Stored). (s.object, length s.bytes)) (stored_in objects n) → (Some p.0 ≡ object_at t n) × (p.1 ≡ length (data_at t n))
+pub found_measured : (t : Files) (objects : List Stored) (n : ℕ) (p : Object × Size) → objects ≡ t.objects
+    → Some p ≡ option_map {U = Object × Size} (λ (s : Stored). (s.object, size_of (content_of s))) (stored_in objects n) → (Some p.0 ≡ object_at t n) × (p.1 ≡ size_at t n)
 found_measured t objects n p are found = by_option (stored_in t.objects n) refl
   where
-    by_option : (o : Option Stored) → stored_in t.objects n ≡ o → (Some p.0 ≡ object_at t n) × (p.1 ≡ length (data_at t n))
+    by_option : (o : Option Stored) → stored_in t.objects n ≡ o → (Some p.0 ≡ object_at t n) × (p.1 ≡ size_at t n)
     by_option None h =
         absurd (let bad : Some p ≡ None = found ∙ ap (λ (xs : List Stored). option_map measured (stored_in xs n)) are ∙ ap (option_map measured) h in cc)
     by_option (Some w) h =
         let is : Some p ≡ Some (measured w) = found ∙ ap (λ (xs : List Stored). option_map measured (stored_in xs n)) are ∙ ap (option_map measured) h in
         let same : p ≡ measured w = cc in (
-          ap (λ (q : Object × ℕ). Some q.0) same ∙ sym (ap (option_map (λ (s : Stored). s.object)) h),
-          ap (λ (q : Object × ℕ). q.1) same ∙ sym (ap (λ (o : Option Stored). length (option_map_or (λ (s : Stored). s.bytes) o [])) h),
+          ap (λ (q : Object × Size). Some q.0) same ∙ sym (ap (option_map (λ (s : Stored). s.object)) h),
+          ap (λ (q : Object × Size). q.1) same
+              ∙ sym (ap (λ (o : Option Stored). option_map_or (λ (s : Stored). size_of (content_of s)) o (record { bytes = 0; pages = 0 })) h),
         )
 
 -- what is told of what is asked for, where it was asked for by an equal mask

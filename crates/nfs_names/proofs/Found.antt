@@ -3,8 +3,8 @@ use Rattle.std.proofs.Common.{◌≡◌, ℕ, ◌≤◌, Bool, true, false, cond
 use Rattle.std.proofs.lemmas.Bool.{and_from, ltb-false, lt-ltb, le-leb}
 use Rattle.std.specs.{Prelude.{Result, Ok, Err, is_some, nat_lt, nat_le, ◌==◌, ◌&&◌}, Option.option_map_or}
 use Rattle.nfs_xdr.specs.{Checks.{first_fault, judged}, declared.status.Status.Status}
-use Rattle.nfs_tree.specs.{declared.object.Object.Object, declared.stored.Stored.Stored, Object.is_directory}
-use Rattle.nfs_tree.specs.Files.{Files, most_name, is_name, stored_in, data_at, object_at, is_there, is_directory_at}
+use Rattle.nfs_tree.specs.{declared.object.Object.Object, declared.stored.Stored.Stored, declared.stored.Size.Size, Stored.{content_of, size_of}, Object.is_directory}
+use Rattle.nfs_tree.specs.Files.{Files, most_name, is_name, stored_in, data_at, size_at, object_at, is_there, is_directory_at}
 pub use Rattle.nfs_opens.proofs.CallLaws.{came, ok_is}
 use Rattle.nfs_names.specs.{declared.context.Context.Context, declared.node.Node.Node, declared.node.Pair.Pair, State.State, Outcome.{passed, checked}}
 use Rattle.nfs_names.specs.{Checks.{node_as, node_at, saved_object, current, both}, Fronts.sized}
@@ -66,17 +66,26 @@ both_is s x p e =
     )
 
 -- an object that was found with its size, and why it was not
-pub sized_ok : (s : State) (v : Result Node Status) (p : Node × ℕ) → sized s v ≡ Ok p → (v ≡ Ok p.0) × (p.1 ≡ length (data_at s.tree p.0.number))
+pub sized_ok : (s : State) (v : Result Node Status) (p : Node × Size) → sized s v ≡ Ok p → (v ≡ Ok p.0) × (p.1 ≡ size_at s.tree p.0.number)
 sized_ok s (Err status) p e = absurd cc
 sized_ok s (Ok d) p e =
-    let same : (d, length (data_at s.tree d.number)) ≡ p = ok_is refl e in (
-      ap (λ (q : Node × ℕ). let found : Result Node Status = Ok q.0 in found) same,
-      sym (ap (λ (q : Node × ℕ). q.1) same) ∙ ap (λ (q : Node × ℕ). length (data_at s.tree q.0.number)) same,
+    let same : (d, size_at s.tree d.number) ≡ p = ok_is refl e in (
+      ap (λ (q : Node × Size). let found : Result Node Status = Ok q.0 in found) same,
+      sym (ap (λ (q : Node × Size). q.1) same) ∙ ap (λ (q : Node × Size). size_at s.tree q.0.number) same,
     )
 
 pub sized_err : (s : State) (v : Result Node Status) (status : Status) → sized s v ≡ Err status → v ≡ Err status
 sized_err s (Ok d) status e = absurd cc
 sized_err s (Err other) status e = (let same : other ≡ status = cc in ap Err same)
+
+-- an object's size has its bytes
+pub size_bytes : (t : Files) (n : ℕ) → (size_at t n).bytes ≡ length (data_at t n)
+size_bytes t n = by_stored (stored_in t.objects n)
+  where
+    by_stored : (o : Option Stored)
+        → (option_map_or (λ (s : Stored). size_of (content_of s)) o (record { bytes = 0; pages = 0 })).bytes ≡ length (option_map_or (λ (s : Stored). s.bytes) o [])
+    by_stored None = refl
+    by_stored (Some s) = refl
 
 -- neither empty nor longer than so many bytes
 pub short_list : (most : ℕ) (xs : List ℕ) → (length xs == 0) ≡ false → nat_lt most (length xs) ≡ false → nat_lt 0 (length xs) && nat_le (length xs) most ≡ true

@@ -1,5 +1,5 @@
 -- Operations and what the code finds for them first: that is their first steps.
-use Rattle.std.proofs.Common.{◌≡◌, ℕ, List, [], refl, sym, ◌∙◌, ap, subst}
+use Rattle.std.proofs.Common.{◌≡◌, ℕ, List, refl, sym, ◌∙◌, ap, subst}
 use Rattle.std.specs.Prelude.{Result, Ok, ok_or, not, is_some}
 use Rattle.nfs_xdr.specs.{SheetState.{SheetState, Puts}, declared.status.Status.{Status, TheVariants.{Inval, NoEnt}}}
 use Rattle.nfs_compound.specs.{declared.name_args.Create.Create, declared.op_num.OpNum.OpNum, OpNum.op_number}

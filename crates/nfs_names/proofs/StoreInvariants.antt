@@ -206,7 +206,7 @@ store_new s d name new sets now is =
     let t = s.tree in
     let u = with_new t d name new sets now in
     let changed = with_entries_changed d now t.objects in
-    let made : Stored = record { number = t.last_object + 1; object = new_object now new sets; bytes = new.bytes } in
+    let made : Stored = record { number = t.last_object + 1; object = new_object now new sets; bytes = new.bytes; pages = new.pages } in
     let row : Row = record { directory = d; name = name; object = t.last_object + 1; cookie = t.last_cookie + 1 } in
     let kind = λ (m : ℕ). kind_changed t.objects d m now (modified now no_sets) in
     record {

@@ -1,10 +1,10 @@
 -- What the code finds for an operation before it does anything: the first steps of the operation, by themselves.
-use Rattle.std.specs.Prelude.{ℕ, ◌==◌, List, [], ◌∷◌, length, Result, Ok, is_some, not, ok_or}
+use Rattle.std.specs.Prelude.{ℕ, ◌==◌, List, [], ◌∷◌, Result, Ok, is_some, not, ok_or}
 use Rattle.nfs_xdr.specs.declared.status.Status.{Status}
 use Rattle.nfs_xdr.specs.declared.status.Status.TheVariants.{IsDir, Symlink, Inval, Stale, NoFileHandle, NoEnt, BadHandle, WrongType}
 use Rattle.nfs_compound.specs.{declared.name_args.Create.Create, declared.name_args.ReadDir.ReadDir, declared.name_args.Rename.Rename}
 use Rattle.nfs_compound.specs.declared.name_args.SecinfoStyle.{SecinfoStyle}
-use Rattle.nfs_tree.specs.{Object.{is_directory, is_link}, Files.{data_at, object_named, object_at, parent_in}}
+use Rattle.nfs_tree.specs.{Object.{is_directory, is_link}, Files.{size_at, object_named, object_at, parent_in}, declared.stored.Size.Size}
 use Rattle.nfs_attrs.specs.{declared.handle.Handle.Handle, Handle.handle_of, Mask.{mask_of, asks_set_only}, Permissions.{change_entries, execute}}
 use Rattle.nfs_attrs.specs.Setting.{make_checks}
 use Rattle.nfs_opens.specs.Steps.{◌>>=◌, ◌>>◌, in_order, require}
@@ -100,11 +100,11 @@ reading_dir s x a = do
   in_order (listing_checks x a d)
   Ok d
 
--- an object, and how many bytes it has
-abbrev pub sized : State → Result Node Status → Result (Node × ℕ) Status
+-- an object, and how many bytes and pages it has
+abbrev pub sized : State → Result Node Status → Result (Node × Size) Status
 sized s found = do
   d ← found
-  Ok (d, length (data_at s.tree d.number))
+  Ok (d, size_at s.tree d.number)
 
 -- the object of GETATTR
 abbrev pub getting_attr : State → Context → List ℕ → Result Node Status

@@ -1,7 +1,7 @@
 //! Operations that report attributes and rights (RFC 8881 sections 18.1, 18.7, 18.8, 18.15 and 18.31).
 
-ghost use Rattle.std.specs.Prelude.{◌≡◌, ◌+◌, ◌≤◌, length};
-ghost use Rattle.nfs_tree.specs.Files.{data_at};
+ghost use Rattle.std.specs.Prelude.{◌≡◌, ◌+◌, ◌-◌, ◌^◌, ◌≤◌, length, min};
+ghost use Rattle.nfs_tree.specs.Files.{size_at};
 ghost use Rattle.nfs_xdr.specs.SheetState.{Puts};
 ghost use Rattle.nfs_results.specs.Results.{spell_result};
 ghost use Rattle.nfs_results.specs.declared.res.Res.TheVariants as Res;
@@ -27,7 +27,7 @@ use crate::store::Store;
 use nfs_attrs::{About, Handle, Mask, attribute, judge_access, same, write_attrs};
 use nfs_compound::{Attributes, Bitmap, OpNum};
 use nfs_results::{AccessOk, Res, write_done_head};
-use nfs_tree::{Profile, Tree};
+use nfs_tree::{Limits, Profile, Size, Tree};
 use nfs_xdr::{Sheet, Status};
 
 /// The attributes of a mask that a record lends.
@@ -48,13 +48,25 @@ fn links_of(store: &Store, node: &Node) -> u32
     }
 }
 
-/// The bytes that so many take: in [`Profile::Unix`] whole pages of 4,096.
-fn taken_by(profile: Profile, size: u64) -> u64
+/// The bytes that an object takes: in [`Profile::Unix`] whole pages of 4,096, those in which something was written.
+fn taken_by(profile: Profile, size: Size) -> u64
     ensures { result ≡ attributes.taken_by profile size }
 {
     match profile {
-        Profile::Exact => size,
-        Profile::Unix => size.div_ceil(4_096).saturating_mul(4_096),
+        Profile::Exact => size.bytes,
+        Profile::Unix => size.pages.saturating_mul(4_096),
+    }
+}
+
+/// How many bytes there may be: as many as the pages have, or, where only memory bounds these, as many as the largest file
+/// may have.
+fn space_of(limits: &Limits) -> u64
+    ensures { result ≡ attributes.space_of limits.now }
+{
+    if limits.pages == Limits::ANY_PAGES {
+        limits.bytes
+    } else {
+        limits.pages.saturating_mul(4_096)
     }
 }
 
@@ -67,22 +79,45 @@ struct Room {
     space_total: u64,
 }
 
+impl Room {
+    /// Where it is not asked for.
+    const NONE: Room = Room {
+        files_free: 0,
+        files_total: 0,
+        space_free: 0,
+        space_total: 0,
+    };
+}
+
+/// In how many bytes' pages something was written, where the pages are bounded.
+fn space_used(tree: &Tree) -> u128
+    ensures { result ≡ min (attributes.space_used tree.now) (2 ^ 128 - 1) }
+{
+    if tree.limits().pages == Limits::ANY_PAGES {
+        0
+    } else {
+        tree.pages_used().saturating_mul(4_096)
+    }
+}
+
 fn room_in(tree: &Tree) -> Room
     ensures { result ≡ attributes.room_in tree.now }
 {
     let limits = tree.limits();
+    let space = space_of(&limits);
     Room {
         files_free: u64::from(limits.objects).saturating_sub(tree.count() as u64),
         files_total: u64::from(limits.objects),
-        space_free: limits.bytes,
-        space_total: limits.bytes,
+        space_free: u128::from(space).saturating_sub(space_used(tree)) as u64,
+        space_total: space,
     }
 }
 
-/// What is reported of an object of so many bytes beside the object itself, as far as it is asked for: names are counted
-/// only where their number is.
-pub(crate) fn about(store: &Store, node: &Node, size: u64, asked: Mask) -> About
-    requires { size ≡ length (data_at store.now.tree node.now.number) }
+/// What is reported of an object of this size beside the object itself, as far as it is asked for: names are counted only
+/// where their number is, and so is the room that is left.
+#[inline(always)]
+pub(crate) fn about(store: &Store, node: &Node, size: Size, asked: Mask) -> About
+    requires { size ≡ size_at store.now.tree node.now.number }
     ensures values { values asked result node.now.object ≡ values asked (attributes.about (state_of store.now) node.now) node.now.object }
     ensures profile { result.profile ≡ store.now.tree.profile }
 {
@@ -91,11 +126,15 @@ pub(crate) fn about(store: &Store, node: &Node, size: u64, asked: Mask) -> About
     } else {
         0
     };
+    let room = if asked.asks_room() {
+        room_in(&store.tree)
+    } else {
+        Room::NONE
+    };
     let profile = store.tree.profile();
-    let room = room_in(&store.tree);
     About {
         number: node.number,
-        size,
+        size: size.bytes,
         links,
         instance: store.opens.instance(),
         lease: store.lease,
@@ -131,7 +170,7 @@ fn judge_mask(
     store: &Store,
     context: &Context<'_>,
     mask: &Bitmap<'_>,
-) -> Result<(Node, u64), Status>
+) -> Result<(Node, Size), Status>
     ensures { result ≡ front.sized (state_of store.now) (front.getting_attr (state_of store.now) context.now mask.now) }
 {
     let found = current_and_size(store, context)?;
@@ -149,8 +188,8 @@ fn compare(store: &Store, context: &Context<'_>, given: &Attributes<'_>) -> Resu
     same_at(store, &d, size, given)
 }
 
-fn same_at(store: &Store, node: &Node, size: u64, given: &Attributes<'_>) -> Result<bool, Status>
-    requires { size ≡ length (data_at store.now.tree node.now.number) }
+fn same_at(store: &Store, node: &Node, size: Size, given: &Attributes<'_>) -> Result<bool, Status>
+    requires { size ≡ size_at store.now.tree node.now.number }
     ensures { result ≡ comparing.same (mask_of given.now.attrmask) given.now.attr_vals (attributes.about (state_of store.now) node.now) node.now.object }
 {
     let asked = mask_in(&given.attrmask);
@@ -189,9 +228,9 @@ pub(crate) fn nverify(store: &Store, context: &Context<'_>, given: &Attributes<'
     }
 }
 
-/// Puts the attributes of an object of so many bytes, as GETATTR answers them.
-fn put_attributes(store: &Store, node: &Node, size: u64, asked: Mask, out: &mut Sheet)
-    requires size { size ≡ length (data_at store.now.tree node.now.number) }
+/// Puts the attributes of an object of this size, as GETATTR answers them.
+fn put_attributes(store: &Store, node: &Node, size: Size, asked: Mask, out: &mut Sheet)
+    requires size { size ≡ size_at store.now.tree node.now.number }
     requires room { length out.old.bytes + 640 ≤ out.old.room }
     ensures { Puts out.old out.new (spell_result (Res.GetAttr (attributes.attributes_of (state_of store.now) asked node.now))) }
 {

@@ -19,7 +19,7 @@ use crate::store::Store;
 use nfs_attrs::{Want, may};
 use nfs_compound::OpNum;
 use nfs_results::Res;
-use nfs_tree::{FileType, Tree};
+use nfs_tree::{FileType, Size, Tree};
 use nfs_xdr::{Sheet, Status};
 
 /// The refusal of an operation.
@@ -73,9 +73,9 @@ pub fn current(store: &Store, context: &Context<'_>) -> Result<Node, Status>
     node_at(store, context.current)
 }
 
-/// The same object, and how many bytes it has.
+/// The same object, and how many bytes and pages it has.
 #[tactic(auto, unfolding(crate::specs::Checks::current))]
-pub(crate) fn current_and_size(store: &Store, context: &Context<'_>) -> Result<(Node, u64), Status>
+pub(crate) fn current_and_size(store: &Store, context: &Context<'_>) -> Result<(Node, Size), Status>
     ensures { result ≡ sized (state_of store.now) (current (state_of store.now) context.now) }
 {
     let Some(number) = context.current else {

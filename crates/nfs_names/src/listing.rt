@@ -9,7 +9,7 @@ ghost use Rattle.nfs_results.specs.declared.res.Res.TheVariants as Res;
 ghost use Rattle.nfs_results.specs.Results.{spell_result};
 ghost use Rattle.nfs_results.specs.Straight.{entry_head, entry_text};
 ghost use Rattle.nfs_tree.specs.Bytes.{part};
-ghost use Rattle.nfs_tree.specs.Files.{most_text, data_at, object_at};
+ghost use Rattle.nfs_tree.specs.Files.{most_text, size_at, object_at};
 ghost use Rattle.nfs_tree.specs.Listing.{listed_of};
 ghost use Rattle.nfs_attrs.specs.Attributes.{spell_attrs};
 ghost use Rattle.nfs_names.specs.State.{state_of};
@@ -27,7 +27,7 @@ use crate::store::Store;
 use nfs_attrs::{About, Asked, Mask, Want, attrs_len, write_asked};
 use nfs_compound::{OpNum, ReadDir};
 use nfs_results::{given, write_done_head, write_entry, write_list_end, write_read_dir_head};
-use nfs_tree::{Entry, Object, Tree};
+use nfs_tree::{Entry, Object, Size, Tree};
 use nfs_xdr::{Sheet, Status};
 
 /// The symbolic link that is to be read.
@@ -108,18 +108,18 @@ fn fits(name: &[u8], object: &Object, about: &About, asked: &Asked, room: usize)
     name.len() + MOST_BESIDE_NAME <= room || entry_len(name, object, about, asked.mask()) <= room
 }
 
-/// Puts an entry with the attributes of its object, which has `size` bytes, if it takes no more than `room` bytes.
+/// Puts an entry with the attributes of its object, if it takes no more than `room` bytes.
 fn put_entry(
     store: &Store,
     entry: &Entry<'_>,
     object: &Object,
-    size: u64,
+    size: Size,
     asked: &mut Asked,
     room: usize,
     out: &mut Sheet,
 ) -> bool
     requires there { Some object.now ≡ object_at store.now.tree entry.now.number }
-    requires size { size ≡ length (data_at store.now.tree entry.now.number) }
+    requires size { size ≡ size_at store.now.tree entry.now.number }
     requires few { room ≤ most_transfer }
     requires room { length out.old.bytes + room ≤ out.old.room }
     ensures put { PutsWithin result room out.old out.new (entry_text (of_read_dir.entry_of (state_of store.now) asked.old (listed_of entry.now))) }

@@ -69,14 +69,6 @@ impl Store {
         self.tree.drop_waiting()
     }
 
-    /// Has so many pages at most, of 4,096 bytes each, for the bytes of files and the texts of links. What needs one more is refused, as if
-    /// there were no memory for it.
-    pub fn bound_pages(&mut self, pages: u64)
-        ensures { state_of self.new ≡ state_of self.old }
-    {
-        self.tree.bound_pages(pages);
-    }
-
     /// Whether it is the root, or has a row or an open.
     fn is_used(&self, number: u64) -> bool
         ensures { result ≡ is_used (state_of self.now) number }

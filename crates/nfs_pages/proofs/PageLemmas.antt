@@ -7,7 +7,7 @@ use Rattle.std.specs.{Prelude.{◌&&◌, if◌then◌else◌, slice_index_or, ma
 use Rattle.std.specs.{Ordering.{nat_cmp, is_gt}, Cmp.nat_cmp_is, declared.cmp.Ordering.Ordering}
 use Rattle.std.proofs.Math.Bool.{cond}
 use Rattle.nfs_xdr.specs.{SheetState.{SheetState, HasRoom}, Spelling.{number, opaque, padding}}
-use Rattle.nfs_pages.specs.{Bytes.{written_byte, written, resized}, Page.put_in, Pages.{page_in, byte_in, bytes, IsClean}}
+use Rattle.nfs_pages.specs.{Bytes.{written_byte, written, resized}, Page.{Leaf, blank, page_in, put_in}, Pages.{byte_in, bytes, IsClean}}
 use Rattle.nfs_xdr.proofs.Putting.{length_number}
 
 -- zeros behind the end are not seen
@@ -281,20 +281,20 @@ pub page_past : (page : List ℕ) (from count : ℕ) → page ≡ [] → replica
 page_past page from count past = zeros_are count from ∙ ap (λ (q : List ℕ). map (λ j. get_or q j 0) (range_with_len from count)) (sym past)
 
 -- what a map is left with that is split at a number
-pub below_is : (a q : ℕ) (o : Option (List (List ℕ))) → q < a → unwrap_or (cond (is_gt (nat_cmp a q)) o None) [] ≡ unwrap_or o []
+pub below_is : (a q : ℕ) (o : Option (List Leaf)) → q < a → unwrap_or (cond (is_gt (nat_cmp a q)) o None) [] ≡ unwrap_or o []
 below_is a q o lt = rw (← nat_cmp_is a q Ordering.Greater lt) refl
 
-pub from_is : (a q : ℕ) (o : Option (List (List ℕ))) → a ≤ q → unwrap_or (cond (is_gt (nat_cmp a q)) o None) [] ≡ []
+pub from_is : (a q : ℕ) (o : Option (List Leaf)) → a ≤ q → unwrap_or (cond (is_gt (nat_cmp a q)) o None) [] ≡ []
 from_is a q o le = elim (cases_eq a q) [
   | inl same ↦ rw (← nat_cmp_is a q Ordering.Equal same) refl
   | inr other ↦ rw (← nat_cmp_is a q Ordering.Less (omega (arith, other))) refl
 ]
 
 -- pages that lie together
-pub pages_gone : (now mid : ℕ → List (List ℕ)) (first : ℕ) → ((k : ℕ) → (first + 63) / 64 ≤ k → mid k ≡ []) → now (first / 64) ≡ take (first % 64) (mid (first / 64))
+pub pages_gone : (now mid : ℕ → List Leaf) (first : ℕ) → ((k : ℕ) → (first + 63) / 64 ≤ k → mid k ≡ []) → now (first / 64) ≡ take (first % 64) (mid (first / 64))
     → ((n : ℕ) → n ≢ first / 64 → now n ≡ mid n) → (i : ℕ) → first ≤ i → page_in (now (i / 64)) (i % 64) ≡ []
 pages_gone now mid first gone cut others i le = elim (cases_eq (i / 64) (first / 64)) [
-  | inl here ↦ ap (λ (e : List (List ℕ)). page_in e (i % 64)) (ap now here ∙ cut)
-      ∙ get_or_past (take (first % 64) (mid (first / 64))) (i % 64) [] (let n = length-take (first % 64) (mid (first / 64)) in omega (arith, n))
-  | inr other ↦ ap (λ (e : List (List ℕ)). page_in e (i % 64)) (others (i / 64) other ∙ gone (i / 64) (omega (arith, other))) ∙ get_or_past [] (i % 64) [] (omega arith)
+  | inl here ↦ ap (λ (e : List Leaf). page_in e (i % 64)) (ap now here ∙ cut)
+      ∙ ap (λ (l : Leaf). l.bytes) (get_or_past (take (first % 64) (mid (first / 64))) (i % 64) blank (let n = length-take (first % 64) (mid (first / 64)) in omega (arith, n)))
+  | inr other ↦ ap (λ (e : List Leaf). page_in e (i % 64)) (others (i / 64) other ∙ gone (i / 64) (omega (arith, other))) ∙ ap (λ (l : Leaf). l.bytes) (get_or_past [] (i % 64) blank (omega arith))
 ]

@@ -4,24 +4,25 @@ use super::*;
 use std::alloc::{AllocError, Global};
 use std::test::Fail;
 
-/// How many times 64 pages that lie side by side something stands in, behind a write of these bytes at an offset, or where there are none behind a cut or a growth to it.
+/// In how many times 64 pages that lie side by side, and in how many pages, something was written, behind a write of these bytes at
+/// an offset, or where there are none behind a cut or a growth to it.
 fn pages_behind(
     bytes: &mut Bytes,
     pool: &mut Pool,
     alloc: Global,
     offset: u64,
     text: &[u8],
-) -> Result<usize, AllocError> {
+) -> Result<(usize, u64), AllocError> {
     if text.is_empty() {
         bytes.resize(offset, pool);
     } else {
         bytes.write(alloc, pool, offset, text)?;
     }
-    Ok(bytes.pages.map.len())
+    Ok((bytes.pages.map.len(), bytes.page_count()))
 }
 
 /// The same of changes of a new file.
-fn pages_of_a_file(alloc: Global) -> Result<[usize; 7], AllocError> {
+fn pages_of_a_file(alloc: Global) -> Result<[(usize, u64); 7], AllocError> {
     let mut bytes = Bytes::zeros(alloc, 0);
     let mut pool = Pool::new(alloc);
     let pool = &mut pool;
@@ -42,7 +43,10 @@ fn pages_of_a_file(alloc: Global) -> Result<[usize; 7], AllocError> {
 #[test]
 fn a_page_is_made_where_bytes_are_written(rt: HostRuntime) -> Result<(), Fail> {
     let pages = pages_of_a_file(rt.alloc());
-    assert_eq!(rt; pages, Ok([1, 2, 1, 1, 2, 2, 0]));
+    assert_eq!(rt;
+        pages,
+        Ok([(1, 1), (2, 3), (1, 1), (1, 1), (2, 2), (2, 4), (0, 0)])
+    );
     Ok(())
 }
 
@@ -135,7 +139,8 @@ fn change_some(
     bytes.resize(300_000 + round, pool);
     bytes.write(alloc, pool, 299_006 + round, b"over the edge")?;
     bytes.resize(round, pool);
-    bytes.write(alloc, pool, 1_048_575, &[7; 9_000])
+    bytes.write(alloc, pool, 1_048_575, &[7; 9_000])?;
+    Ok(())
 }
 
 /// The same of a new file that then ends, and of the text of a link, which ends or is kept nowhere.

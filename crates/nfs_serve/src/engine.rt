@@ -116,14 +116,6 @@ impl Engine {
         self.world.tidy()
     }
 
-    /// Has so many pages at most for the bytes of files and the texts of links.
-    pub(crate) fn bound_pages(&mut self, pages: u64)
-        ensures state { state_of self.new.kept ≡ state_of self.old.kept }
-        ensures reply { self.new.reply ≡ self.old.reply }
-    {
-        self.world.bound_pages(pages);
-    }
-
     /// What is kept, to be looked at.
     pub(crate) fn world(&self) -> &World
         ensures { result.now ≡ self.now.kept.world }

@@ -100,16 +100,6 @@ impl Server {
         })
     }
 
-    /// Has so many pages at most, of 4,096 bytes each, for the bytes of files and the texts of links. What needs one more is refused, as if
-    /// there were no memory for it. Contracts see no more of it than of memory.
-    pub fn bound_pages(&mut self, pages: u64)
-        ensures state { state_of self.new.kept ≡ state_of self.old.kept }
-        ensures held { self.new.held ≡ self.old.held }
-        ensures reply { self.new.reply ≡ self.old.reply }
-    {
-        self.engine.bound_pages(pages);
-    }
-
     /// Steps one record, whose data is `call`, at the moment `now` (seconds, at most 2^62), on no connection. Where the outcome is
     /// `Reply` the reply is lent by [`Server::reply`].
     pub fn record(&mut self, alloc: Global, call: &[u8], now: u64) -> Outcome

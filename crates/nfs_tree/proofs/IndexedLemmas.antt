@@ -3,7 +3,7 @@ use Rattle.std.proofs.Common.{◌≡◌, ℕ, ◌<◌, suc, List, [], ◌∷◌,
 use Rattle.std.proofs.lemmas.Bool.{cases_eq, ne_eqb, eq-eqb}
 use Rattle.std.specs.Prelude.{zero}
 use Rattle.nfs_xdr.specs.Tables.{In, with_record}
-use Rattle.nfs_tree.specs.{declared.stored.Body.Body, declared.stored.Stored.Stored, Files.{last_count, stored_in}, Calls.CanChange, Indexed.numbered}
+use Rattle.nfs_tree.specs.{declared.stored.Body.Body, declared.stored.Stored.Stored, Files.{last_count, stored_in}, Calls.CanChange, Stored.numbered}
 
 -- what is written for the one object of a number is what a function makes of it
 pub written_as : (f : Stored → Stored) (xs : List Stored) (n : ℕ) (old new : Body) → ((x : Stored) → In x xs → x.number ≡ n → x ≡ numbered n old) → numbered n new ≡ f (numbered n old)

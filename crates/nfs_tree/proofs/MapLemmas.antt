@@ -1,6 +1,6 @@
 -- What changes of the maps make of the list of rows.
 use Rattle.std.proofs.Common.{◌≡◌, ℕ, ◌<◌, ◌≤◌, ◌+◌, ◌^◌, suc, Bool, true, false, cond, not, List, [], ◌∷◌, ◌++◌, map, length, Option, Some, None, refl, sym, ◌∙◌, ap, arith, inl, inr}
-use Rattle.std.proofs.{lemmas.Bool.{cases_Bool, eq-eqb, ne_eqb, eqb-true, and_parts, false≢true}, lemmas.Bool.Decides.nat_tests}
+use Rattle.std.proofs.{lemmas.Bool.{le-ltb, cases_Bool, eq-eqb, ne_eqb, eqb-true, and_parts, false≢true, ltb-true, lt-ltb}, lemmas.Bool.Decides.nat_tests}
 use Rattle.std.proofs.lemmas.Slice.Eq.{bytes_eq-Decides}
 use Rattle.std.specs.Prelude.{◌==◌, ◌&&◌, filter, find, option_map, is_some, bytes_eq, nat_lt}
 use Rattle.nfs_xdr.specs.{Text.IsBytes, Tables.{IsRising, In, record_at, without_record}}
@@ -180,15 +180,6 @@ filter_none : (p : Row → Bool) (xs : List Row) → ((x : Row) → In x xs → 
 filter_none p [] off = refl
 filter_none p (x ∷ xs) off = rw (off x (inl refl)) (filter_none p xs (λ y there. off y (inr there)))
 
-nat_above : (k n : ℕ) → nat_lt k n ≡ true → k < n
-nat_above k n e = grind (arith, nat_tests)
-
-above_nat : (k n : ℕ) → k < n → nat_lt k n ≡ true
-above_nat k n lt = grind (arith, nat_tests)
-
-not_above : (k n : ℕ) → n ≤ k → nat_lt k n ≡ false
-not_above k n le = grind (arith, nat_tests)
-
 module _ (of : Row → ℕ) where
   abbrev is_behind : ℕ → ℕ → Row → Bool
   is_behind n k r = (of r == n) && nat_lt k r.cookie
@@ -199,7 +190,7 @@ module _ (of : Row → ℕ) where
       off : (x : Row) → In x rows → is_behind n k x ≡ false
       off x there = elim (cases_Bool (is_behind n k x)) [
         | inl here ↦ (let parts = and_parts (of x == n) (nat_lt k x.cookie) here in
-            let up : k < x.cookie = nat_above k x.cookie parts.1 in
+            let up : k < x.cookie = ltb-true k x.cookie parts.1 in
             absurd (false≢true (sym (none x.cookie (omega arith)) ∙ ap (λ n. has (n, x.cookie)) (sym (eqb-true (of x) n parts.0)) ∙ row_pair of rows has x are there)))
         | inr other ↦ other
       ]
@@ -209,7 +200,7 @@ module _ (of : Row → ℕ) where
     where
       off : (x : Row) → In x rows → is_behind n k x ≡ false
       off x there = elim (cases_Bool (is_behind n k x)) [
-        | inl here ↦ (let up : k < x.cookie = nat_above k x.cookie (and_parts (of x == n) (nat_lt k x.cookie) here).1 in let few = (are.few x there).1 in absurd (omega arith))
+        | inl here ↦ (let up : k < x.cookie = ltb-true k x.cookie (and_parts (of x == n) (nat_lt k x.cookie) here).1 in let few = (are.few x there).1 in absurd (omega arith))
         | inr other ↦ other
       ]
 
@@ -217,13 +208,13 @@ module _ (of : Row → ℕ) where
       → ((y : Row) → In y rows → of y ≡ n → k < y.cookie → x.cookie ≤ y.cookie) → filter (is_behind n k) rows ≡ x ∷ filter (is_behind n x.cookie) rows
   next_behind n k low high [] x rise there at up least = absurd there
   next_behind n k low high (y ∷ ys) x rise (inl is) at up least =
-      let here : is_behind n k x ≡ true = rw (eq-eqb (of x) n at, above_nat k x.cookie up) refl in
-      let past : is_behind n x.cookie x ≡ false = rw (eq-eqb (of x) n at, not_above x.cookie x.cookie (omega arith)) refl in
+      let here : is_behind n k x ≡ true = rw (eq-eqb (of x) n at, lt-ltb k x.cookie up) refl in
+      let past : is_behind n x.cookie x ≡ false = rw (eq-eqb (of x) n at, le-ltb x.cookie x.cookie (omega arith)) refl in
       let rest = filter_in (is_behind n k) (is_behind n x.cookie) ys (λ z there. (
       let above = (in_bounds cookie (suc y.cookie) high ys z rise.1 there).0 in
       let same : cookie x ≡ cookie y = ap cookie is in
-      let a : nat_lt k z.cookie ≡ true = above_nat k z.cookie (omega arith) in
-      let b : nat_lt x.cookie z.cookie ≡ true = above_nat x.cookie z.cookie (omega arith) in
+      let a : nat_lt k z.cookie ≡ true = lt-ltb k z.cookie (omega arith) in
+      let b : nat_lt x.cookie z.cookie ≡ true = lt-ltb x.cookie z.cookie (omega arith) in
       rw (a, b) refl)) in
       rw (← is, here, past) (ap (λ zs. x ∷ zs) rest)
   next_behind n k low high (y ∷ ys) x rise (inr more) at up least =
@@ -231,11 +222,11 @@ module _ (of : Row → ℕ) where
       let rest = next_behind n k (suc y.cookie) high ys x rise.1 more at up (λ z there. least z (inr there)) in
       let off : is_behind n k y ≡ false = elim (cases_Bool (is_behind n k y)) [
         | inl here ↦ (let parts = and_parts (of y == n) (nat_lt k y.cookie) here in
-            let le = least y (inl refl) (eqb-true (of y) n parts.0) (nat_above k y.cookie parts.1) in absurd (omega arith))
+            let le = least y (inl refl) (eqb-true (of y) n parts.0) (ltb-true k y.cookie parts.1) in absurd (omega arith))
         | inr other ↦ other
       ] in
       let past : is_behind n x.cookie y ≡ false = elim (cases_Bool (is_behind n x.cookie y)) [
-        | inl here ↦ (let low = nat_above x.cookie y.cookie (and_parts (of y == n) (nat_lt x.cookie y.cookie) here).1 in absurd (omega arith))
+        | inl here ↦ (let low = ltb-true x.cookie y.cookie (and_parts (of y == n) (nat_lt x.cookie y.cookie) here).1 in absurd (omega arith))
         | inr other ↦ other
       ] in
       rw (off, past) rest

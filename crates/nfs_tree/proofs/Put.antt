@@ -168,7 +168,7 @@ tree_created t d name new sets now is granted condition =
     let can = create_granted t d name new granted in
     let one = record t { objects = with_entries_changed d now t.objects } in
     let is_one : IsTree one = tree_changed t d now (modified now no_sets) is in
-    let x : Stored = record { number = t.last_object + 1; object = new_object now new sets; bytes = new.bytes } in
+    let x : Stored = record { number = t.last_object + 1; object = new_object now new sets; bytes = new.bytes; pages = new.pages } in
     let two = record one { objects = one.objects ++ x ∷ []; last_object = t.last_object + 1 } in
     let room : length one.objects < t.limits.objects =
     subst (λ l. l < t.limits.objects) (sym (length-map t.objects (change_at d now (modified now no_sets)))) can.room in

@@ -1,8 +1,8 @@
 -- The bytes of a file, read, written and cut or filled up (RFC 8881 sections 18.22, 18.30 and 18.32).
 use Rattle.std.specs.Prelude.{ℕ, ◌+◌, ◌==◌, nat_lt, nat_le, Bool, ◌||◌, if◌then◌else◌, List, length, take, drop, map}
-pub use Rattle.nfs_pages.specs.Bytes.{written_byte, written, resized}
+pub use Rattle.nfs_pages.specs.Bytes.{written_byte, written, resized, Content, with_text, with_size}
 use Rattle.nfs_xdr.specs.declared.time.Time.{Time}
-use Rattle.nfs_tree.specs.{declared.sets.Sets.Sets, declared.stored.Stored.Stored, Object.{changed, modified}, Files.{Files, next_count, data_at, with_changed}}
+use Rattle.nfs_tree.specs.{declared.sets.Sets.Sets, declared.stored.Stored.Stored, Stored.content_of, Object.{changed, modified}, Files.{Files, next_count, data_at, with_changed}}
 
 -- at most so many bytes from a place on
 abbrev pub part : Files → ℕ → ℕ → ℕ → List ℕ
@@ -13,13 +13,13 @@ abbrev pub reaches_end : Files → ℕ → ℕ → ℕ → Bool
 reaches_end t n offset count = nat_le (length (data_at t n)) (offset + length (part t n offset count))
 
 -- a file gets other bytes, and what is set
-abbrev pub with_bytes : Time → Sets → List ℕ → Stored → Stored
-with_bytes now sets bytes s = record s { object = changed now (modified now sets) s.object; bytes = bytes }
+abbrev pub with_bytes : Time → Sets → Content → Stored → Stored
+with_bytes now sets content s = record s { object = changed now (modified now sets) s.object; bytes = content.bytes; pages = content.pages }
 
 abbrev pub with_written : Files → ℕ → ℕ → List ℕ → Sets → Time → Files
 with_written t n offset text sets now =
     record t {
-      objects = map (λ s. if s.number == n then with_bytes now sets (written s.bytes offset text) s else s) t.objects;
+      objects = map (λ s. if s.number == n then with_bytes now sets (with_text (content_of s) offset text) s else s) t.objects;
       changes = next_count t.changes;
     }
 
@@ -35,7 +35,7 @@ is_too_long t offset text = nat_lt t.limits.bytes (offset + length text) || nat_
 abbrev pub with_resized : Files → ℕ → ℕ → Sets → Time → Files
 with_resized t n size sets now =
     record t {
-      objects = map (λ s. if s.number == n then with_bytes now sets (resized s.bytes size) s else s) t.objects;
+      objects = map (λ s. if s.number == n then with_bytes now sets (with_size (content_of s) size) s else s) t.objects;
       changes = next_count t.changes;
     }
 

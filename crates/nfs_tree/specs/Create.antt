@@ -1,6 +1,7 @@
 -- A new tree, and a new object in a directory (RFC 8881 sections 18.4 and 18.16).
 use Rattle.std.specs.Prelude.{ℕ, ◌+◌, nat_lt, nat_le, Bool, not, ◌&&◌, List, [], ◌∷◌, ◌++◌, length, Option, Some, None, unwrap_or, replicate}
 use Rattle.nfs_xdr.specs.declared.time.Time.{Time}
+use Rattle.nfs_pages.specs.Bytes.{Content, text_of}
 use Rattle.nfs_tree.specs.{declared.object.FileType.FileType, declared.object.Object.Object, declared.sets.Sets.Sets, declared.fault.TreeFault.TreeFault}
 use Rattle.nfs_tree.specs.{declared.fault.TreeFault.TheVariants.{NoEnt, Exist, NotDir, Inval, Fbig, NoSpc, Counter}, Object.{is_link, no_sets}}
 use Rattle.nfs_tree.specs.Files.{Files, next_count, root, last_count, most_text, most_of, is_name, is_there, is_directory_at, has_name, can_change}
@@ -8,21 +9,25 @@ use Rattle.nfs_tree.specs.Files.{with_entries_changed}
 use Rattle.nfs_tree.specs.{declared.limits.Limits.Limits, declared.profile.Profile.Profile, Limits.bounded}
 use Rattle.nfs_tree.specs.declared.object.FileType.TheVariants.{Regular, Directory, Link}
 
--- What is made: its type, the bytes that it begins with, and the verifier of an exclusive create.
+-- What is made: its type, the bytes that it begins with, their pages, and the verifier of an exclusive create.
 pub record New : Type 0 where
   pub kind : FileType
   pub bytes : List ℕ
+  pub pages : List ℕ
   pub verifier : Option (List ℕ)
 
 -- a file of so many zeros, a directory, and a symbolic link with its text
 abbrev pub new_file : ℕ → Option (List ℕ) → New
-new_file size verifier = record { kind = Regular; bytes = replicate size 0; verifier = verifier }
+new_file size verifier = record { kind = Regular; bytes = replicate size 0; pages = []; verifier = verifier }
 
 abbrev pub new_directory : New
-new_directory = record { kind = Directory; bytes = []; verifier = None }
+new_directory = record { kind = Directory; bytes = []; pages = []; verifier = None }
 
 abbrev pub new_link : List ℕ → New
-new_link text = record { kind = Link; bytes = text; verifier = None }
+new_link text = record { kind = Link; bytes = text; pages = (text_of text).pages; verifier = None }
+
+abbrev pub new_content : New → Content
+new_content new = record { bytes = new.bytes; pages = new.pages }
 
 -- a new object: mode, owner and group are 0 and the times now where they are not set
 abbrev pub new_object : Time → New → Sets → Object
@@ -41,7 +46,7 @@ new_object now new sets = record {
 -- a tree of nothing but the root
 abbrev pub new_tree : ℕ → Time → Limits → Profile → Files
 new_tree mode now limits profile = record {
-  objects = record { number = root; object = new_object now new_directory (record no_sets { mode = Some mode }); bytes = [] } ∷ [];
+  objects = record { number = root; object = new_object now new_directory (record no_sets { mode = Some mode }); bytes = []; pages = [] } ∷ [];
   rows = [];
   last_object = root;
   last_cookie = 2;
@@ -78,7 +83,7 @@ create_checks t d name new =
 -- the directory changes, and the new object and its row get the next number and cookie
 abbrev pub with_new : Files → ℕ → List ℕ → New → Sets → Time → Files
 with_new t d name new sets now = record t {
-  objects = with_entries_changed d now t.objects ++ record { number = t.last_object + 1; object = new_object now new sets; bytes = new.bytes } ∷ [];
+  objects = with_entries_changed d now t.objects ++ record { number = t.last_object + 1; object = new_object now new sets; bytes = new.bytes; pages = new.pages } ∷ [];
   rows = t.rows ++ record { directory = d; name = name; object = t.last_object + 1; cookie = t.last_cookie + 1 } ∷ [];
   last_object = t.last_object + 1;
   last_cookie = t.last_cookie + 1;

@@ -4,7 +4,7 @@ use Rattle.std.specs.{Prelude.{unwrap_or, bytes_eq, ◌+◌}, List.list_any, Opt
 use Rattle.nfs_xdr.specs.declared.time.Time.{Time}
 use Rattle.nfs_tree.specs.{declared.object.FileType.FileType, declared.object.FileType.TheVariants.{Regular, Directory, Link}}
 use Rattle.nfs_tree.specs.{declared.limits.Limits.Limits, declared.profile.Profile.Profile}
-use Rattle.nfs_tree.specs.{declared.object.Object.Object, declared.row.Row.Row, declared.sets.Sets.Sets, declared.stored.Stored.Stored}
+use Rattle.nfs_tree.specs.{declared.object.Object.Object, declared.row.Row.Row, declared.sets.Sets.Sets, declared.stored.Stored.Stored, declared.stored.Size.Size, Stored.{content_of, size_of}}
 use Rattle.nfs_tree.specs.{Object.{is_directory, changed, modified, no_sets}, declared.done.Change.Change, Profile.is_unix}
 
 -- Objects in rising order of their numbers, rows in rising order of their cookies, the last number of each kind that was given, how much there may be,
@@ -63,6 +63,10 @@ object_at t n = option_map (λ s. s.object) (stored_in t.objects n)
 
 abbrev pub data_at : Files → ℕ → List ℕ
 data_at t n = option_map_or (λ s. s.bytes) (stored_in t.objects n) []
+
+-- how many bytes and pages it has
+abbrev pub size_at : Files → ℕ → Size
+size_at t n = option_map_or (λ s. size_of (content_of s)) (stored_in t.objects n) (record { bytes = 0; pages = 0 })
 
 abbrev pub is_there : Files → ℕ → Bool
 is_there t n = is_some (stored_in t.objects n)

@@ -1,8 +1,8 @@
 -- What every tree keeps: the facts of a well-formed tree in a local form, the limits and the counters.
-use Rattle.std.specs.Prelude.{◌≡◌, ◌≢◌, ℕ, ◌+◌, ◌≤◌, zero, suc, Bool, true, List, length, Some}
+use Rattle.std.specs.Prelude.{◌≡◌, ◌≢◌, ℕ, ◌+◌, ◌^◌, ◌<◌, ◌≤◌, zero, suc, Bool, true, List, length, Some}
 use Rattle.nfs_tree.specs.declared.row.Row.{Row}
 use Rattle.nfs_tree.specs.declared.stored.Stored.{Stored}
-use Rattle.nfs_tree.specs.Limits.{is_limits}
+use Rattle.nfs_tree.specs.{Limits.is_limits, Stored.pages_used}
 use Rattle.nfs_tree.specs.Files.{Files, root, last_count, most_links, most_of, is_name, entry, is_there, is_directory_at, links_in}
 use Rattle.nfs_xdr.specs.Tables.{IsRising, In}
 
@@ -25,6 +25,11 @@ pub record AreRows (rows : List Row) (directories there : ℕ → Bool) : Type 0
   pub grounded : (r : Row) → In r rows → (n : ℕ) × Grounded rows n r.directory
   pub short : (r : Row) → In r rows → is_name r.name ≡ true
   pub few : (n : ℕ) → links_in rows n ≤ most_links
+
+-- So many pages have all objects, and none of them so many that their sum could not be counted.
+pub record AreSummed (objects : List Stored) (pages : ℕ) : Type 0 where
+  pub few : (s : Stored) → In s objects → length s.pages < 2 ^ 52
+  pub sum : pages ≡ pages_used objects
 
 pub record IsTree (t : Files) : Type 0 where
   pub objects : IsRising (λ s. s.number) root t.objects (t.last_object + 1)

@@ -1,12 +1,12 @@
 //! Objects that are looked up one after another.
 
 ghost use Rattle.std.specs.Prelude.{◌≡◌, ℕ, length, option_copied, option_map};
-ghost use Rattle.nfs_tree.specs.declared.object.Object.{Object};
+ghost use Rattle.nfs_tree.specs.{declared.object.Object.Object, declared.stored.Size.Size, Stored.{content_of, size_of}};
 ghost use Rattle.nfs_tree.specs.Files.{stored_in};
 
 use crate::object::Object;
 use crate::rising::Rising;
-use crate::stored::{Body, Stored};
+use crate::stored::{Body, Size, Stored};
 use crate::tree::Tree;
 use std::marker::Model;
 
@@ -29,20 +29,20 @@ impl<'a> Model for InTurn<'a> {
     ghost view = { λ t. t.objects };
 }
 
-/// An object, and how many bytes it has.
-pub(crate) fn with_size(body: Option<&Body>) -> Option<(&Object, u64)>
-    ensures { option_map {U = Object × ℕ} (λ p. (p.0.now, p.1)) result ≡ option_map {U = Object × ℕ} (λ b. (b.object, length b.bytes)) (option_copied body.entry) }
+/// An object, and how many bytes and pages it has.
+pub(crate) fn with_size(body: Option<&Body>) -> Option<(&Object, Size)>
+    ensures { option_map {U = Object × Size} (λ p. (p.0.now, p.1)) result ≡ option_map {U = Object × Size} (λ b. (b.object, size_of b.bytes)) (option_copied body.entry) }
 {
     match body {
-        Some(body) => Some((&body.object, body.bytes.len() as u64)),
+        Some(body) => Some((&body.object, body.size())),
         None => None,
     }
 }
 
 impl<'a> InTurn<'a> {
-    /// The object of a number, if there is one, and how many bytes it has.
-    pub fn object_and_size(&mut self, number: u64) -> Option<(&'a Object, u64)>
-        ensures found { option_map {U = Object × ℕ} (λ p. (p.0.now, p.1)) result ≡ option_map {U = Object × ℕ} (λ s. (s.object, length s.bytes)) (stored_in self.old number) }
+    /// The object of a number, if there is one, and how many bytes and pages it has.
+    pub fn object_and_size(&mut self, number: u64) -> Option<(&'a Object, Size)>
+        ensures found { option_map {U = Object × Size} (λ p. (p.0.now, p.1)) result ≡ option_map {U = Object × Size} (λ s. (s.object, size_of (content_of s))) (stored_in self.old number) }
         ensures same { self.new ≡ self.old }
     {
         let ahead = number.wrapping_sub(self.last);

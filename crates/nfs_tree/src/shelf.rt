@@ -1,6 +1,6 @@
 //! Values by rising numbers: a slab, and an ordered map that leads from a number to the key in it.
 
-ghost use Rattle.std.specs.Prelude.{◌≡◌, ◌≤◌, ◌++◌, ◌∷◌, [], ℕ, length, option_copied, option_map, OnOk, OnErr, IfSome};
+ghost use Rattle.std.specs.Prelude.{◌≡◌, ◌^◌, ◌<◌, ◌≤◌, ◌++◌, ◌∷◌, [], ℕ, length, option_copied, option_map, OnOk, OnErr, IfSome};
 ghost use Rattle.std.specs.Option.{option_copied_mut};
 ghost use Rattle.std.specs.Ordering.{nat_cmp};
 ghost use Rattle.std.specs.BTreeMap.{is_at};
@@ -66,6 +66,14 @@ impl<K: Kept<T>, T> Shelf<K, T> {
         ensures { result ≡ length self.now.items }
     {
         self.keys.len()
+    }
+
+    /// What always holds; moves nothing.
+    pub(crate) fn kept(&self)
+        ensures rising { (high : ℕ) × IsRising K.number 0 self.now.items high }
+        ensures few { length self.now.items < 2 ^ 63 }
+    {
+        let _ = self.keys.len();
     }
 
     /// What is kept under a number.

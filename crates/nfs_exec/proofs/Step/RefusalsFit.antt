@@ -18,7 +18,6 @@ use Rattle.nfs_xdr.proofs.Putting.{length_number}
 use Rattle.nfs_clients.specs.{declared.destroy.DestroyFault.DestroyFault, declared.destroy.DestroyFault.TheVariants.{Stale, Busy}}
 use Rattle.nfs_clients.specs.{DestroyClientId.destroy_status, ExchangeId.client_fault_status, declared.exchange_id.Exchanged.Exchanged}
 use Rattle.nfs_clients.specs.declared.exchange_id.ClientFault.{ClientFault}
-use Rattle.nfs_clients.specs.declared.exchange_id.ClientFault.TheVariants as ClientFault
 use Rattle.nfs_names.specs.ServerOwner.{IsOwner}
 use Rattle.nfs_exec.specs.Step.Parts.{answered, granted_of}
 use Rattle.nfs_exec.specs.Step.{Place.{stands_alone, is_sequence, status_behind, place_fault}, View.{CanBear, IsSmall, IsOpened}}

@@ -15,11 +15,11 @@ use Rattle.nfs_files.specs.Read as of_read
 use Rattle.nfs_files.proofs.{Passing.if_passed_ok, WrittenOps.by_found, WrittenTold.short, Effects.{Names, Writes, Resizes, Changes, Closes}}
 use Rattle.nfs_xdr.proofs.Lists.{find_in, find_past, find_out, find_push_other}
 use Rattle.nfs_compound.specs.declared.op.Op.TheVariants as Op
-use Rattle.nfs_tree.specs.{declared.{row.Row.Row, sets.Sets.Sets, stored.Stored.Stored}, Object.{modified, no_sets}, Files.{Files, root, stored_in, is_there}}
+use Rattle.nfs_tree.specs.{declared.{row.Row.Row, sets.Sets.Sets, stored.Stored.Stored}, Stored.content_of, Object.{modified, no_sets}, Files.{Files, root, stored_in, is_there}}
 use Rattle.nfs_tree.specs.Files.{change_of, change_at, with_changed, with_entries_changed, with_links_changed, without_entry, object_named, number_named}
 use Rattle.nfs_tree.specs.Create.{New, with_new, new_object}
 use Rattle.nfs_tree.specs.Names.{with_link, without_name, forget, Move, moves, replaced_object, touched_object, with_both_changed, with_moved}
-use Rattle.nfs_tree.specs.{Calls.rename_fault, Bytes.{written, resized, with_bytes, with_written, with_resized, with_sets}, TreeInvariants.IsTree}
+use Rattle.nfs_tree.specs.{Calls.rename_fault, Bytes.{Content, with_text, with_size, with_bytes, with_written, with_resized, with_sets}, TreeInvariants.IsTree}
 use Rattle.nfs_tree.proofs.{Objects.{keeps_changed, stored_map, stored_within}, Moved.move_granted, Trees.entry_names}
 use Rattle.nfs_opens.specs.{TableInvariants.IsTable, Closing.without_open}
 use Rattle.nfs_names.specs.State as store
@@ -113,7 +113,7 @@ by_rest n p xs Same same now e = elim (cases_Bool (p n)) [
       sym (find_out (λ (s : Stored). s.number == n) (λ s. p s.number) xs (λ s e. ap p (eqb-true s.number n e) ∙ goes)) ∙ e in cc)
 ]
 
-bytes_or : (m n : ℕ) (now : Time) (sets : Sets) (bytes : Stored → List ℕ) (Same : Type 0) → Same → (s : Stored) → s.number ≡ n
+bytes_or : (m n : ℕ) (now : Time) (sets : Sets) (bytes : Stored → Content) (Same : Type 0) → Same → (s : Stored) → s.number ≡ n
     → (s.object.change < (if s.number == m then with_bytes now sets (bytes s) s else s).object.change)
     ⊎ (((if s.number == m then with_bytes now sets (bytes s) s else s) ≡ s) × Same)
 bytes_or m n now sets bytes Same same s at = elim (cases_Bool (s.number == m)) [
@@ -121,7 +121,7 @@ bytes_or m n now sets bytes Same same s at = elim (cases_Bool (s.number == m)) [
   | inr other ↦ rw other (inr (refl, same))
 ]
 
-at_bytes : (n m : ℕ) (now : Time) (sets : Sets) (bytes : Stored → List ℕ) (xs : List Stored) (Same : Type 0) → Same → (k : Stored)
+at_bytes : (n m : ℕ) (now : Time) (sets : Sets) (bytes : Stored → Content) (xs : List Stored) (Same : Type 0) → Same → (k : Stored)
     → stored_in (map (λ (s : Stored). if s.number == m then with_bytes now sets (bytes s) s else s) xs) n ≡ Some k → Was n xs k Same
 at_bytes n m now sets bytes xs Same same k e =
     by_map n (λ (s : Stored). if s.number == m then with_bytes now sets (bytes s) s else s) xs Same
@@ -148,7 +148,7 @@ follows_on n t u v first step =
 
 new_follows : (n : ℕ) (t : Files) (d : ℕ) (name : List ℕ) (new : New) (sets : Sets) (now : Time) → n ≤ t.last_object → Follows n t (with_new t d name new sets now)
 new_follows n t d name new sets now low =
-    let made : Stored = record { number = t.last_object + 1; object = new_object now new sets; bytes = new.bytes } in
+    let made : Stored = record { number = t.last_object + 1; object = new_object now new sets; bytes = new.bytes; pages = new.pages } in
     let row : Row = record { directory = d; name = name; object = t.last_object + 1; cookie = t.last_cookie + 1 } in
     let other : t.last_object + 1 ≢ n = λ same. omega arith in
     record {
@@ -196,13 +196,13 @@ changed_follows n t m sets now low = record { given = low; came = λ k e. at_cha
 written_follows : (n : ℕ) (t : Files) (m offset : ℕ) (text : List ℕ) (sets : Sets) (now : Time) → n ≤ t.last_object → Follows n t (with_written t m offset text sets now)
 written_follows n t m offset text sets now low = record {
   given = low;
-  came = λ k e. at_bytes n m now sets (λ s. written s.bytes offset text) t.objects (SameRows n t.rows t.rows) (rows_are n t.rows) k e;
+  came = λ k e. at_bytes n m now sets (λ s. with_text (content_of s) offset text) t.objects (SameRows n t.rows t.rows) (rows_are n t.rows) k e;
 }
 
 resized_follows : (n : ℕ) (t : Files) (m size : ℕ) (sets : Sets) (now : Time) → n ≤ t.last_object → Follows n t (with_resized t m size sets now)
 resized_follows n t m size sets now low = record {
   given = low;
-  came = λ k e. at_bytes n m now sets (λ s. resized s.bytes size) t.objects (SameRows n t.rows t.rows) (rows_are n t.rows) k e;
+  came = λ k e. at_bytes n m now sets (λ s. with_size (content_of s) size) t.objects (SameRows n t.rows t.rows) (rows_are n t.rows) k e;
 }
 
 -- Effects.

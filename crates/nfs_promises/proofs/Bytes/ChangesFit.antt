@@ -11,10 +11,10 @@ use Rattle.nfs_compound.specs.declared.op_num.OpNum.TheVariants as Num
 use Rattle.nfs_results.proofs.Lengths.{length_head}
 use Rattle.nfs_results.specs.Items as results
 use Rattle.nfs_results.specs.{declared.res.Res.Res, Results.{spell_result, done_head}}
-use Rattle.nfs_tree.specs.{declared.sets.Sets.Sets, declared.stored.Stored.Stored, Object.{modified, no_sets}, TreeInvariants.IsTree}
+use Rattle.nfs_tree.specs.{declared.sets.Sets.Sets, declared.stored.Stored.Stored, Stored.content_of, Object.{modified, no_sets}, TreeInvariants.IsTree}
 use Rattle.nfs_tree.specs.Files.{Files, root, last_count, stored_in, can_change, is_directory_at, change_of, change_at, with_changed, with_entries_changed}
 use Rattle.nfs_tree.specs.{Files.{with_links_changed, object_named, number_named}, Calls.{CanChange, rename_fault}, Create.new_object}
-use Rattle.nfs_tree.specs.{Names.{with_link, without_name, Move, moves, replaced_object, touched_object, with_moved}, Bytes.{written, resized, with_bytes}}
+use Rattle.nfs_tree.specs.{Names.{with_link, without_name, Move, moves, replaced_object, touched_object, with_moved}, Bytes.{Content, with_text, with_size, with_bytes}}
 use Rattle.nfs_tree.proofs.{IndexedLemmas.can_of, Objects.{keeps_changed, stored_map, can_change_all, can_change_after}, Put.{create_granted, link_granted}}
 use Rattle.nfs_tree.proofs.{Sized.{write_granted, resize_granted}, Trees.{remove_granted, has_one, apart}}
 use Rattle.nfs_tree.proofs.Moved.{move_granted, replaced_source, replaced_target, replaced_left, touched_source, touched_target, touched_can}
@@ -71,7 +71,7 @@ low_changed m now sets xs can low = low_map (change_at m now sets) xs (keeps_cha
   | inr other ↦ rw (ne_eqb s.number m other) small
 ]) low
 
-low_bytes : (m : ℕ) (now : Time) (sets : Sets) (bytes : Stored → List ℕ) (xs : List Stored) → CanChange xs m → Low xs
+low_bytes : (m : ℕ) (now : Time) (sets : Sets) (bytes : Stored → Content) (xs : List Stored) → CanChange xs m → Low xs
     → Low (map (λ (s : Stored). if s.number == m then with_bytes now sets (bytes s) s else s) xs)
 low_bytes m now sets bytes xs can low = low_map (λ (s : Stored). if s.number == m then with_bytes now sets (bytes s) s else s) xs
     (λ s. elim (s.number == m) as (λ v. (cond v (with_bytes now sets (bytes s) s) s).number ≡ s.number) [ true ↦ refl | false ↦ refl ])
@@ -138,7 +138,7 @@ replaced_low s (Some m) low = unused_low s m low
 
 names_low : (s : store.State) (e : names_effects.Effect) → names_effects.Fits s e → IsTree s.tree → Low s.tree.objects → Low (names_effects.behind s e).tree.objects
 names_low s (Makes d name new sets now) fits tree low =
-    low_push (with_entries_changed d now s.tree.objects) (record { number = s.tree.last_object + 1; object = new_object now new sets; bytes = new.bytes }) (omega arith)
+    low_push (with_entries_changed d now s.tree.objects) (record { number = s.tree.last_object + 1; object = new_object now new sets; bytes = new.bytes; pages = new.pages }) (omega arith)
     (low_changed d now (modified now no_sets) s.tree.objects (can s.tree d tree (create_granted s.tree d name new fits).change) low)
 names_low s (Links n d name now) fits tree low =
     (let granted = link_granted s.tree n d name fits in
@@ -163,7 +163,7 @@ set_low : (t : Files) (x : Context) (d : Node) (now : Time) (wanted : Wanted) (s
     → of_set.gives_some wanted && not (can_change t d.number) ≡ false → Low t.objects → Low (of_set.with_set t x d now wanted size).objects
 set_low t x d now wanted (Some size) same is checks low =
     let some : of_set.gives_some wanted ≡ true = rw same refl in
-    low_bytes d.number now (of_set.settled_sets t x d now wanted) (λ s. resized s.bytes size) t.objects
+    low_bytes d.number now (of_set.settled_sets t x d now wanted) (λ s. with_size (content_of s) size) t.objects
     (can t d.number is (not-false _ (guarded (of_set.gives_some wanted) (not (can_change t d.number)) checks some))) low
 set_low t x d now wanted None same is checks low = elim (cases_Bool (of_set.gives_some wanted)) [
   | inl some ↦ rw some (low_changed d.number now (of_set.settled_sets t x d now wanted) t.objects
@@ -187,9 +187,9 @@ files_low : (s t : store.State) (x : Context) (op : Op) (r : Res) (e : files_eff
 files_low s t x op r (Names e) other table caused tree low = names_low t e (caused.fits table) tree low
 files_low s t x op r (Writes m offset text sets now) other table caused tree low =
     (let fits = caused.fits table in
-    low_bytes m now sets (λ s. written s.bytes offset text) t.tree.objects (can t.tree m tree (write_granted t.tree m offset text fits.0 fits.1).2) low)
+    low_bytes m now sets (λ s. with_text (content_of s) offset text) t.tree.objects (can t.tree m tree (write_granted t.tree m offset text fits.0 fits.1).2) low)
 files_low s t x op r (Resizes m size sets now) other table caused tree low =
-    low_bytes m now sets (λ s. resized s.bytes size) t.tree.objects (can t.tree m tree (resize_granted t.tree m size (caused.fits table)).2) low
+    low_bytes m now sets (λ s. with_size (content_of s) size) t.tree.objects (can t.tree m tree (resize_granted t.tree m size (caused.fits table)).2) low
 files_low s t x op r (Changes m sets now) other table caused tree low = absurd (false≢true (sym other ∙ ap (λ op. is_set (Operation op)) caused.cause.is))
 files_low s t x op r (Closes m file) other table caused tree low = unused_low (with_opens t (without_open t.opens m)) file low
 files_low s t x op r e other table caused tree low = low

@@ -8,9 +8,9 @@ use Rattle.nfs_compound.specs.{declared.name_args.Create.Create, declared.open_a
 use Rattle.nfs_compound.specs.{declared.op.Item.Item, declared.op.Item.TheVariants.Operation}
 use Rattle.nfs_compound.specs.declared.op.Op.TheVariants as Op
 use Rattle.nfs_compound.specs.declared.op_num.OpNum.TheVariants as Num
-use Rattle.nfs_tree.specs.{declared.object.Object.Object, declared.sets.Sets.Sets, declared.stored.Stored.Stored, Object.{modified, no_sets}}
+use Rattle.nfs_tree.specs.{declared.object.Object.Object, declared.sets.Sets.Sets, declared.stored.Stored.Stored, Stored.content_of, Object.{modified, no_sets}}
 use Rattle.nfs_tree.specs.Files.{Files, next_count, stored_in, change_of, change_at, with_changed, with_entries_changed, with_links_changed, number_named}
-use Rattle.nfs_tree.specs.{Create.with_new, Bytes.{has_bytes, written, resized, with_bytes, with_written}, Names.{with_link, without_name}}
+use Rattle.nfs_tree.specs.{Create.with_new, Bytes.{has_bytes, Content, with_text, with_size, with_bytes, with_written}, Names.{with_link, without_name}}
 use Rattle.nfs_tree.proofs.Objects.{keeps_changed, stored_map}
 use Rattle.nfs_attrs.specs.declared.wanted.Wanted.{Wanted}
 use Rattle.nfs_names.specs.{declared.context.Context.Context, declared.node.Node.Node, Checks.{node_at, current, both, saved_object}, Create.{attributes_in, new_of, made_sets, create}}
@@ -72,16 +72,16 @@ links_kept n m now xs is =
     each_map n (Modified now) (Modified now) (change_at m now no_sets) xs (keeps_changed m now no_sets []).number
     (λ s here both. elim (cases_Bool (s.number == m)) [ inl changed ↦ rw changed (refl, both.1) | inr other ↦ rw other both ]) is
 
-bytes_number : (m : ℕ) (now : Time) (sets : Sets) (bytes : Stored → List ℕ) (s : Stored) → (if s.number == m then with_bytes now sets (bytes s) s else s).number ≡ s.number
+bytes_number : (m : ℕ) (now : Time) (sets : Sets) (bytes : Stored → Content) (s : Stored) → (if s.number == m then with_bytes now sets (bytes s) s else s).number ≡ s.number
 bytes_number m now sets bytes s = elim (s.number == m) as (λ v. (cond v (with_bytes now sets (bytes s) s) s).number ≡ s.number) [ true ↦ refl | false ↦ refl ]
 
-bytes_stamped : (n : ℕ) (now : Time) (sets : Sets) (bytes : Stored → List ℕ) (xs : List Stored)
+bytes_stamped : (n : ℕ) (now : Time) (sets : Sets) (bytes : Stored → Content) (xs : List Stored)
     → Each n (Stamped now) (map (λ (s : Stored). if s.number == n then with_bytes now sets (bytes s) s else s) xs)
 bytes_stamped n now sets bytes xs =
     each_map n Any (Stamped now) (λ (s : Stored). if s.number == n then with_bytes now sets (bytes s) s else s) xs (bytes_number n now sets bytes)
     (λ s here any. rw (eq-eqb s.number n here) refl) (λ k e. tt)
 
-bytes_modified : (n : ℕ) (t : Files) (x : Context) (d : Node) (now : Time) (bytes : Stored → List ℕ) (xs : List Stored)
+bytes_modified : (n : ℕ) (t : Files) (x : Context) (d : Node) (now : Time) (bytes : Stored → Content) (xs : List Stored)
     → Each n (Modified now) (map (λ (s : Stored). if s.number == n then with_bytes now (behind_sets t x d) (bytes s) s else s) xs)
 bytes_modified n t x d now bytes xs =
     each_map n Any (Modified now) (λ (s : Stored). if s.number == n then with_bytes now (behind_sets t x d) (bytes s) s else s) xs
@@ -168,13 +168,13 @@ write_dates n refused s x now w at some =
     (λ d granted ok. (let here = writable_at s x w.stateid d (checked_ok (writable s x w.stateid (current s x)) (of_write.last_checks s w) d granted).0 in
     rw some (subst (λ (k : ℕ). Dated k (Modified now) s.tree (with_written s.tree d.number w.offset w.bytes (behind_sets s.tree x d) now))
     (some_same x.current d.number n (current_number s x d here) at)
-    (record { counted = refl; each = bytes_modified d.number s.tree x d now (λ s. written s.bytes w.offset w.bytes) s.tree.objects }))))))
+    (record { counted = refl; each = bytes_modified d.number s.tree x d now (λ s. with_text (content_of s) w.offset w.bytes) s.tree.objects }))))))
 
 -- SETATTR
 set_dated : (t : Files) (x : Context) (d : Node) (now : Time) (wanted : Wanted) (size : Option ℕ) → of_set.gives_some wanted ≡ true
     → Dated d.number (Stamped now) t (of_set.with_set t x d now wanted size)
 set_dated t x d now wanted (Some size) some =
-    record { counted = refl; each = bytes_stamped d.number now (of_set.settled_sets t x d now wanted) (λ s. resized s.bytes size) t.objects }
+    record { counted = refl; each = bytes_stamped d.number now (of_set.settled_sets t x d now wanted) (λ s. with_size (content_of s) size) t.objects }
 set_dated t x d now wanted None some =
     rw some (record { counted = refl; each = each_here d.number now (of_set.settled_sets t x d now wanted) t.objects })
 
@@ -199,7 +199,7 @@ open_dates n refused s x now a empties =
     (of_open.opened s x now a) (open_refuses s x a) (λ status refuses ok. absurd (false≢true (sym refuses.done ∙ ok)))
     (λ f granted ok. (let it = emptied_is n s x now a f (open_is s x a f (checked_ok (open_parts.asked_for s x a) (of_open.last_checks s x a) f granted).0) empties in
     subst (λ (u : Files). Dated n (Modified now) s.tree u) (sym it.1)
-    (record { counted = refl; each = bytes_modified n s.tree x it.0 now (λ s. resized s.bytes 0) s.tree.objects })))))
+    (record { counted = refl; each = bytes_modified n s.tree x it.0 now (λ s. with_size (content_of s) 0) s.tree.objects })))))
 
 -- An operation that was run.
 

@@ -14,7 +14,7 @@ use Rattle.nfs_exec.specs.{Runs.Kept.after_all, Runs.Ops.RanOp}
 use Rattle.nfs_serve.specs.Step.{ServerState, new_state}
 use Rattle.nfs_promises.specs.{Network.Endpoint.Arrival, Runs.{Points.{state_after, reached, taken, ops_of}, Followed.{TellsWhile, TellsThrough}}, Bytes.ChangeTells.RunsIn}
 use Rattle.nfs_promises.specs.Bytes.TimesRise.{Rises, TimesOf, many, IsChange, TimesRise, both_times, TimesAreTold}
-use Rattle.nfs_promises.proofs.Bytes.{ChangeSeen.changes_raise, ChangeAttributes.{attributes_text, gets_run}, Dated.{stamps, modifies}}
+use Rattle.nfs_promises.proofs.Bytes.{ChangeSeen.changes_raise, ChangeAttributes.{Free, attributes_text, gets_run}, Dated.{stamps, modifies}}
 use Rattle.nfs_promises.proofs.Runs.{ChangesCounted.{Counts, at_first, same_counts, ran_counts, next_is, next_small}, Followed.from, LimitsKept.profile_kept}
 use Rattle.nfs_promises.proofs.Runs.{LaterRecords.{op_done, first_there, later_keeps}, Points.{IsSound, sound_all, sound_new}, RunAt.{op_at, later_at}}
 use Rattle.nfs_promises.proofs.Permission.RightsTold.{profile_here}
@@ -209,7 +209,7 @@ times_rise start earlier c front d back more e n m same place unix first second 
 
 -- What GETATTR tells.
 
-both_text : (n links instance lease : ℕ) (limits : Limits) (profile : Profile) (free : ℕ) (k : Stored)
+both_text : (n links instance lease : ℕ) (limits : Limits) (profile : Profile) (free : Free) (k : Stored)
     → attributes_text both_times n links instance lease limits profile free k
     ≡ spell_result (Res.GetAttr (record { attrmask = both_times; attr_vals = (nfstime4 k.object.metadata).bytes ++ ((nfstime4 k.object.modify).bytes ++ []) }))
 unfolding attributes_text values attributes

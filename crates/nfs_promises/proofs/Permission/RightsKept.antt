@@ -92,7 +92,7 @@ rest_have n r p xs is k e = elim (cases_Bool (p n)) [
 
 pub new_have : (n : ℕ) (r : Known) (t : Files) (d : ℕ) (name : List ℕ) (new : New) (sets : Sets) (now : Time) → Have n r t → Have n r (with_new t d name new sets now)
 new_have n r t d name new sets now is =
-    let made : Stored = record { number = t.last_object + 1; object = new_object now new sets; bytes = new.bytes } in
+    let made : Stored = record { number = t.last_object + 1; object = new_object now new sets; bytes = new.bytes; pages = new.pages } in
     let given = is.given in
     let other : t.last_object + 1 ≢ n = λ same. absurd (omega arith) in
     record {

@@ -10,10 +10,10 @@ use Rattle.nfs_compound.specs.{declared.name_args.CreateType.CreateType, declare
 use Rattle.nfs_compound.specs.declared.op.Op.TheVariants as Op
 use Rattle.nfs_compound.specs.declared.op_num.OpNum.TheVariants as Num
 use Rattle.nfs_results.specs.Results.{status_of_result}
-use Rattle.nfs_tree.specs.{declared.object.Object.Object, declared.sets.Sets.Sets, declared.stored.Stored.Stored, Object.{is_directory, is_regular, modified, no_sets}}
+use Rattle.nfs_tree.specs.{declared.object.Object.Object, declared.sets.Sets.Sets, declared.stored.Stored.Stored, Stored.content_of, Object.{is_directory, is_regular, modified, no_sets}}
 use Rattle.nfs_tree.specs.Files.{Files, root, stored_in, object_at, is_there, change_at, with_entries_changed}
 use Rattle.nfs_tree.specs.{declared.limits.Limits.Limits, declared.profile.Profile.Profile, declared.profile.Profile.TheVariants.{Exact, Unix}}
-use Rattle.nfs_tree.specs.{Create.{New, with_new, new_object, new_directory, new_tree}, Bytes.{has_bytes, written, resized, with_bytes, with_resized, with_sets}}
+use Rattle.nfs_tree.specs.{Create.{New, with_new, new_object, new_directory, new_tree}, Bytes.{has_bytes, Content, with_text, with_size, with_bytes, with_resized, with_sets}}
 use Rattle.nfs_tree.proofs.Objects.{keeps_changed, stored_map}
 use Rattle.nfs_attrs.specs.{declared.wanted.Wanted.Wanted, SetId.{settled, mode_behind, mode_if, made_in}}
 use Rattle.nfs_names.specs.{declared.context.Context.Context, declared.node.Node.Node, declared.start.Start.Start, Checks.current}
@@ -104,8 +104,8 @@ sized_set k r t x d size w now held is =
     record {
       given = is.given;
       profile = is.profile;
-      rights = set_at k d.number r (given_by k r x.who w) (λ (s : Stored). if s.number == d.number then with_bytes now sets (resized s.bytes size) s else s) t.objects
-          (λ s. elim (s.number == d.number) as (λ v. (cond v (with_bytes now sets (resized s.bytes size) s) s).number ≡ s.number) [ true ↦ refl | false ↦ refl ])
+      rights = set_at k d.number r (given_by k r x.who w) (λ (s : Stored). if s.number == d.number then with_bytes now sets (with_size (content_of s) size) s else s) t.objects
+          (λ s. elim (s.number == d.number) as (λ v. (cond v (with_bytes now sets (with_size (content_of s) size) s) s).number ≡ s.number) [ true ↦ refl | false ↦ refl ])
           (λ s here at has. rw (eq-eqb s.number d.number here) (known_given k r t d x.who w s.object is held at has))
           (λ s apart. rw (ne_eqb s.number d.number apart) refl) is.rights;
     }
@@ -123,7 +123,7 @@ changed_set k r t x d w now held is =
     }
 
 -- a change of bytes
-bytes_set : (k : Subject) (r : Rights) (t : Files) (x : Context) (d : Node) (bytes : Stored → List ℕ) (now : Time) → IsHeld t d → Holds k r t
+bytes_set : (k : Subject) (r : Rights) (t : Files) (x : Context) (d : Node) (bytes : Stored → Content) (now : Time) → IsHeld t d → Holds k r t
     → Are k.number (known k (cond (d.number == k.number) (with_cleared k x.who r) r))
     (map (λ (s : Stored). if s.number == d.number then with_bytes now (behind_sets t x d) (bytes s) s else s) t.objects)
 bytes_set k r t x d bytes now held is =
@@ -227,7 +227,7 @@ written_have k r s x now w d at is =
           (rw some (record {
             given = is.given;
             profile = is.profile;
-            rights = bytes_set k r s.tree x d (λ s. written s.bytes w.offset w.bytes) now held is;
+            rights = bytes_set k r s.tree x d (λ s. with_text (content_of s) w.offset w.bytes) now held is;
           }))
       | inr empty ↦ subst (λ b. Holds k (cond b q r) (of_write.with_bytes s.tree x w d now)) (sym (and_right (is_number k.number x.current) (has_bytes w.bytes) empty))
           (rw empty is)
@@ -252,7 +252,7 @@ opened_have k r s x now o u (Same same empties) is =
 opened_have k r s x now o u (Emptied g held empties same) is =
     subst (λ b. Holds k (cond b (with_cleared k x.who r) r) u) (sym (empties k.number))
     (subst (Holds k (cond (g.number == k.number) (with_cleared k x.who r) r)) (sym same)
-    (record { given = is.given; profile = is.profile; rights = bytes_set k r s.tree x g (λ s. resized s.bytes 0) now held is }))
+    (record { given = is.given; profile = is.profile; rights = bytes_set k r s.tree x g (λ s. with_size (content_of s) 0) now held is }))
 opened_have k r s x now o u (Made m held at none reads same) is =
     subst (λ (n : Option ℕ). Holds k (cond (is_number k.number n && asks_empty o) (with_cleared k x.who r) r) u) (sym none)
     (subst (Holds k r) (sym same)
@@ -330,7 +330,7 @@ new_made : (n : ℕ) (t : Files) (d : ℕ) (name : List ℕ) (new : New) (sets :
     → is_there (with_new t d name new sets now) n ≡ true → t.profile ≡ r.profile → known_of r.profile (new_object now new sets) ≡ r → Have n r (with_new t d name new sets now)
 new_made n t d name new sets now r absent there profile has =
     let xs = with_entries_changed d now t.objects in
-    let made : Stored = record { number = t.last_object + 1; object = new_object now new sets; bytes = new.bytes } in
+    let made : Stored = record { number = t.last_object + 1; object = new_object now new sets; bytes = new.bytes; pages = new.pages } in
     let none : stored_in xs n ≡ None = still_none n d now t (none_there t n absent) in
     elim (cases_eq (t.last_object + 1) n) [
       | inl same ↦ record {
@@ -388,9 +388,9 @@ create_made k s x now c w place q profile kind absent is at has =
 emptied_there : (n : ℕ) (t : Files) (g : ℕ) (sets : Sets) (now : Time) → stored_in t.objects n ≡ None
     → stored_in (with_resized t g 0 sets now).objects n ≡ None
 emptied_there n t g sets now none =
-    stored_map t.objects (λ (s : Stored). if s.number == g then with_bytes now sets (resized s.bytes 0) s else s) n
-    (λ s. elim (s.number == g) as (λ v. (cond v (with_bytes now sets (resized s.bytes 0) s) s).number ≡ s.number) [ true ↦ refl | false ↦ refl ])
-    ∙ ap (option_map (λ (s : Stored). if s.number == g then with_bytes now sets (resized s.bytes 0) s else s)) none
+    stored_map t.objects (λ (s : Stored). if s.number == g then with_bytes now sets (with_size (content_of s) 0) s else s) n
+    (λ s. elim (s.number == g) as (λ v. (cond v (with_bytes now sets (with_size (content_of s) 0) s) s).number ≡ s.number) [ true ↦ refl | false ↦ refl ])
+    ∙ ap (option_map (λ (s : Stored). if s.number == g then with_bytes now sets (with_size (content_of s) 0) s else s)) none
 
 open_found : (k : Subject) (s : store.State) (x : Context) (now : Time) (o : Open) (w : Wanted) (place : ℕ) (q : Rights) (u : Files) → s.tree.profile ≡ k.profile → k.regular ≡ true
     → is_there s.tree k.number ≡ false → attributes_in (makes o.openhow).attributes ≡ Ok w → x.current ≡ Some place → rights_at s.tree place ≡ Some q → LeftBy s x now o u
@@ -475,7 +475,7 @@ root_has : (mode : ℕ) (now : Time) (limits : Limits) (profile : Profile)
 root_has mode now limits profile = record {
   given = omega arith;
   profile = refl;
-  rights = λ k e. (let one : record { number = root; object = new_object now new_directory (record no_sets { mode = Some mode }); bytes = [] } ≡ k = cc in
+  rights = λ k e. (let one : record { number = root; object = new_object now new_directory (record no_sets { mode = Some mode }); bytes = []; pages = [] } ≡ k = cc in
       ap (λ (k : Stored). known_of profile k.object) (sym one));
 }
 

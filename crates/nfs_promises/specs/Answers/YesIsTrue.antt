@@ -10,10 +10,10 @@ use Rattle.nfs_compound.specs.declared.name_args.ReadDir.{ReadDir}
 use Rattle.nfs_results.specs.{declared.res.Entry.Entry, declared.res.Fattr.Fattr, declared.res.OpenOk.OpenOk, declared.res.ReadDirOk.ReadDirOk, ResultCodec.FitsResult, Results.spell_result}
 use Rattle.nfs_results.specs.declared.res.Res.TheVariants as Res
 use Rattle.nfs_tree.specs.{declared.object.FileType.FileType, declared.object.FileType.TheVariants.{Directory}, declared.object.Object.Object, declared.row.Row.Row}
-use Rattle.nfs_tree.specs.{Profile.is_unix, Object.{is_directory, is_link}, Files.{most_text, data_at, links_in, object_at, object_named}}
+use Rattle.nfs_tree.specs.{Profile.is_unix, Object.{is_directory, is_link}, Files.{most_text, data_at, size_at, links_in, object_at, object_named}}
 use Rattle.nfs_attrs.specs.{declared.mask.Mask.Mask, Mask.{has, mask_of, trimmed_words, common}, Attributes.{readable, attributes, value_at, type_number}, Wire.nfs_fh4}
 use Rattle.nfs_opens.specs.{declared.records.{LockState.LockState, OpenState.OpenState}, declared.stateid.StateId.StateId, Share.{joined, share_of}, StateId.next_seqid, Table.{open_at, lock_at}}
-use Rattle.nfs_names.specs.{declared.{start.Start.Start, context.Context.Context}, Attributes.{about, taken_by}, Outcome.is_ok, State.State}
+use Rattle.nfs_names.specs.{declared.{start.Start.Start, context.Context.Context}, Attributes.{about, taken_by, space_of, space_used}, Outcome.is_ok, State.State}
 use Rattle.nfs_files.specs.{Open.{access_of, deny_of}, OpenTold.claimed, Ranges.kind_of, StateIds.state_id}
 use Rattle.nfs_exec.specs.Runs.Ops.{RanOp}
 use Rattle.nfs_promises.specs.{Network.Endpoint.Arrival, Runs.Points.{reached, ops_of}, Permission.Permitted.{Reads, Writes, Executes, Grants, rights_of}}
@@ -61,7 +61,9 @@ value s n o k =
     else if k == 35 then (uint32 (names_of s n o)).bytes
     else if k == 36 then (opaque most (decimal o.owner)).bytes
     else if k == 37 then (opaque most (decimal o.group)).bytes
-    else if k == 45 then (uint64 (taken_by s.tree.profile (length (data_at s.tree n)))).bytes
+    else if k == 42 || k == 43 then in_unix s (uint64 (space_of s.tree.limits - space_used s.tree)).bytes
+    else if k == 44 then in_unix s (uint64 (space_of s.tree.limits)).bytes
+    else if k == 45 then (uint64 (taken_by s.tree.profile (size_at s.tree n))).bytes
     else if k == 47 then (nfstime4 o.access).bytes
     else if k == 52 then (nfstime4 o.metadata).bytes
     else if k == 53 then (nfstime4 o.modify).bytes

@@ -69,9 +69,15 @@ pub record GetsOf (n : ℕ) (words : List ℕ) (d : RanOp) : Type 0 where
   pub at : d.context.current ≡ Some n
   pub ok : is_ok d.status ≡ true
 
--- nothing of how many more objects there may be, which each change of names anywhere changes and which `unix` alone tells
+-- nothing of how many more objects and bytes there may be, which changes anywhere change and which `unix` alone tells
+pub record LeavesOutFree (words : List ℕ) : Type 0 where
+  pub files_avail : has (mask_of words) 21 ≡ false
+  pub files_free : has (mask_of words) 22 ≡ false
+  pub space_avail : has (mask_of words) 42 ≡ false
+  pub space_free : has (mask_of words) 43 ≡ false
+
 abbrev pub AsksNoFree : Profile → List ℕ → Type 0
-AsksNoFree profile words = (profile ≡ Exact) ⊎ ((has (mask_of words) 21 ≡ false) × (has (mask_of words) 22 ≡ false))
+AsksNoFree profile words = (profile ≡ Exact) ⊎ LeavesOutFree words
 
 -- And two GETATTRs of the same attributes are answered the same: all of the object's, also the number of names.
 abbrev pub AttributesAreAlike : Type 0

@@ -1,4 +1,4 @@
-use Rattle.std.proofs.{Common.{◌≡◌, ◌-◌, ◌++◌, [], List, ℕ, length, ap, ◌∙◌, arith}, lemmas.List.length-append}
+use Rattle.std.proofs.{Common.{◌≡◌, ◌-◌, ◌++◌, List, ℕ, length, ap, ◌∙◌, arith}, lemmas.List.length-append}
 use Rattle.nfs_xdr.specs.{SheetState.{SheetState}, Spelling.{number, opaque}}
 use Rattle.nfs_xdr.proofs.Putting.{length_number}
 use Rattle.nfs_attrs.specs.{Attributes.{values, readable}, Mask.{common, spell_mask}}

@@ -1,14 +1,14 @@
 use Rattle.std.proofs.Common.{◌≡◌, ◌∙◌, ℕ, List, length, ◌+◌, ◌-◌, ◌/◌, ◌%◌, ◌<◌, ◌≤◌, arith, take, drop, get_or, refl}
 use Rattle.std.proofs.lemmas.List.{get_or-drop, get_or-take, length-take-le, length-drop}
-use Rattle.nfs_pages.specs.Pages.{page_in}
+use Rattle.nfs_pages.specs.Page.{page_in}
 use Rattle.nfs_pages.proofs.PageLemmas.{put_step, put_whole}
 use Rattle.nfs_pages.proofs.extent.put_all.Goals as goal
 
 pub loop-done-preserved : goal.loop-done-preserved
 loop-done-preserved c =
-    let pages : ℕ → List ℕ = page_in c.loop-done.extent in
-    let old : ℕ → List ℕ = page_in c.args.extent.now in
-    let new : ℕ → List ℕ = page_in c.put.new.self in
+    let pages : ℕ → List ℕ = page_in c.loop-done.pages in
+    let old : ℕ → List ℕ = page_in c.args.pages.now in
+    let new : ℕ → List ℕ = page_in c.put_one.new.pages in
     let text : List ℕ = c.args.text.now in
     let done : ℕ = c.loop-done.done in
     let count : ℕ = c.min-count.result in
@@ -26,6 +26,7 @@ loop-done-preserved c =
     let reads : (k : ℕ) → k < count → get_or given k 0 ≡ get_or text (done + k) 0 = λ k lt. get_or-take (done + count - done) (drop done text) k 0 (omega arith) ∙ get_or-drop done text k 0 in
     record {
       done = fits;
-      whole = λ k. put_whole pages new i from given (omega arith) c.put.ensures.here c.put.ensures.others k ∙ c.loop-done.invariant.whole k;
-      bytes = λ p. put_step pages new old c.args.offset done count i from text given fits room long reads refl refl whole c.put.ensures.here c.put.ensures.others c.loop-done.invariant.bytes p;
+      whole = λ k. put_whole pages new i from given (omega arith) c.put_one.ensures.here c.put_one.ensures.others k ∙ c.loop-done.invariant.whole k;
+      bytes = λ p. put_step pages new old c.args.offset done count i from text given fits room long reads refl refl whole c.put_one.ensures.here c.put_one.ensures.others c.loop-done.invariant.bytes p;
+      written = λ k. c.put_one.ensures.written k ∙ c.loop-done.invariant.written k;
     }

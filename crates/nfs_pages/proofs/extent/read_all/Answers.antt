@@ -1,5 +1,5 @@
 use Rattle.std.proofs.Common.{◌∙◌, ◌≤◌, ◌+◌, ◌/◌, ◌%◌, ℕ, List, arith, refl}
-use Rattle.nfs_pages.specs.Pages.{page_in}
+use Rattle.nfs_pages.specs.Page.{page_in}
 use Rattle.nfs_pages.proofs.PageLemmas.{read_more, page_part}
 use Rattle.nfs_pages.proofs.extent.read_all.Goals as goal
 

@@ -1,6 +1,6 @@
 use Rattle.std.proofs.Common.{◌≡◌, ◌≤◌, ◌+◌, ◌-◌, ◌++◌, length, map}
 use Rattle.std.specs.List.{range_with_len}
-use Rattle.nfs_pages.specs.Pages.{byte_in, page_in}
+use Rattle.nfs_pages.specs.{Page.page_in, Pages.byte_in}
 use Rattle.nfs_pages.proofs.extent.read_all.Given as goal
 
 abbrev pub invariant-loop-done : goal.invariant-loop-done

@@ -1,5 +1,5 @@
 use Rattle.std.proofs.{Common.{◌≡◌, ◌∙◌, ◌++◌, [], ap, ℕ, List, arith}, lemmas.Grind.common_steps}
-use Rattle.nfs_pages.specs.Pages.{page_in}
+use Rattle.nfs_pages.specs.Page.{page_in}
 use Rattle.nfs_pages.proofs.PageLemmas.{page_past}
 use Rattle.nfs_pages.proofs.extent.read_page.Goals as goal
 

@@ -1,7 +1,7 @@
 use Rattle.std.proofs.{Common.{◌∙◌, ◌++◌, ap, sym, subst, map, ℕ, List}, lemmas.List.FromFn.length-map-range_with_len}
 use Rattle.std.specs.{Prelude.{take, drop}, List.range_with_len}
 use Rattle.nfs_xdr.specs.{SheetState.HasRoom, Spelling.{opaque}}
-use Rattle.nfs_pages.specs.Pages.{page_of, byte_in, bytes}
+use Rattle.nfs_pages.specs.{Bytes.Content, Pages.{page_of, byte_in, bytes}}
 use Rattle.nfs_pages.proofs.PageLemmas.{part_is, opaque_is, opaque_fits}
 use Rattle.nfs_pages.proofs.bytes.Bytes.read.Goals as goal
 
@@ -14,7 +14,7 @@ put_part-requires-clause-room c =
     let part : List ℕ = take c.args.count (drop c.args.offset (bytes pages size)) in
     let same = part_is pages size c.args.offset c.args.count start n c.min-start.ensures c.min-count.ensures in
     opaque_fits part (map (byte_in pages) (range_with_len start n)) n c.args.out.now same (length-map-range_with_len (byte_in pages) start n)
-    (subst (λ (xs : List ℕ). HasRoom c.args.out.now (opaque (take c.args.count (drop c.args.offset xs)))) (sym c.self.view_is) c.requires)
+    (subst (λ (x : Content). HasRoom c.args.out.now (opaque (take c.args.count (drop c.args.offset x.bytes)))) (sym c.self.view_is) c.requires)
 
 pub returns : goal.returns
 returns c =
