@@ -1,16 +1,13 @@
 //! Why `serve` does not begin, in a line for whoever started it. The line of the fault itself comes after it
 //! (docs/OPERATING.md).
 
-use crate::asked::Order;
-use crate::fault::Fault;
 use crate::holder::process_on;
-use crate::settings_file::{
-    CLIENTS, CONNECTIONS, KEYS, LEASE, MOST_OBJECTS, MOST_OF_OWNER, Number, ROOT_MODE, bytes_at,
-    is_known, memory_at, number_at, profile_at, seats_at, up_to,
-};
 use crate::shown::{Grouped, Shown};
-use crate::words::order;
 use crate::{MOST_OF_SETTINGS, start_of};
+use nfs_settings::{
+    CLIENTS, CONNECTIONS, Fault, KEYS, LEASE, MOST_OBJECTS, MOST_OF_OWNER, Number, Order,
+    ROOT_MODE, bytes_at, is_known, memory_at, number_at, order, profile_at, seats_at, up_to,
+};
 use nfs_tree::Profile;
 use std::fmt;
 use std::io::{ErrorKind, Write};

@@ -1,10 +1,10 @@
 //! What a server counts, in a file that monitors scrape (docs/OPERATING.md, "Metrics").
 
 use crate::replaced::Replaced;
-use crate::tally::Tally;
 use nfs_exec::Held;
 use nfs_names::Crowd;
 use nfs_pace::MICROS;
+use nfs_sockets::Tally;
 use nfs_tree::Limits;
 use std::alloc::AllocError;
 

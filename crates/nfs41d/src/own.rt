@@ -2,10 +2,9 @@
 
 ghost use Rattle.std.specs.Prelude.{◌≤◌};
 
-use crate::clock::instance_at;
-use crate::fault::Fault;
-use crate::settings_file::named;
 use nfs_names::ServerOwner;
+use nfs_settings::{Fault, named};
+use nfs_sockets::instance_at;
 use std::alloc::{Allocator, Global};
 use std::fmt::Write;
 use std::random::RandomSource;

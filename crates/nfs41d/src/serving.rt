@@ -1,11 +1,11 @@
 //! Many TCP connections over one server.
 
 ghost use Rattle.std.specs.Prelude.{MatchResult};
-ghost use Rattle.nfs41d.specs.ExitStatus.{IsOfConnections};
+ghost use Rattle.nfs_settings.specs.ExitStatus.{IsOfConnections};
 
-use crate::fault::Fault;
-use crate::sockets::Listening;
 use nfs_serve::{Clock, Hub, Server, Watch};
+use nfs_settings::Fault;
+use nfs_sockets::Listening;
 use std::alloc::Global;
 use std::io::Write;
 

@@ -2,15 +2,15 @@
 
 ghost use Rattle.std.specs.Prelude.{◌≡◌, ◌<◌, ◌*◌, ◌/◌, min, option_map};
 
-use crate::clock::{PacedClock, SystemReadings};
 use crate::shown::{Grouped, Shown};
-use crate::sockets::Sockets;
-use crate::tally::{DELAY, FBIG, MLINK, NOSPC, SERVERFAULT, Tally};
 use crate::told::Told;
 use nfs_exec::{Held, World};
 use nfs_names::Crowd;
 use nfs_pace::MICROS;
 use nfs_serve::Watch;
+use nfs_sockets::{
+    DELAY, FBIG, MLINK, NOSPC, PacedClock, SERVERFAULT, Sockets, SystemReadings, Tally,
+};
 use nfs_tree::Limits;
 use std::fs;
 use std::io::Write;

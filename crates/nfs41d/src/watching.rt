@@ -1,12 +1,11 @@
 //! Who looks on while connections are served: for lines of status, for metrics and for a list of the clients.
 
-use crate::clock::{PacedClock, SystemReadings};
 use crate::figures::{Counted, Figures};
 use crate::listed::Listed;
-use crate::sockets::Sockets;
 use crate::status::{Status, resident};
 use nfs_exec::World;
 use nfs_serve::Watch;
+use nfs_sockets::{PacedClock, Sockets, SystemReadings};
 use std::io::Write;
 
 /// What is shown of a server that runs.

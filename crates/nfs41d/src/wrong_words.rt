@@ -1,7 +1,7 @@
 //! Which word of a command line for `serve` is wrong.
 
 use crate::shown::{Grouped, Shown};
-use crate::words::{MAX_STATUS, MOST_AT_ONCE, count_of};
+use nfs_settings::{MAX_STATUS, MOST_AT_ONCE, count_of};
 use std::fmt;
 
 /// Why the words are no order.

@@ -1,6 +1,0 @@
--- None of the ports so far is ready.
-use Rattle.nfs41d.specs.Looking.{ready_at, NoneBefore}
-use Rattle.nfs41d.proofs.connections.first_ready.Given as goal
-
-abbrev pub invariant-loop-port : goal.invariant-loop-port
-invariant-loop-port l = NoneBefore (ready_at l.connections) l.from l.port

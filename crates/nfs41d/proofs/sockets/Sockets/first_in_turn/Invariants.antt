@@ -1,6 +1,0 @@
--- None of the ports so far.
-use Rattle.nfs41d.specs.Looking.{turn_at, NoneBefore}
-use Rattle.nfs41d.proofs.sockets.Sockets.first_in_turn.Given as goal
-
-abbrev pub invariant-loop-port : goal.invariant-loop-port
-invariant-loop-port g l = NoneBefore (turn_at l.self.connections l.self.places.guests l.self.turns l.self.looking.looks) l.from l.port
