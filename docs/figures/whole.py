@@ -19,7 +19,7 @@ def draw():
     if lacking:
         raise common.Fault(f"docs/figures/whole.tsv has no box for {', '.join(sorted(lacking))}")
     picture = Drawing(1200, 490, "The way of a record through the server",
-                      "A client's call comes over TCP to nfs41d, and goes through nfs_rpc and nfs_compound to nfs_exec, which runs its operations "
+                      "A client's call comes over TCP to nfs_sockets, and goes through nfs_rpc and nfs_compound to nfs_exec, which runs its operations "
                       "over the tables; nfs_results and nfs_rpc put the reply. All within nfs_serve is proved, and of the program around it the "
                       "settings, the exit status and who has a place; the rest of it is tested. The operating system and the toolchain are trusted.")
     for kind, *words in rows:
