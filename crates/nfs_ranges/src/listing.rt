@@ -230,12 +230,19 @@ impl Block {
             .partition_point(|other| stands_before(other, held))
     }
 
+    /// Whether what is known of them at once shows that the wish meets none.
+    fn is_apart(&self, wish: &Wish) -> bool
+        ensures { OnTrue result (All (λ h. stands_against wish.now h ≡ false) self.now) }
+    {
+        self.reach.is_apart(wish)
+    }
+
     /// What is told of a wish, of what was found before and of these locks.
     fn soonest(&self, best: Option<Held>, wish: &Wish) -> Option<Held>
         ensures these { All (Yields wish.now result) self.now }
         ensures others { (h : Held) → Yields wish.now best h → Yields wish.now result h }
     {
-        if self.reach.is_apart(wish) || self.reach.is_behind(best, wish.first) {
+        if self.is_apart(wish) || self.reach.is_behind(best, wish.first) {
             return best;
         }
         soonest_of(&self.locks, best, wish)
@@ -320,14 +327,29 @@ fn block_of(blocks: &[Block], held: Held) -> usize
         .min(blocks.len() - 1)
 }
 
+/// The first block from a place on that a wish may meet.
+fn next_met(blocks: &[Block], from: usize, wish: &Wish) -> usize
+    requires { from ≤ length blocks.now }
+    ensures order { (from ≤ result) × (result ≤ length blocks.now) }
+    ensures apart { AllWithin (All (λ h. stands_against wish.now h ≡ false)) blocks.now from result }
+{
+    let mut at = from;
+    while at < blocks.len() && blocks[at].is_apart(wish) {
+        at += 1;
+    }
+    at
+}
+
 /// What is told of a wish, of what was found before and of these blocks.
 fn soonest_in(blocks: &[Block], best: Option<Held>, wish: &Wish) -> Option<Held>
     ensures these { All (All (Yields wish.now result)) blocks.now }
     ensures others { (h : Held) → Yields wish.now best h → Yields wish.now result h }
 {
     let mut told = best;
-    for b in blocks {
-        told = b.soonest(told, wish);
+    let mut at = 0;
+    while at < blocks.len() {
+        told = blocks[at].soonest(told, wish);
+        at = next_met(blocks, at + 1, wish);
     }
     told
 }
