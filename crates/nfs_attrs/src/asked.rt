@@ -32,6 +32,7 @@ impl Model for Asked {
 }
 
 /// Spells the attributes of an object. The count of the values' bytes is known when they are spelled, and is then written in its place.
+#[inline(always)]
 fn spell(mask: &Mask, object: &Object, about: &About, text: &mut Spelled)
     requires room { text.old.room ≡ 436 }
     ensures { text.new ≡ record text.old { bytes = spell_attrs mask.now about.now object.now } }
@@ -65,6 +66,7 @@ impl Asked {
     }
 
     /// Puts the attributes of an object. The sheet takes them at once.
+    #[inline(always)]
     pub(crate) fn put(&mut self, object: &Object, about: &About, sheet: &mut Sheet)
         requires room { HasRoom sheet.old (spell_attrs self.old about.now object.now) }
         ensures put { Puts sheet.old sheet.new (spell_attrs self.old about.now object.now) }

@@ -203,6 +203,7 @@ impl Mask {
     }
 
     /// Puts the mask: how many words, and the words.
+    #[inline(always)]
     #[tactic(auto, using(nfs_xdr::proofs::Putting::putting))]
     pub(crate) fn put(&self, out: &mut Spelled)
         requires room { HasRoom out.old (spell_mask self.now) }

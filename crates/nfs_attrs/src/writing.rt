@@ -38,6 +38,7 @@ pub fn write_attrs(object: &Object, about: &About, asked: Mask, sheet: &mut Shee
 }
 
 /// Puts what [`write_attrs`] puts, where the mask was decoded before. `asked` stays what it is.
+#[inline(always)]
 pub fn write_asked(object: &Object, about: &About, asked: &mut Asked, sheet: &mut Sheet)
     requires room { HasRoom sheet.old (table.spell_attrs asked.old about.now object.now) }
     ensures put { Puts sheet.old sheet.new (table.spell_attrs asked.old about.now object.now) }

@@ -1,6 +1,6 @@
 -- What changes of the maps make of the list of rows.
 use Rattle.std.proofs.Common.{◌≡◌, ℕ, ◌<◌, ◌≤◌, ◌+◌, ◌^◌, suc, Bool, true, false, cond, not, List, [], ◌∷◌, ◌++◌, map, length, Option, Some, None, refl, sym, ◌∙◌, ap, arith, inl, inr}
-use Rattle.std.proofs.{lemmas.Bool.{le-ltb, cases_Bool, eq-eqb, ne_eqb, eqb-true, and_parts, false≢true, ltb-true, lt-ltb}, lemmas.Bool.Decides.nat_tests}
+use Rattle.std.proofs.lemmas.Bool.{le-ltb, cases_Bool, eq-eqb, ne_eqb, eqb-true, and_parts, false≢true, ltb-true, lt-ltb}
 use Rattle.std.proofs.lemmas.Slice.Eq.{bytes_eq-Decides}
 use Rattle.std.specs.Prelude.{◌==◌, ◌&&◌, filter, find, option_map, is_some, bytes_eq, nat_lt}
 use Rattle.nfs_xdr.specs.{Text.IsBytes, Tables.{IsRising, In, record_at, without_record}}
