@@ -13,7 +13,8 @@ from edits import public
 from pinned import TESTS, bodies
 
 CALL = re.compile(r"(?:(\w+)(?:::<[^>]*>)?::|(\.)\s*|\b)(\w+)(?=\s*(?:::<|[(),;}]))")
-HEAD = """# The contract of each public function (tests/gate/believed --lists): crate, function, clauses that ask, clauses
+HEAD = """\
+# The contract of each public function (tests/gate/believed --lists): crate, function, clauses that ask, clauses
 # that state, sum of what they lean on.
 """
 

@@ -63,7 +63,7 @@ class Page:
                 new in rows]
 
     def text(self):
-        """The page: what each promise leans on, in numbers and sums, and the sums of the lists that are made on demand."""
+        """The page: what each promise leans on, in numbers and sums, and the sums of lists that are made on demand."""
         parts = [TEXTS["head"] + "\n", self.table(), *self.pins_and_premises(), TEXTS["lists"] + "\n"]
         lists = ["| List | Lines | Sum |", "|---|---|---|", *self.listed_rows()]
         return "\n".join(it for it in [*parts, "\n".join(lists) + "\n"] if it)

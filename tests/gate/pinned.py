@@ -23,7 +23,8 @@ MAY_SKIP = ("tests/server/cost", "tests/client/linux", "tests/client/ganesha")
 WANT = re.compile(r"\b(?:AllocError|Memory|Delay)\b")
 RENAMED = re.compile(r"\b(?:AllocError|Memory|Delay)\s+as\b")
 ASK = re.compile(r"\bwith_capacity\(|(?<!copy_)from_slice\(|\.reserve\((?!alloc\)|\))|\.resize\(")
-WANTS = """# Lines of bodies that make want of memory up, or pass it on by its name, and those that ask for an amount, with
+WANTS = """\
+# Lines of bodies that make want of memory up, or pass it on by its name, and those that ask for an amount, with
 # what bounds that (tests/gate/believed --pin): crate, function, line, bound.
 """
 

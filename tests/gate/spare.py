@@ -72,7 +72,8 @@ class Spare:
     def __init__(self, top):
         self.words, self.twins, self.found = Counter(), defaultdict(list), defaultdict(list)
         every = []
-        files = ((part, path) for part in ("specs", "proofs") for path in sorted(top.glob(f"crates/*/{part}/**/*.antt")))
+        files = ((part, path) for part in ("specs", "proofs")
+                 for path in sorted(top.glob(f"crates/*/{part}/**/*.antt")))
         for part, path in files:
             text = rattle.without_comments(path.read_text(encoding="utf-8"))
             self.words.update(words_of(text))
