@@ -1,10 +1,6 @@
-"""The contract of each public function of each crate, and which of these functions only tests call.
-`tests/gate/believed` stands on it.
-
-`tests/gate/believed --lists FOLDER` writes a line for each: the crate, the function, how many clauses ask for something
-and how many state something, and a sum of those clauses and of all that they lean on. docs/BELIEVED.md has a sum of all
-lines, so no contract changes without a change of it. tests/gate/uncalled.tsv names the functions that nothing but tests
-calls, each with the reason for which it is there."""
+"""The contract of each public function of each crate, a line each (tests/gate/believed --lists FOLDER), and which of
+these functions only tests call. `tests/gate/believed` stands on it. docs/BELIEVED.md has a sum of all lines, so no
+contract changes without a change of it. tests/gate/uncalled.tsv says why there are functions that only tests call."""
 
 import re
 
@@ -26,8 +22,8 @@ def page(top, promises):
         places = {it: folder / file for file, (source, _) in rattle.tree(folder).items() for it in source.functions}
         for path, it in sorted(public(folder).items()):
             asks = sum(clause.kind != "ensures" for clause in it.clauses)
-            needed, _, types = promises.behind({one for clause in it.clauses
-                                                for one in promises.all.cited_in(places[it], clause)})
+            cited = set().union(*(promises.all.cited_in(places[it], clause) for clause in it.clauses))
+            needed, _, types = promises.behind(cited)
             said = [line for clause in it.clauses for line in promises.all.meaning_in(places[it], clause)]
             summed = rattle.sum_of([" ".join(it.takes.split()), *said, *promises.all.text_of(needed, types)])[:10]
             lines.append(f"{folder.name}\t{path}\t{asks}\t{len(it.clauses) - asks}\t{summed}\n")
@@ -46,10 +42,10 @@ def uncalled(top):
         for path, it in public(folder).items() if is_library else ():
             owner = it.owner.name if it.owner else ""
             is_method = re.search(r"\(\s*(?:&\s*)?(?:'\w+\s+)?(?:mut\s+)?self\b", it.takes)
-            fits = (".", owner, "Self") if is_method else (owner, "Self") if owner else (
-                "", path.split("::")[-2] if "::" in path else "", folder.name)
-            if it.sees == "pub" and not path.startswith("laws::") and not any(
-                who is not it and front in fits for who, front in called.get(it.name, ())):
+            module = path.rpartition("::")[0].rpartition("::")[2]
+            fits = (".", owner, "Self") if is_method else (owner, "Self") if owner else ("", module, folder.name)
+            is_called = any(who is not it and front in fits for who, front in called.get(it.name, ()))
+            if it.sees == "pub" and not path.startswith("laws::") and not is_called:
                 yield f"{folder.name}\t{path}"
 
 
@@ -60,17 +56,16 @@ def faults(top, rows):
               for it in sorted(there - told.keys())]
     found += [f"tests/gate/uncalled.tsv: {' '.join(it.split())}: it is called, or it is not there"
               for it in sorted(told.keys() - there)]
-    return found + [f"tests/gate/uncalled.tsv: it gives no reason for {it}" for it in told
-                    if len(" ".join(told[it]).split()) < 3]
+    bare = [it for it, why in told.items() if len(" ".join(why).split()) < 3]
+    return found + [f"tests/gate/uncalled.tsv: it gives no reason for {it}" for it in bare]
 
 
 def proved(top):
-    """How many functions of the libraries that were built have in the toolchain's own words the contract that is read
-    here, and which have not: a library has its sources' heads and clauses as the checker took them, below
-    out/rlib/NAME.rlib/lang/src."""
+    """How many functions of built libraries have by the toolchain the contract that is read here, and which have not:
+    out/rlib/NAME.rlib/lang/src has the heads and clauses of a library's sources as the checker took them."""
     same, found = 0, []
-    clauses_of = lambda source: {(it.owner.holder if it.owner else "", it.name): [
-        (one.kind, "".join(one.text.split())) for one in it.clauses]
+    said = lambda it: [(one.kind, "".join(one.text.split())) for one in it.clauses]
+    clauses_of = lambda source: {(it.owner.holder if it.owner else "", it.name): said(it)
                                  for it in source.functions if not it.is_test}
     for folder in rattle.crates(top):
         built = folder / f"out/rlib/{folder.name}.rlib/lang"

@@ -2,19 +2,14 @@
 contracts of its sources (`crates/*/src/**/*.rt`). `tests/gate/believed` stands on it.
 
 A name that a file passes on (`pub use`) is that of the file that defines it, through however many. A folder's list of
-files may pass on names too, all those of a file of the folder with `pub use FILE.*`.
+files may pass on names too, all those of a file of the folder with `pub use FILE.*`. What a text means is in its sum:
+its words, the path of each name that it takes of another file or of std, its sections, and the fixity of an operator.
 
-What a text means is in its sum: beside its words, the path of each name that it takes of another file or of std, the
-sections that it stands in with their parameters, and the fixity of an operator.
+What cannot be followed by the text is refused: an import that resolves to nothing or to itself, or whose path does not
+begin with `Rattle.`; one that passes a module on, brings all of a module into a file of definitions, or has another
+name for what is no definition and no module of the repository; a thing of one's own under a name that a reader takes
+for the library's, as ⊥; a module with a name in a file of definitions; what rattle.hidden finds in a source."""
 
-What cannot be followed by the text is refused, as a fault: an import that resolves to nothing or to itself, or whose
-path does not begin with `Rattle.`; one that passes a module on, brings all of a module into a file of definitions, or
-has another name for what is no definition and no module of the repository; a thing of one's own under a name that a
-reader takes for the library's, as ⊥; a module with a name in a file of definitions; in a source a module that is
-written into it, a macro, text of another file, a `pub use` where it is not the crate's root, or a body that a trait
-gives a function."""
-
-import contextlib
 import functools
 import re
 
@@ -35,13 +30,8 @@ BOUND = rf"\s*(?:[^\s(){{}}:.=]+\s+)*?(?:{TYPES})(?=[\s:.=])[^(){{}}:.=]*[:.=](?
 BINDS, HEADS = re.compile(rf"(?:[(λ{{]|\blet\b){BOUND}"), re.compile(f"^{BOUND}", re.M)
 
 
-class Lost(Exception):
-    """A name that leads to no definition."""
-
-
 class Definition:
-    """A definition: its lines of meaning, the heads of the sections that it stands in, its fixity, and which kind it is
-    of by its first words."""
+    """A definition: its lines of meaning, the heads of the sections that it stands in, its fixity, and its kind."""
 
     def __init__(self, file, name, line, within=()):
         self.file, self.name, self.lines, self.within, self.fixity = file, name, [], list(within), []
@@ -102,12 +92,11 @@ class Definitions:
     def read(self, file, path, text):
         """Reads the definitions of a file: a line that begins one, those that go on with it, and its equations."""
         self.files[file], names = path, self.names.setdefault(file, {})
-        now, within, fixities = None, [], {}
-        self.faults += [f"{self.place(path)}: a module below a file of definitions: {it.strip()}"
-                        for it in MODULE.findall(text)]
+        now, within, fixities, faults = None, [], {}, []
+        faults += [f"a module below a file of definitions: {it.strip()}" for it in MODULE.findall(text)]
         text = MODULE.sub("", imports.IMPORT.sub("", text))
         bound = (it[0].strip() for some in (BINDS, HEADS) for it in some.finditer(text))
-        self.faults += [f"{self.place(path)}: a name that is the library's: {it}" for it in bound]
+        faults += [f"a name that is the library's: {it}" for it in bound]
         for line in (it for it in text.splitlines() if it.strip()):
             if fixity := FIXITY.match(line):
                 fixities.update(dict.fromkeys(fixity[1].split(), line.strip()))
@@ -115,7 +104,7 @@ class Definitions:
             while within and not line.startswith("  " * len(within)):
                 within.pop()
             if section := SECTION.match(line):
-                self.faults += [f"{self.place(path)}: a module with a name: {line.strip()}"] * (section[2] != "_")
+                faults += [f"a module with a name: {line.strip()}"] * (section[2] != "_")
                 within.append(line.strip())
                 continue
             # (what stands in a section stands two columns further in)
@@ -127,13 +116,14 @@ class Definitions:
             if now:
                 now.lines.append(line)
             else:
-                self.faults.append(f"{self.place(path)}: of no definition: {line.strip()}")
+                faults.append(f"of no definition: {line.strip()}")
         for name, line in fixities.items():
             if name in names:
                 names[name].fixity.append(line)
             else:
-                self.faults.append(f"{self.place(path)}: of no definition: {line}")
-        self.faults += [f"{self.place(path)}: a name that is the library's: {it}" for it in names if it in TAKEN]
+                faults.append(f"of no definition: {line}")
+        faults += [f"a name that is the library's: {it}" for it in names if it in TAKEN]
+        self.faults += [f"{self.place(path)}: {it}" for it in faults]
 
     def begun(self, names, file, line, within):
         """The definition that a line begins or goes on with, or none."""
@@ -149,14 +139,13 @@ class Definitions:
         return names.get(first[0]) if first else None
 
     def imports_of(self, path, some):
-        """What the names that a file imports so stand for: a definition, as (file, name), or a file, as (file, None);
-        and the paths of the names of std."""
+        """What imported names stand for, a definition, as (file, name), or a file, (file, None); and names of std."""
         found, std, place = {}, {}, self.place(path)
         for it in some:
             if not it.path.startswith("Rattle.") or it.is_all or it.is_passed and not it.name:
                 self.faults.append(f"{place}: it cannot be seen what this brings: use {it}")
                 continue
-            home, rest = self.home_of(it.path, place) if self.is_own(it.path) else (None, None)
+            home, rest = self.home_of(it.path, place)
             cited = self.known(home, rest or it.name, place) if home and (rest or it.name) else home and (home, None)
             last = it.path.rpartition(".")[2]
             is_own = cited and not isinstance(cited, str) and (
@@ -170,37 +159,33 @@ class Definitions:
                 std.update(dict.fromkeys([it.other, *filter(None, (it.name or "").split("◌"))], cited or str(it)))
         return found, std
 
-    def is_own(self, path):
-        return path.startswith("Rattle.") and (self.top / "crates" / path.split(".")[1]).is_dir()
-
     def known(self, home, name, place=None):
-        """What a name of a file leads to, as (file, name), or its path if to std; none if to nothing, which is a fault
-        where a place is given."""
-        try:
-            return self.found(home, name)
-        except Lost as why:
-            self.faults += [f"{place}: {why}"] * bool(place)
-            return (home, name) if place else None
+        """What a name of a file leads to, as (file, name), or its path if to std; nothing is a fault at a place."""
+        found, why = self.found(home, name)
+        if found or not place:
+            return found
+        self.faults.append(f"{place}: {why}")
+        return home, name
 
     def found(self, home, name, above=()):
-        """The same, where a name that a file passes on leads to what it stands for there."""
+        """The same, where a name that a file passes on leads to what it stands for there; or why there is nothing."""
         if home not in self.names or name in self.names[home]:
-            return home, name
+            return (home, name), None
         if (home, name) in above:
-            raise Lost(f"{home[0]} specs.{home[1]} passes {name} on to itself")
+            return None, f"{home[0]} specs.{home[1]} passes {name} on to itself"
         passed, above = self.passed.get(home, {}), (*above, (home, name))
         if name in passed and name != "*":
             it = passed[name]
-            there, rest = self.home_of(it.path, None) if self.is_own(it.path) else (None, None)
-            return self.found(there, rest or it.name, above) if there else str(it)
-        for below in passed.get("*", ()):
-            with contextlib.suppress(Lost):
-                return self.found(below, name, above)
-        raise Lost(f"{home[0]} specs.{home[1]} defines no {name}")
+            there, rest = self.home_of(it.path, None)
+            return self.found(there, rest or it.name, above) if there else (str(it), None)
+        some = (self.found(below, name, above)[0] for below in passed.get("*", ()))
+        return next(filter(None, some), None), f"{home[0]} specs.{home[1]} defines no {name}"
 
     def home_of(self, path, place):
-        """The file of specs/ that a path in full leads to, and the name behind it, if any; or a Rust type, as (crate,
-        (path,))."""
+        """The file of specs/ that a path leads to, and the name behind it; or a Rust type, as (crate, (path,)); none
+        where it leads out of the repository."""
+        if not path.startswith("Rattle.") or not (self.top / "crates" / path.split(".")[1]).is_dir():
+            return None, None
         _, crate, part, *rest = path.split(".")
         # what a clause on a loan says of a type's row it says of the type
         if part == "specs" and rest[:1] in (["declared"], ["contracts"]):
@@ -229,11 +214,10 @@ class Definitions:
     # What a text names.
 
     def leads(self, text, scope, place):
-        """Yields what each word of a text leads to: a definition or a Rust type, as (file, name), or the path of a name
-        of std."""
+        """Yields what words of a text lead to: a definition or Rust type, as (file, name), or a path of std."""
         brought, std, own = scope
         for word in IN_FULL.findall(text):
-            home, name = self.home_of(word.rstrip("."), place) if self.is_own(word) else (None, None)
+            home, name = self.home_of(word.rstrip("."), place)
             if cited := self.known(home, name, place) if home and name else None if home else word:
                 yield word, cited
         parts = {part: name for name in brought if "◌" in name for part in name.split("◌") if part}

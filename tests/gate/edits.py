@@ -8,14 +8,12 @@ from rattle import module_of, path_of, text_of
 
 # what the prover says where a proof names a step that the edit took away, which tells nothing of the contract
 GONE = re.compile(r"has no field|is not in scope|has no `|was not admitted")
-# an open goal, and whether the prover knows values at which it is false; a function, and what comes of it; an error
-# in a written proof
+# an open goal, and whether the prover knows values where it is false; what comes of a function; an error in a proof
 GOAL = re.compile(r"note: src/\S+: it is not proved that .*\(`([^`]+)`\)(.*)")
 VERDICT = re.compile(r"fn \w+::(\S+): (.*)")
 ERROR = re.compile(r"(?:\./)?proofs/(\S+)/\w+\.antt:\d+:\d+: error: (?:`([^`]+)`: )?(.*)")
 UNPROVED = re.compile(r"did not prove (.*)")
-# goals that any body owes, whatever its contract: that sums fit, divisors are not 0, indices are within, loops and
-# recursion end
+# goals that any body owes, whatever its contract: sums fit, divisors are not 0, indices are within, loops end
 OWN = r"(?!returns\b|invariant_of\b).*"
 SAFETY = re.compile(rf"overflow_|nonzero_|(?:offset_|slice_)?bounds\b|index\b|decreases|{OWN}-smaller\b")
 # goals that a call asks for, which tell of the contract of what is called
@@ -31,15 +29,13 @@ def listed(edit):
 
 
 def wanted(edit, function):
-    """Returns what kind of goal has to be open in a function that the edit turns: its contract's or, where its list
-    says so, a call's."""
+    """What kind of goal has to be open in a function that the edit turns: its contract's, or a call's by its list."""
     told = re.findall(rf"^\s*{BY_PREMISE}(\S+)\s*$", text_of(edit.removesuffix(".edit") + ".md"), re.M)
     return "premise" if any(f"::{function}".endswith(f"::{it}") for it in told) else "contract"
 
 
 def kind_of_goals(names):
-    """Returns what open goals tell of: the contract of the function that has them, a premise of a call, or nothing but
-    safety."""
+    """What open goals tell of: the contract of their function, a premise of a call, or nothing but safety."""
     some = [it for it in names if not SAFETY.match(it)]
     return "contract" if any(not PREMISE.match(it) for it in some) else "premise" if some else ""
 
@@ -59,10 +55,9 @@ class Said:
                 self.errors.append((error[1], error[2], bool(GONE.search(error[3]))))
 
     def refuses(self, function):
-        """Returns by what the function itself is refused: a goal of its contract or of an invariant, a premise of a
-        call alone, or nothing: goals of safety tell nothing of a contract. Where a written proof of it names what is
-        gone, only an answer that names nothing of the kind and does not fit, or a goal that is false at values which
-        the prover knows, tells that."""
+        """By what the function itself is refused: a goal of its contract or of an invariant, a premise of a call alone,
+        or nothing: goals of safety tell nothing of a contract. Where a written proof of it names what is gone, only an
+        answer that names nothing of the kind and does not fit, or a goal that is false at known values, tells that."""
         mine = [(name, is_gone) for folder, name, is_gone in self.errors if folder == function.replace("::", "/")]
         gone = {name for name, is_gone in mine if is_gone}
         misfit = [name for name, _ in mine if name and name not in gone]
@@ -85,8 +80,7 @@ class Said:
 
 
 def stated(text):
-    """Returns what a source says beside the code of its bodies: its text without them, and the clauses, functions and
-    proofs in them."""
+    """What a source says beside the code of its bodies: its text without them, and clauses, functions and proofs."""
     source, rest, at = rattle.source_of(text), [], 0
     for it in source.functions:
         if it.opens >= 0:
@@ -128,8 +122,7 @@ def changed(rt, edit, folder):
 
 
 def public(folder):
-    """Returns the functions that a crate shows by their paths, those of traits and of their impls too. A program shows
-    its modules to itself."""
+    """The functions that a crate shows, those of traits too, by their paths. A program shows its modules to itself."""
     tree, found = rattle.tree(folder), {}
     lib = tree["src/lib.rt"][0] if "src/lib.rt" in tree else None
     shown = rattle.shown(lib)[0] if lib else {}
@@ -143,10 +136,9 @@ def public(folder):
 
 
 def wants_edit(function):
-    """Returns whether a function is one of a type or a module that gives something back or changes something, so that
-    there is something to turn."""
-    return function.sees == "pub" and function.opens >= 0 and bool(
-        re.search(r"->|&\s*(?:'\w+ )?mut|Cell<", function.takes))
+    """Whether a function of a type or a module gives something back or changes something that an edit can turn."""
+    is_body = function.sees == "pub" and function.opens >= 0
+    return is_body and bool(re.search(r"->|&\s*(?:'\w+ )?mut|Cell<", function.takes))
 
 
 # relations that leave one result and one new state for each argument; functions under one of them are of one kind
@@ -159,10 +151,9 @@ def ensured(function):
 
 
 def kind_of(function):
-    """Returns what kind of contract a function has where that leaves one value for whatever it gives and changes:
-    "equations", if each is equal to what its arguments determine, or the relation that says so; else None. Any body
-    that gives another value is refused at such a clause by logic alone, so that one edit of a kind shows what there is
-    to show."""
+    """What kind of contract a function has where that leaves one value for whatever it gives and changes: "equations",
+    if each is equal to what its arguments determine, or the relation that says so; else None. Any body that gives
+    another value is refused at such a clause by logic alone, so one edit of a kind shows what there is to show."""
     clauses = ensured(function)
     relations = {it.split(" ")[0] for it in clauses} & RELATIONS
     if relations and len(clauses) == 1:
@@ -176,7 +167,6 @@ def kind_of(function):
 
 
 def says(function):
-    """Returns whether a clause of the contract speaks of what the function gives or leaves, other than that it is equal
-    to itself."""
+    """Whether a clause of the contract says more of what the function gives or leaves than that it is itself."""
     return any(re.search(r"\bresult\b|\.new\b", it) and not re.fullmatch(r"\s*(.*?)\s* ≡ \s*\1\s*", it)
                for it in ensured(function))

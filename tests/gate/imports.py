@@ -14,8 +14,7 @@ IN_FULL = re.compile(r"(?<![\w.])Rattle\.\w+\.[^\s(){},;\[\]⟦⟧]+")
 
 
 class Import(namedtuple("Import", "path name other is_passed")):
-    """What an import brings: the path of a module, the name that is taken of it, if any, by which name, and whether it
-    is passed on."""
+    """What an import brings: the path of a module, the name taken of it, if any, by which name; is it passed on?"""
 
     @property
     def is_all(self):
@@ -76,8 +75,7 @@ def unused(top):
 
 
 def taken_by(text, some):
-    """The paths of names that a file takes of modules: by its imports, in full, and behind the name of a module that it
-    brings in whole."""
+    """The paths of names that a file takes: by imports, in full, and behind the name of a module brought in whole."""
     behind = {it.other: it.path for it in some if not it.name}
     found = {str(it) for it in some if it.name} | {it.rstrip(".") for it in IN_FULL.findall(text)}
     for other, path in behind.items():

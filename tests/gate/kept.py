@@ -1,12 +1,10 @@
 """What later runs on this machine have of a run: the proofs of crates, and what the rounds came to in which
-tests/gate/rounds.py tries must-fail edits. It stands in a folder that nobody else can write, for a toolchain's script
-that keeps what passed (`rt.Kept`) as for one that does not.
+tests/gate/rounds.py tries must-fail edits. It stands in a folder that nobody else can write.
 
 What is proved of a library goes by its own text and by the statements of the libraries below it (`statements`): a check
-above a library reads its interface, its definitions, contracts and proofs, and of the rest nothing but names. So its
-edits are not tried again where only bodies below changed, and its proof is looked at again over what was kept: the
-checker itself takes each module that is up to date, and says so in the last word of its verdict, `incremental=trusted`.
-A program, and tests, go by all text below."""
+above one reads its interface, definitions, contracts and proofs, and of the rest nothing but names. So its edits are
+not tried again where only bodies below changed, and its proof is looked at again over what was kept: the checker takes
+each module that is up to date, and its verdict ends with `incremental=trusted`. Programs and tests go by all text."""
 
 import contextlib
 import functools
@@ -22,10 +20,9 @@ from rattle import text_of
 
 # lines of a library's format that are sums, or that say what stands where in it
 OF_FORMAT = re.compile(r"^(?:needs|carries|lists-free|free|free-alone|incremental|checked|sum)\b.*\n", re.M)
-# the modules that the toolchain makes (lang/antt/made.json): a line with the name of each, and lines that say of what
+# the modules that the toolchain makes (lang/antt/made.json): a line with the name of each, and lines of what
 MADE = re.compile(r'^"([^"\n]*)"\n(.*?)(?=^"[^"\n]*"\n|\Z)', re.M | re.S)
-# modules of functions and their contracts, and files that answer the goals of one: another crate can name those alone
-# that the facade has
+# modules of functions and their contracts, and files that answer goals of one: others name those of the facade alone
 OF_FUNCTIONS = re.compile(r"(?:proofs|specs/contracts)/")
 ANSWERS = re.compile(r"lang/antt/(proofs/.*/(?:Answers|Invariants|Proof))\.antt")
 
@@ -65,18 +62,11 @@ def statements_of(place, _time):
 
 
 def place(store):
-    """Returns the folder for what passed: beside the toolchain's own, or in the user's cache where that cannot be
-    made."""
+    """The folder for what passed: beside the toolchain's own or, where that cannot be made, in the user's cache."""
     beside = f"{store}-in-rounds"
-    if store and (is_own(beside) or not os.path.lexists(beside) and os.access(os.path.dirname(beside) or ".", os.W_OK)):
+    if is_own(beside) or not os.path.lexists(beside) and os.access(os.path.dirname(beside), os.W_OK):
         return beside
     return os.path.join(os.environ.get("XDG_CACHE_HOME") or os.path.expanduser("~/.cache"), "gondzalif", "proved")
-
-
-def toolchain_of(kit):
-    """Returns what tells one toolchain from another, for a script that has no sum of its own."""
-    made = [os.stat(f"{kit}/bin/{it}") for it in ("rattle", "rt", "rtlib.py")]
-    return repr([text_of(f"{kit}/KIT-ID"), *((it.st_size, it.st_mtime_ns) for it in made)])
 
 
 def is_own(folder):
@@ -86,8 +76,7 @@ def is_own(folder):
 
 
 def linked(source, to, is_own=False):
-    """The same file once more, in place of what was there; it is a copy where it has to be a file of its own, or the
-    places are on two file systems."""
+    """The same file once more, in place of what was there; a copy if it has to be, or on another file system."""
     if os.path.lexists(to):
         os.remove(to)
     try:
@@ -97,8 +86,7 @@ def linked(source, to, is_own=False):
 
 
 class Store:
-    """What passed, by sums of all that it was read from. It has what a script that keeps something asks of its own
-    (`rt.Kept`)."""
+    """What passed, by sums of all that it was read from. It has what the script asks of its own (`rt.Kept`)."""
 
     # how many proofs are kept of each crate: those that were used last
     MOST = 3
@@ -107,18 +95,17 @@ class Store:
         """Without `is_taken`, what earlier runs kept is as if it were not there."""
         os.makedirs(folder, 0o700, exist_ok=True)
         self.folder, self.is_taken, self.begun = folder, is_taken and is_own(folder), {}
-        self.toolchain = rt.kit_sum() if hasattr(rt, "kit_sum") else toolchain_of(rt.KIT)
+        self.toolchain = rt.kit_sum()
 
     # The names of what is kept.
 
     def own(self, crate):
-        """A sum of a crate's own text, of its line of crates.txt, of the handles that it may use, and of the
-        toolchain."""
+        """A sum of a crate's own text, its line of crates.txt, the handles that it may use, and the toolchain."""
         files = sorted(it for part in ("src", "specs", "proofs", "c") for it in Path(crate.folder, part).rglob("*")
                        if it.is_file())
         said = crate.name, crate.said, crate.is_program, [it.name for it in crate.deps], [*crate.of_kit]
-        return sum_of(self.toolchain, text_of("HANDLES"),
-                      said, [(str(it.relative_to(crate.folder)), it.read_bytes()) for it in files])
+        texts = [(str(it.relative_to(crate.folder)), it.read_bytes()) for it in files]
+        return sum_of(self.toolchain, text_of("HANDLES"), said, texts)
 
     def first(self, crate):
         """The same, as it was when the run first asked for it."""
@@ -133,8 +120,7 @@ class Store:
         return sum_of(*map(self.first, [crate, *crate.below()]))
 
     def key(self, crate):
-        """A sum of what is read to prove the crate, once the libraries below it are built: of a program, whose code is
-        linked, all of it."""
+        """A sum of what is read to prove the crate over the libraries as built: of a program, which is linked, all."""
         return self.whole(crate) if crate.is_program else sum_of(
             self.first(crate), *(statements(it.rlib) for it in crate.below()))
 
@@ -167,16 +153,19 @@ class Store:
         put = functools.partial(linked, is_own=crate.is_program)
         # (the key alone is not what a build makes; a folder of proofs may have that name)
         shutil.copytree(kept, f"{crate.folder}/out", copy_function=put, dirs_exist_ok=True,
-                        ignore=lambda at, names: ["key"] if at == kept else [])
+                        ignore=lambda at, _: ["key"] if at == kept else [])
         return True
 
     def like(self, crate):
         """Returns the library as it was proved last over the same statements, or none."""
-        of_crate = f"{self.folder}/proofs/{crate.name}"
-        found = sorted((f"{of_crate}/{it}" for it in (os.listdir(of_crate) if self.is_taken and os.path.isdir(of_crate)
-                                                      else ())), key=os.path.getmtime)
-        return next((f"{it}/rlib/{crate.name}.rlib" for it in found[::-1] if not crate.is_program
-                     and text_of(f"{it}/key") == self.key(crate)), None)
+        if crate.is_program or not self.is_taken:
+            return None
+        found = [it for it in self.proofs_of(crate) if text_of(it / "key") == self.key(crate)]
+        return f"{found[-1]}/rlib/{crate.name}.rlib" if found else None
+
+    def proofs_of(self, crate):
+        """The proofs of a crate that were kept, those last that were used last."""
+        return sorted(Path(self.folder, "proofs", crate.name).glob("*"), key=os.path.getmtime)
 
     def keep(self, crate, tests=False, _key=None):
         """Keeps what the build of a proved crate made: its library, or its programs."""
@@ -190,10 +179,10 @@ class Store:
         Path(made, "key").write_text(self.key(crate), encoding="utf-8")
         shutil.rmtree(f"{of_crate}/{self.whole(crate)}", ignore_errors=True)
         os.rename(made, f"{of_crate}/{self.whole(crate)}")
-        for old in sorted((f"{of_crate}/{it}" for it in os.listdir(of_crate)), key=os.path.getmtime)[: -self.MOST]:
+        for old in self.proofs_of(crate)[: -self.MOST]:
             shutil.rmtree(old, ignore_errors=True)
 
-    # What else a script asks of what it keeps.
+    # What else the script asks of what it keeps.
 
     at, is_full = None, False
 
@@ -201,18 +190,12 @@ class Store:
     def in_turn(*_):
         return contextlib.nullcontext(False)
 
-    def is_built(self, crate):
-        """(of a library that was built nothing is to be noted: it is read where it stands)"""
+    def tell(self, *_):
+        """(what is not kept is proved by the next run, and a library is read where it stands: nothing is to be said)"""
 
-    def tell(self):
-        """(what is not kept is proved by the next run, and nothing is to be said of it)"""
-
-    shrink = tell
+    is_built = shrink = tell
 
 
-# of the memory that the script plans for a check of the whole crate, more than builds and rounds of edits were seen to
-# take: 0.16 and 0.12 at most, of nfs41d and nfs_serve
-SHARES = {"proof": 0.25, "edits": 0.15}
 # what a turn counts for among the tasks of a run, whose order is by the lines behind each
 LINES_OF_A_TURN = 150
 
@@ -223,13 +206,10 @@ class Tries:
 
     def __init__(self, rt, rounds, store):
         self.rt, self.rounds, self.store = rt, rounds, store
-        if hasattr(rt, "Kept"):
-            rt.Kept, rt.add_edits = self.kept, self.add
-        else:
-            rt.must_fail_all = rounds and rounds.all_of
+        rt.Kept, rt.add_edits = self.kept, self.add
 
     def kept(self, crates, anew=False):
-        """What a script that keeps something has in place of its own."""
+        """What the script has in place of its own."""
         self.store.is_taken &= not anew
         for it in crates:
             self.store.first(it)
@@ -265,24 +245,3 @@ class Tries:
             waits = [(crate.name, "proof")] if in_ci else []
             tasks[crate.name, "edits", number] = (waits, LINES_OF_A_TURN * turns, self.rt.need(crate), call)
         return lambda given: [{**found, **earlier}[at] for at in range(len(edits))], lambda: earlier
-
-    def with_rounds(self, in_lanes):
-        """Returns what runs the tasks of a script that has one task for all edits of a crate: they are tried in rounds,
-        each a task of its own. As much memory is planned for a task as such ones were seen to take: with more a large
-        crate waits until nothing else is left to do."""
-        def run(tasks):
-            crates = {it.name: it for it in self.rt.rtlib.crates_below(os.getcwd())}
-            came = {}
-            for name in [it[0] for it in tasks if it[1:] == ("edits",)]:
-                del tasks[name, "edits"]
-                good, bad = self.rt.edits_of(crates[name])
-                came[name] = bad, good, self.add(tasks, crates[name], good, [], [], None, self.store)[0]
-            given = in_lanes({key: (waits, lines, needs * SHARES.get(key[1], 1), call)
-                              for key, (waits, lines, needs, call) in tasks.items()})
-            for name, (bad, good, results) in came.items():
-                is_well = given[name, "proof"] and given[name, "tests"]
-                given[name, "edits"] = bad, good, [(kind == self.rt.REFUSED, text) for kind,
-                                                   text in results(given)] if is_well else []
-            return given
-
-        return run

@@ -3,6 +3,7 @@
 import itertools
 import re
 import textwrap
+from collections import defaultdict
 from pathlib import Path
 
 import contracts
@@ -31,9 +32,9 @@ def listed(name, entries):
 
 def grouped(pairs):
     """The second ones of pairs by the first ones."""
-    found = {}
+    found = defaultdict(list)
     for key, it in pairs:
-        found.setdefault(key, []).append(it)
+        found[key].append(it)
     return found
 
 
@@ -54,8 +55,7 @@ class Page:
         self.made = {"definitions.md": self.definitions(), "contracts.tsv": contract_lines, "edits.txt": edits}
 
     def totals(self):
-        """What the table at the top says of each promise: its title, lines, new lines, lines of its files, types, and
-        sum."""
+        """What the table at the top has of each promise: title, lines, new ones, lines of files, types, and sum."""
         whole, lines = self.promises.whole(), lambda some: sum(len(one.lines) for one in some)
         files = lambda some: sum(self.whole[file] for file in {one.file for one in some})
         rows = [*self.rows[:-1], (whole, whole.needed), self.rows[-1]]
@@ -64,19 +64,15 @@ class Page:
 
     def text(self):
         """The page: what each promise leans on, in numbers and sums, and the sums of lists that are made on demand."""
-        parts = [TEXTS["head"] + "\n", self.table(), *self.pins_and_premises(), TEXTS["lists"] + "\n"]
-        lists = ["| List | Lines | Sum |", "|---|---|---|", *self.listed_rows()]
-        return "\n".join(it for it in [*parts, "\n".join(lists) + "\n"] if it)
+        lists = "\n".join(["| List | Lines | Sum |", "|---|---|---|", *self.listed_rows()])
+        parts = [TEXTS["head"] + "\n", self.table(), *self.pins_and_premises(), TEXTS["lists"] + "\n", lists + "\n"]
+        return "\n".join(filter(None, parts))
 
     def pins_and_premises(self):
         """Definitions that a law pins, and premises that no worked example meets."""
         pins = [f"`{pin}` by `laws::{pin.law}`" for pin in self.promises.pinned.values()]
         unmet = [f"`{it}`: {', '.join(f'`{law}`' for law in laws)}" for it, laws in self.promises.unmet().items()]
         return listed("pins", pins), listed("unmet", unmet)
-
-    def lists(self):
-        """The lists that are made on demand, each by the name of its file."""
-        return self.made
 
     def listed_rows(self):
         """A row for each list: how many lines it has, and its sum."""
@@ -92,15 +88,15 @@ class Page:
         parts = [TEXTS["definitions"] + "\n", *(self.section(it, new) for it, new in self.rows)]
         parts += [listed("rest", [f"`{crate}`: {', '.join(some)}" for crate, some in rest.items()]),
                   listed("ghosts", self.ghosts())]
-        text = "\n".join(it for it in parts if it)
-        return text + "".join(["\n", *(f"[{label}]: {to}\n" for label, to in sorted(self.links.items()))] if self.links
-                              else [])
+        parts.append("".join(f"[{label}]: {to}\n" for label, to in sorted(self.links.items())))
+        return "\n".join(filter(None, parts))
 
     def table(self):
         lines = ["| Promise | Lines of meaning | New | Lines of their files | Rust types | Sum |",
                  "|---|---|---|---|---|---|"]
-        return "\n".join([*lines, *(f"| {title} | {' | '.join(f'{it:,}' for it in told)} | `{sum_of}` |" for title,
-                                    *told, sum_of in self.totals())]) + "\n"
+        lines += [f"| {title} | {' | '.join(f'{it:,}' for it in told)} | `{sum_of}` |"
+                  for title, *told, sum_of in self.totals()]
+        return "\n".join(lines) + "\n"
 
     def section(self, promise, new):
         lines = [f"## {promise.title}", "", *self.stated(promise), ""]
@@ -108,10 +104,9 @@ class Page:
                  for file in self.in_order({it.file for it in new})}
         for crate, entries in grouped((file[0], self.entry(file, some)) for file, some in files.items()).items():
             lines += [f"### {promise.title}: {crate}", "", *entries, ""]
-        types = grouped((crate, f"`{path[0]}`") for crate, path in sorted(promise.types))
-        if types:
-            lines.append(wrapped("Rust types: " + "; ".join(
-                f"`{crate}` {', '.join(some)}" for crate, some in types.items()) + "."))
+        if types := grouped((crate, f"`{path[0]}`") for crate, path in sorted(promise.types)):
+            told = "; ".join(f"`{crate}` {', '.join(some)}" for crate, some in types.items())
+            lines.append(wrapped(f"Rust types: {told}."))
         return "\n".join(lines).rstrip("\n") + "\n"
 
     def stated(self, promise):
@@ -134,8 +129,8 @@ class Page:
     def entry(self, file, some):
         path = self.all.files[file]
         first_lines = itertools.takewhile(lambda line: line.startswith("--"), text_of(path).splitlines())
-        against = ", ".join(self.link(it[0]) for it in RFC.finditer(
-            " ".join(line.lstrip("- ") for line in first_lines)))
+        said = " ".join(line.lstrip("- ") for line in first_lines)
+        against = ", ".join(self.link(it[0]) for it in RFC.finditer(said))
         few, told = sum(len(it.lines) for it in some), ", ".join(f"`{it.name}` {len(it.lines)}" for it in some)
         link = f"[`{file[1]}`](../{path.relative_to(self.all.top)})"
         return wrapped(f"- {link} {few} of {self.whole[file]}{f' ({against})' if against else ''}: {told}", "  ")
@@ -154,14 +149,14 @@ class Page:
         crates, found = [*self.promises.order], []
 
         def visit(file, above):
-            used = {home for some in self.all.imports[file].values() for home,
-                    _ in some if home[0] == file[0] and home in self.all.files}
+            named = {home for some in self.all.imports[file].values() for home, _ in some}
+            used = {it for it in named & self.all.files.keys() if it[0] == file[0]}
             for it in sorted(used - above - {*found}):
                 visit(it, above | {it})
             found.extend({file} - {*found})
 
-        for file in sorted(self.all.files, key=lambda it: (
-            crates.index(it[0]) if it[0] in crates else len(crates), it)):
+        place = lambda file: (crates.index(file[0]) if file[0] in crates else len(crates), file)
+        for file in sorted(self.all.files, key=place):
             visit(file, {file})
         return [it for it in found if it in files]
 
@@ -170,11 +165,9 @@ class Page:
         found = []
         for path in sorted(self.all.clauses):
             crate, _, *place = self.all.place(path).parts
-            for it in self.all.clauses[path][0]:
-                count = len([line for line in it.text.splitlines() if line.strip()])
-                if it.kind == "ghost":
-                    found.append((crate, (f"`{it.owner}` in `src/{'/'.join(place)}`",
-                                          it.name if count == 1 else f"{it.name} {count}")))
+            for it in (it for it in self.all.clauses[path][0] if it.kind == "ghost"):
+                count, where = sum(map(bool, map(str.strip, it.text.splitlines()))), "/".join(place)
+                found.append((crate, (f"`{it.owner}` in `src/{where}`", f"{it.name} {count}".removesuffix(" 1"))))
         for crate, some in grouped(found).items():
             yield f"`{crate}`: " + "; ".join(f"{it} ({', '.join(names)})" for it, names in grouped(some).items())
 

@@ -1,10 +1,9 @@
-"""What is pinned, so that it cannot vanish unseen: the names of the must-fail edits, how many tests and asserts each
-crate has, and how many cases of each part of ./test pass, and the lines at which a body makes want of memory up.
-Contracts allow that at any call which asks for memory, so a body could say so without need: tests/gate/wants.tsv has
-each such line. `tests/gate/believed` stands on it."""
+"""What is pinned, so that it cannot vanish unseen: must-fail edits, how many tests and asserts each crate has, how many
+cases of each part of ./test pass, and the lines at which a body makes want of memory up: contracts allow that at any
+call which asks for memory, so a body could say so without need. `tests/gate/believed` stands on it."""
 
-import os
 import re
+from collections import Counter
 
 import rattle
 import spare
@@ -57,10 +56,11 @@ def asks_nothing(word, asked):
 
 def counts(top):
     """How many tests and asserts the sources of each crate have that has any."""
-    some = [(folder, tests_of(folder)) for folder in crates(top)]
-    return {name: number for folder, count in some if count
-            for name, number in ((f"tests of {folder.name}", count), (
-                f"asserts of {folder.name}", len([*asserts_of(folder)])))}
+    found = {}
+    for folder in crates(top):
+        if count := tests_of(folder):
+            found |= {f"tests of {folder.name}": count, f"asserts of {folder.name}": len([*asserts_of(folder)])}
+    return found
 
 
 def bodies(top):
@@ -82,31 +82,27 @@ def bounds(top):
     return {"\t".join(it[:3]): it[3] for it in rattle.rows_of(top / "tests/gate/wants.tsv") if len(it) > 3}
 
 
-def differs(was, now):
-    """The lines that a list has and should not have, and those that it lacks."""
-    return [it for it in was if was.count(it) > now.count(it)], [it for it in now if now.count(it) > was.count(it)]
-
-
 def faults(top, rows):
     """Where wants of memory, edits, tests, asserts and parts are not as they are pinned."""
-    bound, there = bounds(top), [*wants(top)]
-    gone, fresh = differs(["\t".join(it[:3]) for it in rattle.rows_of(top / "tests/gate/wants.tsv")], there)
-    found = [f"tests/gate/wants.tsv: no body has {it}" for it in gone]
-    found += [f"want of memory that tests/gate/wants.tsv does not list (tests/gate/believed --pin): {it}"
-              for it in fresh]
-    found += [f"tests/gate/wants.tsv: it does not say what bounds {it}" for it in there if ASK.search(it)
-              and len(bound.get(it, "").split()) < 2]
+    listed = Counter("\t".join(it[:3]) for it in rattle.rows_of(top / "tests/gate/wants.tsv"))
+    bound, there = bounds(top), Counter(wants(top))
+    found = [f"tests/gate/wants.tsv: no body has {it}" for it in listed - there]
+    unlisted = "want of memory that tests/gate/wants.tsv does not list (tests/gate/believed --pin)"
+    found += [f"{unlisted}: {it}" for it in there - listed]
+    found += [f"tests/gate/wants.tsv: it does not say what bounds {it}" for it in there
+              if ASK.search(it) and len(bound.get(it, "").split()) < 2]
     for folder in crates(top):
         uses = [use for source, _ in rattle.tree(folder).values() for _, use, _ in source.uses]
         found += [f"{folder.name}: another name for want of memory: use {use}" for use in uses if RENAMED.search(use)]
-    others = [it for it in sorted(top.glob("crates/*/must-fail/*")) if it.suffix != ".edit"
-              and it.name != "UNTURNED.md"]
-    found += [f"{it.relative_to(top)}: it is no edit, and no list beside one" for it in others if it.suffix != ".md"
-              or not it.with_suffix(".edit").is_file()]
+        found += [f"{folder.name}: {word}({asked.strip()}) asks nothing" for word, asked in asserts_of(folder)
+                  if asks_nothing(word, asked)]
+    for it in sorted(top.glob("crates/*/must-fail/*")):
+        is_list = it.name == "UNTURNED.md" or it.suffix == ".md" and it.with_suffix(".edit").is_file()
+        if it.suffix != ".edit" and not is_list:
+            found.append(f"{it.relative_to(top)}: it is no edit, and no list beside one")
     due = {it[0]: it[1] for it in rows if is_number(*it)}
-    wrong = [" ".join(it) for it in rows if it[0] not in due]
-    found += [f"tests/least.tsv: no line of a name and a number, or of one that may vary and its reason: {it}"
-              for it in wrong]
+    wrong = "no line of a name and a number, or of one that may vary and its reason"
+    found += [f"tests/least.tsv: {wrong}: {' '.join(it)}" for it in rows if it[0] not in due]
     much = spare.found(top)
     for it in sorted(much.keys() | {it for it in due if it.startswith(spare.KINDS)}):
         most, there = int(due.pop(it, "0")), much.get(it, [])
@@ -116,20 +112,15 @@ def faults(top, rows):
     counted = {**{it: 0 for it in due if " of " in it}, **counts(top)}
     found += [f"{name}: {count}, and tests/least.tsv has {due.get(name, 'none')} (tests/gate/believed --pin)"
               for name, count in sorted(counted.items()) if count != int(due.get(name, "0"))]
-    for folder in crates(top):
-        found += [f"{folder.name}: {word}({asked.strip()}) asks nothing" for word,
-                  asked in asserts_of(folder) if asks_nothing(word, asked)]
     # (./test, tests/least.tsv and the scripts of tests/ name the same parts)
     added, told = ADDED.findall(text_of(top / "test")), [it for it in due if " of " not in it]
     found += [f"tests/least.tsv: it says nothing of {it}, which ./test runs" for it in added if it not in told]
-    found += [f"./test does not run {it}" for it in scripts(top)
-              if not is_run(top, it, [one.split()[0] for one in added])]
+    found += [f"./test does not run {it}" for it in scripts(top) if not is_run(top, it, added)]
     return found + [f"./test does not run {it}, of which tests/least.tsv tells" for it in told if it not in added]
 
 
 def is_number(name, number="", reason=""):
-    """Whether a line of tests/least.tsv is one of a number, which only some parts may vary or have none of, and with a
-    reason."""
+    """Whether a line of tests/least.tsv has a number, which only some parts may vary or lack, and with a reason."""
     of = NUMBER.fullmatch(number)
     is_free = of and (not of["range"] or name in MAY_VARY) and (not of["none"] or name in MAY_SKIP)
     return bool(is_free) and bool(reason) == bool(of["range"] or of["none"])
@@ -144,15 +135,16 @@ def scripts(top):
 
 def is_run(top, script, added):
     """Whether ./test runs a script, or one that it runs names it."""
-    return script in added or any(script.rpartition("/")[2] in text_of(top / it) for it in added)
+    run = [it.split()[0] for it in added]
+    return script in run or any(script.rpartition("/")[2] in text_of(top / it) for it in run)
 
 
 def write(top, log):
     """Pins what is there and, where a log of ./test is given, how many cases of each of its green parts passed; a range
     stays. The status is 1, with a line for each, where a part of the log is red, or it has none: their numbers stay."""
-    lines, bound = [*wants(top)], bounds(top)
-    (top / "tests/gate/wants.tsv").write_text(WANTS + "".join(
-        f"{it}\t{bound.get(it, '')}".rstrip() + "\n" for it in lines), encoding="utf-8")
+    bound = bounds(top)
+    lines = "".join(f"{it}\t{bound.get(it, '')}".rstrip() + "\n" for it in wants(top))
+    (top / "tests/gate/wants.tsv").write_text(WANTS + lines, encoding="utf-8")
     path, passed = top / "tests/least.tsv", dict(PART.findall(log))
     was, much = {it[0]: it[1] for it in rattle.rows_of(path) if len(it) > 1}, spare.found(top)
     # (what proofs could do without only falls)
@@ -164,6 +156,5 @@ def write(top, log):
     kept = [f"{name} is red in the log: its number stays" for name in RED.findall(log)]
     if log and not passed and not kept:
         kept = ["the log has no line 'part NAME: N passed, 0 failed': no number of a part was taken"]
-    for line in kept:
-        print(f"tests/gate/believed --pin: {line}")
+    print("".join(f"tests/gate/believed --pin: {line}\n" for line in kept), end="")
     return 1 if kept else 0

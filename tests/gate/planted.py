@@ -18,10 +18,10 @@ from cases import judge
 TESTS = Path(__file__).resolve().parents[1]
 BELIEVE = rattle.script(TESTS / "gate/believed")
 TEXTS = rattle.sections_of(TESTS / "gate/planted.txt")
-# what the repository has beside its edit, and what more it has where bugs of laws are planted
+# what the repository has, and what more it has where bugs of laws are planted
 OTHERS = ("both ", "tried.rlib/")
 FILES = {name: text for name, text in TEXTS.items() if "/" in name and not name.startswith(OTHERS)
-         or name in ("HANDLES", "crates.txt")}
+         or name in ("HANDLES", "crates.txt")} | {"crates/tried/must-fail/turned.edit": TEXTS["wrong"]}
 FIRST = ("src/lib.rt", "auto)]\n", f"auto)]\n\n{TEXTS['shows']}\n", "src/laws.rt", "", TEXTS["laws"],
          *(it for name in ("Words", "Other", "Turned") for it in (f"specs/{name}.antt", "", TEXTS[name.lower()])))
 UNMET = "- `tried Words.Met`: `tried laws::quotients`"
@@ -38,11 +38,11 @@ def rows(case):
 
 
 class Repository:
-    """A repository of one crate, `tried`, with an edit, in which these changes are made."""
+    """A repository of one crate, `tried`, with an edit, or of other files, in which these changes are made."""
 
-    def __init__(self, room, *changes):
+    def __init__(self, room, *changes, files=FILES):
         self.top = Path(room)
-        for path, text in {**FILES, "crates/tried/must-fail/turned.edit": TEXTS["wrong"]}.items():
+        for path, text in files.items():
             self.write(path, text)
         self.change(changes)
 
@@ -70,12 +70,11 @@ class Repository:
         path.chmod(0o755 if text.startswith("#!") else 0o644)
 
     def ran(self, *words):
-        how = {"stdin": subprocess.DEVNULL, "stdout": subprocess.PIPE, "stderr": subprocess.STDOUT, "text": True,
-               "errors": "replace"}
         # (what it proves is kept for nobody)
         with tempfile.TemporaryDirectory(prefix="rt-kept-") as cache:
-            return subprocess.run([str(TESTS / words[0]), *words[1:]], cwd=self.top,
-                                  env={**os.environ, "XDG_CACHE_HOME": cache}, **how)
+            return subprocess.run([TESTS / words[0], *words[1:]], cwd=self.top, stdin=subprocess.DEVNULL,
+                                  stdout=subprocess.PIPE, stderr=subprocess.STDOUT, text=True, errors="replace",
+                                  env={**os.environ, "XDG_CACHE_HOME": cache})
 
 
 def said(repository, *flags):
@@ -86,8 +85,8 @@ def said(repository, *flags):
 
 
 def looked(changes, anew):
-    """The same of a repository in which these changes are made after its page, and of which the page is made again if
-    it is so asked; and the page."""
+    """The same of a repository in which these changes are made after its page, which is made anew if so asked; and the
+    page."""
     with tempfile.TemporaryDirectory(prefix="rt-tried-") as room:
         repository = Repository(room, *FIRST)
         said(repository, "--write")
@@ -98,8 +97,7 @@ def looked(changes, anew):
 
 
 def planted(case):
-    """The bugs of a case: the check fails and says so or, where all is right, passes and has the calls of the program
-    lean on so many lines."""
+    """The bugs of a case: the check fails and says so or, where all is right, passes, and the calls lean on so much."""
     for what, ends, why, *changes in rows(case):
         status, text, page = looked(changes, ends != "stale")
         is_right, _, leans = ends.partition(" ")

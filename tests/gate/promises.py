@@ -3,13 +3,12 @@
 The first promise is of the calls that the program makes: the contracts of all that the crates which it stands on show.
 Each further one is of the laws that a section of docs/PROMISES.md names in code, as `laws::exactly_once`, and of the
 calls that its paragraph "Where" names, as `Server::replay` or `nfs_names::name_op`. A law is that of the crate that is
-named with it, as `nfs_serve::laws::exactly_once`, or in code last before it in its section, as "`nfs_promises`:
-`laws::exactly_once`", if that has it; else there has to be one crate that has it. Laws that no section names come last,
-and then the worked examples of tests/gate/worked.tsv: they are told with the section that names them and count for
-none."""
+named with it, as `nfs_serve::laws::exactly_once`, or last before it in its section, if that has it; else there has to
+be one crate that has it. Laws that no section names come last, and then the worked examples of tests/gate/worked.tsv:
+they are told with the section that names them and count for none."""
 
 import re
-from collections import Counter
+from collections import Counter, defaultdict
 
 import rattle
 from definitions import Definitions
@@ -30,15 +29,13 @@ WHERE = re.compile(r"^- \*\*Where\.\*\*.*?(?=^- \*\*|\Z)", re.M | re.S)
 
 
 class Promise:
-    """A promise: its title, the laws or calls that state it, as (crate, name), the texts of their clauses, and what
-    these name."""
+    """A promise: its title, the laws or calls that state it, as (crate, name), their texts, and what these name."""
 
     def __init__(self, title):
         self.title, self.stated, self.texts, self.cited, self.needed, self.types = title, [], [], set(), set(), set()
 
     def sum(self, definitions):
-        """A sum of all that the promise says: of its clauses, of what they lean on, and of the Rust types that these
-        name."""
+        """A sum of all that the promise says: its clauses, what they lean on, and the Rust types that these name."""
         return rattle.sum_of([*sorted(self.texts), *definitions.text_of(self.needed, self.types)])[:12]
 
 
@@ -66,8 +63,8 @@ class Promises:
         self.all, self.faults, self.top = Definitions(top), [], top
         self.statements = Statements(self.all)
         # (the crates of crates.txt with what each stands on, in its order)
-        self.order = {name.strip(): rest.split() for name,
-                      rest in re.findall(r"^([^#:\n][^:\n]*):(.*)$", text_of(top / "crates.txt"), re.M)}
+        lines = re.findall(r"^([^#:\n][^:\n]*):(.*)$", text_of(top / "crates.txt"), re.M)
+        self.order = {name.strip(): rest.split() for name, rest in lines}
         # (each law's source and clauses; pins by their definitions; how many clauses were judged)
         self.laws, self.pinned, self.judged = {}, {}, 0
         for folder in crates(top):
@@ -89,8 +86,7 @@ class Promises:
     # Laws, and whether they state anything.
 
     def find_laws(self, crate):
-        """A law takes nothing, asks for nothing and answers nothing, each of its clauses states something, and no other
-        law of its crate has its words."""
+        """A law takes, asks for and answers nothing, its clauses state something, and no other of its crate says so."""
         first = {}
         for path in self.all.sources(crate):
             is_of_laws = rattle.module_of(str(path.relative_to(self.top / "crates" / crate)))[:1] == ["laws"]
@@ -114,8 +110,7 @@ class Promises:
     # What states a promise.
 
     def of_calls(self):
-        """The promise of the calls of the program: all that its own modules show and the crates on which it stands or,
-        without one, all crates."""
+        """The promise of the program's calls: all that it and the crates below it show or, without one, all crates."""
         made = Promise(CALLS)
         programs = [it for it in self.order if self.is_program(it)]
         some = {below for it in programs for below in (*self.order[it], it)} or self.order
@@ -130,10 +125,10 @@ class Promises:
                 clauses = [it for it in self.all.read_source(path)[0] if it.is_public and is_shown(it)]
                 self.take(made, crate, path, clauses)
                 made.stated += [(crate, it) for it in dict.fromkeys(str(it) for it in clauses if it.kind != "ghost")]
-                for it in (it for it in clauses if it.kind == "ensures"):
-                    self.must_state(path, [it], f"{crate} {it}")
-                for it in (it for it in clauses if it.kind == "ghost"):
-                    if self.statements.is_of_nothing(it.text, *self.all.read_source(path)[1:]):
+                for it in clauses:
+                    if it.kind == "ensures":
+                        self.must_state(path, [it], f"{crate} {it}")
+                    elif it.kind == "ghost" and self.statements.is_of_nothing(it.text, *self.all.read_source(path)[1:]):
                         self.faults.append(f"{crate} {it}: there is no ghost value of {it.text.strip()}")
         self.take_held(made)
         return made
@@ -141,20 +136,19 @@ class Promises:
     def take_held(self, made):
         """Has the views of types that are shown nowhere state the promise too, where a type that is shown holds them:
         its own view goes by theirs. What only has to hold of them is proved, and states nothing here."""
-        sources = [(folder.name, path) for folder in crates(self.top) for path in self.all.sources(folder.name)]
-        ghosts = [(crate, path, it) for crate, path in sources for it in self.all.read_source(path)[0]
-                  if it.kind == "ghost"]
-        # (the names in the declarations of all types of one name)
-        held = {}
-        for source, it in ((source, it) for source in (rattle.read(path) for _, path in sources)
-                           for it in source.types):
-            held.setdefault(it.name, set()).update(re.findall(r"\w+", source.declaration(it)))
+        # (the ghosts, and the names in the declarations of all types of one name)
+        ghosts, held = [], defaultdict(set)
+        for crate, path in ((it.name, path) for it in crates(self.top) for path in self.all.sources(it.name)):
+            ghosts += [(crate, path, it) for it in self.all.read_source(path)[0] if it.kind == "ghost"]
+            source = rattle.read(path)
+            for it in source.types:
+                held[it.name].update(re.findall(r"\w+", source.declaration(it)))
         told = {it.partition(" ghost: ")[0] for it in made.texts}
         reached, due = set(), [it.owner for crate, _, it in ghosts if f"{crate} {it}" in told]
         while due:
-            owner = due.pop()
-            due += held.get(owner, set()) & held.keys() if owner not in reached else ()
-            reached.add(owner)
+            if (owner := due.pop()) not in reached:
+                reached.add(owner)
+                due += held[owner] & held.keys() if owner in held else ()
         for crate, path, it in ghosts:
             if it.owner in reached and it.name in ("Value", "view") and f"{crate} {it}" not in told:
                 self.take(made, crate, path, [it])
@@ -200,20 +194,19 @@ class Promises:
 
     def take_call(self, made, owner, name):
         """Has the contract of a call state the promise: of a type's, or of a crate's own."""
-        some = [(crate, path, it) for crate in self.order for path, it in public(self.top / "crates" / crate).items()
+        some = [(crate, it) for crate in self.order for it in public(self.top / "crates" / crate).values()
                 if it.name == name and it.sees == "pub" and owner == (it.owner.name if it.owner else crate)]
         if len(some) != 1:
             self.faults.append(f"docs/PROMISES.md: {owner}::{name}: {len(some)} crates show such a call")
             return
-        crate, _, it = some[0]
+        crate, it = some[0]
         if (crate, f"{owner}::{name}") not in made.stated:
             place = next(path for path in self.all.sources(crate) if it in rattle.read(path).functions)
             made.stated.append((crate, f"{owner}::{name}"))
             self.take(made, crate, place, it.clauses)
 
     def state_by(self, made, own, last, name):
-        """Has the law of this name state the promise: that of its own crate, where one is named with it, or of the one
-        named last."""
+        """Has the law of this name state the promise: of the crate that is named with it, or of the one named last."""
         some = [it for it, law in self.laws if law == name and own in (None, it)]
         some = [last] if last in some else some
         if len(some) != 1:
@@ -265,8 +258,7 @@ class Promises:
         return {it: sorted(found[it]) for it in sorted(found)}
 
     def premises_in(self, tokens, named, seen, premises):
-        """Adds the definitions that the premises of a statement begin with, and those of the definitions that it
-        states."""
+        """Adds the definitions that premises of a statement begin with, and of the definitions that it states."""
         _, front, last = premises_of(tokens)
         premises.update(one for it in map(groups, front) if it and len(it[0]) == 1 and (one := named(it[0][0])))
         parts, words = next((some for sign in "×⊎" if len(some := split(last, sign)) > 1), []), groups(last)
@@ -282,8 +274,7 @@ class Promises:
     # What is leaned on.
 
     def lean(self, made):
-        """Finds what a promise leans on. A pin counts for it where it asks for no field that the pin's law leaves open;
-        returns those that do not."""
+        """Finds what a promise leans on; returns the pins that do not count, by a field that their law leaves open."""
         asked, new = {}, True
         while new:
             made.needed, made.passed, made.types = self.behind(made.cited, asked)
@@ -292,8 +283,7 @@ class Promises:
         return asked
 
     def behind(self, cited, asked=()):
-        """These definitions and what they name in turn, with what a law names in place of those that it pins; the
-        pinned ones; and the types."""
+        """These definitions and what they name in turn, or what a law that pins them names; the pinned; the types."""
         due, seen, passed, types = set(cited), set(), set(), set()
         while due:
             file, _ = cited = due.pop()
@@ -332,8 +322,7 @@ class Promises:
             self.pinned[one] = pin
 
     def judge_pins(self, asked):
-        """Each pin counts for a promise, and its law leans on no other that is pinned. `asked` has what each promise
-        asks of pins that leave it open."""
+        """Each pin counts for a promise, and its law leans on no other that is pinned; `asked`: why one does not."""
         passed = set().union(*(it.passed for it in self.promises if it.title not in (OTHERS, WORKED)))
         for one, pin in self.pinned.items():
             whys = [it[one] for it in asked if one in it]
@@ -343,8 +332,7 @@ class Promises:
             self.faults += [f"{pin}: its law leans on {it}, which is pinned too" for it in others - {one}]
 
     def asked_of(self, one, needed):
-        """What of these definitions asks for a field that a pin's law leaves open, by naming the definition or the
-        record that it gives, if any."""
+        """What of these definitions asks for a field that a pin's law leaves open, by naming it or its record."""
         pin = self.pinned[one]
         if "" in pin.fields:
             return None

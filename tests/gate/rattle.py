@@ -77,8 +77,7 @@ def blank(text):
 
 
 def without_comments(text, at=0, in_braces=False):
-    """A text of antt without its comments, as long as it was; in braces up to where those close that are open there,
-    and that place."""
+    """A text of antt without its comments, as long as it was; in braces up to where those close, and that place."""
     parts, depth, begun, ends = [], 1, at, len(text)
     while it := ANTT.search(text, at):
         at = it.end()
@@ -139,8 +138,7 @@ class Block:
 
     @property
     def holder(self):
-        """What the prover calls an impl block: the words of its type, of its trait and of that one's arguments, without
-        its own parameters."""
+        """What the prover calls an impl block: the words of its type and its trait, without its own parameters."""
         own = [re.sub(r"^const ", "", it.strip()).partition(":")[0].strip() for it in self.own.strip("<>").split(",")]
         words = re.findall(r"[\w:]+", re.sub(r"'\w+", "", re.sub(r"\s*::\s*", "::", f"{self.type} {self.trait or ''}")))
         return "".join(it.rpartition("::")[2] for it in words if it not in own)
@@ -277,8 +275,7 @@ class Source:
 
 
 def hidden(source, name):
-    """Yields what a source of this name has that these readings do not follow. Laws are read in each file below `laws`,
-    so `laws.rt` may pass them on."""
+    """Yields what a source of this name has that these readings do not follow; `laws.rt` may pass laws below it on."""
     rooms, is_root = {it for _, it, *_ in source.modules if name == "laws.rt"}, name == "lib.rt"
     for sees, use, _ in (it for it in source.uses if it[1].partition("::")[0] not in rooms):
         if sees and not is_root:
@@ -296,8 +293,7 @@ def hidden(source, name):
 
 
 def shown(source):
-    """What the root of a crate shows: the names of each module, none where it shows all of it; and each use that cannot
-    be followed."""
+    """What the root of a crate shows: the names of each module, none where it shows all; and uses that are unclear."""
     found, lost = {}, []
     for use in (use for sees, use, _ in source.uses if sees == "pub"):
         name, _, rest = re.sub(r"^(?:crate|self)::", "", use).partition("::")
@@ -338,7 +334,7 @@ def tree(folder):
 
 
 def module_of(file):
-    """Returns the words of the path of a file's module."""
+    """The words of the path of a file's module."""
     return [it for it in file.removeprefix("src/").removesuffix(".rt").split("/") if it not in ("lib", "main")]
 
 
@@ -347,8 +343,7 @@ def path_of(function, file, folder):
     block = function.owner
     if not block:
         return "::".join([*module_of(file), function.name])
-    # a method has the module before it that declares its type, wherever its block stands, if one alone does; one of a
-    # trait has the block's
+    # a method has the module before it that alone declares its type, wherever its block is; one of a trait the block's
     is_here = block.trait or block.kind == "trait"
     homes = [] if is_here else [it for it, (source, _) in tree(folder).items()
                                 if any(one.name == block.name for one in source.blocks if one.kind in TYPES)]

@@ -10,8 +10,7 @@
   hour. Plain `rt ci` proves them too: what that adds is that the tests' own code is safe and returns.
 - tests/gate/kept.py keeps what was proved and what these rounds came to, for later runs on this machine.
 
-The closing lines tell how many minutes of processors the proofs, the tests and the edits of each crate took
-(tools/progress.py)."""
+The closing lines tell the minutes of processors of each crate's proofs, tests and edits (tools/progress.py)."""
 
 import contextlib
 import os
@@ -39,8 +38,7 @@ class Rounds:
     """Tries the edits of a crate."""
 
     def __init__(self, rt, kept, is_this_run, unpacked=None):
-        """`kept` has the folders of what was kept of crates, by their names; `unpacked` makes that of a crate whose
-        proof an earlier run kept."""
+        """`kept` has the folders of what was kept of crates; `unpacked` makes that of one proved by an earlier run."""
         self.rt, self.must_fail, self.unpacked = rt, rt.must_fail, unpacked
         self.kept, self.is_this_run = kept, is_this_run
         # what the last check of this thread said; of each crate, whether a function that no edit of a check changes
@@ -49,10 +47,9 @@ class Rounds:
         rt.checked = self.checked
 
     def checked(self, crate, texts, flags, kept, only=()):
-        """Checks a copy of the crate with these texts in place of its own, over what kept holds where it is given, and
-        returns how that ended. A library is built, which is checked just so, but offers no files for the proofs that
-        are left open: a third of the time. Where it is given, no function is read but those of only and what they
-        call."""
+        """Checks a copy of the crate with these texts in place of its own, over what kept holds, and returns how that
+        ended. A library is built, which is checked just so, but offers no files for the proofs that are left open: a
+        third of the time. Where it is given, no function is read but those of only and what they call."""
         rtlib = self.rt.rtlib
         with laid_out(crate.folder, rtlib.PARTS, texts) as room:
             verb, to = ("check", []) if crate.is_program or only else ("build", ["-o", f"{room}/{crate.name}.rlib"])
@@ -68,17 +65,15 @@ class Rounds:
         """Tries one edit as `rt ci` does, and asks whether a contract refuses it."""
         label = f"must-fail {crate.name}/{os.path.basename(edit)}"
         functions, why = changed(self.rt, edit, crate.folder)
-        came, text = ("bad", f"{label}: BAD EDIT: {why}") if why else self.must_fail(crate, edit, flags, kept)
-        # (a kit's script says what came of it, or whether it was refused)
-        is_well = came in (True, self.rt.REFUSED)
+        came, text = (self.rt.BAD, f"{label}: BAD EDIT: {why}") if why else self.must_fail(crate, edit, flags, kept)
+        is_well = came == self.rt.REFUSED
         if is_well:
             is_well, text = self.judged(crate, edit, functions, functions, Said(self.last.output))
         print("tried", text[:200], flush=True)
         return is_well, text
 
     def judged(self, crate, edit, functions, with_it, said):
-        """Returns whether the functions of an edit are refused in a check of that edit with others, which change the
-        functions with_it."""
+        """Whether the functions of an edit are refused in a check with others, which change the functions with_it."""
         label = f"must-fail {crate.name}/{os.path.basename(edit)}"
         by, others = {it: said.refuses(it) for it in functions}, said.others(with_it)
         refused = [it for it in functions if by[it] == wanted(edit, it)]
@@ -91,8 +86,7 @@ class Rounds:
         return True, f"{label}: refused, as it must be, in {', '.join(refused)}"
 
     def rounds_of(self, crate, edits):
-        """Returns the edits in rounds, each with the texts that its edits together make. Those that change most come
-        first, so that a later round has few."""
+        """The edits in rounds, each with their texts. Those that change most come first, so a later round has few."""
         rounds, of_each = [], {it: set(changed(self.rt, it, crate.folder)[0]) for it in edits}
         for edit, functions in sorted(of_each.items(), key=lambda it: -len(it[1])):
             if not any(it["functions"].isdisjoint(functions) and self.join(crate, it, edit, functions)
@@ -137,14 +131,12 @@ class Rounds:
     @contextlib.contextmanager
     def over(self, crate, kept):
         """Gives what a check begins with: of a library a copy, so that each begins alike. Of a program nothing was
-        kept, so its checks come one after another over one folder: a later one reads no more than what an earlier one
-        did not check."""
+        kept, so its checks come one after another over one folder, and each reads what earlier ones did not check."""
         with self.alone_in[crate.name] if crate.is_program else copied(kept) as copy:
             yield kept if crate.is_program else copy
 
     def planned(self, crate, edits):
-        """Returns the edits of a crate in rounds, by their numbers, with how many turns each has. Those that cannot be
-        applied are with the first."""
+        """The edits of a crate in rounds, by their numbers, with each round's turns; the first has the unfit ones."""
         unfit = [it for it in edits if changed(self.rt, it, crate.folder)[1]]
         first, *others = [some for some, _ in self.rounds_of(crate, [it for it in edits if it not in unfit])] or [[]]
         turns = lambda some: sum(text_of(it).count("\nold: ") for it in some)
@@ -153,8 +145,7 @@ class Rounds:
     def all_of(self, crate, edits, flags):
         """Tries edits of a crate in rounds, each over a copy of what was kept, where the crate itself is proved over
         that: a check without any edit shows it or, over what this run kept, the functions that an edit's check proves
-        beside those that it refuses. What was not refused so is tried again from nothing, as is every edit where the
-        crate is not proved so."""
+        beside. What was not refused so is tried again from nothing, as is all where the crate is not proved so."""
         tried, able = {}, [it for it in edits if not changed(self.rt, it, crate.folder)[1]]
         kept, is_shown = self.start_of(crate, flags) if able else ("", False)
         if is_shown:
@@ -182,8 +173,7 @@ class Rounds:
         self.kept.pop(crate.name, None)
 
     def is_unchanged(self, crate, flags, kept):
-        """Returns whether the crate is proved over what this run kept: a round showed it, or a check without any edit
-        does, once."""
+        """Whether the crate is proved over what this run kept: by a round, or once by a check without any edit."""
         with self.alone_in[crate.name]:
             self.unchanged[crate.name] = self.unchanged.get(crate.name) or not self.checked(
                 crate, {}, flags, kept).returncode
@@ -203,8 +193,7 @@ def why_not(function, by):
 
 @contextlib.contextmanager
 def laid_out(folder, parts, texts):
-    """Gives a copy of these parts of a crate's folder with these texts in place of its own, for as long as it is
-    wanted."""
+    """Gives for a while a copy of these parts of a crate's folder with these texts in place of its own."""
     with tempfile.TemporaryDirectory(prefix="rt-edit-") as room:
         for part in (it for it in parts if os.path.isdir(f"{folder}/{it}")):
             shutil.copytree(f"{folder}/{part}", f"{room}/{part}")
@@ -227,24 +216,17 @@ def copied(kept):
 
 
 def keep_all(rt, room, store):
-    """Has each proof of a library in a run keep all that it wrote, in new folders of the room; returns those folders by
-    the crates' names. That of a program begins empty, since no check both keeps its work and makes what two compilers
-    build. A proof that the store has is put in place."""
-    kept, ci, keeps = {}, rt.Crate.ci, hasattr(rt, "Kept")
+    """Has each proof of a library keep all that it wrote, in new folders of the room; returns those by crates' names.
+    That of a program begins empty, since no check both keeps its work and makes what two compilers build."""
+    kept, ci = {}, rt.Crate.ci
 
     def ci_and_keep(crate, flags, tests):
         path = f"{room}/{crate.name}"
         shutil.rmtree(path, ignore_errors=True)
-        # (a script that keeps something asks the store itself)
-        if not keeps and store.give(crate):
-            rt.say(f"{crate.name} is kept: an earlier run proved it, and nothing that it reads has changed", crate.out)
-            return 0
         os.mkdir(path)
         status = ci(crate, flags, tests) if crate.is_program else prove_once(rt, crate, flags, path, store)
         if not status and (crate.is_program or os.listdir(path)):
             kept[crate.name] = path
-        if not status and not keeps:
-            store.keep(crate)
         return status
 
     rt.Crate.ci = ci_and_keep
@@ -287,31 +269,26 @@ def unpacked(rt, crate, path, rlib=None):
     return path
 
 
+def kept_by_hand(rt, names, room):
+    """Copies what the developer's own checks of these crates kept into the room; returns the folders by their names."""
+    own_of = {it.name: f"{it.folder}/out/incremental" for it in rt.rtlib.crates_below(os.getcwd()) if it.name in names}
+    return {name: shutil.copytree(own, f"{room}/{name}") for name, own in own_of.items() if os.path.isdir(own)}
+
+
 def over_kept(verdict):
     """Returns the form of a verdict that may say that it rests on what an earlier check kept."""
     return re.compile(verdict.pattern.replace(r"\n\Z", r"( incremental=trusted)?\n\Z"), re.MULTILINE)
 
 
 def in_order(rt, tasks, store):
-    """Returns the tasks of a run so that tests are run under run-time checks, and edits wait for the proof of their
-    crate and not for its tests: they are tried whether or not these pass, and where they do not, the run fails for
-    that."""
+    """Returns the tasks of a run so that tests are run under run-time checks, which wait for no proof."""
     crates = {it.name: it for it in rt.rtlib.crates_below(os.getcwd())}
-    ordered = {}
-    for key, (waits, lines, needs, call) in tasks.items():
-        name, kind = key[:2]
-        if kind == "edits":
-            waits = [it for it in [(name, "proof")] if it in tasks]
-            call = lambda given, jobs, name=name, call=call: call({**given, (name, "tests"): True}, jobs)
-        if kind == "tests":
-            waits, lines, needs, call = [], lines // 4, MEMORY_OF_TESTS, tests_of(rt, crates[name], store)
-        ordered[key] = (waits, lines, needs, call)
-    return ordered
+    return {key: ([], task[1] // 4, MEMORY_OF_TESTS, tests_of(rt, crates[key[0]], store)) if key[1] == "tests" else task
+            for key, task in tasks.items()}
 
 
 def tests_of(rt, crate, store):
-    """Returns the call that runs a crate's tests under run-time checks, unless an earlier run on this machine saw the
-    same ones pass."""
+    """The call that runs a crate's tests under run-time checks, unless an earlier run here saw the same ones pass."""
     def passed(given, jobs):
         if not crate.has_tests():
             return True
@@ -332,53 +309,25 @@ def tests_of(rt, crate, store):
     return passed
 
 
-def of_some(rt, words):
-    """Has a script that takes no names for `ci` run it of the crates that are named and of those below them; returns
-    the words that it takes."""
-    names, crates_of, look = words[1:], rt.crates_of, rt.rtlib.stop_on_unread
-    if words[0] != "ci" or not names:
-        return words
-
-    def some_of(root, aside):
-        crates = crates_of(root, aside)
-        for name in sorted({*names} - {it.name for it in crates}):
-            rt.stop(f"there is no crate {name}")
-        rt.rtlib.stop_on_unread = lambda path, _: look(path, crates)
-        wanted = {below.name for it in crates if it.name in names for below in [it, *it.below()]}
-        return [it for it in crates if it.name in wanted]
-
-    rt.crates_of = some_of
-    return ["ci"]
-
-
 def run(rt, words):
     """Runs the toolchain's command with these words, and returns its status. The word `program` in the place of `ci`
     has the program proved and built, and nothing beside it."""
     progress.count_processors(rt)
-    is_program, is_ci, keeps = words[0] == "program", words[0] != "must-fail", hasattr(rt, "Kept")
+    is_program, is_ci = words[0] == "program", words[0] != "must-fail"
     minutes, in_lanes = progress.Minutes(), rt.in_lanes
     in_lanes = progress.program_alone(rt, in_lanes, minutes) if is_program else in_lanes
-    store = for_later.Store(rt, for_later.place(getattr(rt, "STORE", None)), "--anew" not in words)
+    store = for_later.Store(rt, for_later.place(rt.STORE), "--anew" not in words)
     if store.is_taken:
         rt.rtlib.VERDICT = over_kept(rt.rtlib.VERDICT)
-    if not keeps:
-        words = of_some(rt, [it for it in words if it != "--anew"])
-    tasks_of = lambda tasks: in_order(rt, tasks, store)
-    timed = lambda tasks: in_lanes({key: (*task[:3], minutes.timed(key, task[3])) for key,
-                                    task in tasks_of(tasks).items()})
+    rt.in_lanes = lambda tasks: in_lanes({key: (*task[:3], minutes.timed(key, task[3]))
+                                          for key, task in in_order(rt, tasks, store).items()})
     build = Build(os.getcwd())
     sources, mark = build.sources(), build.mark()
     # (by this name the toolchain's script removes the folder of a run that was killed)
     with tempfile.TemporaryDirectory(prefix=f"rt-copy-{os.getpid()}-") as room:
-        # (to try edits alone, what the developer's own checks of these crates kept)
-        tried = [] if is_ci else [it for it in rt.rtlib.crates_below(os.getcwd()) if not words[1:]
-                                  or it.name in words[1:]]
-        own_of = {it.name: f"{it.folder}/out/incremental" for it in tried}
-        kept = keep_all(rt, room, store) if is_ci else {
-            name: shutil.copytree(it, f"{room}/{name}") for name, it in own_of.items() if os.path.isdir(it)}
+        kept = keep_all(rt, room, store) if is_ci else kept_by_hand(rt, words[1:], room)
         rounds = Rounds(rt, kept, is_ci, lambda crate: unpacked(rt, crate, f"{room}/{crate.name}"))
-        tries = for_later.Tries(rt, rounds, store)
-        rt.in_lanes = timed if keeps else tries.with_rounds(timed)
+        for_later.Tries(rt, rounds, store)
         try:
             status = rt.main(["ci", *words[1:]] if is_program else words)
         except progress.Ended as ended:

@@ -66,44 +66,35 @@ def lemmas(place, text):
             now.take(line)
 
 
-class Spare:
-    """What a repository's proofs could do without, by kinds and crates."""
-
-    def __init__(self, top):
-        self.words, self.twins, self.found = Counter(), defaultdict(list), defaultdict(list)
-        every = []
-        files = ((part, path) for part in ("specs", "proofs")
-                 for path in sorted(top.glob(f"crates/*/{part}/**/*.antt")))
-        for part, path in files:
-            text = rattle.without_comments(path.read_text(encoding="utf-8"))
-            self.words.update(words_of(text))
-            self.look_at_imports(path.relative_to(top / "crates"), text)
-            if part == "proofs" and path.stem not in ANSWERS:
-                every += lemmas(path.relative_to(top / "crates"), text)
-        for path in sorted(top.glob("crates/*/src/**/*.rt")):
-            self.words.update(words_of(rattle.read(path).plain))
-        for it in every:
-            self.twins[it.blind()].append(it)
-            if self.words[it.name] <= it.own:
-                self.find("dead lemmas", it.place, f"{it}: nothing names it")
-        for statement, (first, *others) in self.twins.items():
-            for it in others if len(statement) >= SHORT else ():
-                self.find("twins", it.place, f"{it}: it states what {first} does")
-
-    def find(self, kind, place, what):
-        self.found[f"{kind} of {place.parts[0]}"].append(what)
-
-    def look_at_imports(self, place, text):
-        """Finds the names that a file imports and does not use."""
-        there = {*words_of(imports.IN_FULL.sub("", imports.IMPORT.sub("", text)))}
-        for it in imports.read(text):
-            # (an operator is used by its signs, or by its name: `◌≢◌ {A = ℕ} 5 0`)
-            parts = {it.other, *(part for part in it.other.split("◌") if part)}
-            is_used = there & parts or {">>", ">>="} & parts and {"do", "←"} & there or it.other == "[]" and "[" in text
-            if not (it.is_passed or it.is_all or is_used):
-                self.find("unused imports", place, f"{place}: it does not use {it.other}")
+def unused_imports(text):
+    """The names that a file imports and does not use."""
+    there = {*words_of(imports.IN_FULL.sub("", imports.IMPORT.sub("", text)))}
+    for it in imports.read(text):
+        # (an operator is used by its signs, or by its name: `◌≢◌ {A = ℕ} 5 0`)
+        parts = {it.other, *(part for part in it.other.split("◌") if part)}
+        is_used = there & parts or {">>", ">>="} & parts and {"do", "←"} & there or it.other == "[]" and "[" in text
+        if not (it.is_passed or it.is_all or is_used):
+            yield it.other
 
 
 def found(top):
-    """What of each kind each crate has."""
-    return Spare(top).found
+    """What of each kind each crate has that its proofs could do without."""
+    words, twins, every, spare = Counter(), defaultdict(list), [], defaultdict(list)
+    find = lambda kind, place, what: spare[f"{kind} of {place.parts[0]}"].append(what)
+    for path in sorted(it for part in ("specs", "proofs") for it in top.glob(f"crates/*/{part}/**/*.antt")):
+        place, text = path.relative_to(top / "crates"), rattle.without_comments(path.read_text(encoding="utf-8"))
+        words.update(words_of(text))
+        for it in unused_imports(text):
+            find("unused imports", place, f"{place}: it does not use {it}")
+        if place.parts[1] == "proofs" and path.stem not in ANSWERS:
+            every += lemmas(place, text)
+    for path in top.glob("crates/*/src/**/*.rt"):
+        words.update(words_of(rattle.read(path).plain))
+    for it in every:
+        twins[it.blind()].append(it)
+        if words[it.name] <= it.own:
+            find("dead lemmas", it.place, f"{it}: nothing names it")
+    for statement, (first, *others) in twins.items():
+        for it in others if len(statement) >= SHORT else ():
+            find("twins", it.place, f"{it}: it states what {first} does")
+    return spare

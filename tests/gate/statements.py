@@ -1,14 +1,12 @@
-"""Whether a clause of a contract states anything, and whether a law pins a definition. `tests/gate/believed` stands on
-it.
+"""Whether a clause of a contract states anything, and whether a law pins a definition (for `tests/gate/believed`).
 
-A clause states something if, with the names in it unfolded, something is left that could be false: not `Unit {0}`, not
-an equation of one text with itself, no sum that is at least a part of it, nothing that is a premise of the clause
-itself, and no equation in which only std and the clause's own variables have a word; and if no premise of it is one
-that nothing meets, as a length below 0 or a member of the empty list.
+A clause states something if, with the names in it unfolded, something is left that could be false: not `Unit {0}`, an
+equation of one text with itself, a sum that is at least a part of it, a premise of the clause itself, or an equation in
+which only std and the clause's own variables have a word; and if no premise of it is one that nothing meets, as a
+length below 0 or a member of the empty list.
 
 A law pins a definition if a clause of it is, for all arguments and without a premise but `IsBytes`, an equation or an
-equivalence of the definition at these arguments with words that do not lean on it. Where a definition gives a record,
-clauses of the law may pin it field by field."""
+equivalence of the definition, or of a field that it gives, at these arguments with words that do not lean on it."""
 
 import re
 
@@ -56,17 +54,15 @@ def groups(tokens):
 
 def bare(tokens):
     """The text without brackets round the whole of it."""
-    is_in_brackets = len(tokens) > 1 and tokens[0] == "(" and tokens[-1] == ")" and len(groups(tokens)) == 1
-    if not is_in_brackets or split(tokens[1:-1], ",")[1:] or is_binder(tokens):
-        return tokens
-    return bare(tokens[1:-1])
+    is_whole = len(tokens) > 1 and tokens[0] == "(" and tokens[-1] == ")" and len(groups(tokens)) == 1
+    is_more = is_whole and not split(tokens[1:-1], ",")[1:] and not is_binder(tokens)
+    return bare(tokens[1:-1]) if is_more else tokens
 
 
 def is_binder(part):
     """Whether a part of a type only gives names to values, as `(x y : A)` does."""
     found = groups(part)
-    return bool(found) and all(it[0] in ("(", "{") and it[-1] in (")", "}") and len(split(it[1:-1], ":")) == 2
-                               for it in found)
+    return bool(found) and all(it[0] in "({" and it[-1] in ")}" and len(split(it[1:-1], ":")) == 2 for it in found)
 
 
 def bound(part):
@@ -182,8 +178,8 @@ class Statements:
             return self.says(tokens[ends + 1 :], scope, seen, known)
         if tokens[:1] == ["let"] and "in" in tokens:
             return self.says(tokens[tokens.index("in") + 1 :], scope, seen, known)
-        if tokens[:1] == ["if"] and len(some := split([";" if it in ("then", "else") else it for it in tokens],
-                                                      ";")) == 3:
+        some = split([";" if it in ("then", "else") else it for it in tokens], ";")
+        if tokens[:1] == ["if"] and len(some) == 3:
             return any(self.says(it, scope, seen, known) for it in some[1:])
         names, premises, last = premises_of(tokens)
         if premises or len(split(tokens, "→")) > 1:
@@ -202,8 +198,7 @@ class Statements:
         return self.applies(tokens, scope, seen, known)
 
     def is_closed(self, tokens, scope):
-        """Whether only std, and variables that the clause binds, have a word in a text: it is proved, or refuted,
-        whatever the project says."""
+        """Whether only std, and variables of the clause, have a word in a text: it holds or not without the project."""
         words = [it for it in tokens if re.match(r"[^\W\d]|‹|«", it) and it.split(".")[0] not in scope[1]]
         return not any((it not in VALUES and it not in scope[2]) or scope[0](it) for it in words)
 
@@ -212,9 +207,8 @@ class Statements:
         names, _, last = premises_of(tokens)
         tokens = bare(tokens)
         is_empty = tokens[:1] == ["In"] and ["[", "]"] in (tokens[-2:], tokens[1:3])
-        if is_empty or last in ([it] for it in names) or tokens == ["⊥"]:
-            return True
-        if tokens[-2:] in (["<", "0"], ["<", "zero"]) or is_absurd(tokens):
+        is_below = tokens[-2:] in (["<", "0"], ["<", "zero"])
+        if is_empty or is_below or last in ([it] for it in names) or tokens == ["⊥"] or is_absurd(tokens):
             return True
         if any(it in tokens for it in RELATIONS) and self.is_closed(tokens, (*scope[:2], ())):
             return True
@@ -226,8 +220,8 @@ class Statements:
         some = self.types_in(one)
         if one.is_data:
             return not some
-        return (one.is_record or len(some) == 1) and any(
-            self.is_never(it, self.scope(one.file), (*seen, one)) for it in some)
+        is_one = one.is_record or len(some) == 1
+        return is_one and any(self.is_never(it, self.scope(one.file), (*seen, one)) for it in some)
 
     def is_hollow(self, one):
         """Whether a part of a definition is true of everything, or has a premise that nothing meets."""
@@ -269,8 +263,7 @@ class Statements:
         return any(self.says(put(right, names(left)), scope, seen, ()) for left, right in equations(one))
 
     def asks(self, tokens, scope, seen):
-        """Whether a constructor can only be of some values: it has a premise that states something, or is of special
-        arguments."""
+        """Whether a constructor is of some values alone, by a premise that states something or by its arguments."""
         names, premises, last = premises_of(tokens)
         arguments = [it for it in groups(last)[1:] if it[0] != "{"]
         free = [it[0] for it in arguments if len(it) == 1 and (it[0] in names or it[0].startswith("‹"))]
@@ -292,8 +285,8 @@ class Statements:
             tokens, named = some[0][1], self.scope(said.file)[0]
         names, premises, last = premises_of(tokens)
         # (a law may be of fewer arguments than a definition that has more in front of these)
-        is_whole = "{" not in one.lines[0] and not one.within and all(
-            self.is_domain(it, named, names) for it in premises)
+        is_for_all = all(self.is_domain(it, named, names) for it in premises)
+        is_whole = "{" not in one.lines[0] and not one.within and is_for_all
         sign, *sides = relation(last, "↔≡")
         for subject, other in (sides, sides[::-1]) if sign and is_whole else ():
             field = self.is_at_all(one, subject, named, names)
@@ -309,8 +302,7 @@ class Statements:
         return len(premise) == 2 and premise[1] in names and bool(it) and (*it.file, it.name) in DOMAINS
 
     def is_at_all(self, one, side, named, names):
-        """The field, or "" for the whole, where a side is the definition at arguments that are bound names, each
-        another; else None."""
+        """The field, or "" for the whole, where a side is the definition at bound names, each another; else None."""
         found, field = groups(side), ""
         it = found[0] if len(found) == 1 else []
         if len(it) > 2 and it[0] == "(" and it[-2] == ")" and re.fullmatch(r"\.\w+", it[-1]):
@@ -321,8 +313,7 @@ class Statements:
         return field if is_it and len(variables) == len(arguments) == len(set(variables)) else None
 
     def is_equation_of(self, one, side, named, names):
-        """The same where a side says that the definition's value is one that is bound too, bare or behind a
-        constructor."""
+        """The same where a side says that the definition's value is bound too, bare or behind a constructor."""
         sign, *sides = relation(side, "≡")
         for subject, value in (sides, sides[::-1]) if sign else ():
             field, (*constructor, last) = self.is_at_all(one, subject, named, names), value

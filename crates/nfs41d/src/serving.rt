@@ -28,11 +28,16 @@ where
     W: Write,
     ensures { MatchResult result (λ _. Unit {0}) (λ fault. IsOfConnections fault) }
 {
-    let addr = ports.local_addr().map_err(|_| Fault::Start)?;
-    let _ = writeln!(told, "nfs41d: listening on {addr}");
-    server.serve_ports(alloc, hub, ports, clock, watch);
-    if ports.failed() {
-        return Err(Fault::Accept);
+    match ports.local_addr() {
+        Ok(addr) => {
+            let _ = writeln!(told, "nfs41d: listening on {addr}");
+            server.serve_ports(alloc, hub, ports, clock, watch);
+            if ports.failed() {
+                Err(Fault::Accept)
+            } else {
+                Ok(())
+            }
+        }
+        Err(_) => Err(Fault::Start),
     }
-    Ok(())
 }

@@ -16,7 +16,7 @@ use std::alloc::{AllocError, Global};
 use std::marker::Model;
 
 /// A block with so many locks is split before one comes.
-const MOST: usize = 512;
+const MOST: usize = 256;
 
 /// Who wants to lock the bytes from `first` to `last`, and how.
 #[derive(Clone, Copy)]

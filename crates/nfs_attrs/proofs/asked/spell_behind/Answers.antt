@@ -1,60 +1,38 @@
-use Rattle.std.proofs.{Common.{◌≡◌, ◌-◌, ◌++◌, List, ℕ, length, ap, ◌∙◌, arith}, lemmas.List.length-append}
+use Rattle.std.proofs.{Common.{◌≡◌, ◌-◌, ◌++◌, List, ℕ, length, sym, ap, ◌∙◌, arith}, lemmas.List.{length-append, length-take-le}, Math.Seq.take-append_seam}
 use Rattle.nfs_xdr.specs.{SheetState.{SheetState}, Spelling.{number, opaque}}
 use Rattle.nfs_xdr.proofs.Putting.{length_number}
 use Rattle.nfs_attrs.specs.{Attributes.{values, readable}, Mask.{common, spell_mask}}
 use Rattle.nfs_attrs.proofs.{Bounds.{attributes_within, told_within}, Counted.{counted, same_sheet}}
-use Rattle.nfs_attrs.proofs.asked.spell.Goals as goal
-
-pub put-requires : goal.put-requires
-put-requires c =
-    let shown : c.common.result ≡ common c.args.mask.now (readable c.args.about.now.profile) = c.common.ensures ∙ ap (common c.args.mask.now) c.readable.ensures in
-    record {
-      room = omega (
-        arith,
-        ap (λ m. length (spell_mask m)) shown,
-        told_within c.args.mask.now (readable c.args.about.now.profile),
-        c.requires.room,
-        ap (λ (s : SheetState). length s.bytes) c.cut.ensures,
-        ap (λ (s : SheetState). s.room) c.cut.ensures,
-      );
-    }
+use Rattle.nfs_attrs.proofs.asked.spell_behind.Goals as goal
 
 pub put_u32-requires : goal.put_u32-requires
 put_u32-requires c =
-    let shown : c.common.result ≡ common c.args.mask.now (readable c.args.about.now.profile) = c.common.ensures ∙ ap (common c.args.mask.now) c.readable.ensures in
     record {
       room = omega (
         arith,
-        ap (λ m. length (spell_mask m)) shown,
+        ap length c.requires.begins.1,
         told_within c.args.mask.now (readable c.args.about.now.profile),
         c.requires.room,
         ap (λ (s : SheetState). length s.bytes) c.cut.ensures,
         ap (λ (s : SheetState). s.room) c.cut.ensures,
-        c.put.ensures.room,
-        ap length c.put.ensures.bytes,
-        length-append c.cut.new.self.bytes (spell_mask c.common.result),
         length_number 0,
       );
     }
 
 pub put_values-requires : goal.put_values-requires
 put_values-requires c =
-    let shown : c.common.result ≡ common c.args.mask.now (readable c.args.about.now.profile) = c.common.ensures ∙ ap (common c.args.mask.now) c.readable.ensures in
     record {
       room = omega (
         arith,
-        ap (λ m. length (spell_mask m)) shown,
+        ap length c.requires.begins.1,
         told_within c.args.mask.now (readable c.args.about.now.profile),
         c.requires.room,
         ap (λ (s : SheetState). length s.bytes) c.cut.ensures,
         ap (λ (s : SheetState). s.room) c.cut.ensures,
-        c.put.ensures.room,
-        ap length c.put.ensures.bytes,
-        length-append c.cut.new.self.bytes (spell_mask c.common.result),
         length_number 0,
         c.put_u32.ensures.room,
         ap length c.put_u32.ensures.bytes,
-        length-append c.put.new.out.bytes (number 0),
+        length-append c.cut.new.self.bytes (number 0),
         attributes_within c.args.mask.now c.args.about.now c.args.object.now,
       );
     }
@@ -77,20 +55,25 @@ set_u32-requires c =
     record {
       within = omega (
         arith,
-        c.len-front.ensures,
+        c.requires.begins.0,
+        length-take-le c.args.front c.args.text.now.bytes c.requires.begins.0,
+        ap (λ (s : SheetState). length s.bytes) c.cut.ensures,
         length_number 0,
         ap length c.put_u32.ensures.bytes,
-        length-append c.put.new.out.bytes (number 0),
+        length-append c.cut.new.self.bytes (number 0),
         ap length c.put_values.ensures.put.bytes,
         length-append c.put_u32.new.self.bytes text,
       );
     }
 
-pub returns : goal.returns
-returns c =
+pub returns-clause-text : goal.returns-clause-text
+returns-clause-text c =
     let text = values c.args.mask.now c.args.about.now c.args.object.now in
-    let shown : c.common.result ≡ common c.args.mask.now (readable c.args.about.now.profile) = c.common.ensures ∙ ap (common c.args.mask.now) c.readable.ensures in
-    let here : c.len-front.result ≡ length c.put.new.out.bytes = c.len-front.ensures in
+    let here : c.args.front ≡ length c.cut.new.self.bytes = omega (
+      arith,
+      length-take-le c.args.front c.args.text.now.bytes c.requires.begins.0,
+      ap (λ (s : SheetState). length s.bytes) c.cut.ensures,
+    ) in
     let size : c.len.result - c.len-before.result ≡ length text = omega (
       arith,
       c.len-before.ensures,
@@ -98,10 +81,17 @@ returns c =
       ap length c.put_values.ensures.put.bytes,
       length-append c.put_u32.new.self.bytes text,
     ) in
-    let all = counted c.put.new.out c.put_u32.new.self c.put_values.new.out text c.len-front.result (c.len.result - c.len-before.result)
+    let all = counted c.cut.new.self c.put_u32.new.self c.put_values.new.out text c.args.front (c.len.result - c.len-before.result)
     c.put_u32.ensures c.put_values.ensures.put c.put_values.ensures.words here size in
-    let front : c.put.new.out.bytes ≡ spell_mask (common c.args.mask.now (readable c.args.about.now.profile)) =
-    c.put.ensures.bytes ∙ (ap (λ (s : SheetState). s.bytes ++ spell_mask c.common.result) c.cut.ensures ∙ ap spell_mask shown) in
+    let front : c.cut.new.self.bytes ≡ spell_mask (common c.args.mask.now (readable c.args.about.now.profile)) =
+    ap (λ (s : SheetState). s.bytes) c.cut.ensures ∙ c.requires.begins.1 in
     let bytes = all.bytes ∙ ap (λ (w : List ℕ). w ++ opaque text) front in
-    let room = all.room ∙ (c.put.ensures.room ∙ ap (λ (s : SheetState). s.room) c.cut.ensures) in
+    let room = all.room ∙ ap (λ (s : SheetState). s.room) c.cut.ensures in
     c.set_u32.ensures ∙ same_sheet bytes room
+
+pub returns-clause-begins : goal.returns-clause-begins
+returns-clause-begins c =
+    let head = spell_mask (common c.args.mask.now (readable c.args.about.now.profile)) in
+    let text = values c.args.mask.now c.args.about.now c.args.object.now in
+    let size : c.args.front ≡ length head = sym (length-take-le c.args.front c.args.text.now.bytes c.requires.begins.0) ∙ ap length c.requires.begins.1 in
+    rw (returns-clause-text c, size) (omega (arith, length-append head (opaque text)), take-append_seam head (opaque text))
